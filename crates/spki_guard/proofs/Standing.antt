@@ -1,5 +1,5 @@
 -- Cases that are read where they stand, since their text is canonical.
-use Rattle.std.proofs.Common.{◌≡◌, ◌≢◌, List, ℕ, length, inl, inr, subst, Result, Ok, Err, IfOk, IfErr, rules}
+use Rattle.std.proofs.Common.{◌≡◌, ◌≢◌, List, ℕ, length, inl, inr, sym, subst, Result, Ok, Err, IfOk, IfErr, rules}
 use Rattle.sexpr_core.specs.Limits.{octet_limit}
 use Rattle.sexpr_core.specs.Value.{Value, canon, IsWithinLimits}
 use Rattle.sexpr_core.specs.declared.fault.FormFault.{FormFault}
@@ -12,13 +12,14 @@ use Rattle.spki_case.specs.Texts.{IsOuter, IsTextOf}
 use Rattle.spki_case.specs.declared.cases.CaseFault.{CaseFault}
 use Rattle.spki_case.specs.declared.cases.CaseFault.TheVariants as faults
 use Rattle.spki_words.specs.declared.commands.Command.{Command}
-use Rattle.spki_words.specs.declared.commands.Command.TheVariants.{Check}
+use Rattle.spki_guard.specs.declared.sources.CaseCommand.{CaseCommand}
+use Rattle.spki_guard.specs.declared.sources.CaseCommand.TheVariants as case_command
 use Rattle.spki_guard.specs.declared.answers.Answer.{Answer}
 use Rattle.spki_guard.specs.declared.answers.Refusal.{Refusal}
 use Rattle.spki_guard.specs.declared.answers.Refusal.TheVariants as refusals
 use Rattle.spki_guard.specs.declared.replies.Reply.{Reply}
 use Rattle.spki_guard.specs.Answer.{form_of, IsOnCase, AnswersValue, RefusesValue, AnswersRead, RefusesAnswer, written_by}
-use Rattle.spki_guard.specs.Inner.Replies.{reply_verdict, printed}
+use Rattle.spki_guard.specs.Inner.Replies.{reply_verdict, printed, command_of}
 use Rattle.spki_guard.specs.Apart.{ReadsCase, DecidesApart, DecidesBy, RefusesApart, RefusesBy}
 
 canonical_text : (text : List ℕ) (v : Value) → IsWithinLimits v → text ≡ canon v → IsTextWithin text v
@@ -76,14 +77,19 @@ pub converted_refused : (command : Command) (text octets : List ℕ) (r : Result
     → IfErr r (λ refusal. RefusesAnswer command text refusal)
 converted_refused command text octets r (v, t, e) f = err_by command text v r t (f v e)
 
+pub on_case : (command : Command) (own : CaseCommand) → command ≡ command_of own → IsOnCase command
+on_case command case_command.Reduce e = subst IsOnCase (sym e) tt
+on_case command case_command.Check e = subst IsOnCase (sym e) tt
+on_case command case_command.Explain e = subst IsOnCase (sym e) tt
+
 -- a case that has no reading, as the refusal
-pub no_case : (command : Command) (text : List ℕ) (fault : CaseFault) (outer : Refusal)
-    → (fault ≢ faults.Memory → IsOnCase command × IsTextOf (λ v. ValueRefused v fault) text)
+pub no_case : (command : Command) (text : List ℕ) (fault : CaseFault) (outer : Refusal) → IsOnCase command
+    → (fault ≢ faults.Memory → IsTextOf (λ v. ValueRefused v fault) text)
     → IsOuter (fault ≡ faults.Memory) refusals.Memory (refusals.Case fault) outer → RefusesAnswer command text outer
-no_case command text fault outer f (inl h) = let is = h.1 in rw is tt
-no_case command text fault outer f (inr h) =
+no_case command text fault outer on f (inl h) = let is = h.1 in rw is tt
+no_case command text fault outer on f (inr h) =
     let is = h.1 in
-    let (on, t) = f h.0 in
+    let t = f h.0 in
     rw is
     (record {
       value = t.value;
@@ -114,12 +120,12 @@ apart_refused text rows c (Ok a) t h = tt
 apart_refused text rows c (Err refusal) t h = apart_refusal text rows c refusal t h
 
 pub no_case_apart : (text rows : List ℕ) (fault : CaseFault) (outer : Refusal)
-    → (fault ≢ faults.Memory → IsOnCase Check × IsTextOf (λ v. ValueRefused v fault) text)
+    → (fault ≢ faults.Memory → IsTextOf (λ v. ValueRefused v fault) text)
     → IsOuter (fault ≡ faults.Memory) refusals.Memory (refusals.Case fault) outer → RefusesApart text rows outer
 no_case_apart text rows fault outer f (inl h) = let is = h.1 in rw is tt
 no_case_apart text rows fault outer f (inr h) =
     let is = h.1 in
-    let (on, t) = f h.0 in
+    let t = f h.0 in
     rw is
     (record {
       value = t.value;

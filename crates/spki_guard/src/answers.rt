@@ -5,10 +5,10 @@ ghost use Rattle.sexpr_text.specs.Written.{written};
 ghost use Rattle.spki_case.specs.CaseForm.{IsCaseText};
 ghost use Rattle.spki_case.specs.Texts.{IsOuter};
 ghost use Rattle.spki_case.specs.View.{model};
-ghost use Rattle.spki_guard.specs.Answer.{form_of, IsOnCase, IsAnswer, AnswersValue, RefusesValue, AnswersRead, RefusesAnswer, RefusesAsLong, Decides, Reduces, Explains, IsLineOf, refused_line, output_octets, written_by};
+ghost use Rattle.spki_guard.specs.Answer.{form_of, IsAnswer, AnswersValue, RefusesValue, AnswersRead, RefusesAnswer, RefusesAsLong, Decides, Reduces, Explains, IsLineOf, refused_line, output_octets, written_by};
 ghost use Rattle.spki_guard.specs.Lines.{refused_memory};
 ghost use Rattle.spki_guard.specs.Run.{RefusesForMemory};
-ghost use Rattle.spki_guard.specs.Inner.Replies.{reply_verdict, printed, IsSourceOf, Fits};
+ghost use Rattle.spki_guard.specs.Inner.Replies.{reply_verdict, printed, command_of, IsSourceOf};
 
 use crate::intersection::{IntersectFault, intersect};
 use crate::lines::{
@@ -16,7 +16,7 @@ use crate::lines::{
     push_refused_memory, push_refused_rows, push_yes_entry,
 };
 use crate::replies::{Reply, reply_of_explanation, reply_of_reduction, whole};
-use crate::sources::{Source, read_source};
+use crate::sources::{CaseCommand, Source, read_source};
 use sexpr_core::FormFault;
 use sexpr_core::syntax::wrap_octets;
 use spki_case::{Case, CaseFault, RowsFault};
@@ -187,7 +187,6 @@ pub fn answer_text(alloc: Global, command: Command, text: &[u8]) -> Answer
 
 /// The answer to a text that was read.
 fn answer_source(alloc: Global, command: Command, source: &Source) -> Answer
-    requires { Fits command source.now }
     ensures { (text : List ℕ) → IsSourceOf command text source.now → IsAnswer command text result.verdict (written_by result) }
 {
     match reply_to(alloc, command, source) {
@@ -213,14 +212,13 @@ pub(crate) fn reply_to<'o>(
     command: Command,
     source: &'o Source<'o>,
 ) -> Result<Reply<'o>, Refusal>
-    requires { Fits command source.now }
     ensures answered { (text : List ℕ) → IsSourceOf command text source.entry.now
         → IfOk result (λ r. AnswersRead command text (reply_verdict r) (printed r)) }
     ensures refused { (text : List ℕ) → IsSourceOf command text source.entry.now
         → IfErr result (λ refusal. RefusesAnswer command text refusal) }
 {
     match source {
-        Source::Standing(case) => reply_to_case(alloc, command, case),
+        Source::Standing(own, case) => reply_to_case(alloc, *own, case),
         Source::Converted(octets) => reply_to_octets(alloc, command, octets),
     }
 }
@@ -241,41 +239,41 @@ fn reply_to_octets<'o>(
         Command::Advanced => Ok(Reply::Line(octets)),
         Command::Transport => Ok(Reply::Whole(done_line(wrap_octets(alloc, octets)?)?)),
         Command::Intersect => Ok(Reply::Tag(intersect(alloc, octets)?)),
-        Command::Reduce => reply_to_canonical(alloc, command, octets),
-        Command::Check => reply_to_canonical(alloc, command, octets),
-        Command::Explain => reply_to_canonical(alloc, command, octets),
+        Command::Reduce => reply_to_canonical(alloc, CaseCommand::Reduce, octets),
+        Command::Check => reply_to_canonical(alloc, CaseCommand::Check, octets),
+        Command::Explain => reply_to_canonical(alloc, CaseCommand::Explain, octets),
     }
 }
 
 /// The reply of a command for a case to a canonical text.
 fn reply_to_canonical<'o>(
     alloc: Global,
-    command: Command,
+    command: CaseCommand,
     text: &'o [u8],
 ) -> Result<Reply<'o>, Refusal>
-    requires { IsOnCase command }
-    ensures answered { (v : Value) → text.entry.now ≡ canon v → IfOk result (λ r. AnswersValue command v (reply_verdict r) (printed r)) }
-    ensures refused { (v : Value) → text.entry.now ≡ canon v → IfErr result (λ refusal. RefusesValue command v refusal) }
+    ensures answered { (v : Value) → text.entry.now ≡ canon v
+        → IfOk result (λ r. AnswersValue (command_of command) v (reply_verdict r) (printed r)) }
+    ensures refused { (v : Value) → text.entry.now ≡ canon v → IfErr result (λ refusal. RefusesValue (command_of command) v refusal) }
 {
     let case = Case::read(alloc, text)?;
     reply_to_case(alloc, command, &case)
 }
 
 /// The reply of a command for a case to the case of a canonical text.
-fn reply_to_case<'a>(alloc: Global, command: Command, case: &Case<'a>) -> Result<Reply<'a>, Refusal>
-    requires { IsOnCase command }
-    ensures answered { (v : Value) → IsCaseText (canon v) (model case.now) →
-        IfOk result (λ r. AnswersValue command v (reply_verdict r) (printed r)) }
-    ensures refused { (v : Value) → IsCaseText (canon v) (model case.now) → IfErr result (λ refusal. RefusesValue command v refusal) }
+fn reply_to_case<'a>(
+    alloc: Global,
+    command: CaseCommand,
+    case: &Case<'a>,
+) -> Result<Reply<'a>, Refusal>
+    ensures answered { (v : Value) → IsCaseText (canon v) (model case.now)
+        → IfOk result (λ r. AnswersValue (command_of command) v (reply_verdict r) (printed r)) }
+    ensures refused { (v : Value) → IsCaseText (canon v) (model case.now)
+        → IfErr result (λ refusal. RefusesValue (command_of command) v refusal) }
 {
     match command {
-        Command::Reduce => reduce(alloc, case),
-        Command::Check => check(alloc, case),
-        Command::Explain => explain_case(alloc, case),
-        Command::Canonical => unreachable!(),
-        Command::Advanced => unreachable!(),
-        Command::Transport => unreachable!(),
-        Command::Intersect => unreachable!(),
+        CaseCommand::Reduce => reduce(alloc, case),
+        CaseCommand::Check => check(alloc, case),
+        CaseCommand::Explain => explain_case(alloc, case),
     }
 }
 

@@ -4,7 +4,7 @@ ghost use Rattle.metered_io.specs.Metered.{inner_of, asks_of, faults_of, ended_o
 ghost use Rattle.spki_guard.specs.Answer.{IsAnswer, output_octets};
 ghost use Rattle.spki_guard.specs.Status.{answer_status};
 ghost use Rattle.spki_guard.specs.Run.{IsReply, IsFaulty, IsWritten, IsCutOff, RefusesForMemory};
-ghost use Rattle.spki_guard.specs.Inner.Replies.{reply_verdict, printed, IsSourceOf, Fits, IsTextRead, Sends};
+ghost use Rattle.spki_guard.specs.Inner.Replies.{reply_verdict, printed, IsSourceOf, IsTextRead, Sends};
 
 use crate::answers::{Answer, Output, Verdict, out_of_memory, refuse, reply_to};
 use crate::pages::PageSink;
@@ -114,7 +114,6 @@ fn send_source<W: Write>(
     writer: &mut Metered<W>,
 ) -> Status
     requires unasked { asks_of writer.old ≡ 0 }
-    requires fits { Fits command source.now }
     ensures { (text : List ℕ) → IsSourceOf command text source.now
         → Sends W.contents (IsAnswer command text) writer.old writer.new result }
 {

@@ -14,7 +14,6 @@ use sexpr_core::FormFault;
 use sexpr_text::{Form, convert};
 use spki_case::{AcceptedTable, Case, RowsFault};
 use spki_decision::decide;
-use spki_words::Command;
 use std::alloc::Global;
 
 /// Decides a case by a separate accepted list, `(accepted row ..)`, each text in any of the three forms. The rows of the
@@ -39,7 +38,7 @@ fn checked(alloc: Global, text: &[u8], rows: &[u8]) -> Result<Answer, Refusal>
     ensures refused { IfErr result (λ refusal. RefusesApart text.now rows.now refusal) }
     ensures too_long { 1048576 < length text.now → IsErrOf result (Refusal.Form FormFault.TooLong) }
 {
-    match standing_case(alloc, Command::Check, text)? {
+    match standing_case(alloc, text)? {
         Some(case) => decide_by_rows(alloc, &case, rows),
         None => checked_converted(alloc, text, rows),
     }

@@ -1,5 +1,5 @@
 //! What a command reads of a text.
-ghost use Rattle.std.specs.Prelude.{◌≡◌, ◌≢◌, ◌↔◌, ◌<◌, length, IsTrue, IfOk, IfErr, IfSome, IsNone, IsOkAnd, IsErrOf};
+ghost use Rattle.std.specs.Prelude.{◌≡◌, ◌≢◌, ◌↔◌, ◌<◌, length, IsTrue, IfOk, IfErr, IfSome, IsNone, IsOkAnd, IsErrOf, MatchOption};
 ghost use Rattle.sexpr_core.specs.Value.{Value};
 ghost use Rattle.sexpr_text.specs.Spelling.{IsTextWithin};
 ghost use Rattle.sexpr_text.specs.Written.{written};
@@ -7,7 +7,7 @@ ghost use Rattle.spki_case.specs.CaseForm.{IsCaseText, ValueRefused};
 ghost use Rattle.spki_case.specs.Texts.{IsTextOf};
 ghost use Rattle.spki_case.specs.View.{model};
 ghost use Rattle.spki_guard.specs.Answer.{form_of, IsOnCase, RefusesAnswer};
-ghost use Rattle.spki_guard.specs.Inner.Replies.{IsSourceOf, Fits};
+ghost use Rattle.spki_guard.specs.Inner.Replies.{command_of, IsSourceOf};
 ghost use Rattle.spki_guard.specs.declared.answers.Refusal.{Refusal};
 
 use crate::answers::Refusal;
@@ -17,11 +17,22 @@ use spki_case::{Case, CaseFault};
 use spki_words::Command;
 use std::alloc::Global;
 
+/// A command for a case.
+#[derive(Clone, Copy)]
+pub(crate) enum CaseCommand {
+    /// Reduce it.
+    Reduce,
+    /// Decide it.
+    Check,
+    /// Explain it.
+    Explain,
+}
+
 /// What a command reads of a text, and its reply borrows from.
 #[derive(Drop)]
 pub(crate) enum Source<'a> {
-    /// The case of a text that is canonical.
-    Standing(Case<'a>),
+    /// The case of a text that is canonical, and the command for it.
+    Standing(CaseCommand, Case<'a>),
     /// The value of the text in the form that the command needs.
     Converted(Vec<u8>),
 }
@@ -33,14 +44,15 @@ pub(crate) fn read_source<'a>(
     text: &'a [u8],
 ) -> Result<Source<'a>, Refusal>
     ensures read { IfOk result (IsSourceOf command text.entry.now) }
-    ensures fits { IfOk result (Fits command) }
     ensures refused { IfErr result (λ refusal. RefusesAnswer command text.entry.now refusal) }
     ensures too_long { 1048576 < length text.entry.now → IsErrOf result (Refusal.Form FormFault.TooLong) }
 {
-    match standing_case(alloc, command, text)? {
-        Some(case) => Ok(Source::Standing(case)),
-        None => Ok(Source::Converted(converted(alloc, command, text)?)),
+    if let Some(own) = case_command(command) {
+        if let Some(case) = standing_case(alloc, text)? {
+            return Ok(Source::Standing(own, case));
+        }
     }
+    Ok(Source::Converted(converted(alloc, command, text)?))
 }
 
 /// The value of a text in the form that the command needs.
@@ -53,18 +65,18 @@ fn converted(alloc: Global, command: Command, text: &[u8]) -> Result<Vec<u8>, Re
     Ok(octets)
 }
 
-/// Whether the command is for a case.
-fn is_on_case(command: Command) -> bool
-    ensures { IsTrue result ↔ IsOnCase command }
+/// The command for a case that a command is. None if it is for any text, or for two tags.
+fn case_command(command: Command) -> Option<CaseCommand>
+    ensures { MatchOption result (IsOnCase command → ⊥) (λ own. command ≡ command_of own) }
 {
     match command {
-        Command::Canonical => false,
-        Command::Advanced => false,
-        Command::Transport => false,
-        Command::Intersect => false,
-        Command::Reduce => true,
-        Command::Check => true,
-        Command::Explain => true,
+        Command::Canonical => None,
+        Command::Advanced => None,
+        Command::Transport => None,
+        Command::Intersect => None,
+        Command::Reduce => Some(CaseCommand::Reduce),
+        Command::Check => Some(CaseCommand::Check),
+        Command::Explain => Some(CaseCommand::Explain),
     }
 }
 
@@ -85,18 +97,16 @@ fn is_of_form(fault: CaseFault) -> bool
     }
 }
 
-/// Reads a case directly from a canonical text. None if the command is not for a case, or if the text is not canonical.
+/// Reads a case directly from a canonical text. None if the text is not canonical.
 pub(crate) fn standing_case<'a>(
     alloc: Global,
-    command: Command,
     text: &'a [u8],
 ) -> Result<Option<Case<'a>>, CaseFault>
-    ensures read { IfOk result (λ standing. IfSome standing (λ case. IsOnCase command × IsCaseText text.entry.now (model case))) }
-    ensures refused { IfErr result (λ fault. fault ≢ CaseFault.Memory →
-        IsOnCase command × IsTextOf (λ v. ValueRefused v fault) text.entry.now) }
+    ensures read { IfOk result (λ standing. IfSome standing (λ case. IsCaseText text.entry.now (model case))) }
+    ensures refused { IfErr result (λ fault. fault ≢ CaseFault.Memory → IsTextOf (λ v. ValueRefused v fault) text.entry.now) }
     ensures long { 1048576 < length text.entry.now → IsOkAnd result IsNone }
 {
-    if !is_on_case(command) || text.len() > MOST_OCTETS {
+    if text.len() > MOST_OCTETS {
         return Ok(None);
     }
     match Case::read(alloc, text) {

@@ -17,12 +17,15 @@ use Rattle.spki_guard.specs.declared.answers.Verdict.{Verdict}
 use Rattle.spki_guard.specs.declared.answers.Verdict.TheVariants as verdict
 use Rattle.spki_guard.specs.declared.replies.Reply.{Reply}
 use Rattle.spki_guard.specs.declared.replies.Reply.TheVariants.{Whole, Octets, Line, Tag, Item, NoEntries, Folds, Reasons}
+use Rattle.spki_words.specs.declared.commands.Command.TheVariants.{Reduce, Check, Explain}
+use Rattle.spki_guard.specs.declared.sources.CaseCommand.{CaseCommand}
+use Rattle.spki_guard.specs.declared.sources.CaseCommand.TheVariants as case_command
 use Rattle.spki_guard.specs.declared.sources.Source.{Source}
 use Rattle.spki_guard.specs.declared.sources.Source.TheVariants.{Standing, Converted}
 use Rattle.spki_guard.specs.declared.statuses.Status.{Status}
 use Rattle.spki_guard.specs.declared.statuses.Status.TheVariants.{WriteFault}
 use Rattle.spki_guard.specs.declared.answers.Answer.{Answer}
-use Rattle.spki_guard.specs.Answer.{form_of, IsOnCase, output_octets, written_by}
+use Rattle.spki_guard.specs.Answer.{form_of, output_octets, written_by}
 use Rattle.spki_guard.specs.Lines.{item_line, no_entries}
 use Rattle.spki_guard.specs.Reports.{verdict_of, ReportsFolds, IsReductionReport, some_grant, reason_lines}
 use Rattle.spki_guard.specs.Run.{RefusesLong, RefusesForMemory, IsWritten, IsCutOff}
@@ -63,15 +66,15 @@ IsLongReport reduction most = (verdict : Verdict) × (lines : List ℕ) × IsRed
 
 -- ---- sources
 
+abbrev pub command_of : CaseCommand → Command
+command_of case_command.Reduce = Reduce
+command_of case_command.Check = Check
+command_of case_command.Explain = Explain
+
 -- the case of a text that is canonical, or a text's value in the form that the command needs
 abbrev pub IsSourceOf : Command → List ℕ → Source → Type 0
-IsSourceOf command text (Standing case) = IsOnCase command × IsCaseText text (model case)
+IsSourceOf command text (Standing own case) = (command ≡ command_of own) × IsCaseText text (model case)
 IsSourceOf command text (Converted octets) = (v : Value) × IsTextWithin text v × (octets.items ≡ written (form_of command) v)
-
--- a source that a command for a case can have, or any command
-abbrev pub Fits : Command → Source → Type 0
-Fits command (Standing case) = IsOnCase command
-Fits command (Converted octets) = Unit {0}
 
 -- ---- reading
 

@@ -10,9 +10,9 @@ returns-in_err-case-clause-refused c = search (rules, err_lifted, no_case_apart)
 pub returns-in-Some-clause-answered : goal.returns-in-Some-clause-answered
 returns-in-Some-clause-answered c =
     let read = rw c.in-Some.is at c.in_ok-case.ensures.read in
-    apart_answered c.args.text.now c.args.rows.now (model c.in-Some.case) c.decide_by_rows.result read.1 c.decide_by_rows.ensures.answered
+    apart_answered c.args.text.now c.args.rows.now (model c.in-Some.case) c.decide_by_rows.result read c.decide_by_rows.ensures.answered
 
 pub returns-in-Some-clause-refused : goal.returns-in-Some-clause-refused
 returns-in-Some-clause-refused c =
     let read = rw c.in-Some.is at c.in_ok-case.ensures.read in
-    apart_refused c.args.text.now c.args.rows.now (model c.in-Some.case) c.decide_by_rows.result read.1 c.decide_by_rows.ensures.refused
+    apart_refused c.args.text.now c.args.rows.now (model c.in-Some.case) c.decide_by_rows.result read c.decide_by_rows.ensures.refused

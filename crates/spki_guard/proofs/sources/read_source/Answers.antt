@@ -1,7 +1,7 @@
-use Rattle.spki_guard.proofs.Standing.{no_case}
+use Rattle.spki_guard.proofs.Standing.{no_case, on_case}
 use Rattle.std.proofs.Common.{rules}
 use Rattle.spki_guard.proofs.Undecided.{err_lifted}
 use Rattle.spki_guard.proofs.sources.read_source.Goals as goal
 
 pub returns-in_err-case-clause-refused : goal.returns-in_err-case-clause-refused
-returns-in_err-case-clause-refused c = search (rules, err_lifted, no_case)
+returns-in_err-case-clause-refused c = search (rules, err_lifted, no_case, on_case)
