@@ -34,6 +34,7 @@ pub(crate) enum Output {
 }
 
 impl Output {
+    /// The octets that are written, with the line feed at their end if they are a line.
     pub(crate) fn as_slice(&self) -> &[u8]
         ensures { result.now ≡ output_octets self.now }
     {
@@ -64,7 +65,7 @@ pub struct Answer {
 }
 
 impl Answer {
-    /// The octets of an answer.
+    /// The octets of the answer, as `run` writes them.
     pub fn octets(&self) -> &[u8]
         ensures { result.now ≡ written_by self.now }
     {
@@ -96,6 +97,7 @@ impl From<FormFault> for Refusal {
     ghost from_gives = { λ fault refusal.
         IsOuter (fault ≡ FormFault.Memory) Refusal.Memory (Refusal.Form fault) refusal };
 
+    /// `Memory` becomes `Refusal::Memory`, and every other fault `Refusal::Form` with it.
     fn from(fault: FormFault) -> Refusal {
         match fault {
             FormFault::Memory => Refusal::Memory,
@@ -111,6 +113,7 @@ impl From<IntersectFault> for Refusal {
     ghost from_gives = { λ fault refusal.
         IsOuter (fault ≡ IntersectFault.Memory) Refusal.Memory (Refusal.Intersect fault) refusal };
 
+    /// `Memory` becomes `Refusal::Memory`, and every other fault `Refusal::Intersect` with it.
     fn from(fault: IntersectFault) -> Refusal {
         match fault {
             IntersectFault::Memory => Refusal::Memory,
@@ -126,6 +129,7 @@ impl From<CaseFault> for Refusal {
     ghost from_gives = { λ fault refusal.
         IsOuter (fault ≡ CaseFault.Memory) Refusal.Memory (Refusal.Case fault) refusal };
 
+    /// `Memory` becomes `Refusal::Memory`, and every other fault `Refusal::Case` with it.
     fn from(fault: CaseFault) -> Refusal {
         match fault {
             CaseFault::Memory => Refusal::Memory,
@@ -141,6 +145,7 @@ impl From<RowsFault> for Refusal {
     ghost from_gives = { λ fault refusal.
         IsOuter (fault ≡ RowsFault.Memory) Refusal.Memory (Refusal.Rows fault) refusal };
 
+    /// `Memory` becomes `Refusal::Memory`, and every other fault `Refusal::Rows` with it.
     fn from(fault: RowsFault) -> Refusal {
         match fault {
             RowsFault::Memory => Refusal::Memory,
@@ -156,6 +161,7 @@ impl From<GuardFault> for Refusal {
     ghost from_gives = { λ fault refusal.
         IsOuter (fault ≡ GuardFault.Memory) Refusal.Memory (Refusal.Decision fault) refusal };
 
+    /// `Memory` becomes `Refusal::Memory`, and `TooLarge` becomes `Refusal::Decision` with it.
     fn from(fault: GuardFault) -> Refusal {
         match fault {
             GuardFault::TooLarge => Refusal::Decision(GuardFault::TooLarge),
@@ -169,12 +175,14 @@ impl From<AllocError> for Refusal {
 
     ghost from_gives = { λ _ refusal. refusal ≡ Refusal.Memory };
 
+    /// An allocation that failed is `Refusal::Memory`.
     fn from(_: AllocError) -> Refusal {
         Refusal::Memory
     }
 }
 
-/// Answers a whole text, in any of the three forms. For more than 1,048,576 octets the answer is `refused form TooLong`.
+/// Answers a whole text, in any of the three forms, with what `run` writes for it. For more than 1,048,576 octets the
+/// answer is `refused form TooLong`.
 pub fn answer_text(alloc: Global, command: Command, text: &[u8]) -> Answer
     ensures answer { IsAnswer command text.now result.verdict (written_by result) }
     ensures too_long { 1048576 < length text.now → RefusesAsLong result.verdict (written_by result) }
@@ -185,7 +193,7 @@ pub fn answer_text(alloc: Global, command: Command, text: &[u8]) -> Answer
     }
 }
 
-/// The answer to a text that was read.
+/// Answers a command from the source that `read_source` returned for it. The answer to a refusal is its line.
 fn answer_source(alloc: Global, command: Command, source: &Source) -> Answer
     ensures { (text : List ℕ) → IsSourceOf command text source.now → IsAnswer command text result.verdict (written_by result) }
 {
@@ -195,7 +203,7 @@ fn answer_source(alloc: Global, command: Command, source: &Source) -> Answer
     }
 }
 
-/// The answer that has the octets of a reply, or that memory ran out for them.
+/// Prints a reply into an answer. If memory runs out, the answer is `refused Memory`.
 fn whole_or_memory(alloc: Global, reply: Reply) -> Answer
     ensures { ((result.verdict ≡ reply_verdict reply.entry) × (written_by result ≡ printed reply.entry))
         ⊎ RefusesForMemory result.verdict (written_by result) }
@@ -206,7 +214,8 @@ fn whole_or_memory(alloc: Global, reply: Reply) -> Answer
     }
 }
 
-/// The reply to a text that was read.
+/// The reply of a command to the source that `read_source` returned for it. Nothing is printed yet. Err says why the
+/// text is refused.
 pub(crate) fn reply_to<'o>(
     alloc: Global,
     command: Command,
@@ -223,7 +232,8 @@ pub(crate) fn reply_to<'o>(
     }
 }
 
-/// The reply to the value with this text, in the form that the command needs.
+/// The reply of a command to `octets`: a value, written in the form that the command needs (`form_of`). Err says why
+/// the value is refused.
 fn reply_to_octets<'o>(
     alloc: Global,
     command: Command,
@@ -245,7 +255,7 @@ fn reply_to_octets<'o>(
     }
 }
 
-/// The reply of a command for a case to a canonical text.
+/// The reply of `reduce`, `check` or `explain` to the canonical text of a case. Err says why the text is refused.
 fn reply_to_canonical<'o>(
     alloc: Global,
     command: CaseCommand,
@@ -259,7 +269,7 @@ fn reply_to_canonical<'o>(
     reply_to_case(alloc, command, &case)
 }
 
-/// The reply of a command for a case to the case of a canonical text.
+/// The reply of `reduce`, `check` or `explain` to a case that was read. Err says why the case is refused.
 fn reply_to_case<'a>(
     alloc: Global,
     command: CaseCommand,
@@ -277,7 +287,7 @@ fn reply_to_case<'a>(
     }
 }
 
-/// Decides a case.
+/// Decides a case by its accepted list. The reply is `yes entry N` or `no`. Err is `TooLarge` or `Memory`.
 fn check<'a>(alloc: Global, case: &Case<'a>) -> Result<Reply<'a>, Refusal>
     ensures answered { (text : List ℕ) → IsCaseText text (model case.now) → IfOk result (λ r. Decides text (reply_verdict r) (printed r)) }
     ensures refused { (v : Value) → IsCaseText (canon v) (model case.now) → IfErr result (λ refusal. RefusesValue Command.Check v refusal) }
@@ -286,7 +296,8 @@ fn check<'a>(alloc: Global, case: &Case<'a>) -> Result<Reply<'a>, Refusal>
     Ok(Reply::Whole(decision_line(alloc, decision)?))
 }
 
-/// Reduces a case.
+/// Reduces a case by its accepted list. The reply has a line for each entry, or one for the certificate that fails. Err
+/// is `TooLarge` or `Memory`.
 fn reduce<'a>(alloc: Global, case: &Case<'a>) -> Result<Reply<'a>, Refusal>
     ensures answered { (text : List ℕ) → IsCaseText text (model case.now) → IfOk result (λ r. Reduces text (reply_verdict r) (printed r)) }
     ensures refused { (v : Value) → IsCaseText (canon v) (model case.now) → IfErr result (λ refusal. RefusesValue Command.Reduce v refusal) }
@@ -295,7 +306,8 @@ fn reduce<'a>(alloc: Global, case: &Case<'a>) -> Result<Reply<'a>, Refusal>
     Ok(reply_of_reduction(alloc, reduction)?)
 }
 
-/// Explains a case.
+/// Explains a case by its accepted list. The reply has a line for each entry, or one for the certificate that fails.
+/// Err is `TooLarge` or `Memory`.
 fn explain_case<'a>(alloc: Global, case: &Case<'a>) -> Result<Reply<'a>, Refusal>
     ensures answered { (text : List ℕ) → IsCaseText text (model case.now) → IfOk result (λ r. Explains text (reply_verdict r) (printed r)) }
     ensures refused { (v : Value) → IsCaseText (canon v) (model case.now) → IfErr result (λ refusal. RefusesValue Command.Explain v refusal) }
@@ -304,7 +316,7 @@ fn explain_case<'a>(alloc: Global, case: &Case<'a>) -> Result<Reply<'a>, Refusal
     Ok(reply_of_explanation(explanation))
 }
 
-/// An answer with this output and a line feed.
+/// An answer with the verdict `Done` and the output, with a line feed appended. Err if memory ran out.
 fn done_line(output: Vec<u8>) -> Result<Answer, AllocError>
     ensures verdict { IfOk result (λ a. a.verdict ≡ Verdict.Done) }
     ensures output { IfOk result (λ a. output_octets a.output ≡ output.items ++ 10 ∷ []) }
@@ -317,7 +329,8 @@ fn done_line(output: Vec<u8>) -> Result<Answer, AllocError>
     })
 }
 
-/// The line of a decision.
+/// The answer for a decision: `yes entry N` with the verdict `Done`, or `no` with the verdict `No`. Err if memory ran
+/// out.
 pub(crate) fn decision_line(alloc: Global, decision: Decision) -> Result<Answer, AllocError>
     ensures { IfOk result (λ a. IsLineOf decision a.verdict (output_octets a.output)) }
 {
@@ -338,7 +351,8 @@ pub(crate) fn decision_line(alloc: Global, decision: Decision) -> Result<Answer,
     })
 }
 
-/// An answer with the line of a refusal. If memory ran out for the line, it is `refused Memory`.
+/// The answer for a refusal: its line, with the verdict `Refused`. If memory runs out for the line, it is `refused
+/// Memory`.
 pub(crate) fn refuse(alloc: Global, refusal: Refusal) -> Answer
     ensures verdict { result.verdict ≡ Verdict.Refused }
     ensures line { (output_octets result.output ≡ refused_line refusal) ⊎ (output_octets result.output ≡ refused_memory) }
@@ -352,7 +366,7 @@ pub(crate) fn refuse(alloc: Global, refusal: Refusal) -> Answer
     }
 }
 
-/// The answer if memory ran out. It allocates nothing.
+/// The answer `refused Memory`. It allocates nothing.
 pub(crate) fn out_of_memory() -> Answer
     ensures verdict { result.verdict ≡ Verdict.Refused }
     ensures line { output_octets result.output ≡ refused_memory }
@@ -363,7 +377,7 @@ pub(crate) fn out_of_memory() -> Answer
     }
 }
 
-/// The line of a refusal.
+/// The line of a refusal, such as `refused form TooLong`, with a line feed. Err if memory ran out.
 fn refused_line(alloc: Global, refusal: Refusal) -> Result<Vec<u8>, AllocError>
     ensures { IfOk result (λ line. line.items ≡ refused_line refusal) }
 {

@@ -16,7 +16,7 @@ pub(crate) struct CappedSink<'v> {
 }
 
 impl<'v> CappedSink<'v> {
-    /// A sink that appends at most so many octets to this vector.
+    /// A sink that appends at most `most` octets to this vector. The octets that the vector has already do not count.
     pub(crate) fn new(octets: &'v mut Vec<u8>, most: usize) -> CappedSink<'v>
         ensures lender { lender_of result ≡ octets.entry.ghost_name }
         ensures kept { kept_by result ≡ octets.old.items }
@@ -32,7 +32,7 @@ impl<'v> CappedSink<'v> {
         }
     }
 
-    /// Ends the sink.
+    /// Ends the sink, and says whether the vector has all octets that were put.
     ///
     /// # Errors
     ///
@@ -67,6 +67,8 @@ impl<'v> Sink for CappedSink<'v> {
 
     ghost full = { is_over };
 
+    /// Counts the octets, and appends them if all octets so far are at most `most`. If memory runs out, the sink notes
+    /// it for `end`.
     fn put(&mut self, octets: &[u8]) {
         self.counter.put(octets);
         if self.counter.count() <= self.most as u64
@@ -76,10 +78,12 @@ impl<'v> Sink for CappedSink<'v> {
         }
     }
 
+    /// As `put`, for one octet.
     fn put_octet(&mut self, octet: u8) {
         self.put(&[octet]);
     }
 
+    /// Whether more than `most` octets were put.
     fn is_full(&self) -> bool {
         self.counter.count() > self.most as u64
     }

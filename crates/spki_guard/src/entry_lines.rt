@@ -8,7 +8,7 @@ use sexpr_text::Sink;
 use spki_decision::{Reason, Stop};
 use spki_reduce::Cause;
 
-/// The name of a cause.
+/// The word for a cause in a line: the name of its variant.
 fn cause_name(cause: Cause) -> &'static str
     ensures { result.now ≡ cause_name cause }
 {
@@ -21,7 +21,7 @@ fn cause_name(cause: Cause) -> &'static str
     }
 }
 
-/// The name of a test of the evidence.
+/// The word for the test that a certificate fails: the name of its variant.
 fn stop_name(stop: Stop) -> &'static str
     ensures { result.now ≡ stop_name stop }
 {
@@ -42,7 +42,7 @@ fn print_number<S: Sink>(number: usize, sink: &mut S)
     sink.put(digits.format(number).as_bytes());
 }
 
-/// Prints the last word of a line.
+/// Prints the last word of a line, and a line feed.
 fn print_last<S: Sink>(word: &str, sink: &mut S)
     ensures { S.takes sink.old (line (word.now ∷ [])) sink.new }
 {
@@ -50,7 +50,7 @@ fn print_last<S: Sink>(word: &str, sink: &mut S)
     sink.put_octet(b'\n');
 }
 
-/// Prints `item J WORD`; `item` is counted from 1.
+/// Prints `item J WORD` and a line feed; `item` is counted from 1.
 fn print_item_word<S: Sink>(item: usize, word: &str, sink: &mut S)
     ensures { S.takes sink.old (line (codes "item" ∷ decimal item ∷ word.now ∷ [])) sink.new }
 {
@@ -60,7 +60,7 @@ fn print_item_word<S: Sink>(item: usize, word: &str, sink: &mut S)
     print_last(word, sink);
 }
 
-/// Prints `item J STOP`; `item` is counted from 1.
+/// Prints `item J STOP` and a line feed; `item` is counted from 1.
 pub fn print_item<S: Sink>(item: usize, stop: Stop, sink: &mut S)
     ensures { S.takes sink.old (item_line item stop) sink.new }
 {
@@ -76,7 +76,7 @@ pub fn print_entry<S: Sink>(entry: usize, sink: &mut S)
     sink.put_octet(b' ');
 }
 
-/// Prints `entry N item J CAUSE`; both are counted from 1.
+/// Prints `entry N item J CAUSE` and a line feed; both are counted from 1.
 pub fn print_stopped<S: Sink>(entry: usize, item: usize, cause: Cause, sink: &mut S)
     ensures { S.takes sink.old (stopped_line entry item cause) sink.new }
 {
@@ -84,7 +84,7 @@ pub fn print_stopped<S: Sink>(entry: usize, item: usize, cause: Cause, sink: &mu
     print_item_word(item, cause_name(cause), sink);
 }
 
-/// Prints `entry N WORD`; `entry` is counted from 1.
+/// Prints `entry N WORD` and a line feed; `entry` is counted from 1.
 fn print_word<S: Sink>(entry: usize, word: &str, sink: &mut S)
     ensures { S.takes sink.old (entry_line entry (word.now ∷ [])) sink.new }
 {
@@ -92,7 +92,8 @@ fn print_word<S: Sink>(entry: usize, word: &str, sink: &mut S)
     print_last(word, sink);
 }
 
-/// Prints the line of an entry's explanation; `entry` is counted from 1.
+/// Prints the line that explains an entry, such as `entry 1 grants` or `entry 2 item 3 NoTag`; `entry` is counted from
+/// 1.
 pub fn print_reason<S: Sink>(entry: usize, reason: Reason, sink: &mut S)
     ensures { S.takes sink.old (reason_line entry reason) sink.new }
 {

@@ -9,11 +9,12 @@ use crate::lines::{
 use spki_service::{AclFault, AskFault, Part};
 use std::alloc::{AllocError, Global};
 
-/// Appends the line of an access list's fault to the output. If memory ran out, the line is `refused Memory`.
+/// Appends `refused form KIND ..` or `refused acl N KIND` to the output. If the fault is `Memory`, the line is `refused
+/// Memory`.
 ///
 /// # Errors
 ///
-/// If memory ran out. Then nothing is appended, here and in the function below.
+/// If memory ran out. Then the output does not change.
 pub(crate) fn push_refused_list(
     alloc: Global,
     out: &mut Vec<u8>,
@@ -29,7 +30,8 @@ pub(crate) fn push_refused_list(
     }
 }
 
-/// Appends the line of a question's fault to the output. If memory ran out, the line is `refused Memory`.
+/// Appends the line of a question's fault to the output, such as `refused question TooLong` or `refused key Shape`. If
+/// the fault is `Memory`, the line is `refused Memory`. Err if memory ran out; then the output does not change.
 pub(crate) fn push_refused_question(
     alloc: Global,
     out: &mut Vec<u8>,
@@ -56,7 +58,7 @@ pub(crate) fn push_refused_question(
     }
 }
 
-/// The word for a part, which is that of a case's part.
+/// The word for a part in a line: `sequence`, `key`, `request`, or `at` for the moment.
 fn part_word(part: Part) -> &'static str
     ensures { result.now ≡ part_word part }
 {

@@ -37,6 +37,7 @@ pub enum IntersectFault {
 impl From<MeetFault> for IntersectFault {
     ghost from_gives = { λ fault outer. outer ≡ intersect_fault fault };
 
+    /// The fault of the same name.
     fn from(fault: MeetFault) -> IntersectFault {
         match fault {
             MeetFault::TooLarge => IntersectFault::TooLarge,
@@ -52,7 +53,7 @@ struct Operands<'d, 'a> {
     second: Node<'d, 'a>,
 }
 
-/// The two members, if there are exactly two.
+/// The two members of a list. None if there are not exactly two.
 fn two<'d, 'a>(members: Members<'d, 'a>) -> Option<Operands<'d, 'a>>
     ensures { MatchOption result ((a b : Value) → members.entry ≢ a ∷ b ∷ [])
         (λ p. members.entry ≡ p.first ∷ p.second ∷ []) }
@@ -66,7 +67,7 @@ fn two<'d, 'a>(members: Members<'d, 'a>) -> Option<Operands<'d, 'a>>
     }
 }
 
-/// The two values after the head of an intersection.
+/// The values A and B of `(intersect A B)`. None if the node is not such a list.
 fn operands_of<'d, 'a>(node: &Node<'d, 'a>) -> Option<Operands<'d, 'a>>
     ensures { MatchOption result ((a b : Value) → node.now ≢ intersect_value a b)
         (λ p. node.now ≡ intersect_value p.first p.second) }
@@ -74,6 +75,7 @@ fn operands_of<'d, 'a>(node: &Node<'d, 'a>) -> Option<Operands<'d, 'a>>
     two(node.headed(b"intersect")?)
 }
 
+/// The fault of tag A: `First` with it, or `Memory` if memory ran out.
 fn fault_of_first(fault: TagFault) -> IntersectFault
     ensures { IsOuter (fault ≡ TagFault.Memory) IntersectFault.Memory (IntersectFault.First fault) result }
 {
@@ -83,6 +85,7 @@ fn fault_of_first(fault: TagFault) -> IntersectFault
     }
 }
 
+/// The fault of tag B: `Second` with it, or `Memory` if memory ran out.
 fn fault_of_second(fault: TagFault) -> IntersectFault
     ensures { IsOuter (fault ≡ TagFault.Memory) IntersectFault.Memory (IntersectFault.Second fault) result }
 {
@@ -92,7 +95,8 @@ fn fault_of_second(fault: TagFault) -> IntersectFault
     }
 }
 
-/// Returns the intersection of the two tags of a value.
+/// Returns the intersection of the tags A and B of `(intersect A B)`. The faults are those of `intersect`, without
+/// `Form`.
 fn meet_in(alloc: Global, node: &Node) -> Result<Tag, IntersectFault>
     ensures read { IfOk result (λ tag. Intersects node.now tag) }
     ensures refused { IfErr result (λ fault. fault ≢ IntersectFault.Memory → ValueNotMet node.now fault) }

@@ -10,11 +10,11 @@ use spki_decision::GuardFault;
 use spki_tag::TagFault;
 use std::alloc::{AllocError, Global};
 
-/// Appends `yes entry N` to the output; `entry` is counted from 1.
+/// Appends `yes entry N` and a line feed to the output; `entry` is counted from 1.
 ///
 /// # Errors
 ///
-/// `AllocError` if memory ran out. Then the output does not change, here and in the functions below.
+/// `AllocError` if memory ran out. Then the output does not change.
 #[tactic(auto, using(crate::proofs::Decimals::decimal_written))]
 pub fn push_yes_entry(alloc: Global, out: &mut Vec<u8>, entry: usize) -> Result<(), AllocError>
     ensures ok { OnOk result (out.new.items ≡ out.old.items ++ yes_entry entry) }
@@ -23,7 +23,7 @@ pub fn push_yes_entry(alloc: Global, out: &mut Vec<u8>, entry: usize) -> Result<
     push(out, format!(in alloc; "yes entry {entry}\n")?.as_bytes())
 }
 
-/// Appends `no` to the output.
+/// Appends `no` and a line feed to the output. Err if memory ran out; then the output does not change.
 pub fn push_no(out: &mut Vec<u8>) -> Result<(), AllocError>
     ensures ok { OnOk result (out.new.items ≡ out.old.items ++ no_line) }
     ensures err { OnErr result (out.new.items ≡ out.old.items) }
@@ -31,7 +31,8 @@ pub fn push_no(out: &mut Vec<u8>) -> Result<(), AllocError>
     push(out, b"no\n")
 }
 
-/// Appends the line of a fault of the text to the output. If memory ran out, it is `refused Memory`.
+/// Appends `refused form KIND`, or `refused form KIND OFFSET` for `Bad` and `Trailing`. For `Memory` it appends
+/// `refused Memory`. Err if memory ran out; then the output does not change.
 pub fn push_refused_form(
     alloc: Global,
     out: &mut Vec<u8>,
@@ -43,7 +44,9 @@ pub fn push_refused_form(
     push_refused_text(alloc, out, "form", fault)
 }
 
-/// Appends the line of a fault of a text to the output, with this word for the text.
+/// Appends `refused TEXT KIND`, or `refused TEXT KIND OFFSET` for `Bad` and `Trailing`; `text` is the word for the text
+/// that has the fault. For `Memory` it appends `refused Memory`. Err if memory ran out; then the output does not
+/// change.
 pub(crate) fn push_refused_text(
     alloc: Global,
     out: &mut Vec<u8>,
@@ -63,7 +66,7 @@ pub(crate) fn push_refused_text(
     }
 }
 
-/// Appends `refused PART KIND` to the output.
+/// Appends `refused PART KIND` and a line feed to the output. Err if memory ran out; then the output does not change.
 pub fn push_refused_part(
     alloc: Global,
     out: &mut Vec<u8>,
@@ -79,7 +82,8 @@ pub fn push_refused_part(
     )
 }
 
-/// Appends `refused PART N KIND` to the output; `item` is counted from 1.
+/// Appends `refused PART N KIND` and a line feed to the output; `item` is N, counted from 1, or 0 for the whole part.
+/// Err if memory ran out; then the output does not change.
 #[tactic(auto, using(crate::proofs::Decimals::decimal_written))]
 pub fn push_refused_item(
     alloc: Global,
@@ -97,7 +101,8 @@ pub fn push_refused_item(
     )
 }
 
-/// Appends `refused PART N Tag KIND` to the output, for a tag in item N; `item` is counted from 1.
+/// Appends `refused PART N Tag KIND` and a line feed to the output, for a tag in item N; `item` is counted from 1. Err
+/// if memory ran out; then the output does not change.
 #[tactic(auto, using(crate::proofs::Decimals::decimal_written))]
 pub fn push_refused_tag(
     alloc: Global,
@@ -115,7 +120,7 @@ pub fn push_refused_tag(
     )
 }
 
-/// The name of a fault of a tag or a request.
+/// The word for a fault of a tag or a request in a line: the name of its variant.
 pub fn tag_kind(fault: TagFault) -> &'static str
     ensures { result.now ≡ tag_kind fault }
 {
@@ -132,7 +137,7 @@ pub fn tag_kind(fault: TagFault) -> &'static str
     }
 }
 
-/// The name of a fault of a structure.
+/// The word for a fault of a key, entry, certificate, date or other part in a line: the name of its variant.
 pub fn kind_name(kind: CertFaultKind) -> &'static str
     ensures { result.now ≡ kind_name kind }
 {
@@ -155,7 +160,9 @@ pub fn kind_name(kind: CertFaultKind) -> &'static str
     }
 }
 
-/// Appends the line of a fault in a part that has entries, rows or items to the output.
+/// Appends the line of a fault in an access list, accepted list or sequence: `refused PART N KIND`, or `refused PART N
+/// Tag KIND` for a tag. N is the number of the entry, row or item, from 1, or 0 for the whole list. For `Memory` it
+/// appends `refused Memory`. Err if memory ran out; then the output does not change.
 pub(crate) fn push_refused_in(
     alloc: Global,
     out: &mut Vec<u8>,
@@ -172,7 +179,8 @@ pub(crate) fn push_refused_in(
     }
 }
 
-/// Appends the line of a case's fault to the output. If memory ran out, it is `refused Memory`.
+/// Appends the line of a case's fault to the output, such as `refused case Shape` or `refused acl 2 BadDate`. For
+/// `Memory` it appends `refused Memory`. Err if memory ran out; then the output does not change.
 pub fn push_refused_case(
     alloc: Global,
     out: &mut Vec<u8>,
@@ -194,8 +202,8 @@ pub fn push_refused_case(
     }
 }
 
-/// Appends the line of a fault of a separate accepted list to the output, with the word `rows`. If memory ran out, it is
-/// `refused Memory`.
+/// Appends the line of a fault of a separate accepted list to the output, with the word `rows`, such as `refused rows 2
+/// Shape`. For `Memory` it appends `refused Memory`. Err if memory ran out; then the output does not change.
 pub fn push_refused_rows(
     alloc: Global,
     out: &mut Vec<u8>,
@@ -212,7 +220,8 @@ pub fn push_refused_rows(
     }
 }
 
-/// Appends the line of a case that is not decided to the output. If memory ran out, it is `refused Memory`.
+/// Appends the line of a case that is not decided: `refused TooLarge` or `refused Memory`. Err if memory ran out; then
+/// the output does not change.
 pub fn push_refused_decision(out: &mut Vec<u8>, fault: GuardFault) -> Result<(), AllocError>
     ensures ok { OnOk result (out.new.items ≡ out.old.items ++ refused_decision fault) }
     ensures err { OnErr result (out.new.items ≡ out.old.items) }
@@ -223,7 +232,7 @@ pub fn push_refused_decision(out: &mut Vec<u8>, fault: GuardFault) -> Result<(),
     }
 }
 
-/// Appends the line `refused Memory` to the output.
+/// Appends `refused Memory` and a line feed to the output. Err if memory ran out; then the output does not change.
 pub fn push_refused_memory(out: &mut Vec<u8>) -> Result<(), AllocError>
     ensures ok { OnOk result (out.new.items ≡ out.old.items ++ refused_memory) }
     ensures err { OnErr result (out.new.items ≡ out.old.items) }
@@ -231,7 +240,9 @@ pub fn push_refused_memory(out: &mut Vec<u8>) -> Result<(), AllocError>
     push(out, b"refused Memory\n")
 }
 
-/// Appends the line of a fault of an intersection to the output. If memory ran out, it is `refused Memory`.
+/// Appends the line of a fault of `intersect`: `refused intersect Shape`, `refused tag N KIND` with N 1 or 2, or
+/// `refused TooLarge`. The lines of `Form` are those of `push_refused_form`. For `Memory` it appends `refused Memory`.
+/// Err if memory ran out; then the output does not change.
 pub fn push_refused_intersect(
     alloc: Global,
     out: &mut Vec<u8>,
@@ -250,7 +261,8 @@ pub fn push_refused_intersect(
     }
 }
 
-/// Appends `refused TEXT KIND AT` to the output; `at` is an offset.
+/// Appends `refused TEXT KIND AT` and a line feed to the output; `at` is an offset in the text, from 0. Err if memory
+/// ran out; then the output does not change.
 #[tactic(auto, using(crate::proofs::Decimals::decimal_written))]
 fn push_refused_at(
     alloc: Global,
@@ -268,7 +280,7 @@ fn push_refused_at(
     )
 }
 
-/// Appends octets to the output.
+/// Appends octets to the output. Err if memory ran out; then the output does not change.
 pub(crate) fn push(out: &mut Vec<u8>, octets: &[u8]) -> Result<(), AllocError>
     ensures ok { OnOk result (out.new.items ≡ out.old.items ++ octets.now) }
     ensures err { OnErr result (out.new.items ≡ out.old.items) }

@@ -10,7 +10,7 @@ use crate::question_answers::{Query, answer_asked, refuse_question};
 use spki_service::{Opened, Question, SharedGuard};
 use std::alloc::Global;
 
-/// Opens a question for a guard: reads its parts and keeps what it needs of them.
+/// Reads a question for a guard, into a value that owns all that its answers need.
 ///
 /// # Errors
 ///
@@ -47,7 +47,8 @@ pub fn answer_opened(alloc: Global, query: Query, opened: &Opened, marks: &[bool
     }
 }
 
-/// Decides a question that was opened.
+/// The line of the decision of a question that was opened. A signature is accepted if its mark is true. None if there
+/// are not as many marks as signatures.
 fn decide_opened(alloc: Global, opened: &Opened, marks: &[bool]) -> Option<Answer>
     ensures answer { (q : Question) → IsOpened opened.now.guard q opened.now
         → IfSome result (λ a. IsAnswerHeld Query.Decide opened.now.guard q marks.now a.verdict (written_by a)) }
@@ -63,7 +64,8 @@ fn decide_opened(alloc: Global, opened: &Opened, marks: &[bool]) -> Option<Answe
     }
 }
 
-/// Reads a question again that was opened, and answers it.
+/// Reads a question again that was opened, and answers it with the lines of `query`. None if there are not as many
+/// marks as signatures.
 fn answer_again(alloc: Global, query: Query, opened: &Opened, marks: &[bool]) -> Option<Answer>
     ensures answer { (q : Question) → IsOpened opened.now.guard q opened.now
         → IfSome result (λ a. IsAnswerHeld query opened.now.guard q marks.now a.verdict (written_by a)) }

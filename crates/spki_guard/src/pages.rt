@@ -18,7 +18,8 @@ pub(crate) struct PageSink<'w, W> {
     failed: bool,
 }
 
-/// Writes octets, unless a write failed before. Returns whether it or this one failed.
+/// Writes octets, if `failed` is false. Returns whether a write failed before or now. Writing fails when the writer's
+/// count of calls, `asks`, is `most`.
 fn pass_on<W: Write>(writer: &mut Metered<W>, failed: bool, octets: &[u8], most: u64) -> bool
     ensures { IsPassedOn W.contents writer.old writer.new octets.now most failed result }
 {
@@ -28,7 +29,7 @@ fn pass_on<W: Write>(writer: &mut Metered<W>, failed: bool, octets: &[u8], most:
     write_octets(writer, octets, most).is_err()
 }
 
-/// Appends octets to a page, if it has room for all of them. Returns whether it has.
+/// Appends octets to a page, if it has room for all of them. Returns whether it had. If not, the page does not change.
 fn hold(page: &mut ArrayVec<u8, 4096>, octets: &[u8]) -> bool
     ensures held { IsTrue result → page.new.items ≡ page.old.items ++ octets.now }
     ensures full { result ≡ false → page.new ≡ page.old }
@@ -36,7 +37,7 @@ fn hold(page: &mut ArrayVec<u8, 4096>, octets: &[u8]) -> bool
     page.try_extend_from_slice(octets).is_ok()
 }
 
-/// Appends an octet to a page, if it has room. Returns whether it has.
+/// Appends an octet to a page, if it has room. Returns whether it had. If not, the page does not change.
 fn hold_octet(page: &mut ArrayVec<u8, 4096>, octet: u8) -> bool
     ensures held { IsTrue result → page.new.items ≡ page.old.items ++ octet ∷ [] }
     ensures full { result ≡ false → page.new ≡ page.old }
@@ -45,7 +46,7 @@ fn hold_octet(page: &mut ArrayVec<u8, 4096>, octet: u8) -> bool
 }
 
 impl<'w, W: Write> PageSink<'w, W> {
-    /// A sink that writes to this writer, which is called until its count `asks` is `most`.
+    /// A sink that writes to this writer. Writing fails when the writer's count of calls, `asks`, is `most`.
     pub(crate) fn new(writer: &'w mut Metered<W>, most: u64) -> PageSink<'w, W>
         ensures lender { lender_of result ≡ writer.entry.ghost_name }
         ensures writer { writer_of result ≡ writer.old }
@@ -61,7 +62,7 @@ impl<'w, W: Write> PageSink<'w, W> {
         }
     }
 
-    /// Writes the page.
+    /// Writes the octets of the page, unless a write failed before, and empties the page. A failure is noted for `end`.
     fn write_page(&mut self)
         ensures takes { PageTakes W.contents self.old [] self.new }
         ensures page { page_of self.new ≡ [] }
@@ -70,7 +71,7 @@ impl<'w, W: Write> PageSink<'w, W> {
         self.page.clear();
     }
 
-    /// Takes octets when the page is empty: writes them if they are more than a page.
+    /// Takes octets when the page is empty: keeps them in the page, or writes them if they are more than 4,096.
     fn take_behind(&mut self, octets: &[u8])
         requires { page_of self.old ≡ [] }
         ensures { PageTakes W.contents self.old octets.now self.new }
@@ -112,6 +113,8 @@ impl<'w, W: Write> Sink for PageSink<'w, W> {
 
     ghost full = { has_failed };
 
+    /// Keeps the octets in the page. If they do not fit, writes the page first, and the octets too if they are longer
+    /// than a page.
     fn put(&mut self, octets: &[u8]) {
         if hold(&mut self.page, octets) {
             return;
@@ -120,6 +123,7 @@ impl<'w, W: Write> Sink for PageSink<'w, W> {
         self.take_behind(octets);
     }
 
+    /// Keeps one octet in the page. If the page is full, writes it first.
     fn put_octet(&mut self, octet: u8) {
         if hold_octet(&mut self.page, octet) {
             return;
@@ -128,6 +132,7 @@ impl<'w, W: Write> Sink for PageSink<'w, W> {
         self.take_behind(&[octet]);
     }
 
+    /// Whether a write failed. Then no more octets are written.
     fn is_full(&self) -> bool {
         self.failed
     }

@@ -16,7 +16,7 @@ use spki_cert::Names;
 use spki_reduce::{Five, WrittenParts};
 use spki_tag::Tag;
 
-/// Prints trees, each with a space before it.
+/// Prints trees in advanced form, each with a space before it.
 fn print_trees<S: Sink>(trees: &[Sexp], sink: &mut S)
     ensures { S.takes sink.old (adv_all 1 (values (map sexp_value trees.now))) sink.new }
 {
@@ -26,7 +26,7 @@ fn print_trees<S: Sink>(trees: &[Sexp], sink: &mut S)
     }
 }
 
-/// Prints names, each with a space before it.
+/// Prints names as strings in advanced form, each with a space before it.
 fn print_names<S: Sink>(names: &Names, sink: &mut S)
     ensures { S.takes sink.old (adv_all 1 (values (plains names.now))) sink.new }
 {
@@ -36,7 +36,7 @@ fn print_names<S: Sink>(names: &Names, sink: &mut S)
     }
 }
 
-/// Prints a principal, or `(name principal n n ..)` if there are names.
+/// Prints a subject: the principal alone, or `(name PRINCIPAL N N ..)` if there are names.
 fn print_named<S: Sink>(principal: &Sexp, names: &Names, sink: &mut S)
     ensures { S.takes sink.old (adv (named (sexp_value principal.now) names.now)) sink.new }
 {
@@ -50,7 +50,7 @@ fn print_named<S: Sink>(principal: &Sexp, names: &Names, sink: &mut S)
     sink.put_octet(b')');
 }
 
-/// Prints `(subject S)` with a space before it.
+/// Prints a space and `(subject S)`, where S is the principal, or the name of these names that it defines.
 fn print_subject<S: Sink>(principal: &Sexp, names: &Names, sink: &mut S)
     ensures { S.takes sink.old (adv_all 1 (values (headed (codes "subject") (named (sexp_value principal.now) names.now ∷ []) ∷ []))) sink.new }
 {
@@ -59,7 +59,7 @@ fn print_subject<S: Sink>(principal: &Sexp, names: &Names, sink: &mut S)
     sink.put_octet(b')');
 }
 
-/// Prints `(tag T)` with a space before it.
+/// Prints a space and `(tag T)`, with T in advanced form.
 fn print_tag_part<S: Sink>(tag: &Tag, sink: &mut S)
     ensures { S.takes sink.old (adv_all 1 (values (headed (codes "tag") (tag_value tag.now ∷ []) ∷ []))) sink.new }
 {
@@ -68,7 +68,8 @@ fn print_tag_part<S: Sink>(tag: &Tag, sink: &mut S)
     sink.put_octet(b')');
 }
 
-/// Prints an authorization, of which these parts were written.
+/// Prints an authorization as `(five ..)`. `parts` are all of it but its tag and its names, as `write_parts` of the
+/// same authorization made them.
 pub fn print_five<S: Sink>(five: &Five, parts: &WrittenParts, sink: &mut S)
     ensures { S.takes sink.old (adv (value_of parts.now five.now)) sink.new }
 {

@@ -38,7 +38,8 @@ pub fn run_words<R: Read, W: Write, E: Write>(
     }
 }
 
-/// Returns the command that the words ask for, or why there is none.
+/// Returns the command that the words of the command line ask for. Err if they ask for help, are refused or cannot be
+/// read, or if memory ran out.
 fn asked_by(alloc: Global, words: &io::Result<Vec<String>>) -> Result<Command, WordsFault>
     ensures { MatchResult words.now (λ list. IsAskedCommand (map string_bytes list.items) result)
         (λ error. IsUnasked (error_kind error) result) }
@@ -49,7 +50,7 @@ fn asked_by(alloc: Global, words: &io::Result<Vec<String>>) -> Result<Command, W
     }
 }
 
-/// The fault if the words cannot be read.
+/// The fault of words that the system did not give: `Refused` with a message if they are not UTF-8, otherwise `Memory`.
 fn unread(alloc: Global, error: &io::Error) -> WordsFault
     ensures { AreUnreadWords (error_kind error.now) result }
 {
@@ -60,7 +61,7 @@ fn unread(alloc: Global, error: &io::Error) -> WordsFault
     }
 }
 
-/// The fault if the words are not UTF-8.
+/// The fault of words that are not UTF-8: `Refused` with a message, or `Memory` if memory ran out for it.
 fn no_text(alloc: Global) -> WordsFault
     ensures { IsNoText result }
 {
@@ -70,7 +71,7 @@ fn no_text(alloc: Global) -> WordsFault
     }
 }
 
-/// Runs a command, and returns the exit status.
+/// Runs a command, reports to `errors` a reader or writer that failed, and returns the exit status.
 fn run_command<R: Read, W: Write, E: Write>(
     alloc: Global,
     command: Command,
@@ -86,7 +87,8 @@ fn run_command<R: Read, W: Write, E: Write>(
     status.code()
 }
 
-/// Writes why a run was cut off.
+/// Writes to `errors` that reading or writing failed. For any other status, writes nothing and resets the meter of
+/// `errors`.
 fn report<E: Write>(errors: &mut Metered<E>, status: Status)
     ensures { IsReported E.contents errors.old errors.new status }
 {
@@ -97,7 +99,8 @@ fn report<E: Write>(errors: &mut Metered<E>, status: Status)
     }
 }
 
-/// Writes the help, or why the words are refused, and returns the exit status. Nothing is read. All three meters are reset.
+/// Writes the help, or why the words are refused, and returns the exit status of the fault. Nothing is read. All three
+/// meters are reset.
 fn report_words_fault<R: Read, W: Write, E: Write>(
     fault: &WordsFault,
     reader: &mut Metered<R>,
@@ -132,7 +135,8 @@ fn write_words_fault<W: Write, E: Write>(
     }
 }
 
-/// Writes octets. The writer's meter, which is reset first, counts whether it failed.
+/// Resets the writer's meter, and writes octets. If the writer fails, its meter counts the fault, and nothing is
+/// returned.
 fn say<W: Write>(writer: &mut Metered<W>, octets: &[u8])
     ensures { IsSaid W.contents writer.old writer.new octets.now }
 {

@@ -68,7 +68,8 @@ pub fn refused_list(alloc: Global, fault: AclFault) -> Answer
     }
 }
 
-/// The answer to a question that was read.
+/// The answer to a question that was read, with the lines of `query`. A signature is accepted if the mark at its place
+/// is true. None if there are not as many marks as `Asked::signed` lists signatures.
 pub(crate) fn answer_asked(
     alloc: Global,
     query: Query,
@@ -89,7 +90,8 @@ pub(crate) fn answer_asked(
     }
 }
 
-/// The answer to a question that was read, unless tags are too large.
+/// The lines of `query` for a question that was read, with as many marks as signatures. Err is `TooLarge` if an
+/// intersection, all of them or the lines exceed the guard's limits, which a decision never does, or `Memory`.
 fn answer_query(
     alloc: Global,
     query: Query,
@@ -106,7 +108,7 @@ fn answer_query(
     }
 }
 
-/// The line of the decision.
+/// The line of the decision: `yes entry N` or `no`. Err if memory ran out.
 fn decided(alloc: Global, read: &Asked, marks: &[bool]) -> Result<Answer, AllocError>
     ensures { IfOk result (λ a. WritesAsked Query.Decide read.now (marked read.now.case marks.now) a.verdict (written_by a)) }
 {
@@ -114,7 +116,7 @@ fn decided(alloc: Global, read: &Asked, marks: &[bool]) -> Result<Answer, AllocE
     decision_line(alloc, decision)
 }
 
-/// The lines of the explanation.
+/// The lines of the explanation. Err is `TooLarge` if they, or an intersection, exceed the guard's limits, or `Memory`.
 fn explained(alloc: Global, read: &Asked, marks: &[bool]) -> Result<Answer, GuardFault>
     ensures written { IfOk result (λ a. WritesAsked Query.Explain read.now (marked read.now.case marks.now) a.verdict (written_by a)) }
     ensures large { IsErrOf result GuardFault.TooLarge → IsTooLargeFor Query.Explain read.now (marked read.now.case marks.now) }
@@ -127,7 +129,7 @@ fn explained(alloc: Global, read: &Asked, marks: &[bool]) -> Result<Answer, Guar
     )
 }
 
-/// The lines of the reduction.
+/// The lines of the reduction. Err is `TooLarge` if they, or an intersection, exceed the guard's limits, or `Memory`.
 fn reduced(alloc: Global, read: &Asked, marks: &[bool]) -> Result<Answer, GuardFault>
     ensures written { IfOk result (λ a. WritesAsked Query.Reduce read.now (marked read.now.case marks.now) a.verdict (written_by a)) }
     ensures large { IsErrOf result GuardFault.TooLarge → IsTooLargeFor Query.Reduce read.now (marked read.now.case marks.now) }
@@ -136,7 +138,8 @@ fn reduced(alloc: Global, read: &Asked, marks: &[bool]) -> Result<Answer, GuardF
     reduction_within(alloc, reduction, read.most_answer())
 }
 
-/// The answer to a question that is refused: its line, or that memory ran out if there is none for the line.
+/// The answer to a question that is refused: the line of the fault. If memory runs out for the line, it is `refused
+/// Memory`.
 pub(crate) fn refuse_question(alloc: Global, fault: AskFault) -> Answer
     ensures verdict { result.verdict ≡ Verdict.Refused }
     ensures line { (written_by result ≡ refused_question fault) ⊎ (written_by result ≡ refused_memory) }
@@ -147,7 +150,7 @@ pub(crate) fn refuse_question(alloc: Global, fault: AskFault) -> Answer
     }
 }
 
-/// The refusal that has this line.
+/// The answer with the verdict `Refused` and this line.
 fn refused_by(line: Vec<u8>) -> Answer
     ensures verdict { result.verdict ≡ Verdict.Refused }
     ensures line { written_by result ≡ line.items }
@@ -158,7 +161,7 @@ fn refused_by(line: Vec<u8>) -> Answer
     }
 }
 
-/// The line of an access list's refusal.
+/// The line of an access list's fault, as `push_refused_list` appends it. Err if memory ran out.
 fn list_line(alloc: Global, fault: AclFault) -> Result<Vec<u8>, AllocError>
     ensures { IfOk result (λ line. line.items ≡ refused_list fault) }
 {
@@ -167,7 +170,7 @@ fn list_line(alloc: Global, fault: AclFault) -> Result<Vec<u8>, AllocError>
     Ok(line)
 }
 
-/// The line of a question's refusal.
+/// The line of a question's fault, as `push_refused_question` appends it. Err if memory ran out.
 fn question_line(alloc: Global, fault: AskFault) -> Result<Vec<u8>, AllocError>
     ensures { IfOk result (λ line. line.items ≡ refused_question fault) }
 {

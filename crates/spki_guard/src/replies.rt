@@ -46,7 +46,8 @@ pub(crate) enum Reply<'o> {
 }
 
 impl<'o> Reply<'o> {
-    /// The verdict.
+    /// `Done` or `No`: what the reply says. For lines of entries it is `Done` if an entry becomes an authorization, or
+    /// grants the request.
     pub(crate) fn verdict(&self) -> Verdict
         ensures { result ≡ reply_verdict self.now }
     {
@@ -63,7 +64,8 @@ impl<'o> Reply<'o> {
     }
 }
 
-/// The reply that shows a reduction.
+/// The reply that prints a reduction: a line for each entry, `no entries`, or the line of the certificate that fails.
+/// Err if memory ran out.
 pub(crate) fn reply_of_reduction<'a>(
     alloc: Global,
     reduction: Reduction<'a>,
@@ -81,7 +83,8 @@ pub(crate) fn reply_of_reduction<'a>(
     }
 }
 
-/// The reply that shows an explanation.
+/// The reply that prints an explanation: a line for each entry, `no entries`, or the line of the certificate that
+/// fails.
 pub(crate) fn reply_of_explanation(explanation: Explanation) -> Reply<'static>
     ensures { IsExplanationReport explanation (reply_verdict result) (printed result) }
 {
@@ -112,7 +115,7 @@ fn print_tag_line<S: Sink>(tag: &Tag, sink: &mut S)
     sink.put_octet(b'\n');
 }
 
-/// Prints a reply. Allocates nothing.
+/// Prints all octets of a reply. Allocates nothing.
 pub(crate) fn print_reply<S: Sink>(reply: &Reply, sink: &mut S)
     ensures { S.takes sink.old (printed reply.now) sink.new }
 {
@@ -128,7 +131,8 @@ pub(crate) fn print_reply<S: Sink>(reply: &Reply, sink: &mut S)
     }
 }
 
-/// The number of a reply's octets together with `more`. None if it is over the greatest `u64`, which no memory holds.
+/// The number of a reply's octets plus `more`, which must be over 0. None if the sum is over the greatest `u64`, which
+/// no memory holds.
 pub(crate) fn count_with(reply: &Reply, more: u64) -> Option<u64>
     requires { 0 < more }
     ensures { IfSome result (λ n. n ≡ length (printed reply.now) + more) }
@@ -138,7 +142,7 @@ pub(crate) fn count_with(reply: &Reply, more: u64) -> Option<u64>
     counter.count().checked_add(more)
 }
 
-/// The answer that has the octets of a reply.
+/// The answer that a reply prints. An answer that is made already is not copied. Err if memory ran out.
 pub(crate) fn whole(alloc: Global, reply: Reply) -> Result<Answer, AllocError>
     ensures verdict { IfOk result (λ a. a.verdict ≡ reply_verdict reply.entry) }
     ensures octets { IfOk result (λ a. written_by a ≡ printed reply.entry) }
@@ -149,7 +153,7 @@ pub(crate) fn whole(alloc: Global, reply: Reply) -> Result<Answer, AllocError>
     }
 }
 
-/// The answer that has the octets of a reply, which are printed into a vector.
+/// Prints a reply into a new vector, and returns it as an answer. Err if memory ran out.
 fn print_whole(alloc: Global, reply: &Reply) -> Result<Answer, AllocError>
     ensures verdict { IfOk result (λ a. a.verdict ≡ reply_verdict reply.now) }
     ensures octets { IfOk result (λ a. written_by a ≡ printed reply.now) }
@@ -164,7 +168,7 @@ fn print_whole(alloc: Global, reply: &Reply) -> Result<Answer, AllocError>
     })
 }
 
-/// The answer that has the octets of a reply, if they are at most so many.
+/// The answer that a reply prints, if it has at most `most` octets.
 ///
 /// # Errors
 ///
@@ -185,7 +189,8 @@ pub(crate) fn whole_within(alloc: Global, reply: &Reply, most: usize) -> Result<
     })
 }
 
-/// The answer that shows a reduction, if its octets are at most so many. What the line of a chain needs is made when it is printed.
+/// The answer that prints a reduction, if it has at most `most` octets. What a line is printed from is made only when
+/// that line is printed.
 ///
 /// # Errors
 ///
@@ -214,7 +219,8 @@ pub(crate) fn reduction_within(
     }
 }
 
-/// The answer that shows what chains become, if its octets are at most so many.
+/// The answer that prints what each entry becomes, if it has at most `most` octets. There must be an entry. Err is
+/// `TooLarge` if it has more, or `Memory`.
 fn folds_within(alloc: Global, folds: &[EntryFold], most: usize) -> Result<Answer, GuardFault>
     requires { 0 < length folds.now }
     ensures report { IfOk result (λ a. ReportsFolds folds.now a.verdict (written_by a)) }

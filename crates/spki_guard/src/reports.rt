@@ -33,14 +33,15 @@ pub(crate) enum FoldLine<'a> {
     },
 }
 
-/// Yes if some entry does, otherwise no.
+/// `Done` for true, `No` for false. True means that some entry becomes an authorization, or grants the request.
 pub(crate) fn verdict_of(yes: bool) -> Verdict
     ensures { result ≡ verdict_of yes }
 {
     if yes { Verdict::Done } else { Verdict::No }
 }
 
-/// What the line of a chain needs.
+/// Makes what the line of an entry is printed from: the result of its fold and, of an authorization, all but its tag
+/// and its names. Err if memory ran out.
 fn fold_line_of<'a>(alloc: Global, fold: EntryFold<'a>) -> Result<FoldLine<'a>, AllocError>
     ensures { IfOk result (IsLineOfFold fold.entry) }
 {
@@ -53,7 +54,7 @@ fn fold_line_of<'a>(alloc: Global, fold: EntryFold<'a>) -> Result<FoldLine<'a>, 
     }
 }
 
-/// What the lines of chains need.
+/// Makes what the lines of all entries are printed from, in their order. Err if memory ran out.
 pub(crate) fn fold_lines_of<'a>(
     alloc: Global,
     folds: Vec<EntryFold<'a>>,
@@ -67,7 +68,7 @@ pub(crate) fn fold_lines_of<'a>(
     Ok(lines)
 }
 
-/// Whether some chain becomes a tuple.
+/// Whether some entry becomes an authorization with all certificates.
 pub(crate) fn some_done(lines: &[FoldLine]) -> bool
     ensures { result ≡ some_done_line lines.now }
 {
@@ -79,7 +80,7 @@ pub(crate) fn some_done(lines: &[FoldLine]) -> bool
     false
 }
 
-/// Whether a chain becomes a tuple.
+/// Whether the entry becomes an authorization, and no certificate stops it.
 fn is_done(line: &FoldLine) -> bool
     ensures { result ≡ is_done_line line.now }
 {
@@ -89,7 +90,8 @@ fn is_done(line: &FoldLine) -> bool
     }
 }
 
-/// Prints the line of a tuple, of which these parts were written.
+/// Prints `entry N (five ..)` and a line feed; `entry` is counted from 1. `parts` are those of the authorization, as
+/// `write_parts` made them.
 fn print_done<S: Sink>(entry: usize, five: &Five, parts: &WrittenParts, sink: &mut S)
     ensures { S.takes sink.old (entry_line entry (adv (value_of parts.now five.now) ∷ [])) sink.new }
 {
@@ -98,7 +100,7 @@ fn print_done<S: Sink>(entry: usize, five: &Five, parts: &WrittenParts, sink: &m
     sink.put_octet(b'\n');
 }
 
-/// Prints the line of a chain; `entry` is counted from 1.
+/// Prints the line of an entry: its authorization, or the certificate that stops it and why; `entry` is counted from 1.
 fn print_fold<S: Sink>(entry: usize, line: &FoldLine, sink: &mut S)
     ensures { S.takes sink.old (fold_line entry line.now) sink.new }
 {
@@ -108,7 +110,7 @@ fn print_fold<S: Sink>(entry: usize, line: &FoldLine, sink: &mut S)
     }
 }
 
-/// Prints the lines of chains.
+/// Prints a line for each entry. The first line is that of entry 1.
 pub(crate) fn print_folds<S: Sink>(lines: &[FoldLine], sink: &mut S)
     ensures { S.takes sink.old (fold_lines 1 lines.now) sink.new }
 {
@@ -117,7 +119,8 @@ pub(crate) fn print_folds<S: Sink>(lines: &[FoldLine], sink: &mut S)
     }
 }
 
-/// Prints the line of a chain, of which nothing is made before; `entry` is counted from 1. Where the sink is full nothing is made.
+/// Prints the line of an entry, and makes what it needs just before; `entry` is counted from 1. If the sink is full, it
+/// makes and prints no authorization. Err if memory ran out.
 fn print_made<S: Sink>(
     alloc: Global,
     entry: usize,
@@ -140,7 +143,8 @@ fn print_made<S: Sink>(
     Ok(())
 }
 
-/// Prints the lines of chains. What a line needs is made before it is printed, and not kept.
+/// Prints a line for each entry, from entry 1. What a line needs is made before it is printed, and not kept. Err if
+/// memory ran out.
 pub(crate) fn print_as_made<S: Sink>(
     alloc: Global,
     folds: &[EntryFold],
@@ -154,7 +158,7 @@ pub(crate) fn print_as_made<S: Sink>(
     Ok(())
 }
 
-/// Whether some chain becomes a tuple, of chains whose lines are not made.
+/// Whether some entry becomes an authorization with all certificates. As `some_done`, before the lines are made.
 pub(crate) fn some_fold_done(folds: &[EntryFold]) -> bool
     ensures { result ≡ some_done folds.now }
 {
@@ -166,7 +170,7 @@ pub(crate) fn some_fold_done(folds: &[EntryFold]) -> bool
     false
 }
 
-/// Whether a chain becomes a tuple.
+/// Whether the entry becomes an authorization, and no certificate stops it.
 fn is_fold_done(fold: &EntryFold) -> bool
     ensures { result ≡ is_done fold.now }
 {
@@ -176,7 +180,7 @@ fn is_fold_done(fold: &EntryFold) -> bool
     }
 }
 
-/// Prints the lines of reasons.
+/// Prints for each entry the line that explains it. The first line is that of entry 1.
 pub(crate) fn print_reasons<S: Sink>(reasons: &[Reason], sink: &mut S)
     ensures { S.takes sink.old (reason_lines 1 reasons.now) sink.new }
 {
@@ -197,7 +201,7 @@ pub(crate) fn some_grant(reasons: &[Reason]) -> bool
     false
 }
 
-/// Whether an entry grants the request.
+/// Whether the reason is that the entry grants the request.
 fn is_grant(reason: Reason) -> bool
     ensures { result ≡ is_grant reason }
 {

@@ -20,8 +20,9 @@ use std::io::{Read, Write};
 /// The largest number of calls of a writer, in addition to one for each octet.
 const WRITER_ASKS: u64 = 2_097_152;
 
-/// Reads a text, does the command with it, and writes the answer. All that the answer is printed from is
-/// made before its first octet is written, and nothing is allocated after it. The call resets both meters first.
+/// Reads a text, does the command with it, and writes the answer. The status says what the answer is, or that the
+/// reader or the writer failed. All that the answer is printed from is made before its first octet is written, and
+/// nothing is allocated after it. The call resets both meters first.
 pub fn run<R: Read, W: Write>(
     alloc: Global,
     command: Command,
@@ -54,7 +55,8 @@ pub fn run<R: Read, W: Write>(
     }
 }
 
-/// Reads a text, or returns the answer if there is none within the limit or memory ran out. None if the reader failed.
+/// Reads a text to its end. None if the reader failed. Inside, Err is the answer to a text that is too long, or for
+/// which memory ran out.
 fn read_text<R: Read>(alloc: Global, reader: &mut Metered<R>) -> Option<Result<Vec<u8>, Answer>>
     ensures asks { asks_of reader.new ≤ max (asks_of reader.old) 2097152 }
     ensures no_more { (octets : List ℕ) × (length octets ≤ 1048577) × Gives R.remaining reader.old reader.new octets }
@@ -73,7 +75,8 @@ fn read_text<R: Read>(alloc: Global, reader: &mut Metered<R>) -> Option<Result<V
     }
 }
 
-/// Answers what was read, and writes the answer.
+/// Answers the text that `read_text` read, and writes the answer. If `read` is an answer already, writes that one.
+/// `WriteFault` if the writer failed.
 fn send_answer<W: Write>(
     alloc: Global,
     command: Command,
@@ -90,7 +93,7 @@ fn send_answer<W: Write>(
     }
 }
 
-/// Answers a text, and writes the answer.
+/// Answers a text, which may be in any of the three forms, and writes the answer. `WriteFault` if the writer failed.
 fn send_text<W: Write>(
     alloc: Global,
     command: Command,
@@ -106,7 +109,8 @@ fn send_text<W: Write>(
     }
 }
 
-/// Answers a text that was read, and writes the answer.
+/// Answers a command from the source that `read_source` returned for it, and writes the answer. `WriteFault` if the
+/// writer failed.
 fn send_source<W: Write>(
     alloc: Global,
     command: Command,
@@ -123,7 +127,8 @@ fn send_source<W: Write>(
     }
 }
 
-/// Writes a reply. Its octets are counted first, since the largest number of calls of the writer depends on them.
+/// Writes a reply, and returns its status, or `WriteFault`. Its octets are counted first, since the largest number of
+/// calls of the writer depends on them.
 fn send_reply<W: Write>(writer: &mut Metered<W>, reply: &Reply) -> Status
     requires { asks_of writer.old ≡ 0 }
     ensures { Sends W.contents (λ verdict output. ((verdict ≡ reply_verdict reply.now) × (output ≡ printed reply.now))
@@ -135,7 +140,8 @@ fn send_reply<W: Write>(writer: &mut Metered<W>, reply: &Reply) -> Status
     }
 }
 
-/// Writes a reply, page by page. The writer is called until its count `asks` is `most`.
+/// Writes a reply, page by page, and returns its status, or `WriteFault`. Writing fails when the writer's count of
+/// calls, `asks`, is `most`.
 fn send_pages<W: Write>(writer: &mut Metered<W>, reply: &Reply, most: u64) -> Status
     requires unasked { asks_of writer.old ≡ 0 }
     requires most { most ≡ length (printed reply.now) + 2097152 }
@@ -148,7 +154,8 @@ fn send_pages<W: Write>(writer: &mut Metered<W>, reply: &Reply, most: u64) -> St
     Status::from(reply.verdict())
 }
 
-/// Prints a reply to a writer, page by page.
+/// Prints a reply to a writer, page by page, and flushes it. Err if a write or the flush failed. Writing fails when the
+/// writer's count of calls, `asks`, is `most`.
 fn print_pages<W: Write>(
     writer: &mut Metered<W>,
     reply: &Reply,
@@ -165,7 +172,7 @@ fn print_pages<W: Write>(
     sink.end()
 }
 
-/// Writes an answer.
+/// Writes an answer, and returns its status, or `WriteFault` if the writer failed.
 fn send<W: Write>(writer: &mut Metered<W>, answer: &Answer) -> Status
     requires { asks_of writer.old ≡ 0 }
     ensures { Sends W.contents (λ verdict output. (verdict ≡ answer.now.verdict) × (output ≡ output_octets answer.now.output))

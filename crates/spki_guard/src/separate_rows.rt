@@ -32,7 +32,8 @@ pub fn check_accepted(alloc: Global, text: &[u8], rows: &[u8]) -> Answer
     }
 }
 
-/// The answer, unless one of the texts is refused. A case is read directly from its text, if the text is canonical.
+/// The answer of `check_accepted`. Err if one of the texts is refused. If the case's text is canonical, it is not
+/// converted.
 fn checked(alloc: Global, text: &[u8], rows: &[u8]) -> Result<Answer, Refusal>
     ensures answered { IfOk result (λ a. DecidesApart text.now rows.now a.verdict (written_by a)) }
     ensures refused { IfErr result (λ refusal. RefusesApart text.now rows.now refusal) }
@@ -44,7 +45,7 @@ fn checked(alloc: Global, text: &[u8], rows: &[u8]) -> Result<Answer, Refusal>
     }
 }
 
-/// The same, by the canonical form of the case's text, which is made anew.
+/// As `checked`, if the case's text is not canonical: it is converted to canonical form first.
 fn checked_converted(alloc: Global, text: &[u8], rows: &[u8]) -> Result<Answer, Refusal>
     ensures answered { IfOk result (λ a. DecidesApart text.now rows.now a.verdict (written_by a)) }
     ensures refused { IfErr result (λ refusal. RefusesApart text.now rows.now refusal) }
@@ -55,7 +56,8 @@ fn checked_converted(alloc: Global, text: &[u8], rows: &[u8]) -> Result<Answer, 
     decide_by_rows(alloc, &case, rows)
 }
 
-/// Decides a case by the accepted list of a text in any form.
+/// Decides a case by the accepted list in `rows`, a text in any form, and not by its own. Err if `rows` is refused, the
+/// case is too large, or memory ran out.
 fn decide_by_rows(alloc: Global, case: &Case, rows: &[u8]) -> Result<Answer, Refusal>
     ensures answered { IfOk result (λ a. DecidesBy (model case.now) rows.now a.verdict (written_by a)) }
     ensures refused { IfErr result (λ refusal. RefusesBy (model case.now) rows.now refusal) }
@@ -66,7 +68,8 @@ fn decide_by_rows(alloc: Global, case: &Case, rows: &[u8]) -> Result<Answer, Ref
     Ok(decision_line(alloc, decision)?)
 }
 
-/// Returns the canonical form of a text of rows, each of which is an accepted signature. The text may be in any form.
+/// Returns the canonical form of `rows`, a text in any form. Err if it has no value within the limits, or memory ran
+/// out. Whether the value is an accepted list is not tested.
 fn canonical_rows(alloc: Global, rows: &[u8]) -> Result<Vec<u8>, RowsFault>
     ensures read { IfOk result (λ octets. (w : Value) × IsTextWithin rows.now w × (octets.items ≡ canon w)) }
     ensures refused { IfErr result (λ fault. fault ≢ RowsFault.Memory → RefusesRowsForm rows.now fault) }

@@ -37,7 +37,8 @@ pub(crate) enum Source<'a> {
     Converted(Vec<u8>),
 }
 
-/// Reads a text for a command. If the text is canonical, a case is read from it directly.
+/// Reads a text for a command. A case is read from it directly if the text is canonical. Otherwise the text is
+/// converted to the form that the command needs. Err says why the text is refused.
 pub(crate) fn read_source<'a>(
     alloc: Global,
     command: Command,
@@ -55,7 +56,8 @@ pub(crate) fn read_source<'a>(
     Ok(Source::Converted(converted(alloc, command, text)?))
 }
 
-/// The value of a text in the form that the command needs.
+/// Converts a text to the form that the command needs. Err if the text has no value within the limits, or memory ran
+/// out.
 fn converted(alloc: Global, command: Command, text: &[u8]) -> Result<Vec<u8>, Refusal>
     ensures read { IfOk result (λ octets. (v : Value) × IsTextWithin text.now v × (octets.items ≡ written (form_of command) v)) }
     ensures refused { IfErr result (λ refusal. RefusesAnswer command text.now refusal) }
@@ -65,7 +67,7 @@ fn converted(alloc: Global, command: Command, text: &[u8]) -> Result<Vec<u8>, Re
     Ok(octets)
 }
 
-/// The command for a case that a command is. None if it is for any text, or for two tags.
+/// The command as one that reads a case: `reduce`, `check` or `explain`. None for the others.
 fn case_command(command: Command) -> Option<CaseCommand>
     ensures { MatchOption result (IsOnCase command → ⊥) (λ own. command ≡ command_of own) }
 {
@@ -80,7 +82,7 @@ fn case_command(command: Command) -> Option<CaseCommand>
     }
 }
 
-/// Whether a fault says that a text is not in canonical form.
+/// Whether a fault is that of a text that is not canonical, and not that of the case in it.
 fn is_of_form(fault: CaseFault) -> bool
     ensures { IsTrue result ↔ ((form : FormFault) × (fault ≡ CaseFault.Form form)) }
 {
@@ -97,7 +99,8 @@ fn is_of_form(fault: CaseFault) -> bool
     }
 }
 
-/// Reads a case directly from a canonical text. None if the text is not canonical.
+/// Reads a case directly from a canonical text. None if the text is not canonical. Err if the text is canonical and its
+/// case is refused, or memory ran out.
 pub(crate) fn standing_case<'a>(
     alloc: Global,
     text: &'a [u8],
@@ -120,7 +123,7 @@ pub(crate) fn standing_case<'a>(
     }
 }
 
-/// The form in which a command needs a value.
+/// The form in which a command needs a value: advanced for `advanced`, canonical for all others.
 fn form_of(command: Command) -> Form
     ensures { result ≡ form_of command }
 {

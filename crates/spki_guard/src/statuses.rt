@@ -21,7 +21,7 @@ pub enum Status {
 }
 
 impl Status {
-    /// The exit status: 0, 1, 2, and 3 for both faults.
+    /// The exit status of the program: 0 for done, 1 for no, 2 for a refusal, 3 if reading or writing failed.
     pub fn code(self) -> u8
         ensures { result ≡ exit_code self }
     {
@@ -37,6 +37,7 @@ impl Status {
 impl From<Verdict> for Status {
     ghost from_gives = { λ verdict status. status ≡ answer_status verdict };
 
+    /// The status of the same name.
     fn from(verdict: Verdict) -> Status {
         match verdict {
             Verdict::Done => Status::Done,

@@ -34,7 +34,7 @@ pub fn print_tag<S: Sink>(tag: &Tag, sink: &mut S)
     }
 }
 
-/// Prints tags, each with a space before it.
+/// Prints tags in advanced form, each with a space before it.
 #[cycle(print)]
 fn print_each<S: Sink>(members: &[Tag], sink: &mut S)
     ensures { S.takes sink.old (adv_all 1 (tag_values (tags members.now))) sink.new }
@@ -45,7 +45,7 @@ fn print_each<S: Sink>(members: &[Tag], sink: &mut S)
     }
 }
 
-/// Prints `(* prefix P)`.
+/// Prints `(* prefix P)`; `octets` are P.
 fn print_prefix<S: Sink>(octets: &[u8], sink: &mut S)
     ensures { S.takes sink.old (adv (tag_value (prefix octets.now))) sink.new }
 {
@@ -54,7 +54,7 @@ fn print_prefix<S: Sink>(octets: &[u8], sink: &mut S)
     sink.put_octet(b')');
 }
 
-/// Prints `(* range ORDERING LOW UP)`.
+/// Prints `(* range ORDERING LOW UP)`. A limit that is None is left out.
 fn print_range<S: Sink>(
     ordering: RangeOrdering,
     low: Option<TagLimit<'_>>,
@@ -70,7 +70,7 @@ fn print_range<S: Sink>(
     sink.put_octet(b')');
 }
 
-/// The name of an ordering.
+/// The word for an ordering in a range: `alpha`, `time` or `date`.
 fn ordering_name(ordering: RangeOrdering) -> &'static [u8]
     ensures { result.now ≡ ordering_name (ordering_of ordering) }
 {
@@ -81,7 +81,8 @@ fn ordering_name(ordering: RangeOrdering) -> &'static [u8]
     }
 }
 
-/// Prints a limit behind its word, each with a space before it: one word for a strict limit, and another for any other limit.
+/// Prints a space, a word, a space and the limit's octets. The word is `strict` if the limit itself is excluded,
+/// otherwise `inclusive`. For None, prints nothing.
 fn print_limit<S: Sink>(limit: Option<TagLimit<'_>>, strict: &[u8], inclusive: &[u8], sink: &mut S)
     ensures { S.takes sink.old (adv_all 1 (values (limit_values strict.now inclusive.now (limit_shown limit.entry)))) sink.new }
 {
@@ -91,7 +92,7 @@ fn print_limit<S: Sink>(limit: Option<TagLimit<'_>>, strict: &[u8], inclusive: &
     }
 }
 
-/// Prints the word of a limit, with a space before it.
+/// Prints a space, and the word `strict` or `inclusive`, as `is_strict` says.
 fn print_limit_word<S: Sink>(is_strict: bool, strict: &[u8], inclusive: &[u8], sink: &mut S)
     ensures { S.takes sink.old (adv_all 1 (values (plain (if is_strict then strict.now else inclusive.now) ∷ []))) sink.new }
 {
@@ -102,7 +103,7 @@ fn print_limit_word<S: Sink>(is_strict: bool, strict: &[u8], inclusive: &[u8], s
     }
 }
 
-/// Prints a string with a space before it.
+/// Prints a string in advanced form, with a space before it.
 fn print_word<S: Sink>(octets: &[u8], sink: &mut S)
     ensures { S.takes sink.old (adv_all 1 (values (plain octets.now ∷ []))) sink.new }
 {
