@@ -27,17 +27,19 @@ use spki_reduce::{Issuer, Step};
 use std::alloc::{AllocError, Global};
 
 impl<'a> Asked<'a> {
-    /// The signatures that a verifier is asked about, in order (RFC 2693, section 6). They are those of the certificates
-    /// that pass the first three of the four tests of evidence, up to the first that does not. Nothing is copied.
+    /// The signatures that a verifier is asked about, in order (RFC 2693, section 6). They are those of the
+    /// certificates that pass the first three of the four tests of `Stop`, up to the first that does not. Nothing is
+    /// copied.
     pub fn signed(&self) -> &[Signed<'a>]
         ensures { map signed_of result.now ≡ asked self.now.case }
     {
         &self.examined.signed
     }
 
-    /// Decides the question (RFC 2693, section 6). The answer is yes exactly if both of these hold. Every certificate stands,
-    /// with signatures that the verifier accepts. An entry and all certificates, in their order, reduce to an authorization
-    /// that grants the request. The first such entry is named. Otherwise the answer is no.
+    /// Decides the question (RFC 2693, section 6). The answer is yes exactly if both of these hold. Every certificate
+    /// stands: it passes the four tests of `Stop`, and the last is that the verifier accepts its signature. An entry
+    /// and all certificates, in their order, reduce to an authorization that grants the request. The first such entry
+    /// is named. Otherwise the answer is no.
     ///
     /// Only entries whose principal names the first issuer's key are examined, or the client's key if no certificate is shown.
     /// No intersection is formed: the request is looked for in each tag. So no tag is too large, and the time is in proportion
@@ -70,7 +72,7 @@ impl<'a> Asked<'a> {
         }
     }
 
-    /// The decision if every signature is accepted.
+    /// The decision if the verifier accepts every signature. Err if memory ran out.
     pub(crate) fn decided(&self, alloc: Global) -> Result<Decision, AllocError>
         ensures { IfOk result (Decides every self.now) }
     {
@@ -80,7 +82,8 @@ impl<'a> Asked<'a> {
         }
     }
 
-    /// The decision if the certificates give these steps, by the entries that are found.
+    /// The decision if the verifier accepts every signature, for certificates with the tuples `steps`. Only the entries
+    /// that the index finds for the first step's key are read. Err if memory ran out.
     fn granted<'s>(&'s self, alloc: Global, steps: &'s [Step<'a>]) -> Result<Decision, AllocError>
         ensures { (es : List Entry) → AreEntries self.now.texts es
             → IfOk result (DecidesPartly (with_entries self.now.case es) (tuples_of steps.now)) }
@@ -94,9 +97,10 @@ impl<'a> Asked<'a> {
         }
     }
 
-    /// Explains the question, as `spki_decision::explain` explains the case of the question's parts and the guard's list. If
-    /// every certificate stands, with signatures that the verifier accepts, the answer is for each entry why it grants the
-    /// request or does not. Otherwise it is the first certificate that does not stand. All entries are read.
+    /// Explains the question, as `spki_decision::explain` explains the case of the question's parts and the guard's
+    /// list. If every certificate passes the four tests of `Stop`, of which the verifier does the last, the answer is
+    /// for each entry why it grants the request or does not. Otherwise it is the first certificate that fails one. All
+    /// entries are read.
     ///
     /// # Errors
     ///
@@ -118,8 +122,8 @@ impl<'a> Asked<'a> {
         }
     }
 
-    /// Explains the question, if exactly the signatures are accepted that `signed` lists at the places where `verified` is
-    /// true.
+    /// Explains the question, if exactly the signatures are accepted that `signed` lists at the places where `verified`
+    /// is true. Missing places count as false.
     ///
     /// # Errors
     ///
@@ -136,9 +140,10 @@ impl<'a> Asked<'a> {
         }
     }
 
-    /// Reduces the question, as `spki_decision::reduce_case` reduces the case of the question's parts and the guard's list.
-    /// If every certificate stands, with signatures that the verifier accepts, the answer is for each entry what it becomes
-    /// with all certificates. Otherwise it is the first certificate that does not stand. All entries are read.
+    /// Reduces the question, as `spki_decision::reduce_case` reduces the case of the question's parts and the guard's
+    /// list. If every certificate passes the four tests of `Stop`, of which the verifier does the last, the answer is
+    /// for each entry what it becomes with all certificates. Otherwise it is the first certificate that fails one. All
+    /// entries are read.
     ///
     /// # Errors
     ///
@@ -160,8 +165,8 @@ impl<'a> Asked<'a> {
         }
     }
 
-    /// Reduces the question, if exactly the signatures are accepted that `signed` lists at the places where `verified` is
-    /// true.
+    /// Reduces the question, if exactly the signatures are accepted that `signed` lists at the places where `verified`
+    /// is true. Missing places count as false.
     ///
     /// # Errors
     ///
@@ -179,7 +184,7 @@ impl<'a> Asked<'a> {
         }
     }
 
-    /// The explanation if every signature is accepted.
+    /// The explanation if the verifier accepts every signature. Err is `TooLarge` or `Memory`, as for `explain`.
     fn explained(&self, alloc: Global) -> Result<Explanation, GuardFault>
         ensures { Answers (λ c answer. IsExplained c every answer) self.now result }
     {
@@ -198,7 +203,7 @@ impl<'a> Asked<'a> {
         }
     }
 
-    /// The reduction if every signature is accepted.
+    /// The reduction if the verifier accepts every signature. Err is `TooLarge` or `Memory`, as for `reduce`.
     fn reduced(&self, alloc: Global) -> Result<Reduction<'a>, GuardFault>
         ensures reduced { Answers (λ c answer. IsReduced c every answer) self.now result }
         ensures end { IfOk result EndAtDates }
@@ -218,7 +223,8 @@ impl<'a> Asked<'a> {
     }
 }
 
-/// The key that issued the first step, or the client's key if there is no step.
+/// The key that issued the first step, or the client's key `asker` if there is no step. None if the first step is an
+/// authorization by the owner of the access list.
 fn first_key<'s, 'a>(asker: &'s Key<'a>, steps: &'s [Step<'a>]) -> Option<&'s Key<'a>>
     ensures { option_copied result ≡ first_key asker.entry.now (tuples_of steps.entry.now) }
 {

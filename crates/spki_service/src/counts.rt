@@ -70,7 +70,8 @@ fn certificate_in(item: &SeqItem) -> usize
     }
 }
 
-/// Whether the value of a text has more than `most` strings.
+/// Whether the value of a part's text has more than `most` strings. False if the text has no value within the limits.
+/// Err if memory ran out.
 fn has_more_strings(alloc: Global, text: &PartText, most: usize) -> Result<bool, AskFault>
     ensures tells { IfOk result (λ has_more. TellsStringsOf most has_more text.now) }
     ensures only { IfErr result (λ fault. fault ≡ AskFault.Memory) }
@@ -96,7 +97,7 @@ fn is_over(node: &Node, most: usize) -> bool
     }
 }
 
-/// The room that is left after the strings of a value. None if there is too little.
+/// Subtracts the number of strings in a value from `room`. None if the value has more strings than `room`.
 #[cycle(left_of)]
 fn left_of(room: usize, node: &Node) -> Option<usize>
     ensures { MatchOption result (room < strings_in node.now) (λ left. left + strings_in node.now ≡ room) }
@@ -107,7 +108,7 @@ fn left_of(room: usize, node: &Node) -> Option<usize>
     }
 }
 
-/// The room that is left after the strings of all members. None if there is too little.
+/// Subtracts the number of strings in all members of a list from `room`. None if they have more strings than `room`.
 #[cycle(left_of)]
 fn left_of_members(room: usize, members: Members) -> Option<usize>
     ensures { MatchOption result (room < strings_all (values members.entry)) (λ left. left + strings_all (values members.entry) ≡ room) }

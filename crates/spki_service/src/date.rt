@@ -20,13 +20,14 @@ pub(crate) fn date_at(seconds: i64) -> Option<Date>
     Date::of(&octets_of(civil))
 }
 
+/// The same number of seconds, in nanoseconds.
 fn nanoseconds_of(seconds: i64) -> i128
     ensures { result ≡ seconds *ℤ pos 1_000_000_000 }
 {
     seconds as i128 * 1_000_000_000
 }
 
-/// The octets of a date.
+/// The 19 octets of a date, such as `2024-01-01_00:00:00`. The year must not be negative.
 fn octets_of(civil: DateTime) -> [u8; 19]
     requires { pos 0 ≤ℤ civil.date.year }
     ensures { result ≡ date_octets (unsigned_abs civil.date.year) civil.date.month civil.date.day civil.time.hour civil.time.minute civil.time.second }
@@ -58,7 +59,7 @@ fn octets_of(civil: DateTime) -> [u8; 19]
     ]
 }
 
-/// The first of the two digits of a number below 100.
+/// The digit of the tens of a number below 100, as an ASCII octet.
 fn tens(number: u8) -> u8
     requires { number < 100 }
     ensures { result ≡ 48 + number / 10 }
@@ -66,7 +67,7 @@ fn tens(number: u8) -> u8
     b'0' + number / 10
 }
 
-/// The second of them.
+/// The digit of the ones of a number, as an ASCII octet.
 fn ones(number: u8) -> u8
     ensures { result ≡ 48 + number % 10 }
 {

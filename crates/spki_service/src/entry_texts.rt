@@ -12,7 +12,8 @@ use sexpr_core::syntax::{Members, Node};
 use spki_cert::{Entry, entry_of};
 use std::alloc::{AllocError, Global};
 
-/// Returns the canonical texts of the entries of an access list. It has `count` entries.
+/// Returns the canonical texts of the entries of an access list, without a version before them. `count` is the number
+/// of its entries. Err if memory ran out.
 pub(crate) fn entry_texts(
     alloc: Global,
     list: &Node,
@@ -28,7 +29,7 @@ pub(crate) fn entry_texts(
     Ok(last(member_texts(alloc, members)?, count))
 }
 
-/// Returns the last `count` texts, if there is at most one more.
+/// Returns the last `count` texts. There must be `count` texts, or one more.
 fn last(texts: Vec<Vec<u8>>, count: usize) -> Vec<Vec<u8>>
     ensures all { length texts.items ≡ count → result.items ≡ texts.items }
     ensures behind { length texts.items ≡ 1 + count → result.items ≡ drop 1 texts.items }
@@ -40,7 +41,7 @@ fn last(texts: Vec<Vec<u8>>, count: usize) -> Vec<Vec<u8>>
     texts
 }
 
-/// Returns the canonical texts of the members of a list.
+/// Returns the canonical texts of the members of a list, in order. Err if memory ran out.
 fn member_texts(alloc: Global, members: Members<'_, '_>) -> Result<Vec<Vec<u8>>, AllocError>
     ensures { IfOk result (λ texts. octets_of_texts texts.items ≡ map canon members.entry) }
 {
@@ -53,7 +54,7 @@ fn member_texts(alloc: Global, members: Members<'_, '_>) -> Result<Vec<Vec<u8>>,
     Ok(texts)
 }
 
-/// Reads the entry of a canonical text.
+/// Reads an entry from its canonical text. The text must be that of an entry.
 ///
 /// # Errors
 ///
@@ -71,7 +72,7 @@ pub(crate) fn entry_in<'a>(alloc: Global, text: &'a [u8]) -> Result<Entry<'a>, A
     }
 }
 
-/// Reads the entries with these numbers, counted from 1.
+/// Reads the entries with these numbers, counted from 1. `texts` are the canonical texts of all entries.
 ///
 /// # Errors
 ///
@@ -92,7 +93,7 @@ pub(crate) fn entries_at<'a>(
     Ok(picked)
 }
 
-/// Reads all entries.
+/// Reads all entries from their canonical texts, in order.
 ///
 /// # Errors
 ///

@@ -92,7 +92,7 @@ impl Guard {
         }
     }
 
-    /// The number of entries of the list.
+    /// The number of entries of the access list.
     pub fn entries(&self) -> usize
         ensures { result ≡ length self.now.texts }
     {
@@ -158,7 +158,8 @@ impl Guard {
         })
     }
 
-    /// The numbers, ascending, of the entries whose principal names the key. None are returned if there is no key.
+    /// The numbers, ascending and counted from 1, of the entries whose principal names the key. Empty if `key` is None.
+    /// Err if memory ran out.
     pub(crate) fn numbers_of(
         &self,
         alloc: Global,
@@ -173,7 +174,8 @@ impl Guard {
         }
     }
 
-    /// Reads an access list in any of the three forms by its canonical form, which is made anew.
+    /// Makes a guard from an access list in any of the three forms, which is converted to canonical form first. The
+    /// faults are those of `read`.
     fn of_converted(
         alloc: Global,
         list: &[u8],
@@ -191,7 +193,7 @@ impl Guard {
         }
     }
 
-    /// Reads an access list in canonical form.
+    /// Makes a guard from the canonical text of an access list. The faults are those of `read`.
     fn of_text(
         alloc: Global,
         octets: &[u8],
@@ -211,7 +213,7 @@ impl Guard {
         }
     }
 
-    /// Reads the access list of a node.
+    /// Makes a guard from the node of an access list. Err is `Acl` if the node is no access list, or `Memory`.
     fn of(alloc: Global, list: &Node, policy: Policy, limits: Limits) -> Result<Guard, AclFault>
         ensures list { IfOk result (λ g. HoldsValue list.now g.texts) }
         ensures given { IfOk result (λ g. (g.policy ≡ policy) × HasLimits g limits) }
@@ -233,6 +235,7 @@ impl Guard {
     }
 }
 
+/// The fault of an access list: `Acl` with this fault, or `Memory` if memory ran out.
 fn fault_of_acl(fault: CertFault) -> AclFault
     ensures { IsOuter (fault.kind ≡ CertFaultKind.Memory) AclFault.Memory (AclFault.Acl fault) result }
 {

@@ -80,7 +80,7 @@ impl EntryIndex {
         joined(alloc, second, self.admitted(HashAlg::Sha512, key, policy))
     }
 
-    /// Adds the number of one more entry, whose subject has this principal.
+    /// Adds to the index that the entry with this number, counted from 1, has this principal. Err if memory ran out.
     fn add(&mut self, alloc: Global, principal: &Principal, number: usize) -> Result<(), AllocError>
         ensures keys { OnOk result ((octets : List ℕ) → numbers_of_key self.new octets
             ≡ (if is_key octets principal.now then numbers_of_key self.old octets ++ number ∷ []
@@ -105,8 +105,8 @@ impl EntryIndex {
         }
     }
 
-    /// The numbers of the entries whose principal is the key's hash by the algorithm. None are returned if such a hash names
-    /// no key under the policy.
+    /// The numbers of the entries whose principal is the key's hash by the algorithm. Empty if the policy lets no such
+    /// hash name a key.
     fn admitted(&self, alg: HashAlg, key: &Key, policy: Policy) -> &[usize]
         ensures { result.now ≡ (if admits policy alg then numbers_at (by_algorithm self.now alg) (digest_of alg key.now) else []) }
     {
@@ -148,7 +148,7 @@ impl EntryIndex {
     }
 }
 
-/// The octets from the last to the first.
+/// Returns a copy of the octets, from the last to the first. Err if memory ran out.
 fn reversed(alloc: Global, octets: &[u8]) -> Result<Vec<u8>, AllocError>
     ensures { IfOk result (λ turned. turned.items ≡ reverse octets.now) }
 {
@@ -157,7 +157,7 @@ fn reversed(alloc: Global, octets: &[u8]) -> Result<Vec<u8>, AllocError>
     Ok(turned)
 }
 
-/// Appends a number to those at the octets.
+/// Appends `number` to the list that the map has for `octets`, or begins such a list. Err if memory ran out.
 fn add_number(
     numbers: &mut Numbers,
     alloc: Global,
@@ -174,7 +174,7 @@ fn add_number(
     Ok(())
 }
 
-/// The numbers at the octets, if there are any.
+/// The list that the map has for `octets`. Empty if it has none.
 fn numbers_at<'i>(numbers: &'i Numbers, octets: &[u8]) -> &'i [usize]
     ensures { result.now ≡ numbers_at numbers.now octets.now }
 {
@@ -184,7 +184,8 @@ fn numbers_at<'i>(numbers: &'i Numbers, octets: &[u8]) -> &'i [usize]
     }
 }
 
-/// Merges two ascending lists. If one is empty, the other is kept or copied without comparisons.
+/// Merges two ascending lists into one. If one is empty, the other is kept or copied without comparisons. Err if memory
+/// ran out.
 fn joined(alloc: Global, own: Vec<usize>, more: &[usize]) -> Result<Vec<usize>, AllocError>
     ensures { IfOk result (λ numbers. numbers.items ≡ merge own.items more.now) }
 {

@@ -72,6 +72,7 @@ impl Default for Limits {
     ghost is_default = { λ limits. (limits.octets ≡ 65536) × (limits.certificates ≡ 16) × (limits.words ≡ 64)
         × (limits.nodes ≡ 1000000) × (limits.work ≡ 100000) × (limits.answer ≡ 1048576) };
 
+    /// The limits that a guard has if the service sets none.
     fn default() -> Limits {
         Limits {
             octets: 65_536,

@@ -26,6 +26,7 @@ impl From<AllocError> for AclFault {
 
     ghost from_gives = { λ _ fault. fault ≡ Memory };
 
+    /// An allocation that failed is the fault `Memory`.
     fn from(_error: AllocError) -> AclFault {
         AclFault::Memory
     }

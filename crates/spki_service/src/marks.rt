@@ -8,8 +8,8 @@ ghost use Rattle.spki_service.specs.Marks.{AskSame};
 
 use spki_decision::Signed;
 
-/// The place, from 0, of the first signature without a true mark. None if there is none. A mark is for the signature at its
-/// place, and for each signature with the same key, message and value.
+/// The place, from 0, of the first signature without a true mark. None if every signature has one. A mark is for the
+/// signature at its place, and for each signature with the same key, message and value.
 pub(crate) fn first_unmarked(signed: &[Signed], marks: &[bool]) -> Option<usize>
     ensures { IsFirstRefused (MarksAccept (map signed_of signed.now) marks.now) (map signed_of signed.now) result }
 {
@@ -21,7 +21,7 @@ pub(crate) fn first_unmarked(signed: &[Signed], marks: &[bool]) -> Option<usize>
     None
 }
 
-/// Whether the mark at a place is true. Missing marks count as false.
+/// Whether the mark at a place, counted from 0, is true. Missing marks count as false.
 pub(crate) fn is_true_at(marks: &[bool], place: usize) -> bool
     ensures { IsTrue result ↔ (slice_get marks.now place ≡ Some true) }
 {

@@ -17,7 +17,7 @@ pub(crate) fn octets_within(question: &Question, most_octets: usize) -> Option<u
     Some(most_octets - left)
 }
 
-/// The room that is left after a moment. None if there is too little.
+/// Subtracts the octets of a moment from `room`; seconds count as 22 octets. None if it has more octets than `room`.
 fn left_of_moment(room: usize, moment: &Moment) -> Option<usize>
     ensures { MatchOption result (room < moment_octets moment.now) (λ left. left + moment_octets moment.now ≡ room) }
 {
@@ -27,14 +27,15 @@ fn left_of_moment(room: usize, moment: &Moment) -> Option<usize>
     }
 }
 
-/// The room that is left after these octets. None if there is too little.
+/// Subtracts `octets` from `room`, both as numbers of octets. None if `room` is less.
 fn left_of(room: usize, octets: usize) -> Option<usize>
     ensures { MatchOption result (room < octets) (λ left. left + octets ≡ room) }
 {
     room.checked_sub(octets)
 }
 
-/// The room that is left after a request. None if there is too little.
+/// Subtracts the octets of a request from `room`. None if it has more octets than `room`. Strings count as their
+/// canonical text.
 fn left_of_wanted(room: usize, wanted: &RequestInput) -> Option<usize>
     ensures { MatchOption result (room < wanted_octets wanted.now) (λ left. left + wanted_octets wanted.now ≡ room) }
 {
@@ -44,7 +45,8 @@ fn left_of_wanted(room: usize, wanted: &RequestInput) -> Option<usize>
     }
 }
 
-/// The room that is left after the canonical text of strings. None if there is too little.
+/// Subtracts the octets of the canonical text of a request's strings from `room`. None if it has more octets than
+/// `room`.
 fn left_of_words(room: usize, words: &[&[u8]]) -> Option<usize>
     ensures { MatchOption result (room < length (canon (words_value (map (λ w. w.now) words.now))))
         (λ left. left + length (canon (words_value (map (λ w. w.now) words.now))) ≡ room) }
@@ -59,7 +61,8 @@ fn left_of_words(room: usize, words: &[&[u8]]) -> Option<usize>
     Some(left)
 }
 
-/// The room that is left after the verbatim form of a string. None if there is too little.
+/// Subtracts the octets of a string's canonical form, such as `3:abc`, from `room`. None if it has more octets than
+/// `room`.
 fn left_of_string(room: usize, octets: &[u8]) -> Option<usize>
     ensures { MatchOption result (room < length (verbatim octets.now)) (λ left. left + length (verbatim octets.now) ≡ room) }
 {

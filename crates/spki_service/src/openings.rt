@@ -29,7 +29,8 @@ struct Kept {
 }
 
 impl Opened {
-    /// Reads a question for a guard, as `Guard::ask`, and keeps what it needs.
+    /// Reads a question for a guard, as `Guard::ask`. The result owns all that it needs, so the question's texts may
+    /// change.
     ///
     /// # Errors
     ///
@@ -52,7 +53,7 @@ impl Opened {
         })
     }
 
-    /// The signatures that a verifier is asked about: those of `Asked::signed`.
+    /// The signatures that a verifier is asked about, in order: copies of those of `Asked::signed`.
     pub fn signed(&self) -> &[OwnedSigned]
         ensures { result.now ≡ self.now.signed.items }
     {
@@ -71,7 +72,7 @@ impl Opened {
         }
     }
 
-    /// Reads the question again, from its own texts.
+    /// Reads the question again, from the texts that it owns.
     ///
     /// # Errors
     ///
@@ -88,7 +89,8 @@ impl Opened {
     }
 }
 
-/// Reads a question from its texts, and returns what is kept of it.
+/// Reads a question from its texts. Returns copies of its signatures, and the decision if the verifier accepts all of
+/// them. Its errors are those of `Guard::ask`.
 fn kept_of(alloc: Global, guard: &Guard, texts: &Texts) -> Result<Kept, AskFault>
     ensures kept { IfOk result (λ kept. IsKeptOf guard.now texts.now kept.signed.items kept.decision) }
     ensures too_long { (q : Question) → IsTextsOf q texts.now

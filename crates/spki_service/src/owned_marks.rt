@@ -7,7 +7,8 @@ ghost use Rattle.spki_service.specs.Asking.{MarksAccept};
 use crate::marks::is_true_at;
 use crate::owned_signed::OwnedSigned;
 
-/// As `marks::first_unmarked`.
+/// The place, from 0, of the first signature without a true mark, as for `marks::first_unmarked`. None if every
+/// signature has one.
 pub(crate) fn first_unmarked(signed: &[OwnedSigned], marks: &[bool]) -> Option<usize>
     ensures { IsFirstRefused (MarksAccept signed.now marks.now) signed.now result }
 {

@@ -66,7 +66,8 @@ impl OwnedSigned {
     }
 }
 
-/// Returns the same signatures with texts of their own. For n signatures by k keys this takes n searches of at most log k + 1 steps.
+/// Returns copies of the signatures, which borrow nothing. For n signatures by k keys this takes n searches of at most
+/// log k + 1 steps.
 ///
 /// # Errors
 ///
@@ -83,7 +84,7 @@ pub(crate) fn owned_signed(alloc: Global, signed: &[Signed]) -> Result<Vec<Owned
     Ok(owned)
 }
 
-/// Returns a signature with texts of its own, and with this key.
+/// Returns a copy of a signature. `key` has the octets of its key, and is not copied. Err if memory ran out.
 fn owned_one(alloc: Global, one: &Signed, key: Arc<Vec<u8>>) -> Result<OwnedSigned, AllocError>
     requires { key.value.items ≡ one.now.key }
     ensures { IfOk result (λ owned. owned ≡ signed_of one.now) }
@@ -96,8 +97,9 @@ fn owned_one(alloc: Global, one: &Signed, key: Arc<Vec<u8>>) -> Result<OwnedSign
     })
 }
 
-/// Returns the octets of a key: those of a signature that has the same key, or otherwise a copy. `order` has for each key the number of
-/// the first signature that has it, by the keys' octets. A new key is added, with the number of the next signature.
+/// Returns the octets of a key: those that a signature of `owned` has already, or otherwise a copy. `order` lists for
+/// each key the place in `owned` of the first signature by it, sorted by the keys' octets. The place of a new key is
+/// added. Err if memory ran out.
 fn shared_key(
     alloc: Global,
     owned: &[OwnedSigned],
@@ -116,7 +118,8 @@ fn shared_key(
     }
 }
 
-/// The key with these octets, if a signature has it. Otherwise the place in the order where it would be.
+/// The key with these octets, if a signature of `owned` has it. Err is the place in `order` where it would be. `order`
+/// is as for `shared_key`.
 fn found_key<'o>(
     owned: &'o [OwnedSigned],
     order: &[usize],
@@ -144,7 +147,8 @@ fn found_key<'o>(
     Err(low)
 }
 
-/// Whether octets are before others. Long equal beginnings are passed over by equality, which takes a tenth of the time of an order.
+/// Whether `one` is before `other` in the order of their octets. Long equal beginnings are skipped by a test for
+/// equality, which takes a tenth of the time of a comparison by order.
 fn is_before(one: &[u8], other: &[u8]) -> bool {
     let shorter = one.len().min(other.len());
     let mut at = 0;
@@ -154,7 +158,7 @@ fn is_before(one: &[u8], other: &[u8]) -> bool {
     one[at..] < other[at..]
 }
 
-/// Returns a copy of the octets of a key.
+/// Returns a copy of the octets of a key, which several signatures can own. Err if memory ran out.
 fn new_key(alloc: Global, octets: &[u8]) -> Result<Arc<Vec<u8>>, AllocError>
     ensures { IfOk result (λ shared. shared.value.items ≡ octets.now) }
 {

@@ -33,7 +33,7 @@ impl Texts<'_> {
 }
 
 impl PartText<'_> {
-    /// Returns the same text in memory of its own.
+    /// Returns the same text in memory of its own. A text that was made is not copied. Err if memory ran out.
     fn into_owned(self, alloc: Global) -> Result<PartText<'static>, AllocError>
         ensures { IfOk result (IsCopyOf self.entry) }
     {
@@ -49,7 +49,7 @@ impl PartText<'_> {
 }
 
 impl MomentText<'_> {
-    /// Returns the same text in memory of its own, or the same date.
+    /// Returns the same text in memory of its own, or the same date. Err if memory ran out.
     fn into_owned(self, alloc: Global) -> Result<MomentText<'static>, AllocError>
         ensures { IfOk result (IsMomentCopy self.entry) }
     {

@@ -63,7 +63,8 @@ pub(crate) fn case_of<'a>(
     )?)
 }
 
-/// Opens the document of a canonical text that was made.
+/// Opens the document of a canonical text that was made for `part`. Err names `part` if the text has no value within
+/// the limits, or is `Memory`.
 fn made_document<'a>(alloc: Global, part: Part, octets: &'a [u8]) -> Result<Doc<'a>, AskFault>
     ensures read { IfOk result (λ document. octets.entry.now ≡ canon document) }
     ensures refused { IfErr result (λ fault. fault ≢ AskFault.Memory → (form : FormFault) × (fault ≡ AskFault.Form part form)
@@ -76,7 +77,8 @@ fn made_document<'a>(alloc: Global, part: Part, octets: &'a [u8]) -> Result<Doc<
     }
 }
 
-/// Reads the sequence of a text.
+/// Reads the sequence from the text of that part. Err is `Form` if the text has no value within the limits, `Sequence`
+/// if the value is no sequence, or `Memory`.
 fn sequence_in<'a>(alloc: Global, text: &'a PartText<'_>) -> Result<Vec<SeqItem<'a>>, AskFault>
     ensures read { IfOk result (λ items. OfText text.entry.now (λ v. SeqOf v items.items)) }
     ensures signed { IfOk result (λ items. AreSigned items.items) }
@@ -95,7 +97,8 @@ fn sequence_in<'a>(alloc: Global, text: &'a PartText<'_>) -> Result<Vec<SeqItem<
     }
 }
 
-/// Reads the key of a text.
+/// Reads the client's key from the text of that part. Err is `Form` if the text has no value within the limits, `Key`
+/// if the value is no key, or `Memory`.
 fn key_in<'a>(alloc: Global, text: &'a PartText<'_>) -> Result<Key<'a>, AskFault>
     ensures read { IfOk result (λ key. OfText text.entry.now (λ v. KeyOf v key)) }
     ensures refused { IfErr result (λ fault. fault ≢ AskFault.Memory → NamesPart Part.Key NamesKey text.entry.now fault) }
@@ -113,7 +116,8 @@ fn key_in<'a>(alloc: Global, text: &'a PartText<'_>) -> Result<Key<'a>, AskFault
     }
 }
 
-/// Reads the request of a text.
+/// Reads the request from the text of that part. Err is `Form` if the text has no value within the limits, `Request` if
+/// the value is no request, or `Memory`.
 fn request_in(alloc: Global, text: &PartText) -> Result<Ground, AskFault>
     ensures read { IfOk result (λ request. OfText text.now (λ v. RequestOf v request)) }
     ensures refused { IfErr result (λ fault. fault ≢ AskFault.Memory → NamesPart Part.Request NamesRequest text.now fault) }
@@ -131,7 +135,8 @@ fn request_in(alloc: Global, text: &PartText) -> Result<Ground, AskFault>
     }
 }
 
-/// Reads the date of a moment's text.
+/// Reads the date from the text of the moment. Err is `Form` if the text has no value within the limits, `Moment` if
+/// the value is no date, or `Memory`.
 fn date_in(alloc: Global, text: &PartText) -> Result<Date, AskFault>
     ensures read { IfOk result (λ date. OfText text.now (λ v. DateOf v date)) }
     ensures refused { IfErr result (λ fault. fault ≢ AskFault.Memory → NamesPart Part.Moment NamesMoment text.now fault) }
@@ -149,7 +154,8 @@ fn date_in(alloc: Global, text: &PartText) -> Result<Date, AskFault>
     }
 }
 
-/// Reads the date of a moment.
+/// The date of a moment that was given as a text or as seconds. Err is a fault of the text, `Moment(BadDate)` if the
+/// seconds have no date, or `Memory`.
 fn moment_in(alloc: Global, text: &MomentText) -> Result<Date, AskFault>
     ensures read { IfOk result (λ date. HasDate text.now date) }
     ensures refused { IfErr result (λ fault. fault ≢ AskFault.Memory → NamesDate text.now fault) }
@@ -161,7 +167,7 @@ fn moment_in(alloc: Global, text: &MomentText) -> Result<Date, AskFault>
     }
 }
 
-/// Reads the sequence of a node.
+/// Reads a sequence from its node. Err is `Sequence` with the first fault, or `Memory`.
 fn sequence_at<'a>(alloc: Global, node: &Node<'_, 'a>) -> Result<Vec<SeqItem<'a>>, AskFault>
     ensures read { IfOk result (λ items. SeqOf node.now items.items) }
     ensures signed { IfOk result (λ items. AreSigned items.items) }
@@ -173,6 +179,7 @@ fn sequence_at<'a>(alloc: Global, node: &Node<'_, 'a>) -> Result<Vec<SeqItem<'a>
     }
 }
 
+/// The fault of a question: `Sequence` with this fault, or `Memory` if memory ran out.
 fn fault_of_sequence(fault: CertFault) -> AskFault
     ensures { IsOuter (fault.kind ≡ CertFaultKind.Memory) AskFault.Memory (AskFault.Sequence fault) result }
 {
@@ -182,7 +189,7 @@ fn fault_of_sequence(fault: CertFault) -> AskFault
     }
 }
 
-/// Reads the key of a node.
+/// Reads the client's key from its node. Err is `Key` with the fault.
 fn key_at<'a>(node: &Node<'_, 'a>) -> Result<Key<'a>, AskFault>
     ensures read { IfOk result (λ key. KeyOf node.now key) }
     ensures refused { IfErr result (λ fault. fault ≢ AskFault.Memory → NamesKey fault node.now) }
@@ -193,7 +200,7 @@ fn key_at<'a>(node: &Node<'_, 'a>) -> Result<Key<'a>, AskFault>
     }
 }
 
-/// Reads the request of a node.
+/// Reads a request from its node. Err is `Request` with the fault, or `Memory`.
 fn request_at(alloc: Global, node: &Node) -> Result<Ground, AskFault>
     ensures read { IfOk result (λ request. RequestOf node.now request) }
     ensures refused { IfErr result (λ fault. fault ≢ AskFault.Memory → NamesRequest fault node.now) }
@@ -204,6 +211,7 @@ fn request_at(alloc: Global, node: &Node) -> Result<Ground, AskFault>
     }
 }
 
+/// The fault of a question: `Request` with this fault, or `Memory` if memory ran out.
 fn fault_of_request(fault: TagFault) -> AskFault
     ensures { IsOuter (fault ≡ TagFault.Memory) AskFault.Memory (AskFault.Request fault) result }
 {
@@ -213,7 +221,7 @@ fn fault_of_request(fault: TagFault) -> AskFault
     }
 }
 
-/// Reads the date of a node.
+/// Reads a date from its node. Err is `Moment` with the fault.
 fn date_of_node(node: &Node) -> Result<Date, AskFault>
     ensures read { IfOk result (λ date. DateOf node.now date) }
     ensures refused { IfErr result (λ fault. fault ≢ AskFault.Memory → NamesMoment fault node.now) }

@@ -101,6 +101,7 @@ pub enum AskFault {
 impl From<AllocError> for AskFault {
     ghost from_gives = { λ _ fault. fault ≡ Memory };
 
+    /// An allocation that failed is the fault `Memory`.
     fn from(_error: AllocError) -> AskFault {
         AskFault::Memory
     }
@@ -109,6 +110,7 @@ impl From<AllocError> for AskFault {
 impl<T: Drop> From<AllocFailed<T>> for AskFault {
     ghost from_gives = { λ _ fault. fault ≡ Memory };
 
+    /// An allocation that failed is the fault `Memory`.
     fn from(_error: AllocFailed<T>) -> AskFault {
         AskFault::Memory
     }

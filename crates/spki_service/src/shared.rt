@@ -50,7 +50,7 @@ impl SharedGuard {
         Ok(SharedGuard { guard })
     }
 
-    /// The guard.
+    /// The guard that the owners share.
     pub fn guard(&self) -> &Guard
         ensures { result.now ≡ self.now }
     {

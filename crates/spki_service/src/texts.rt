@@ -77,7 +77,8 @@ pub(crate) fn texts_of<'q>(
     })
 }
 
-/// Returns the canonical text of a part's text.
+/// Returns the canonical text of a part's text, or `Malformed` if that has no value within the limits. Err only if
+/// memory ran out.
 fn part_text<'q>(alloc: Global, text: &'q [u8]) -> Result<PartText<'q>, AskFault>
     ensures read { IfOk result (IsReadAs (IsTextWithin text.entry.now) (RefusesForm text.entry.now)) }
     ensures only { IfErr result (λ fault. fault ≡ AskFault.Memory) }
@@ -89,7 +90,8 @@ fn part_text<'q>(alloc: Global, text: &'q [u8]) -> Result<PartText<'q>, AskFault
     }
 }
 
-/// Returns the canonical text of a text in any of the three forms, in new memory.
+/// Converts a text in any of the three forms to canonical form, in new memory. Returns `Malformed` if the text has no
+/// value within the limits. Err only if memory ran out.
 fn converted_text(alloc: Global, text: &[u8]) -> Result<PartText<'static>, AskFault>
     ensures read { IfOk result (IsReadAs (IsTextWithin text.now) (RefusesForm text.now)) }
     ensures only { IfErr result (λ fault. fault ≡ AskFault.Memory) }
@@ -101,7 +103,7 @@ fn converted_text(alloc: Global, text: &[u8]) -> Result<PartText<'static>, AskFa
     }
 }
 
-/// Returns a canonical text that was made, unless it is too long.
+/// Returns a canonical text that was made, or `Malformed` if it has more than 1,048,576 octets.
 fn made_text(octets: Vec<u8>) -> PartText<'static>
     ensures { IsMade octets.items result }
 {
@@ -112,7 +114,8 @@ fn made_text(octets: Vec<u8>) -> PartText<'static>
     }
 }
 
-/// Returns the canonical text of a request.
+/// Returns the canonical text of a request, or `Malformed` if it has no value within the limits. Err only if memory ran
+/// out.
 fn wanted_text<'q>(alloc: Global, wanted: &RequestInput<'q>) -> Result<PartText<'q>, AskFault>
     ensures read { IfOk result (IsReadAs (IsWanted wanted.now) (RefusesWanted wanted.now)) }
     ensures only { IfErr result (λ fault. fault ≡ AskFault.Memory) }
@@ -123,7 +126,8 @@ fn wanted_text<'q>(alloc: Global, wanted: &RequestInput<'q>) -> Result<PartText<
     }
 }
 
-/// Returns the text of a moment, or its date.
+/// Returns the canonical text of a moment that is a text, or the date of one that is seconds. Err only if memory ran
+/// out.
 fn moment_text<'q>(alloc: Global, moment: &Moment<'q>) -> Result<MomentText<'q>, AskFault>
     ensures read { IfOk result (IsMomentText moment.now) }
     ensures only { IfErr result (λ fault. fault ≡ AskFault.Memory) }
@@ -134,7 +138,7 @@ fn moment_text<'q>(alloc: Global, moment: &Moment<'q>) -> Result<MomentText<'q>,
     }
 }
 
-/// Returns the date of seconds.
+/// Returns the date of seconds since 1970-01-01 00:00:00 UTC, or `Dateless` if its year is not from 0 to 9999.
 fn seconds_text(seconds: &i64) -> MomentText<'static>
     ensures { IsMomentText (Moment.Seconds seconds.now) result }
 {
