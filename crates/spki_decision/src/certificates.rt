@@ -33,7 +33,7 @@ pub struct ShownCert<'s, 'a> {
 }
 
 impl<'s, 'a> Certificate<'s, 'a> {
-    /// Its issuer.
+    /// The principal that issued the certificate.
     pub fn issuer(&self) -> Principal<'a>
         ensures { result ≡ issuer_of (certificate_of self.now) }
     {
@@ -43,7 +43,7 @@ impl<'s, 'a> Certificate<'s, 'a> {
         }
     }
 
-    /// Its canonical octets.
+    /// The certificate's canonical octets: what is digested and signed.
     pub fn octets(&self) -> &'a [u8]
         ensures { result.now ≡ octets_of (certificate_of self.now) }
     {
@@ -53,8 +53,8 @@ impl<'s, 'a> Certificate<'s, 'a> {
         }
     }
 
-    /// Its tuple with this key as the issuer: a 5-tuple or a 4-tuple (RFC 2693, sections 6.1 and 6.2). Whether the certificate's issuer
-    /// names the key is not tested.
+    /// The certificate's tuple with `holder` as the issuer: a 5-tuple or a 4-tuple (RFC 2693, sections 6.1 and 6.2).
+    /// Whether the certificate's issuer names this key is not tested. Err if memory ran out.
     pub fn step(&self, holder: &Key<'a>) -> Result<Step<'a>, AllocError>
         ensures { IfOk result (λ step. step_tuple step ≡ tuple_of holder.now (certificate_of self.now)) }
     {
@@ -65,7 +65,7 @@ impl<'s, 'a> Certificate<'s, 'a> {
     }
 }
 
-/// An authorization certificate's 5-tuple.
+/// An authorization certificate's 5-tuple, with `holder` as the issuer. Err if memory ran out.
 fn five_of<'a>(cert: &AuthCert<'a>, holder: &Key<'a>) -> Result<Five<'a>, AllocError>
     ensures { IfOk result (λ f. five_tuple f ≡ auth_tuple holder.now cert.now) }
 {
@@ -78,7 +78,7 @@ fn five_of<'a>(cert: &AuthCert<'a>, holder: &Key<'a>) -> Result<Five<'a>, AllocE
     })
 }
 
-/// A name certificate's 4-tuple.
+/// A name certificate's 4-tuple, which defines the name in the name space of `holder`. Err if memory ran out.
 fn four_of<'a>(cert: &NameCert<'a>, holder: &Key<'a>) -> Result<Four<'a>, AllocError>
     ensures { IfOk result (λ f. four_tuple f ≡ name_tuple holder.now cert.now) }
 {
@@ -116,7 +116,8 @@ fn signature_of<'s, 'a>(item: &'s SeqItem<'a>) -> Option<&'s Signature<'a>>
     }
 }
 
-/// The signature of a certificate that comes before these items.
+/// The signature of a certificate. `items` are those after the certificate: the first that is no operation must be the
+/// signature, otherwise the result is None.
 fn signature_in<'s, 'a>(items: &'s [SeqItem<'a>]) -> Option<&'s Signature<'a>>
     ensures { option_copied result ≡ signature_in items.entry.now }
 {
@@ -128,7 +129,7 @@ fn signature_in<'s, 'a>(items: &'s [SeqItem<'a>]) -> Option<&'s Signature<'a>>
     None
 }
 
-/// The certificate of an item.
+/// The item as a certificate. None if it is a key, an operation or a signature.
 fn certificate_in<'s, 'a>(item: &'s SeqItem<'a>) -> Option<Certificate<'s, 'a>>
     ensures { MatchOption result (IsOther item.entry.now) (λ cert. IsItem item.entry.now (certificate_of cert)) }
 {
@@ -141,7 +142,8 @@ fn certificate_in<'s, 'a>(item: &'s SeqItem<'a>) -> Option<Certificate<'s, 'a>>
     }
 }
 
-/// Appends an item with this number to the certificates, if it is one. The items of `behind` follow it.
+/// Appends an item to the certificates, if it is one. `number` is its number in the sequence, from 1, and the items of
+/// `behind` follow it. Err if memory ran out.
 fn push_certificate<'s, 'a>(
     shown: &mut Vec<ShownCert<'s, 'a>>,
     number: usize,
@@ -162,7 +164,7 @@ fn push_certificate<'s, 'a>(
     Ok(())
 }
 
-/// Returns the certificates of a sequence, in order.
+/// Returns the certificates of a sequence, in order, each with its number and its signature. Err if memory ran out.
 pub fn certificates_of<'s, 'a>(
     alloc: Global,
     sequence: &'s [SeqItem<'a>],

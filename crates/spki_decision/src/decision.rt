@@ -30,9 +30,9 @@ pub enum Decision {
     No,
 }
 
-/// Decides a case (RFC 2693, section 6). The answer is yes exactly if every certificate of its sequence stands, with
-/// signatures that the verifier accepts, and an entry and all certificates, in their order, reduce to an authorization that
-/// grants the request.
+/// Decides a case (RFC 2693, section 6). The answer is yes exactly if every certificate of its sequence stands, and an
+/// entry and all certificates, in their order, reduce to an authorization that grants the request. A certificate stands
+/// if it passes the four tests of `Stop`; the last is that the verifier accepts its signature.
 ///
 /// # Errors
 ///
@@ -51,9 +51,9 @@ pub fn decide<V: Verifier>(alloc: Global, case: &Case, verifier: &V) -> Result<D
     }
 }
 
-/// Returns the first entry of an access list that grants the request of a case, if the certificates give these steps. The
-/// case's own access list is not examined. No intersection is formed, and the case's limit of nodes does not matter. This takes time in
-/// proportion to the steps and the entries.
+/// Returns the first entry of an access list, from 1, that grants the request of a case together with the certificates
+/// whose tuples are `steps`. `No` if there is none. The case's own access list is not examined. No intersection is
+/// formed, and the case's limit of nodes does not matter. This takes time in proportion to the steps and the entries.
 ///
 /// # Errors
 ///
@@ -75,7 +75,9 @@ pub fn first_granted<'a>(
     Ok(Decision::No)
 }
 
-/// The first entry of a case's access list that grants the request, if no step is too large for it or for an entry before it.
+/// The first entry, from 1, of a case's access list that grants the request, together with certificates whose tuples
+/// are `steps`. `No` if there is none. Each entry up to it is tested for tags that are too large, and no later entry is
+/// examined.
 ///
 /// # Errors
 ///
@@ -100,8 +102,8 @@ fn first_within_limit<'a>(
     Ok(Decision::No)
 }
 
-/// Refuses an entry if some step is too large for it. If the numbers of nodes do not show that none is, the entry and the steps are
-/// folded.
+/// Tests that no step's tag is too large to be intersected after this entry. If the numbers of nodes in `sizes` do not
+/// show it, the entry and the steps are folded. Err is `TooLarge` if a tag is too large, or `Memory`.
 fn require_small<'a>(
     alloc: Global,
     entry: &Entry<'a>,

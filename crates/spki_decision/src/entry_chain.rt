@@ -10,8 +10,9 @@ use spki_cert::{Entry, Policy};
 use spki_reduce::{Five, Fold, Issuer, ReduceFault, Step, Work, fold_owned};
 use std::alloc::{AllocError, Global};
 
-/// Joins an entry's 5-tuple and the steps after it, one after another, with `most` as the limit of an intersection. Their work is taken
-/// from `work`.
+/// Joins an entry's 5-tuple with the steps after it, one after another. `most` is the greatest product of the nodes of
+/// two tags that are intersected. Each such product is taken from `work`. Err is `TooLarge` if `most` or `work` is too
+/// little, or `Memory`.
 pub(crate) fn fold_entry<'a>(
     alloc: Global,
     entry: &Entry<'a>,
@@ -42,7 +43,7 @@ pub(crate) fn fold_entry<'a>(
     fold_owned(alloc, own, steps, policy, most, work)
 }
 
-/// An entry's 5-tuple, whose issuer is the owner of the access list (RFC 2693, section 6.1).
+/// An entry's 5-tuple, whose issuer is the owner of the access list (RFC 2693, section 6.1). Err if memory ran out.
 fn own_five<'a>(entry: &Entry<'a>) -> Result<Five<'a>, AllocError>
     ensures { IfOk result (λ f. five_tuple f ≡ entry_tuple entry.now) }
 {

@@ -40,8 +40,9 @@ pub enum Evidence<'a> {
     },
 }
 
-/// Returns the evidence of a sequence in which each certificate is followed by its signature: whether each certificate
-/// stands, in order (RFC 2693, section 6). The message for the verifier is a certificate's canonical form.
+/// Returns the evidence of a sequence: the tuples of its certificates, or the first certificate that fails one of the
+/// four tests (RFC 2693, section 6). Each certificate must be followed by its signature. The message for the verifier
+/// is a certificate's canonical form.
 ///
 /// # Errors
 ///
@@ -87,7 +88,7 @@ pub fn first_refused<V: Verifier>(
 }
 
 /// Whether the verifier accepts a signature. A digest by SHA-256 is passed to the verifier, so that a certificate is
-/// digested once.
+/// digested once. Err if memory ran out in the verifier.
 fn is_accepted<V: Verifier>(
     alloc: Global,
     verifier: &V,

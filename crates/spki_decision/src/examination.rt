@@ -34,8 +34,8 @@ pub(crate) enum Tested<'a> {
     Fails(Stop),
 }
 
-/// Examines a sequence in which each certificate is followed by its signature: the tests of each certificate, in order, that
-/// need no verifier, up to the first that fails (RFC 2693, section 6).
+/// Does the first three tests of each certificate, in order, up to the first that fails (RFC 2693, section 6). These
+/// tests of `Stop` need no verifier. Each certificate of the sequence must be followed by its signature.
 ///
 /// # Errors
 ///
@@ -71,7 +71,8 @@ pub fn examine<'a>(
     Ok(Examined { signed, evidence })
 }
 
-/// The first three tests of a certificate, one after another.
+/// Does the first three tests of a certificate: its issuer's key is known, the digest of its signature is right, and
+/// the signature is by this key. `keys` are those of the sequence. Err if memory ran out.
 fn test<'a>(
     alloc: Global,
     shown: &ShownCert<'_, 'a>,

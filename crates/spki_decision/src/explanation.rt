@@ -57,9 +57,10 @@ pub enum Explanation {
     Entries(Vec<Reason>),
 }
 
-/// Explains a case (RFC 2693, section 6). If every certificate of its sequence stands, with signatures that the verifier
-/// accepts, the answer is for each entry why it and all certificates, in their order, grant the request or do not. Otherwise
-/// it is the first certificate that does not stand.
+/// Explains a case (RFC 2693, section 6). If every certificate of its sequence stands, the answer is for each entry why
+/// it and all certificates, in their order, grant the request or do not. Otherwise it is the first certificate that
+/// does not stand. A certificate stands if it passes the four tests of `Stop`; the last is that the verifier accepts
+/// its signature.
 ///
 /// The reason is `Grants` for exactly the entries that are granted. `decide` names the first of them.
 ///
@@ -86,8 +87,8 @@ pub fn explain<V: Verifier>(
     }
 }
 
-/// Returns the reason of each entry of an access list with the steps of the case's certificates after it. The case's own
-/// access list is not examined.
+/// Returns for each entry of an access list why it and the certificates of the case grant the request or do not.
+/// `steps` are the tuples of all certificates, in order. The case's own access list is not examined.
 ///
 /// # Errors
 ///
@@ -116,7 +117,9 @@ pub fn entry_reasons<'a>(
     Ok(reasons)
 }
 
-/// Returns the reason of an entry with the steps of `shown`, the case's certificates, after it.
+/// Returns why an entry and the certificates of the case grant the request or do not. `shown` are the certificates and
+/// `steps` their tuples. The products of intersected nodes are taken from `work`. Err is `TooLarge` or `Memory`, as for
+/// `explain`.
 fn entry_reason<'a>(
     alloc: Global,
     case: &Case<'a>,
@@ -145,7 +148,7 @@ fn entry_reason<'a>(
     }
 }
 
-/// The reason for this result of the three tests.
+/// The reason for the result of the last three tests: `Grants` if there is no denial, otherwise that of the same name.
 fn reason_of(denial: Option<Denial>) -> Reason
     ensures { result ≡ reason_of denial }
 {

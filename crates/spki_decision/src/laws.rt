@@ -29,17 +29,17 @@ pub fn strict_implies_open<V: Verifier>()
         → Granted n (opened c) (V.accepted verifier) }
 {}
 
-/// For every verifier: an explanation and a decision of one case agree. The decision names the first entry whose reason is
-/// `Grants`. It is no if there is none, or if a certificate does not stand.
+/// For every verifier: an explanation and a decision of one case agree. The decision names the first entry whose reason
+/// is `Grants`. It is no if there is none, or if a certificate fails a test of `Stop`.
 pub fn decided_as_explained<V: Verifier>()
     ensures { (verifier : V) (c : Case) (explanation : Explanation) (decision : Decision)
         → IsExplanation c (V.accepted verifier) explanation → IsDecision c (V.accepted verifier) decision
         → Agrees explanation decision }
 {}
 
-/// By one verifier, a text or a case has at most one answer of `decide`: a decision, or the refusal `TooLarge`. The same
-/// holds for a text by its own accepted list. A case has at most one decision by membership, and `decide` returns it unless the answer is
-/// `TooLarge`.
+/// By one verifier, a text or a case has at most one answer of `decide`: a decision, or the refusal `TooLarge`. The
+/// same holds for a text by its own accepted list. Without the limit of nodes a case has at most one decision, and
+/// `decide` returns it unless the answer is `TooLarge`.
 pub fn one_decision<V: Verifier>()
     ensures verified { (verifier : V) (text : List ℕ) (c d : Case) (x y : Result Decision GuardFault)
         → IsCaseText text c → IsCaseText text d
@@ -54,8 +54,8 @@ pub fn one_decision<V: Verifier>()
         → IsDecided c (V.accepted verifier) x → IsDecision c (V.accepted verifier) d → (x ≡ Ok d) ⊎ (x ≡ Err GuardFault.TooLarge) }
 {}
 
-/// By one verifier, a text or a case has at most one answer of `explain`: the first certificate that does not stand, with
-/// the test that it fails; or the reason of each entry; or the refusal `TooLarge`. The same holds for a text by its own
+/// By one verifier, a text or a case has at most one answer of `explain`: the first certificate that fails a test of
+/// `Stop`, with that test; or the reason of each entry; or the refusal `TooLarge`. The same holds for a text by its own
 /// accepted list.
 pub fn one_explanation<V: Verifier>()
     ensures verified { (verifier : V) (text : List ℕ) (c d : Case) (x y : Result Explanation GuardFault)
@@ -67,9 +67,9 @@ pub fn one_explanation<V: Verifier>()
         → IsExplained c (accepted_by c) x → IsExplained d (accepted_by d) y → AreSame IsSameExplanation x y }
 {}
 
-/// By one verifier, a text or a case has at most one answer of `reduce_case`: the first certificate that does not stand,
-/// with the test that it fails; or what each entry becomes; or the refusal `TooLarge`. The same holds for a text by its own
-/// accepted list.
+/// By one verifier, a text or a case has at most one answer of `reduce_case`: the first certificate that fails a test
+/// of `Stop`, with that test; or what each entry becomes; or the refusal `TooLarge`. The same holds for a text by its
+/// own accepted list.
 pub fn one_reduction<V: Verifier>()
     ensures verified { (verifier : V) (text : List ℕ) (c d : Case) (x y : Result Reduction GuardFault)
         → IsCaseText text c → IsCaseText text d
@@ -87,14 +87,14 @@ pub fn no_refusal<V: Verifier>()
         → IsUnrefused c (V.accepted verifier) decision → ¬ IsTooLarge c (V.accepted verifier) }
 {}
 
-/// An entry whose subject's principal does not name the key of the first issuer, or the client's key if no certificate is
-/// shown, supports nothing.
+/// An entry whose subject's principal does not name the key of the first issuer, or the client's key if no certificate
+/// is shown, never grants the request.
 pub fn left_out()
     ensures { (c : Case) (tuples : List Tuple) (e : Entry) → IsLeftOut c tuples e → ¬ Supported c tuples e }
 {}
 
-/// So the decision of a list by membership is that of its other entries, with their numbers in the list. Entries may be stored in any way
-/// and found by the principal of their subject.
+/// If some entries of `left_out` are removed from an access list, and the others keep their numbers, the decision stays
+/// the same. So entries may be stored in any way and found by the principal of their subject.
 pub fn decided_by_kept<V: Verifier>()
     ensures { (verifier : V) (c : Case) (kept : List (ℕ × Entry)) (x y : Decision)
         → IsKept c (V.accepted verifier) kept → IsDecision (kept_case c kept) (V.accepted verifier) x

@@ -7,7 +7,7 @@ ghost use Rattle.spki_decision.specs.FirstNamed.{NamesNone, IsFirstNamed};
 use spki_cert::{Key, Principal, SeqItem};
 use std::alloc::{AllocError, Global};
 
-/// Appends the key of an item to others, if it is one.
+/// Appends the key of an item to `keys`, if the item is a key. Err if memory ran out.
 fn push_key<'a>(keys: &mut Vec<Key<'a>>, item: &SeqItem<'a>) -> Result<(), AllocError>
     ensures { OnOk result (keys.new.items ≡ keys.old.items ++ keys_of (item.now ∷ [])) }
 {
@@ -23,7 +23,7 @@ fn push_key<'a>(keys: &mut Vec<Key<'a>>, item: &SeqItem<'a>) -> Result<(), Alloc
     }
 }
 
-/// Returns the keys of a sequence, in order.
+/// Returns the items of a sequence that are keys, in order. Err if memory ran out.
 pub fn keys_of<'a>(alloc: Global, sequence: &[SeqItem<'a>]) -> Result<Vec<Key<'a>>, AllocError>
     ensures { IfOk result (λ keys. keys.items ≡ keys_of sequence.now) }
 {
@@ -34,8 +34,8 @@ pub fn keys_of<'a>(alloc: Global, sequence: &[SeqItem<'a>]) -> Result<Vec<Key<'a
     Ok(keys)
 }
 
-/// Returns the place, from 0, of the first key for which the closure returns true: the principal names it. None if there is
-/// none. Allocates nothing.
+/// Returns the place, from 0, of the first of `keys` that the principal names: for which the closure `names` returns
+/// true. None if there is none. Allocates nothing.
 pub fn first_named<F: Fn(&Principal, &Key) -> bool>(
     principal: &Principal,
     keys: &[Key],

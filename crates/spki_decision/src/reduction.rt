@@ -50,9 +50,9 @@ pub enum Reduction<'a> {
     Entries(Vec<EntryFold<'a>>),
 }
 
-/// Reduces a case (RFC 2693, section 6.3). If every certificate of its sequence stands, with signatures that the verifier
-/// accepts, the answer is for each entry what it and all certificates, in their order, become. Otherwise it is the first
-/// certificate that does not stand.
+/// Reduces a case (RFC 2693, section 6.3). If every certificate of its sequence stands, the answer is for each entry
+/// what it and all certificates, in their order, become. Otherwise it is the first certificate that does not stand. A
+/// certificate stands if it passes the four tests of `Stop`; the last is that the verifier accepts its signature.
 ///
 /// # Errors
 ///
@@ -79,8 +79,8 @@ pub fn reduce_case<'a, V: Verifier>(
     }
 }
 
-/// Returns what each entry of an access list becomes with the steps of the case's certificates after it. The case's own
-/// access list is not examined.
+/// Returns for each entry of an access list what it and the certificates of the case become. `steps` are the tuples of
+/// all certificates, in order. The case's own access list is not examined.
 ///
 /// # Errors
 ///
@@ -111,7 +111,9 @@ pub fn entry_folds<'a>(
     Ok(folds)
 }
 
-/// Returns what an entry becomes with the steps of `shown`, the case's certificates, after it.
+/// Returns what an entry and the certificates of the case become. `shown` are the certificates and `steps` their
+/// tuples. The products of intersected nodes are taken from `work`. Err is `TooLarge` or `Memory`, as for
+/// `reduce_case`.
 pub(crate) fn entry_fold<'a>(
     alloc: Global,
     case: &Case<'a>,

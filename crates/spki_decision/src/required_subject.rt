@@ -21,7 +21,8 @@ pub(crate) struct RequiredSubject<'a> {
     pub(crate) delegation: bool,
 }
 
-/// Returns the subject from which steps lead to a key. None if there is no such subject.
+/// Returns the subject that an entry must have so that the certificates with the tuples `steps` lead from it to the
+/// key. None if there is no such subject.
 ///
 /// From the last step to the first, what is required after a step determines what is required before it. This takes time in
 /// proportion to the names of the steps' subjects.
@@ -53,7 +54,7 @@ pub(crate) fn required_subject<'a>(
 }
 
 impl<'a> RequiredSubject<'a> {
-    /// Whether a subject is as required. `propagate` says whether it may delegate. Allocates nothing.
+    /// Whether a subject is as required. `propagate` says whether the subject may delegate. Allocates nothing.
     pub(crate) fn is_met_by(&self, subject: &Subject, propagate: bool, policy: Policy) -> bool
         ensures { IsTrue result ↔ Meets policy self.now subject.now.principal subject.now.names propagate }
     {
@@ -62,7 +63,8 @@ impl<'a> RequiredSubject<'a> {
             && subject.principal.names(&self.key, policy)
     }
 
-    /// What is required before a step, if this is required after it. None if the step leads to no such subject.
+    /// The subject that is required before a step, if `self` is required after it. None if the step leads to no such
+    /// subject. Err if memory ran out.
     fn before(
         self,
         alloc: Global,
@@ -77,7 +79,8 @@ impl<'a> RequiredSubject<'a> {
         }
     }
 
-    /// Before an authorization: its issuer, without names, who may delegate.
+    /// The subject that is required before an authorization: its issuer's key, without names, who may delegate. None if
+    /// the authorization's own subject is not as required, or if its issuer is the owner of the access list.
     fn before_delegation(
         self,
         alloc: Global,
@@ -99,7 +102,9 @@ impl<'a> RequiredSubject<'a> {
         }
     }
 
-    /// Before a name's definition: the name that it defines, and behind it the names that are required after those of its subject.
+    /// The subject that is required before a name's definition: the defined name, and after it the required names
+    /// without those of the definition's subject. None if that subject does not lead to what is required. Err if memory
+    /// ran out.
     fn before_definition(
         self,
         alloc: Global,
@@ -124,7 +129,7 @@ impl<'a> RequiredSubject<'a> {
     }
 }
 
-/// The names after those in front. None if the names do not begin with those.
+/// The names that remain if those of `front` are removed from the beginning. None if `names` do not begin with them.
 fn names_after<'a>(names: Names<'a>, front: &Names) -> Option<Names<'a>>
     ensures some { IfSome result (λ rest. names.entry ≡ front.now ++ rest) }
     ensures none { IfNone result ((rest : List (List ℕ)) → names.entry ≢ front.now ++ rest) }
@@ -139,7 +144,7 @@ fn names_after<'a>(names: Names<'a>, front: &Names) -> Option<Names<'a>>
     Some(rest)
 }
 
-/// Whether this is the first of some names.
+/// Whether the first of some names is `name`. False if there are no names.
 fn has_first(names: &Names, name: &Octets) -> bool
     ensures { IsTrue result ↔ (names.now ≡ name.now ∷ drop 1 names.now) }
 {
@@ -149,7 +154,7 @@ fn has_first(names: &Names, name: &Octets) -> bool
     }
 }
 
-/// Whether these are the same names.
+/// Whether both have the same names in the same order.
 fn are_same_names(one: &Names, other: &Names) -> bool
     ensures { IsTrue result ↔ (one.now ≡ other.now) }
 {

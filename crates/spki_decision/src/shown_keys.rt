@@ -38,7 +38,7 @@ impl<'a> Model for ShownKeys<'a> {
 }
 
 impl<'a> ShownKeys<'a> {
-    /// These keys.
+    /// The keys of a sequence, in order. No index is made yet.
     pub(crate) fn new(keys: Vec<Key<'a>>) -> ShownKeys<'a>
         ensures { result ≡ keys.entry.items }
     {
@@ -50,7 +50,8 @@ impl<'a> ShownKeys<'a> {
         }
     }
 
-    /// The key of an issuer: the key as written, or for a hash the first key of the sequence that it names, if there is one.
+    /// The key of a certificate's issuer: the issuer itself if it is a key, or the first key of the sequence whose hash
+    /// it is. None if there is no such key, or if no such hash names a key under the policy. Err if memory ran out.
     pub(crate) fn holder(
         &mut self,
         alloc: Global,
@@ -72,7 +73,7 @@ impl<'a> ShownKeys<'a> {
         }
     }
 
-    /// The first key with this digest of the algorithm.
+    /// The first key whose digest by the algorithm is `digest`. None if there is none. Err if memory ran out.
     fn first_with(
         &mut self,
         alloc: Global,
@@ -90,7 +91,8 @@ impl<'a> ShownKeys<'a> {
     }
 }
 
-/// The first of the keys with this digest of the algorithm, found by their index. The index is made if there is none.
+/// The first of the keys whose digest by the algorithm is `digest`, found in `index`. None if there is none. The index
+/// is made if it is None. Err if memory ran out.
 fn first_in<'a>(
     index: &mut Option<FirstKeys<'a>>,
     alloc: Global,
@@ -114,7 +116,7 @@ fn first_in<'a>(
     Ok(found)
 }
 
-/// The index of the keys by their digests of an algorithm.
+/// Makes a map from the digests of the keys by the algorithm to the first key that has each. Err if memory ran out.
 fn first_keys<'a>(
     alloc: Global,
     alg: HashAlg,
@@ -129,7 +131,7 @@ fn first_keys<'a>(
     Ok(first)
 }
 
-/// Adds a key after others, unless one of them has its digest.
+/// Adds a key to the map at its digest by the algorithm, unless the map has a key there. Err if memory ran out.
 fn add_key<'a>(
     first: &mut FirstKeys<'a>,
     alloc: Global,
@@ -146,7 +148,7 @@ fn add_key<'a>(
     Ok(())
 }
 
-/// The digest of a key.
+/// The digest of a key by the algorithm. Err if memory ran out.
 fn digest_by(alloc: Global, alg: HashAlg, key: &Key) -> Result<Vec<u8>, AllocError>
     ensures { IfOk result (λ digest. digest.items ≡ digest_of alg key.now) }
 {

@@ -33,7 +33,7 @@ pub(crate) struct PlainNodes {
 }
 
 impl Sizes {
-    /// The numbers of nodes of the tags of these steps.
+    /// Counts the nodes of the tags of these steps.
     pub(crate) fn of(steps: &[Step]) -> Sizes
         ensures { AreSizes (tuples_of steps.now) result }
     {
@@ -43,9 +43,10 @@ impl Sizes {
         }
     }
 
-    /// Returns true only if a chain from an entry with this tag intersects no two tags whose product of nodes is over `most`. It tests
-    /// whether the product of the nodes of all tags is at most `most`. If no tag has a set, it is enough that the nodes of all tags
-    /// together, times those of the largest tag of a certificate, are at most `most`.
+    /// Returns true only if a chain from an entry with this tag intersects no two tags whose product of nodes is over
+    /// `most`; false leaves it open. It tests whether the product of the nodes of all tags is at most `most`. If no tag
+    /// has a set, it is enough that the nodes of all tags together, times those of the largest tag of a certificate,
+    /// are at most `most`. The steps must be those of `of`.
     pub(crate) fn are_small<'a>(&self, tag: &Tag, steps: &[Step<'a>], most: usize) -> bool
         requires { AreSizes (tuples_of steps.now) self.now }
         ensures { IsTrue result → IsSmallFor most (tuples_of steps.now) tag.now }
@@ -62,7 +63,7 @@ impl Sizes {
     }
 }
 
-/// The product of the numbers of nodes of the steps' tags, if it is at most 1,000,000.
+/// The product of the numbers of nodes of the steps' tags. None if it is over 1,000,000.
 fn product_of(steps: &[Step]) -> Option<usize>
     ensures { IfSome result (λ n. (n ≡ nodes_product (all_tags (tuples_of steps.now))) × (n ≤ 1000000)) }
 {
@@ -76,7 +77,8 @@ fn product_of(steps: &[Step]) -> Option<usize>
     Some(product)
 }
 
-/// The numbers of nodes of the steps' tags, if no tag has a set and all have at most 1,000,000 nodes together.
+/// How many nodes the steps' tags have together, and the largest of them. None if a tag has a set, or if they have over
+/// 1,000,000 nodes together.
 fn plain_of(steps: &[Step]) -> Option<PlainNodes>
     ensures { IfSome result (ArePlain (tuples_of steps.now)) }
 {
@@ -97,7 +99,7 @@ fn plain_of(steps: &[Step]) -> Option<PlainNodes>
     Some(plain)
 }
 
-/// Whether the tag of a step has a set. A definition has no tag.
+/// Whether the tag of a step has a set somewhere in it. A name's definition has no tag, so false.
 fn nests_set(step: &Step) -> bool
     ensures { result ≡ false → some_nests_set (tags (tags_of (step_tuple step.now))) ≡ false }
 {
@@ -107,7 +109,7 @@ fn nests_set(step: &Step) -> bool
     }
 }
 
-/// How many nodes the tag of a step has. A definition has none, which counts as `(*)`.
+/// How many nodes the tag of a step has. A name's definition has no tag, and counts as one node, like `(*)`.
 fn nodes_in(step: &Step) -> usize
     ensures counted { result ≡ nodes_product (tags_of (step_tuple step.now)) }
     ensures together { nodes_all (tags (tags_of (step_tuple step.now))) ≤ result }
