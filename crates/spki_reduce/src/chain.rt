@@ -19,9 +19,9 @@ use crate::work::Work;
 use spki_cert::Policy;
 use std::alloc::{AllocError, Global};
 
-/// Joins an authorization with the steps after it, one after another from the left (RFC 2693, sections 6.3 and 6.4). Each
-/// authorization is joined by `Five::then`, and each definition by `Five::resolve`. Without steps the result is a copy of
-/// the first.
+/// Joins the authorization `first` with the steps after it, one after another from the left (RFC 2693, sections 6.3 and
+/// 6.4). Each authorization is joined by `Five::then`, and each definition by `Five::resolve`. Without steps the result
+/// is a copy of `first`.
 ///
 /// If a step does not join the result of the steps before it, the chain stops there, and the answer is its place and cause.
 /// Then no derivation over the same tuples grants anything, in any bracketing.
@@ -64,8 +64,8 @@ pub fn fold_chain<'a>(
     fold_owned(alloc, own, steps, policy, MOST_NODES, &mut Work::new(None))
 }
 
-/// Like `fold_chain`, but consumes `first`, and with `most` as the limit instead of 1,000,000. The products of the numbers of nodes
-/// of all tags that are intersected are taken from `work`.
+/// Like `fold_chain`, but consumes `first`, and with `most`, at most 1,000,000, as the limit instead. The products of
+/// the numbers of nodes of all tags that are intersected are taken from `work`.
 ///
 /// # Errors
 ///
@@ -120,6 +120,7 @@ pub fn fold_owned<'a>(
 }
 
 impl<'a> Five<'a> {
+    /// Returns a copy of the authorization. Err if memory ran out.
     pub(crate) fn copy(&self) -> Result<Five<'a>, AllocError>
         ensures { IfOk result (λ f. five_tuple f ≡ five_tuple self.now) }
     {
@@ -155,7 +156,8 @@ impl<'a> Five<'a> {
         }
     }
 
-    /// Joins this authorization with a step, and consumes it.
+    /// Joins this authorization with a step, by `then_within` or `into_resolve`. `most` is the greatest product of the
+    /// nodes of two tags that are intersected. Err is `TooLarge` or `Memory`.
     fn joined(
         self,
         alloc: Global,

@@ -23,6 +23,7 @@ pub enum ReduceFault {
 impl From<AllocError> for ReduceFault {
     ghost from_gives = { λ _ fault. fault ≡ Memory };
 
+    /// An allocation that failed is the fault `Memory`.
     fn from(_error: AllocError) -> ReduceFault {
         ReduceFault::Memory
     }
@@ -31,6 +32,7 @@ impl From<AllocError> for ReduceFault {
 impl<T: Drop> From<AllocFailed<T>> for ReduceFault {
     ghost from_gives = { λ _ fault. fault ≡ Memory };
 
+    /// An allocation that failed is the fault `Memory`.
     fn from(_error: AllocFailed<T>) -> ReduceFault {
         ReduceFault::Memory
     }
@@ -39,6 +41,7 @@ impl<T: Drop> From<AllocFailed<T>> for ReduceFault {
 impl From<MeetFault> for ReduceFault {
     ghost from_gives = { λ inner fault. fault ≡ refusal inner };
 
+    /// The fault of the same name.
     fn from(inner: MeetFault) -> ReduceFault {
         match inner {
             MeetFault::TooLarge => ReduceFault::TooLarge,

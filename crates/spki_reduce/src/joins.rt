@@ -55,7 +55,7 @@ impl<'a> Five<'a> {
         self.then_within(alloc, next, policy, MOST_NODES)
     }
 
-    /// Like `then`, with `most` as the limit instead of 1,000,000.
+    /// Like `then`, with `most`, which is at most 1,000,000, as the greatest product of the nodes of both tags.
     pub(crate) fn then_within(
         &self,
         alloc: Global,
@@ -140,8 +140,8 @@ impl<'a> Five<'a> {
         }))
     }
 
-    /// The intersection of the windows of this authorization and the next, or the first cause why they do not join, whatever
-    /// their tags are.
+    /// The intersection of the windows of this authorization and the next. Err is the first cause why they do not join,
+    /// whatever their tags are.
     pub(crate) fn window_with(&self, next: &Five, policy: Policy) -> Result<Window, Cause>
         ensures joins { IfOk result (λ window. Issues policy (five_tuple self.now) (five_tuple next.now)
             × (self.now.propagate ≡ true) × IsMeet self.now.window next.now.window window
@@ -158,14 +158,16 @@ impl<'a> Five<'a> {
         self.window.meet(&next.window).ok_or(Cause::NoValidity)
     }
 
-    /// Whether the subject begins with the name that is defined, and some moment is within both windows.
+    /// Whether `resolve` would join this authorization and the definition: the subject begins with the name that is
+    /// defined, and some moment is within both windows.
     pub(crate) fn is_resolved_by(&self, definition: &Four, policy: Policy) -> bool
         ensures { IsTrue result ↔ ResolvesTimely policy (five_tuple self.now) (four_tuple definition.now) }
     {
         begins(&self.subject, definition, policy) && self.window.meet(&definition.window).is_some()
     }
 
-    /// Whether the subject issued another authorization: this one is for the issuer's key.
+    /// Whether this authorization's subject is the issuer of `next`. False if that issuer is the owner of the access
+    /// list.
     fn issues(&self, next: &Five, policy: Policy) -> bool
         ensures { IsTrue result ↔ Issues policy (five_tuple self.now) (five_tuple next.now) }
     {
@@ -175,7 +177,7 @@ impl<'a> Five<'a> {
         }
     }
 
-    /// Whether the subject is a principal without names that names the key.
+    /// Whether the subject is the key, or a hash that names it under the policy, without names.
     pub(crate) fn is_for(&self, key: &Key, policy: Policy) -> bool
         ensures { IsTrue result ↔ IsFor policy (five_tuple self.now) key.now }
     {
@@ -183,8 +185,8 @@ impl<'a> Five<'a> {
     }
 }
 
-/// The authorization with this issuer, tag and window, and with the subject and delegation of another, unless the tag is
-/// `(* set)`.
+/// The authorization with this issuer, tag and window, and with the subject and delegation of `next`. `Stopped(NoTag)`
+/// if the tag is `(* set)`. Err if memory ran out.
 fn narrowed<'a>(
     issuer: Issuer<'a>,
     tag: Tag,
@@ -244,7 +246,8 @@ impl<'a> Four<'a> {
     }
 }
 
-/// Whether a subject begins with the name that the definition defines.
+/// Whether a subject begins with the name that the definition defines: its principal names the definition's key, and
+/// its first name is the same.
 fn begins(subject: &Subject, definition: &Four, policy: Policy) -> bool
     ensures begins { IsTrue result → IsTrue (names policy subject.now.principal definition.now.key)
         × (subject.now.names ≡ definition.now.name ∷ drop 1 subject.now.names) }
@@ -260,7 +263,7 @@ fn begins(subject: &Subject, definition: &Four, policy: Policy) -> bool
     }
 }
 
-/// The definition's subject, with `names`, except the first, after its own names.
+/// The subject of a definition, with `names`, except the first of them, after its own names. Err if memory ran out.
 fn followed<'a>(subject: &Subject<'a>, names: Names<'a>) -> Result<Subject<'a>, AllocError>
     ensures { IfOk result (λ made. (made.principal ≡ subject.now.principal)
         × (made.names ≡ subject.now.names ++ drop 1 names.entry)) }

@@ -56,7 +56,7 @@ pub fn one_fold()
         f ≡ g }
 {}
 
-/// An authorization is written as at most one value.
+/// An authorization is written by `Five::write` as at most one value.
 pub fn one_writing()
     ensures { (f : Five) (v w : Value) → IsWrittenFive f v → IsWrittenFive f w → v ≡ w }
 {}
@@ -85,8 +85,8 @@ pub fn strict_implies_open()
         Supports Strict tree holder request moment → Supports Open tree holder request moment }
 {}
 
-/// If tuples in their order have a derivation, the first of them, up to any place, have one too. So a tuple that does not
-/// join the root of those before it stops every chain that begins so.
+/// If a chain of tuples has a derivation, each beginning of the chain has one too. So a tuple that does not join the
+/// root of those before it stops every chain that begins so.
 pub fn fronts()
     ensures { (policy : Policy) (tree : Tree) (root first : Tuple) (before after : List Tuple) →
         Derives policy tree root → leaves tree ≡ first ∷ (before ++ after) →

@@ -12,14 +12,14 @@ pub struct Work {
 }
 
 impl Work {
-    /// At most this much work, or any amount if there is no bound.
+    /// Allows at most this much work, or any amount if `bound` is None.
     pub fn new(bound: Option<usize>) -> Work
         ensures { left_of result ≡ bound }
     {
         Work { left: bound }
     }
 
-    /// Takes this much work.
+    /// Subtracts `work` from what may still be done.
     ///
     /// # Errors
     ///

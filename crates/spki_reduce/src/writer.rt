@@ -60,7 +60,8 @@ impl<'a> Five<'a> {
         Ok(Sexp::list(members))
     }
 
-    /// Writes what `write` writes, except the tag and the names of the subject. Only these may be large.
+    /// Writes all parts of the authorization that `write` writes, except the tag and the names of the subject. Only
+    /// these may be large.
     ///
     /// # Errors
     ///
@@ -105,7 +106,7 @@ fn prove_principal(principal: &Principal)
     }
 }
 
-/// Adds members to others.
+/// Appends the trees of `others` to `members`. Err if memory ran out.
 fn push_all(members: &mut Vec<Sexp>, others: Vec<Sexp>) -> Result<(), AllocError>
     ensures { OnOk result (map sexp_value members.new.items
         ≡ map sexp_value members.old.items ++ map sexp_value others.items) }
@@ -114,7 +115,7 @@ fn push_all(members: &mut Vec<Sexp>, others: Vec<Sexp>) -> Result<(), AllocError
     members.append(&mut others)
 }
 
-/// Begins the members of a list with its head.
+/// Returns the members of a list that has only its head, as a string without a hint. Err if memory ran out.
 fn begun(alloc: Global, head: &[u8]) -> Result<Vec<Sexp>, AllocError>
     ensures { IfOk result (λ members. map sexp_value members.items ≡ plain head.now ∷ []) }
 {
@@ -123,7 +124,7 @@ fn begun(alloc: Global, head: &[u8]) -> Result<Vec<Sexp>, AllocError>
     Ok(members)
 }
 
-/// Adds a list of a head and one further member.
+/// Appends the list `(head further)` to the members. Err if memory ran out.
 fn push_headed(
     alloc: Global,
     members: &mut Vec<Sexp>,
@@ -147,7 +148,7 @@ fn write_key(alloc: Global, key: &Key) -> Result<Sexp, AllocError>
     decode(alloc, key.as_slice()).map_err(|_| AllocError)
 }
 
-/// Writes a hash, without the `uri` where its key can be found.
+/// Writes `(hash ALG DIGEST)`, without the `uri` where the key can be found. Err if memory ran out.
 fn write_hash(alloc: Global, alg: HashAlg, digest: &[u8]) -> Result<Sexp, AllocError>
     ensures { IfOk result (λ s. IsWrittenPrincipal (Principal.Hash alg digest.now) (sexp_value s)) }
 {
@@ -157,6 +158,7 @@ fn write_hash(alloc: Global, alg: HashAlg, digest: &[u8]) -> Result<Sexp, AllocE
     Ok(Sexp::list(members))
 }
 
+/// Writes a principal, which is a key or a hash of one. Err if memory ran out.
 fn write_principal(alloc: Global, principal: &Principal) -> Result<Sexp, AllocError>
     ensures { IfOk result (λ s. IsWrittenPrincipal principal.now (sexp_value s)) }
 {
@@ -166,7 +168,7 @@ fn write_principal(alloc: Global, principal: &Principal) -> Result<Sexp, AllocEr
     }
 }
 
-/// Adds each name.
+/// Appends each name to the members, as a string without a hint. Err if memory ran out.
 fn push_names(alloc: Global, members: &mut Vec<Sexp>, names: &Names) -> Result<(), AllocError>
     ensures { OnOk result (map sexp_value members.new.items ≡ map sexp_value members.old.items ++ plains names.now) }
 {
@@ -176,7 +178,7 @@ fn push_names(alloc: Global, members: &mut Vec<Sexp>, names: &Names) -> Result<(
     Ok(())
 }
 
-/// Returns the principal, or `(name principal n n ..)` if there are names.
+/// Returns the principal, or `(name PRINCIPAL N N ..)` if there are names. Err if memory ran out.
 fn with_names(alloc: Global, principal: Sexp, names: &Names) -> Result<Sexp, AllocError>
     ensures { IfOk result (λ s. sexp_value s ≡ named (sexp_value principal) names.now) }
 {
@@ -189,7 +191,8 @@ fn with_names(alloc: Global, principal: Sexp, names: &Names) -> Result<Sexp, All
     Ok(Sexp::list(members))
 }
 
-/// Adds `(issuer K)`, or nothing for the owner of the access list.
+/// Appends `(issuer K)` to the members, or nothing if the issuer is the owner of the access list. Err if memory ran
+/// out.
 fn push_issuer(alloc: Global, members: &mut Vec<Sexp>, issuer: &Issuer) -> Result<(), AllocError>
     ensures { OnOk result ((written : List Value) × IsWrittenIssuer issuer.now written
         × (map sexp_value members.new.items ≡ map sexp_value members.old.items ++ written)) }
@@ -200,7 +203,7 @@ fn push_issuer(alloc: Global, members: &mut Vec<Sexp>, issuer: &Issuer) -> Resul
     }
 }
 
-/// Adds `(propagate)` if the subject may delegate.
+/// Appends `(propagate)` to the members, if `propagate` is true. Err if memory ran out.
 fn push_delegation(
     alloc: Global,
     members: &mut Vec<Sexp>,
@@ -215,7 +218,7 @@ fn push_delegation(
     Ok(())
 }
 
-/// Adds a list of a word and a limit, if there is a limit.
+/// Appends `(WORD DATE)` to the members, or nothing if there is no limit. Err if memory ran out.
 fn push_limit(
     alloc: Global,
     members: &mut Vec<Sexp>,
@@ -234,7 +237,8 @@ fn push_limit(
     }
 }
 
-/// Adds the limits of a window in one `(valid ..)`, if there are any.
+/// Appends `(valid ..)` with the limits of a window to the members, or nothing if it has no limit. Err if memory ran
+/// out.
 fn push_window(alloc: Global, members: &mut Vec<Sexp>, window: &Window) -> Result<(), AllocError>
     ensures { OnOk result (map sexp_value members.new.items
         ≡ map sexp_value members.old.items ++ in_valid (window_limits window.now)) }
