@@ -105,7 +105,7 @@ impl<'a> Case<'a> {
         }
     }
 
-    /// Reads the case of a node.
+    /// Reads a case from its node. The faults are those of `read`, without `Form`.
     fn of(alloc: Global, node: &Node<'_, 'a>) -> Result<Case<'a>, CaseFault>
         ensures read { IfOk result (λ c. CaseOf node.now (model c)) }
         ensures refused { IfErr result (λ fault. fault ≢ CaseFault.Memory → ValueRefused node.now fault) }
@@ -153,9 +153,9 @@ impl<'a> Case<'a> {
         })
     }
 
-    /// Makes a case without an access list and without an accepted list, with a sequence, a question, the limit of nodes for an
-    /// intersection, and the limit of work. Its keys carry their digests by `algorithms`, those of the hashes in a separate access list, and
-    /// by those of the hashes in the sequence.
+    /// Makes a case with empty access and accepted lists, for a question to a separate access list. `most_nodes` and
+    /// `most_work` limit intersections. Its keys carry their digests by `algorithms`, those of the hashes in the
+    /// separate list, and by those of the hashes in the sequence.
     ///
     /// # Errors
     ///
@@ -199,7 +199,7 @@ impl<'a> Case<'a> {
         })
     }
 
-    /// The signatures that the service has verified, as a verifier.
+    /// The signatures that the service has verified. They serve as a verifier.
     pub fn accepted(&self) -> &AcceptedTable<'a>
         ensures { result.now ≡ self.now.accepted }
     {
@@ -207,12 +207,14 @@ impl<'a> Case<'a> {
     }
 }
 
+/// A fault of a part that has no items: its item is 0.
 fn fault_of_part(kind: CertFaultKind) -> CertFault
     ensures { result ≡ record { item = 0; kind = kind } }
 {
     CertFault { item: 0, kind }
 }
 
+/// The fault of a case: `Acl` with this fault, or `Memory` if memory ran out.
 fn fault_of_acl(fault: CertFault) -> CaseFault
     ensures { IsOuter (fault.kind ≡ CertFaultKind.Memory) CaseFault.Memory (CaseFault.Acl fault) result }
 {
@@ -222,6 +224,7 @@ fn fault_of_acl(fault: CertFault) -> CaseFault
     }
 }
 
+/// The fault of a case: `Accepted` with this fault, or `Memory` if memory ran out.
 fn fault_of_rows(fault: CertFault) -> CaseFault
     ensures { IsOuter (fault.kind ≡ CertFaultKind.Memory) CaseFault.Memory (CaseFault.Accepted fault) result }
 {
@@ -231,6 +234,7 @@ fn fault_of_rows(fault: CertFault) -> CaseFault
     }
 }
 
+/// The fault of a case: `Sequence` with this fault, or `Memory` if memory ran out.
 fn fault_of_sequence(fault: CertFault) -> CaseFault
     ensures { IsOuter (fault.kind ≡ CertFaultKind.Memory) CaseFault.Memory (CaseFault.Sequence fault) result }
 {
@@ -240,6 +244,7 @@ fn fault_of_sequence(fault: CertFault) -> CaseFault
     }
 }
 
+/// The fault of a case: `Request` with this fault, or `Memory` if memory ran out.
 fn fault_of_request(fault: TagFault) -> CaseFault
     ensures { IsOuter (fault ≡ TagFault.Memory) CaseFault.Memory (CaseFault.Request fault) result }
 {

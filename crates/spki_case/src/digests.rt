@@ -44,7 +44,8 @@ pub(crate) fn asking_key<'a>(
     key.digested(algorithms)
 }
 
-/// Digests the key of an item, or of the issuer of a certificate.
+/// Lets the key of an item, or of the issuer of a certificate, carry its digests by these algorithms. Any other item
+/// does not change.
 fn digest_item(item: &mut SeqItem, algorithms: Algorithms)
     ensures { item.new ≡ item.old }
 {
@@ -57,7 +58,7 @@ fn digest_item(item: &mut SeqItem, algorithms: Algorithms)
     }
 }
 
-/// Digests the key of a principal.
+/// Lets the key of a principal carry its digests by these algorithms. A hash does not change.
 fn digest_principal(principal: &mut Principal, algorithms: Algorithms)
     ensures { principal.new ≡ principal.old }
 {
@@ -67,7 +68,7 @@ fn digest_principal(principal: &mut Principal, algorithms: Algorithms)
     }
 }
 
-/// These algorithms, and those of the hashes in a sequence.
+/// These algorithms, and those of the hashes in a sequence that may name keys under the policy.
 fn all_algorithms(algorithms: Algorithms, items: &[SeqItem], policy: Policy) -> Algorithms {
     let mut algorithms = algorithms;
     for item in items {
@@ -76,7 +77,7 @@ fn all_algorithms(algorithms: Algorithms, items: &[SeqItem], policy: Policy) -> 
     algorithms
 }
 
-/// The algorithms of the hashes in an access list.
+/// The algorithms of the hashes that are subjects in an access list and may name keys under the policy.
 pub(crate) fn entry_algorithms(acl: &[Entry], policy: Policy) -> Algorithms {
     let mut algorithms = Algorithms::none();
     for entry in acl {
@@ -85,7 +86,7 @@ pub(crate) fn entry_algorithms(acl: &[Entry], policy: Policy) -> Algorithms {
     algorithms
 }
 
-/// These algorithms, and those of the hashes in an item.
+/// These algorithms, and those of the hashes in an item that may name keys under the policy.
 fn item_algorithms(algorithms: Algorithms, item: &SeqItem, policy: Policy) -> Algorithms {
     match item {
         SeqItem::Auth(cert) => algorithms
@@ -100,7 +101,7 @@ fn item_algorithms(algorithms: Algorithms, item: &SeqItem, policy: Policy) -> Al
     }
 }
 
-/// The principal of a certificate's subject, if an item is a certificate.
+/// The principal of a certificate's subject. None if the item is no certificate.
 fn subject_of<'s, 'a>(item: &'s SeqItem<'a>) -> Option<&'s Principal<'a>> {
     match item {
         SeqItem::Auth(cert) => Some(&cert.subject.principal),

@@ -30,6 +30,8 @@ struct TakenPart<'d, 'a> {
     rest: Members<'d, 'a>,
 }
 
+/// The first of the members, if it is a list with the head `word`, and the members after it. None if there is no such
+/// first member.
 fn take_part<'d, 'a>(members: Members<'d, 'a>, word: &[u8]) -> Option<TakenPart<'d, 'a>>
     ensures { MatchOption result (IsNoPart members.entry word.now) (IsPart members.entry word.now) }
 {
@@ -42,7 +44,7 @@ fn take_part<'d, 'a>(members: Members<'d, 'a>, word: &[u8]) -> Option<TakenPart<
     })
 }
 
-/// The only member.
+/// The only one of the members. None if there is none, or more than one.
 fn sole<'d, 'a>(members: Members<'d, 'a>) -> Option<Node<'d, 'a>>
     ensures { MatchOption result ((v : Value) → members.entry ≢ v ∷ []) (λ v. members.entry ≡ v ∷ []) }
 {
@@ -50,7 +52,7 @@ fn sole<'d, 'a>(members: Members<'d, 'a>) -> Option<Node<'d, 'a>>
     if rest.is_empty() { Some(only) } else { None }
 }
 
-/// Whether the only member is this word.
+/// Whether there is exactly one member, and it is the string `word` without a hint.
 fn is_word(members: Members, word: &[u8]) -> bool
     ensures { MatchBool result (members.entry ≡ plain word.now ∷ []) (members.entry ≢ plain word.now ∷ []) }
 {
@@ -63,7 +65,8 @@ fn is_word(members: Members, word: &[u8]) -> bool
     }
 }
 
-/// The policy after the moment: `(policy strict)`, or nothing for the open policy.
+/// The policy in the members of a case after the moment: strict for `(policy strict)`, open for no member. None for
+/// anything else.
 fn policy_in(members: Members) -> Option<Policy>
     ensures { MatchOption result ((policy : Policy) → members.entry ≢ policy_values policy)
         (λ policy. members.entry ≡ policy_values policy) }
@@ -80,7 +83,7 @@ fn policy_in(members: Members) -> Option<Policy>
     }
 }
 
-/// The parts of a value, if it has the outer structure of a case.
+/// The parts of a case in this value. None if the value does not have the outer structure of a case.
 pub(crate) fn parts_of<'d, 'a>(node: &Node<'d, 'a>) -> Option<Parts<'d, 'a>>
     ensures { MatchOption result ((p : spec.Parts) → node.now ≢ case_value p)
         (λ p. (parts : spec.Parts) × (node.now ≡ case_value parts) × ArePartsOf (part_values parts) p parts) }
@@ -88,7 +91,7 @@ pub(crate) fn parts_of<'d, 'a>(node: &Node<'d, 'a>) -> Option<Parts<'d, 'a>>
     parts_in(node.headed(b"case")?)
 }
 
-/// The parts after the head of a case.
+/// The parts of a case in the members after its head. None if they do not have the outer structure of a case.
 fn parts_in<'d, 'a>(members: Members<'d, 'a>) -> Option<Parts<'d, 'a>>
     ensures { MatchOption result ((p : spec.Parts) → members.entry ≢ part_values p)
         (λ p. (parts : spec.Parts) × ArePartsOf members.entry p parts) }

@@ -53,7 +53,7 @@ impl<'a> AcceptedTable<'a> {
         }
     }
 
-    /// Reads the accepted list of a node.
+    /// Reads an accepted list from its node. Err is `Shape`, `Row` with the first fault, or `Memory`.
     fn of(alloc: Global, node: &Node<'_, 'a>) -> Result<AcceptedTable<'a>, RowsFault>
         ensures read { IfOk result (λ table. RowsOf node.now (rows_of table)) }
         ensures refused { IfErr result (λ fault. fault ≢ RowsFault.Memory → NoRows node.now fault) }
@@ -68,6 +68,7 @@ impl<'a> AcceptedTable<'a> {
     }
 }
 
+/// The fault of an accepted list: `Row` with this fault, or `Memory` if memory ran out.
 fn fault_of_row(fault: CertFault) -> RowsFault
     ensures { IsOuter (fault.kind ≡ CertFaultKind.Memory) RowsFault.Memory (RowsFault.Row fault) result }
 {
@@ -77,7 +78,7 @@ fn fault_of_row(fault: CertFault) -> RowsFault
     }
 }
 
-/// Reads the row of a node: `(by key hash value)`. Allocates nothing.
+/// Reads a row from its node: `(by KEY HASH VALUE)`. Err says why the node is no row. Allocates nothing.
 fn row_at<'a>(node: &Node<'_, 'a>) -> Result<Row<'a>, CertFaultKind>
     ensures row { IfOk result (λ row. RowOf node.now (row_of row)) }
     ensures faultless { IfOk result (λ _. row_fault node.now ≡ None) }
@@ -107,7 +108,8 @@ fn row_at<'a>(node: &Node<'_, 'a>) -> Result<Row<'a>, CertFaultKind>
     })
 }
 
-/// Reads the digest of a hash by SHA-256.
+/// Reads the digest from the node of a hash. Err is `HashAlg` if it is by SHA-1 or SHA-512, otherwise the fault of the
+/// hash.
 fn sha256_of<'a>(node: &Node<'_, 'a>) -> Result<Octets<'a>, CertFaultKind>
     ensures digest { IfOk result (λ digest. HashOf node.now HashAlg.Sha256 digest) }
     ensures faultless { IfOk result (λ _. sha256_fault node.now ≡ None) }
@@ -120,7 +122,8 @@ fn sha256_of<'a>(node: &Node<'_, 'a>) -> Result<Octets<'a>, CertFaultKind>
     }
 }
 
-/// Reads the rows of an accepted list, after its head.
+/// Reads the rows from the members of an accepted list after its head. Err is the first fault, with the number of its
+/// row, from 1, or `Memory`.
 fn read_rows<'a>(alloc: Global, members: Members<'_, 'a>) -> Result<Vec<Row<'a>>, CertFault>
     ensures rows { IfOk result (λ rows. AllZip RowOf members.entry (map row_of rows.items)) }
     ensures named { IfErr result (λ fault. fault.kind ≢ CertFaultKind.Memory → rows_fault members.entry ≡ Some fault) }
@@ -146,7 +149,8 @@ fn read_rows<'a>(alloc: Global, members: Members<'_, 'a>) -> Result<Vec<Row<'a>>
     Ok(rows)
 }
 
-/// Reads the accepted list of these rows.
+/// Reads an accepted list from its members after the head. Err is the first fault, with the number of its row, from 1,
+/// or `Memory`.
 pub(crate) fn table_of<'a>(
     alloc: Global,
     members: Members<'_, 'a>,

@@ -31,7 +31,7 @@ pub struct AcceptedTable<'a> {
 }
 
 impl<'a> AcceptedTable<'a> {
-    /// Makes the table of these signatures.
+    /// Makes the table of these signatures, so that each can be found by its digest, value and key.
     ///
     /// # Errors
     ///
@@ -44,7 +44,7 @@ impl<'a> AcceptedTable<'a> {
     }
 }
 
-/// The rows in order.
+/// The digest, value and key of each row, sorted in this order. Err if memory ran out.
 fn sorted_rows<'a>(alloc: Global, rows: &[Row<'a>]) -> Result<Vec<SortedRow<'a>>, AllocError>
     ensures { IfOk result (λ sorted. AreSorted rows.now sorted.items) }
 {

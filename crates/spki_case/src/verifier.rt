@@ -54,6 +54,7 @@ pub trait Verifier {
 impl<'a> Verifier for AcceptedTable<'a> {
     ghost accepted = { verified_by };
 
+    /// Whether some row of the table is of this key, message and value. Always Ok.
     fn accepts(
         &self,
         _alloc: Global,
@@ -68,6 +69,7 @@ impl<'a> Verifier for AcceptedTable<'a> {
         Ok(some_accepts(self, key, digest.as_slice(), value))
     }
 
+    /// As `accepts`, with the SHA-256 digest of the message. Always Ok.
     fn accepts_digested(
         &self,
         _alloc: Global,
@@ -84,7 +86,7 @@ impl<'a> Verifier for AcceptedTable<'a> {
     }
 }
 
-/// Whether some row is of this key, of a message with this SHA-256 digest, and of this value.
+/// Whether some row of the table is of this key, of a message with this SHA-256 digest, and of this value.
 fn some_accepts(table: &AcceptedTable, key: &Key, digest: &[u8], value: &[u8]) -> bool
     ensures { (message : List ℕ) → sha256 message ≡ digest.now
         → IsTrue result ↔ verified_by table.now key.now message value.now }
