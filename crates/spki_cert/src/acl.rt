@@ -21,7 +21,8 @@ use sexpr_core::syntax::{Members, Node};
 use sexpr_core::{Doc, NodeId};
 use std::alloc::Global;
 
-/// Reads the subject of an entry: a principal or a whole name.
+/// Reads the subject of an entry from its node: a principal, or a name that begins with one. Err says why it is none:
+/// `RelativeInEntry` for a name without a principal.
 fn entry_subject<'a>(alloc: Global, node: &Node<'_, 'a>) -> Result<Subject<'a>, CertFaultKind>
     ensures found { IfOk result (λ subject. SubjectOf node.now subject) }
     ensures faultless { IfOk result (λ _. entry_subject_fault node.now ≡ None) }
@@ -37,8 +38,8 @@ fn entry_subject<'a>(alloc: Global, node: &Node<'_, 'a>) -> Result<Subject<'a>, 
     }
 }
 
-/// Reads the entry of a node, `(entry subject ..)`, like the entries of an access list in `read_acl` (RFC 2693, section
-/// 3.4).
+/// Reads an entry from its node, `(entry subject ..)`, like the entries of an access list in `read_acl` (RFC 2693,
+/// section 3.4).
 ///
 /// # Errors
 ///
@@ -77,7 +78,8 @@ pub fn entry_of<'a>(alloc: Global, node: &Node<'_, 'a>) -> Result<Entry<'a>, Cer
     })
 }
 
-/// Reads the entries of an access list, after its head and its version.
+/// Reads the entries from the members of an access list after its head and version. Err is the first fault, with the
+/// number of its entry, from 1.
 fn entries_of<'a>(alloc: Global, members: Members<'_, 'a>) -> Result<Vec<Entry<'a>>, CertFault>
     ensures entries { IfOk result (λ entries. AllZip EntryOf members.entry entries.items) }
     ensures faultless { IfOk result (λ _. entries_fault members.entry ≡ None) }
@@ -104,7 +106,8 @@ fn entries_of<'a>(alloc: Global, members: Members<'_, 'a>) -> Result<Vec<Entry<'
     Ok(entries)
 }
 
-/// Returns the members after the head `acl`, and after a version if the first member is one.
+/// Returns the members of an access list after the head `acl`, and after a version if the first of them is one. Err is
+/// `Shape` if the node is not headed `acl`, or the fault of the version.
 fn behind_version<'d, 'a>(node: &Node<'d, 'a>) -> Result<Members<'d, 'a>, CertFaultKind>
     ensures found { IfOk result (λ entries. (all : List Value) × (node.now ≡ group (plain (codes "acl") ∷ all))
         × BeginsWell all × (entries ≡ behind_version all)) }
@@ -128,7 +131,7 @@ fn behind_version<'d, 'a>(node: &Node<'d, 'a>) -> Result<Members<'d, 'a>, CertFa
     Ok(others)
 }
 
-/// Reads the access list of a node, like `read_acl`, with the same errors.
+/// Reads an access list from its node, like `read_acl`, with the same errors.
 pub fn acl_of<'a>(alloc: Global, node: &Node<'_, 'a>) -> Result<Vec<Entry<'a>>, CertFault>
     ensures acl { IfOk result (λ entries. AclOf node.now entries.items) }
     // The fault is the first from the left, and what is read has none.

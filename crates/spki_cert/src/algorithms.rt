@@ -20,7 +20,7 @@ pub struct Algorithms {
 }
 
 impl Algorithms {
-    /// No algorithm.
+    /// No algorithm: all three fields are false.
     pub fn none() -> Algorithms
         ensures { (alg : HashAlg) → is_among result alg ≡ false }
     {
@@ -49,7 +49,7 @@ impl Algorithms {
         }
     }
 
-    /// These algorithms and one more.
+    /// These algorithms and one more, which may be among them already.
     fn and(self, more: HashAlg) -> Algorithms
         ensures { (alg : HashAlg) → is_among result alg ≡ (is_among self alg || is_same more alg) }
     {

@@ -29,7 +29,8 @@ pub(crate) struct CertParts<'a> {
     pub window: Window,
 }
 
-/// The subject of a certificate. A relative name is a name of the issuer.
+/// The subject of a certificate. If it was written as a name without a principal, the principal is the certificate's
+/// issuer.
 fn issued_to<'a>(who: Who<'a>, issuer: &Principal<'a>) -> Subject<'a>
     ensures { IsSubjectOf issuer.now who.entry.principal who.entry.names.items result }
 {
@@ -44,7 +45,8 @@ fn issued_to<'a>(who: Who<'a>, issuer: &Principal<'a>) -> Subject<'a>
     }
 }
 
-/// Reads the parts of a certificate with these fields.
+/// Reads the contents of a certificate's fields from the members after its head. Err is the first fault. It is `Shape`
+/// if the issuer or the subject is missing, or if limits are given alone and there is a `(valid ..)` too.
 fn parts_of<'a>(alloc: Global, members: Members<'_, 'a>) -> Result<CertParts<'a>, CertFaultKind>
     ensures found { IfOk result (λ parts. PartsOf members.entry parts) }
     ensures faultless { IfOk result (λ _. parts_fault members.entry ≡ None) }
@@ -77,7 +79,9 @@ fn parts_of<'a>(alloc: Global, members: Members<'_, 'a>) -> Result<CertParts<'a>
     })
 }
 
-/// Reads the certificate of a node: an authorization certificate if the issuer is a principal, otherwise a name certificate.
+/// Reads a certificate from its node: an authorization certificate if the issuer is a principal, otherwise a name
+/// certificate. Err is the first fault. It is `Shape` for an authorization without a tag, and for a name certificate
+/// with a tag or `(propagate)`.
 pub(crate) fn cert_of<'a>(alloc: Global, node: &Node<'_, 'a>) -> Result<SeqItem<'a>, CertFaultKind>
     ensures found { IfOk result (λ item. CertOf node.now item) }
     ensures named { IfErr result (λ kind. kind ≢ CertFaultKind.Memory → cert_fault node.now ≡ Some kind) }

@@ -29,7 +29,7 @@ impl Model for Date {
 impl Date {
     ghost use Rattle.spki_cert.specs.Time.{upto};
 
-    /// The date with these octets. None if they are no date. Allocates nothing.
+    /// The date with these 19 octets. None if they are no date. Allocates nothing.
     #[tactic(auto, unfolding(spki_tag::specs::Time::is_date))]
     pub fn of(octets: &[u8]) -> Option<Date>
         ensures { MatchOption result (is_date octets.now ≡ false)
@@ -44,14 +44,14 @@ impl Date {
         }
     }
 
-    /// Its octets.
+    /// Its 19 octets, such as `2024-01-01_00:00:00`.
     pub fn as_slice(&self) -> &[u8]
         ensures { result.now ≡ self.now }
     {
         &self.octets
     }
 
-    /// Whether this moment is not after the other, by octets.
+    /// Whether this moment is not after the other, by the order of their octets.
     pub fn upto(&self, other: &Date) -> bool
         ensures { result ≡ upto self.now other.now }
     {

@@ -60,6 +60,7 @@ pub enum CertFaultKind {
 impl From<AllocError> for CertFaultKind {
     ghost from_gives = { λ _ kind. kind ≡ Memory };
 
+    /// An allocation that failed is the fault `Memory`.
     fn from(_e: AllocError) -> CertFaultKind {
         CertFaultKind::Memory
     }
@@ -68,6 +69,7 @@ impl From<AllocError> for CertFaultKind {
 impl<T: Drop> From<AllocFailed<T>> for CertFaultKind {
     ghost from_gives = { λ _ kind. kind ≡ Memory };
 
+    /// An allocation that failed is the fault `Memory`.
     fn from(_e: AllocFailed<T>) -> CertFaultKind {
         CertFaultKind::Memory
     }

@@ -60,7 +60,7 @@ pub(crate) struct Fields<'a> {
     pub known: Known<'a>,
 }
 
-/// A tag's fault as the fault of a structure.
+/// The fault of the field `tag`: `Tag` with this fault, or `Memory` if memory ran out.
 fn from_tag_fault(fault: TagFault) -> CertFaultKind
     ensures { IsTagKind fault result }
 {
@@ -70,7 +70,8 @@ fn from_tag_fault(fault: TagFault) -> CertFaultKind
     }
 }
 
-/// Reads the only tag after the head `tag`.
+/// Reads the tag from the members of `(tag T)` after the head. Err is a fault of the tag, or `Shape` if there is not
+/// exactly one member.
 fn tag_in(alloc: Global, members: Members) -> Result<Tag, CertFaultKind>
     ensures found { IfOk result (λ tag. Sole ReadsAs members.entry tag) }
     ensures faultless { IfOk result (λ _. sole_fault CertFaultKind.Shape kind_of_tag members.entry ≡ None) }
@@ -91,7 +92,8 @@ fn tag_in(alloc: Global, members: Members) -> Result<Tag, CertFaultKind>
     }
 }
 
-/// Reads the only issuer after the head `issuer`.
+/// Reads the issuer from the members of `(issuer I)` after the head. Err is a fault of the issuer, or `Shape` if there
+/// is not exactly one member.
 fn issuer_in<'a>(members: Members<'_, 'a>) -> Result<Issuer<'a>, CertFaultKind>
     ensures found { IfOk result (λ issuer. IssuerAt members.entry issuer) }
     ensures faultless { IfOk result (λ _. sole_fault CertFaultKind.Shape issuer_fault members.entry ≡ None) }
@@ -109,7 +111,8 @@ fn issuer_in<'a>(members: Members<'_, 'a>) -> Result<Issuer<'a>, CertFaultKind>
     }
 }
 
-/// Reads the only subject after the head `subject`.
+/// Reads the subject from the members of `(subject S)` after the head. Err is a fault of the subject, or `Shape` if
+/// there is not exactly one member.
 fn subject_in<'a>(alloc: Global, members: Members<'_, 'a>) -> Result<Who<'a>, CertFaultKind>
     ensures found { IfOk result (λ who. WhoAt members.entry who) }
     ensures faultless { IfOk result (λ _. sole_fault CertFaultKind.Shape subject_fault members.entry ≡ None) }
@@ -126,7 +129,8 @@ fn subject_in<'a>(alloc: Global, members: Members<'_, 'a>) -> Result<Who<'a>, Ce
     }
 }
 
-/// Reads a field that an entry and a certificate may have.
+/// Reads a field that both an entry and a certificate may have: `tag`, `propagate`, `comment` or a field of validity.
+/// Err is its fault, `Shape` for any other field.
 fn read_common_field<'a>(alloc: Global, field: &Node) -> Result<Said<'a>, CertFaultKind>
     ensures says { IfOk result (λ said. Says field.now said) }
     ensures faultless { IfOk result (λ _. entry_field_fault field.now ≡ None) }
@@ -148,7 +152,8 @@ fn read_common_field<'a>(alloc: Global, field: &Node) -> Result<Said<'a>, CertFa
     read_validity_field(field)
 }
 
-/// Reads a field of validity: a limit, or `(valid ..)`.
+/// Reads a field of validity: `(not-before DATE)`, `(not-after DATE)` or `(valid ..)`. Err is its fault: `Online` for
+/// `(online ..)`, and `Shape` for any other field.
 fn read_validity_field<'a>(field: &Node) -> Result<Said<'a>, CertFaultKind>
     ensures says { IfOk result (λ said. Says field.now said) }
     ensures faultless { IfOk result (λ _. time_fault field.now ≡ None) }
@@ -170,7 +175,7 @@ fn read_validity_field<'a>(field: &Node) -> Result<Said<'a>, CertFaultKind>
     }
 }
 
-/// Reads a field of a certificate.
+/// Reads any field that a certificate may have. Err is its fault, `Shape` if a certificate has no such field.
 fn read_certificate_field<'a>(
     alloc: Global,
     field: &Node<'_, 'a>,
@@ -195,7 +200,7 @@ fn read_certificate_field<'a>(
     read_common_field(alloc, field)
 }
 
-/// Whether the field is ignored, whatever it contains.
+/// Whether the field is ignored, whatever it contains: `display`, `issuer-info` or `subject-info`.
 fn is_unread(field: &Node) -> bool
     ensures { MatchBool result (IsUnread field.now) (IsUnread field.now → ⊥) }
 {
@@ -211,7 +216,7 @@ fn is_unread(field: &Node) -> bool
     }
 }
 
-/// Reads one more field.
+/// Reads a field of an entry or of a certificate, as `place` says. Err is its fault.
 fn said_by<'a>(alloc: Global, place: Place, field: &Node<'_, 'a>) -> Result<Said<'a>, CertFaultKind>
     ensures says { IfOk result (λ said. Says field.now said) }
     ensures faultless { IfOk result (λ _. fault_in place field.now ≡ None) }
@@ -224,7 +229,7 @@ fn said_by<'a>(alloc: Global, place: Place, field: &Node<'_, 'a>) -> Result<Said
 }
 
 impl<'a> Known<'a> {
-    /// Adds the content of one more field.
+    /// Notes the content of one more field, in the place of an earlier content of this kind.
     fn add(&mut self, said: Said<'a>)
         ensures { self.new ≡ gather self.old said.entry }
     {
@@ -240,14 +245,15 @@ impl<'a> Known<'a> {
     }
 }
 
-/// Whether some word is this one.
+/// Whether `word` is one of `words`.
 fn is_word_among(words: &[Octets], word: &[u8]) -> bool
     ensures { result ≡ is_word_among words.now word.now }
 {
     words.iter().any(|w| w.as_slice() == word)
 }
 
-/// The head of a field. None if it is one of `heads`.
+/// The head of a field. None if the field is no list that begins with a string without a hint, or if its head is one of
+/// `heads`.
 fn new_head<'a>(field: &Node<'_, 'a>, heads: &[Octets]) -> Option<&'a [u8]>
     ensures { MatchOption result ((head : List ℕ) → IsNew field.now heads.now head → ⊥) (λ head. IsNew field.now heads.now head.now) }
 {
@@ -263,7 +269,8 @@ fn new_head<'a>(field: &Node<'_, 'a>, heads: &[Octets]) -> Option<&'a [u8]>
     }
 }
 
-/// Reads the fields, each at most once.
+/// Reads all fields of an entry or of a certificate, as `place` says. Err is the first fault: `Shape` if a head comes
+/// twice, or if there is no such field.
 pub(crate) fn fields_of<'a>(
     alloc: Global,
     place: Place,

@@ -20,7 +20,7 @@ pub enum HashAlg {
 }
 
 impl HashAlg {
-    /// The algorithm with this name: `sha1`, `sha256` or `sha512`.
+    /// The algorithm with this name: `sha1`, `sha256` or `sha512`. None for any other name.
     pub fn named(name: &[u8]) -> Option<HashAlg>
         ensures { MatchOption result ((alg : HashAlg) → name.now ≢ alg_name alg)
             (λ alg. name.now ≡ alg_name alg) }
@@ -36,7 +36,7 @@ impl HashAlg {
         }
     }
 
-    /// Its name.
+    /// Its name in texts: `sha1`, `sha256` or `sha512`.
     pub fn name(&self) -> &'static [u8]
         ensures { result.now ≡ alg_name self.now }
     {
@@ -47,7 +47,7 @@ impl HashAlg {
         }
     }
 
-    /// The number of octets of its digests.
+    /// The number of octets of its digests: 20, 32 or 64.
     pub fn digest_len(&self) -> usize
         ensures { result ≡ digest_len self.now }
     {
@@ -58,7 +58,7 @@ impl HashAlg {
         }
     }
 
-    /// Whether the digest is that of the octets. Allocates nothing.
+    /// Whether `digest` is the digest of the octets by this algorithm. Allocates nothing.
     pub fn fits(&self, digest: &[u8], octets: &[u8]) -> bool
         ensures is_test { result ≡ is_digest self.now digest.now octets.now }
         ensures exact { IsTrue result ↔ (digest_of self.now octets.now ≡ digest.now) }
@@ -71,6 +71,7 @@ impl HashAlg {
     }
 }
 
+/// Whether `digest` is the SHA-1 digest of the octets.
 fn fits_sha1(digest: &[u8], octets: &[u8]) -> bool
     ensures { result ≡ is_digest HashAlg.Sha1 digest.now octets.now }
 {
@@ -78,6 +79,7 @@ fn fits_sha1(digest: &[u8], octets: &[u8]) -> bool
     made.as_slice() == digest
 }
 
+/// Whether `digest` is the SHA-256 digest of the octets.
 fn fits_sha256(digest: &[u8], octets: &[u8]) -> bool
     ensures { result ≡ is_digest HashAlg.Sha256 digest.now octets.now }
 {
@@ -85,6 +87,7 @@ fn fits_sha256(digest: &[u8], octets: &[u8]) -> bool
     made.as_slice() == digest
 }
 
+/// Whether `digest` is the SHA-512 digest of the octets.
 fn fits_sha512(digest: &[u8], octets: &[u8]) -> bool
     ensures { result ≡ is_digest HashAlg.Sha512 digest.now octets.now }
 {

@@ -50,7 +50,7 @@ impl<'a> Key<'a> {
     ghost use Rattle.sha2.specs.Sha256.{sha256};
     ghost use Rattle.sha2.specs.Sha512.{sha512};
 
-    /// The key with these canonical octets.
+    /// The key with these canonical octets, without digests. They must be those of a key.
     pub(crate) fn new(octets: &'a [u8]) -> Key<'a>
         requires { IsKey octets.now }
         ensures { result ≡ octets.now }
@@ -72,7 +72,7 @@ impl<'a> Key<'a> {
         let _ = &self.canonical;
     }
 
-    /// Its canonical octets.
+    /// The canonical octets of the key, such as `(10:public-key(..))`.
     pub fn as_slice(&self) -> &'a [u8]
         ensures { result.now ≡ self.now }
     {
@@ -116,8 +116,8 @@ impl<'a> Key<'a> {
         }
     }
 
-    /// Whether its canonical octets have this digest of the algorithm. Allocates nothing. A digest that the key carries is
-    /// compared. Otherwise the key is digested.
+    /// Whether `digest` is the digest of the key's canonical octets by this algorithm. Allocates nothing. A digest that
+    /// the key carries is compared. Otherwise the key is digested.
     pub fn has_digest(&self, alg: HashAlg, digest: &[u8]) -> bool
         ensures { result ≡ is_digest alg digest.now self.now }
     {
@@ -158,7 +158,7 @@ impl<'a> Key<'a> {
         }
     }
 
-    /// Whether this is the same key.
+    /// Whether both keys have the same canonical octets.
     pub fn same(&self, other: &Key) -> bool
         ensures { IsTrue result ↔ (self.now ≡ other.now) }
     {

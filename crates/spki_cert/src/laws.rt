@@ -71,8 +71,8 @@ pub fn no_subject_fault()
     ensures issuer { (v : Value) → (issuer_fault v ≡ None) ↔ ((p : Principal) × (name : Option (List ℕ)) × IssuerOf v p name) }
 {}
 
-/// Values have no fault as limits exactly if they are limits, each at most once. The same holds for the fields of an
-/// entry, and for those of a certificate.
+/// A list of limits in `(valid ..)` has no fault exactly if all are limits, each at most once. The same holds for the
+/// fields of an entry, and for those of a certificate.
 pub fn no_field_fault()
     ensures limits { (vs : List Value) → (fields_fault limit_fault vs ≡ None) ↔ AreFields IsLimitField vs }
     ensures of_entry { (vs : List Value) → (fields_fault entry_field_fault vs ≡ None) ↔ AreFields IsField vs }
@@ -94,8 +94,8 @@ pub fn no_sequence_fault()
     ensures sequence { (v : Value) → (sequence_fault v ≡ None) ↔ ((is : List SeqItem) × SeqOf v is) }
 {}
 
-/// If some entries have a fault, it names the first of them that has one, by its number from 1: the entries before it have
-/// readings, it has none, and its own fault is the one that is named.
+/// If the entries of an access list have a fault, it has the number of the first entry that cannot be read, from 1, and
+/// the fault of that entry. All entries before it can be read.
 pub fn refused_entry()
     ensures { (vs : List Value) (fault : CertFault) → entries_fault vs ≡ Some fault
         → (v : Value) × IsRefusedAt EntryOf vs fault.item v × (entry_fault v ≡ Some fault.kind) }

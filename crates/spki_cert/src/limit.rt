@@ -14,6 +14,7 @@ pub fn prove_limit(limit: Option<Date>)
     }
 }
 
+/// Whether a moment is not before the limit. True if there is no limit.
 pub fn is_from(limit: Option<Date>, moment: &Date) -> bool
     ensures { result ≡ is_from limit moment.now }
 {
@@ -23,6 +24,7 @@ pub fn is_from(limit: Option<Date>, moment: &Date) -> bool
     }
 }
 
+/// Whether a moment is not after the limit. True if there is no limit.
 pub fn is_until(limit: Option<Date>, moment: &Date) -> bool
     ensures { result ≡ is_until limit moment.now }
 {
@@ -32,6 +34,7 @@ pub fn is_until(limit: Option<Date>, moment: &Date) -> bool
     }
 }
 
+/// The later of two limits. None counts as no limit, so the other one is returned.
 pub fn later(one: Option<Date>, other: Option<Date>) -> Option<Date>
     ensures chosen { result ≡ later one other }
     ensures limit { IsLimit result }
@@ -43,6 +46,7 @@ pub fn later(one: Option<Date>, other: Option<Date>) -> Option<Date>
     }
 }
 
+/// The earlier of two limits. None counts as no limit, so the other one is returned.
 pub fn earlier(one: Option<Date>, other: Option<Date>) -> Option<Date>
     ensures chosen { result ≡ earlier one other }
     ensures limit { IsLimit result }
@@ -54,6 +58,7 @@ pub fn earlier(one: Option<Date>, other: Option<Date>) -> Option<Date>
     }
 }
 
+/// Whether the first limit is not after the last. True if one of them is missing.
 pub fn is_in_order(first: &Option<Date>, last: &Option<Date>) -> bool
     ensures { result ≡ in_order first.now last.now }
 {

@@ -23,7 +23,7 @@ impl<'a> Model for Names<'a> {
 }
 
 impl<'a> Names<'a> {
-    /// The names of a vector.
+    /// The names of a vector, in its order.
     pub fn of(names: Vec<Octets<'a>>) -> Names<'a>
         ensures { result ≡ names.entry.items }
     {
@@ -46,14 +46,14 @@ impl<'a> Names<'a> {
         self.from_last.is_empty()
     }
 
-    /// The first name, if there is one.
+    /// The first name. None if there is no name.
     pub fn first(&self) -> Option<&Octets<'a>>
         ensures { MatchOption result (self.now ≡ []) (λ name. self.now ≡ name.now ∷ drop 1 self.now) }
     {
         self.from_last.last()
     }
 
-    /// The name at a place, from 0.
+    /// The name at a place, from 0. The place must be below `len`.
     pub fn at(&self, place: usize) -> &Octets<'a>
         requires { place < length self.now }
         ensures { slice_get self.now place ≡ Some result.now }
@@ -61,7 +61,7 @@ impl<'a> Names<'a> {
         &self.from_last[self.from_last.len() - 1 - place]
     }
 
-    /// The names after the first.
+    /// All names but the first. Without names the result has none.
     pub fn behind_first(self) -> Names<'a>
         ensures { result ≡ drop 1 self.entry }
     {
@@ -70,7 +70,7 @@ impl<'a> Names<'a> {
         Names { from_last }
     }
 
-    /// These names after others.
+    /// The names of `others`, and after them these names.
     ///
     /// # Errors
     ///
@@ -90,6 +90,7 @@ impl<'a> Names<'a> {
 impl<'a> Clone for Names<'a> {
     ghost is_clone = { λ names copy. copy ≡ names };
 
+    /// Returns a copy. Err if memory ran out.
     fn clone(&self) -> Result<Names<'a>, AllocError> {
         Ok(Names {
             from_last: self.from_last.clone()?,

@@ -19,7 +19,7 @@ impl<'a> Model for Octets<'a> {
 }
 
 impl<'a> Octets<'a> {
-    /// The octets of a slice.
+    /// The octets of a slice, which are borrowed.
     pub fn new(octets: &'a [u8]) -> Octets<'a>
         ensures { result ≡ octets.now }
     {
@@ -42,7 +42,7 @@ impl<'a> Octets<'a> {
         }
     }
 
-    /// Whether these are the same octets.
+    /// Whether both have the same octets in the same order.
     pub fn same(&self, other: &Octets) -> bool
         ensures { IsTrue result ↔ (self.now ≡ other.now) }
     {
@@ -54,6 +54,7 @@ impl<'a> Octets<'a> {
 impl<'a> Clone for Octets<'a> {
     ghost is_clone = { λ octets copy. copy ≡ octets };
 
+    /// Returns the same octets again. Never fails.
     fn clone(&self) -> Result<Octets<'a>, AllocError> {
         Ok(self.share())
     }

@@ -30,7 +30,7 @@ pub(crate) struct Issuer<'a> {
     pub name: Option<Octets<'a>>,
 }
 
-/// Reads the principal of a node: a key or a hash (RFC 2693, section 2.5). Allocates nothing.
+/// Reads a principal from its node: a key or a hash (RFC 2693, section 2.5). Allocates nothing.
 ///
 /// # Errors
 ///
@@ -55,7 +55,7 @@ pub fn principal_of<'a>(node: &Node<'_, 'a>) -> Result<Principal<'a>, CertFaultK
     }
 }
 
-/// These names, and those after them.
+/// Appends the names in `members` to `names`. Err is `Shape` if a member is no string without a hint, or `Memory`.
 fn names_behind<'a>(
     names: Vec<Octets<'a>>,
     members: Members<'_, 'a>,
@@ -77,7 +77,8 @@ fn names_behind<'a>(
     Ok(all)
 }
 
-/// Reads the members after the head `name`: a principal and its names, or names alone, which are relative. There is at least one name.
+/// Reads the members after the head `name`: a principal and its names, or names alone, which are relative. Err says why
+/// they are none: `Shape` if there is no name.
 fn named_by<'a>(alloc: Global, members: Members<'_, 'a>) -> Result<Who<'a>, CertFaultKind>
     ensures found { IfOk result (λ who. NamesWho members.entry who.principal who.names.items) }
     ensures faultless { IfOk result (λ _. names_fault members.entry ≡ None) }
@@ -106,8 +107,8 @@ fn named_by<'a>(alloc: Global, members: Members<'_, 'a>) -> Result<Who<'a>, Cert
     })
 }
 
-/// Reads a node as a subject, as it is written: a principal, a name `(name principal n n*)`, or a relative name `(name n n*)`. A list
-/// headed `k-of-n` is `Threshold`, and one headed `keyholder` is `Keyholder`.
+/// Reads a subject from its node, as it is written: a principal, a name `(name principal n n*)`, or a relative name
+/// `(name n n*)`. Err is its fault: `Threshold` for a list headed `k-of-n`, and `Keyholder` for one headed `keyholder`.
 pub(crate) fn who_of<'a>(alloc: Global, node: &Node<'_, 'a>) -> Result<Who<'a>, CertFaultKind>
     ensures found { IfOk result (λ who. WhoOf node.now who.principal who.names.items) }
     ensures faultless { IfOk result (λ _. subject_fault node.now ≡ None) }
@@ -129,7 +130,7 @@ pub(crate) fn who_of<'a>(alloc: Global, node: &Node<'_, 'a>) -> Result<Who<'a>, 
     named_by(alloc, members)
 }
 
-/// Reads the issuer of a node: a principal, or a name of one word.
+/// Reads an issuer from its node: a principal, or `(name PRINCIPAL N)` with exactly one name. Err is its fault.
 pub(crate) fn issuer_of<'a>(node: &Node<'_, 'a>) -> Result<Issuer<'a>, CertFaultKind>
     ensures found { IfOk result (λ issuer. IssuerOf node.now issuer.principal issuer.name) }
     ensures faultless { IfOk result (λ _. issuer_fault node.now ≡ None) }

@@ -18,7 +18,7 @@ use sexpr_core::syntax::{Members, Node};
 use sexpr_core::{Doc, NodeId};
 use std::alloc::Global;
 
-/// Whether a node is a list with this head.
+/// Whether a node is a list with the head `word`.
 fn is_headed(node: &Node, word: &[u8]) -> bool
     ensures { result ≡ is_headed word.now node.now }
 {
@@ -28,7 +28,8 @@ fn is_headed(node: &Node, word: &[u8]) -> bool
     }
 }
 
-/// Reads the item of a node: a certificate, a signature, an operation, or otherwise a key.
+/// Reads an item of a sequence from its node: a certificate, a signature, an operation, or otherwise a key. Err is its
+/// fault.
 fn item_of<'a>(alloc: Global, node: &Node<'_, 'a>) -> Result<SeqItem<'a>, CertFaultKind>
     ensures found { IfOk result (λ item. ItemOf node.now item) }
     ensures named { IfErr result (λ kind. kind ≢ CertFaultKind.Memory → item_fault node.now ≡ Some kind) }
@@ -45,7 +46,9 @@ fn item_of<'a>(alloc: Global, node: &Node<'_, 'a>) -> Result<SeqItem<'a>, CertFa
     Ok(SeqItem::Key(key_of(node)?))
 }
 
-/// Checks that an item may follow the others, if `waits` is the certificate that is still without its signature.
+/// Checks that the item with this number may come here. `waits` is the number of the certificate that still lacks its
+/// signature. Err is `StraySignature` for a signature if there is none, or `UnsignedCert` if anything but a signature
+/// or an operation follows it.
 fn check_place(node: &Node, waits: Option<usize>, number: usize) -> Result<(), CertFault>
     ensures found { IfOk result (λ _. IsInPlace (is_some waits) node.now) }
     ensures faultless { IfOk result (λ _. place_fault waits number node.now ≡ None) }
@@ -72,7 +75,8 @@ fn check_place(node: &Node, waits: Option<usize>, number: usize) -> Result<(), C
     }
 }
 
-/// The certificate that is still without its signature after an item with this number.
+/// The number of the certificate that lacks its signature after this item. `before` is the same before the item, and
+/// `number` that of the item. None if there is none.
 fn waiting(node: &Node, before: Option<usize>, number: usize) -> Option<usize>
     ensures { result ≡ waiting node.now before number }
 {
@@ -86,7 +90,7 @@ fn waiting(node: &Node, before: Option<usize>, number: usize) -> Option<usize>
     }
 }
 
-/// Reads the items of a sequence, after its head.
+/// Reads the items from the members of a sequence after its head. Err is the first fault, as for `read_sequence`.
 fn items_of<'a>(alloc: Global, members: Members<'_, 'a>) -> Result<Vec<SeqItem<'a>>, CertFault>
     ensures items { IfOk result (λ items. AllZip ItemOf members.entry items.items) }
     ensures in_place { IfOk result (λ _. AreInPlace false members.entry × (waits_after false members.entry ≡ false)) }
@@ -123,7 +127,7 @@ fn items_of<'a>(alloc: Global, members: Members<'_, 'a>) -> Result<Vec<SeqItem<'
     }
 }
 
-/// Reads the items of the sequence of a node, like `read_sequence`, with the same errors.
+/// Reads a sequence from its node, like `read_sequence`, with the same errors.
 pub fn sequence_of<'a>(alloc: Global, node: &Node<'_, 'a>) -> Result<Vec<SeqItem<'a>>, CertFault>
     ensures sequence { IfOk result (λ items. SeqOf node.now items.items) }
     // The fault is the first from the left, and what is read has none.

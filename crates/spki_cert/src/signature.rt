@@ -14,7 +14,7 @@ use crate::principal_reader::principal_of;
 use crate::value_readers::{algorithm_of, hash_of};
 use sexpr_core::syntax::Node;
 
-/// Reads the signature of a node.
+/// Reads a signature from its node: `(signature HASH PRINCIPAL VALUE)`. Err is the first fault.
 pub(crate) fn signature_of<'a>(node: &Node<'_, 'a>) -> Result<Signature<'a>, CertFaultKind>
     ensures found { IfOk result (λ signature. SignatureOf node.now signature) }
     ensures named { IfErr result (λ kind. signature_fault node.now ≡ Some kind) }
@@ -45,7 +45,8 @@ pub(crate) fn signature_of<'a>(node: &Node<'_, 'a>) -> Result<Signature<'a>, Cer
     })
 }
 
-/// Reads the algorithm of an operation: `(do hash alg)`.
+/// Reads the algorithm from the node of an operation: `(do hash ALG)`. Err is the first fault: `UnknownOp` for any
+/// other operation.
 pub(crate) fn do_hash_of(node: &Node) -> Result<HashAlg, CertFaultKind>
     ensures found { IfOk result (λ alg. DoHashOf node.now alg) }
     ensures named { IfErr result (λ kind. do_fault node.now ≡ Some kind) }

@@ -16,7 +16,8 @@ use crate::value_readers::date_of;
 use crate::window::Window;
 use sexpr_core::syntax::{Members, Node};
 
-/// Reads the only date after the head of a limit.
+/// Reads the date from the members of a limit after its head. Err is `BadDate`, or `Shape` if there is not exactly one
+/// member.
 pub(crate) fn date_in(members: Members) -> Result<Date, CertFaultKind>
     ensures found { IfOk result (λ date. Sole DateOf members.entry date) }
     ensures faultless { IfOk result (λ _. sole_fault CertFaultKind.Shape date_fault members.entry ≡ None) }
@@ -34,7 +35,8 @@ pub(crate) fn date_in(members: Members) -> Result<Date, CertFaultKind>
     }
 }
 
-/// Adds one more limit to the window.
+/// Adds the limit in a field, `(not-before DATE)` or `(not-after DATE)`, to the window. Err is its fault: `Shape` if
+/// the window has this limit already, and `Online` for `(online ..)`.
 fn with_limit(field: &Node, window: Window) -> Result<Window, CertFaultKind>
     ensures found { IfOk result (λ after. AddsLimit field.now window after) }
     ensures faultless { IfOk result (λ _. LimitLook window field.now None) }
@@ -67,7 +69,7 @@ fn with_limit(field: &Node, window: Window) -> Result<Window, CertFaultKind>
     }
 }
 
-/// Reads the window of the limits after the head `valid`, each at most once.
+/// Reads a window from the members of `(valid ..)` after the head: limits, each at most once. Err is the first fault.
 pub(crate) fn valid_in(members: Members) -> Result<Window, CertFaultKind>
     ensures found { IfOk result (λ window. ValidOf members.entry window) }
     ensures faultless { IfOk result (λ _. fields_fault limit_fault members.entry ≡ None) }
@@ -86,7 +88,8 @@ pub(crate) fn valid_in(members: Members) -> Result<Window, CertFaultKind>
     Ok(window)
 }
 
-/// The window of direct limits and a `(valid ..)`. None if there are limits both ways.
+/// The window of an entry or a certificate, whose limits are given alone (`limits`) or in `(valid ..)`. None if limits
+/// are given alone and there is a `(valid ..)` too.
 pub(crate) fn one_way(limits: Window, valid: Option<Window>) -> Option<Window>
     ensures { MatchOption result (IsBothWays limits valid) (IsOneWay limits valid) }
 {

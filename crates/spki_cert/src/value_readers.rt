@@ -15,7 +15,7 @@ use crate::octets::Octets;
 use sexpr_core::syntax::{Members, Node, NodeKind};
 use sexpr_core::{Doc, NodeId};
 
-/// Reads the key of a node.
+/// Reads a key from its node, like `read_key`. Err is the first fault: `KeyUris` or `Shape`.
 pub fn key_of<'a>(node: &Node<'_, 'a>) -> Result<Key<'a>, CertFaultKind>
     ensures key { IfOk result (λ key. KeyOf node.now key) }
     ensures refused { IfErr result (λ _. IsNoKey node.now) }
@@ -41,7 +41,7 @@ pub fn key_of<'a>(node: &Node<'_, 'a>) -> Result<Key<'a>, CertFaultKind>
     }
 }
 
-/// Whether the node is a list headed by a string without a display hint.
+/// Whether the node is a list that begins with a string without a display hint, as the algorithm of a key does.
 fn is_algorithm(node: &Node) -> bool
     ensures { MatchBool result (IsAlgorithm node.now) (IsAlgorithm node.now → ⊥) }
 {
@@ -54,7 +54,7 @@ fn is_algorithm(node: &Node) -> bool
     }
 }
 
-/// Reads the date of a node.
+/// Reads a date from its node, like `read_date`. Err is always `BadDate`.
 pub fn date_of(node: &Node) -> Result<Date, CertFaultKind>
     ensures date { IfOk result (λ date. DateOf node.now date) }
     ensures refused { IfErr result (λ _. IsNoDate node.now) }
@@ -71,7 +71,7 @@ pub fn date_of(node: &Node) -> Result<Date, CertFaultKind>
     }
 }
 
-/// Reads the algorithm of a node.
+/// Reads a hash algorithm from the node of its name. Err is `HashAlg` for any other string, and `Shape` for a list.
 pub(crate) fn algorithm_of(node: &Node) -> Result<HashAlg, CertFaultKind>
     ensures named { IfOk result (λ alg. node.now ≡ plain (alg_name alg)) }
     ensures refused { IfErr result (λ _. (alg : HashAlg) → node.now ≢ plain (alg_name alg)) }
@@ -89,7 +89,8 @@ pub(crate) fn algorithm_of(node: &Node) -> Result<HashAlg, CertFaultKind>
     }
 }
 
-/// Reads the digest of a node.
+/// Reads the digest of a hash by this algorithm from its node. Err is `DigestLength` if it has a wrong length, and
+/// `Shape` if the node is no string without a hint.
 fn digest_member<'a>(alg: HashAlg, node: &Node<'_, 'a>) -> Result<Octets<'a>, CertFaultKind>
     ensures digest { IfOk result (λ digest. DigestOf node.now alg digest) }
     ensures refused { IfErr result (λ _. (digest : List ℕ) → DigestOf node.now alg digest → ⊥) }
@@ -107,7 +108,8 @@ fn digest_member<'a>(alg: HashAlg, node: &Node<'_, 'a>) -> Result<Octets<'a>, Ce
     }
 }
 
-/// Whether nothing, or only uris, follow a digest.
+/// Whether nothing, or exactly one list headed `uri`, follows the digest of a hash. `rest` are the members after the
+/// digest.
 fn ends_in_uris(rest: Members) -> bool
     ensures { MatchBool result (AreUris rest.entry) (AreUris rest.entry → ⊥) }
 {
@@ -117,7 +119,7 @@ fn ends_in_uris(rest: Members) -> bool
     }
 }
 
-/// Reads the hash of a node.
+/// Reads a hash from its node, like `read_hash`: its algorithm and its digest. Err is the first fault.
 pub fn hash_of<'a>(node: &Node<'_, 'a>) -> Result<(HashAlg, Octets<'a>), CertFaultKind>
     ensures hash { IfOk result (λ h. HashOf node.now h.0 h.1) }
     ensures refused { IfErr result (λ _. IsNoHash node.now) }

@@ -8,7 +8,8 @@ ghost use Rattle.spki_cert.specs.FieldFaults.{version_fault};
 use crate::fault::CertFaultKind;
 use sexpr_core::syntax::{Members, NodeKind};
 
-/// Checks that the string 0, and nothing else, is after the head `version`.
+/// Checks that the members after the head `version` are the string 0 alone. Err is `UnknownVersion` if the first is any
+/// other string, otherwise `Shape`.
 pub(crate) fn check_version(members: Members) -> Result<(), CertFaultKind>
     ensures found { IfOk result (λ _. members.entry ≡ plain (codes "0") ∷ []) }
     ensures faultless { IfOk result (λ _. sole_fault CertFaultKind.Shape version_fault members.entry ≡ None) }

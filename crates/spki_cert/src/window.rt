@@ -25,7 +25,7 @@ impl Window {
         prove_limit(self.not_after);
     }
 
-    /// Whether the moment is within the window. Allocates nothing.
+    /// Whether the moment is within the window. Both limits are included. Allocates nothing.
     pub fn holds(&self, moment: &Date) -> bool
         ensures { result ≡ within moment.now self.now }
     {
