@@ -33,7 +33,7 @@ impl Tag {
     }
 }
 
-/// Whether there are as many others, and each is the same as the one in its place.
+/// Whether both slices have equally many tags, and those at each place are the same.
 #[cycle(same)]
 fn all_same(ones: &[Tag], others: &[Tag]) -> bool
     ensures { IsTrue result ↔ (tags ones.now ≡ tags others.now) }
@@ -49,7 +49,7 @@ fn all_same(ones: &[Tag], others: &[Tag]) -> bool
     true
 }
 
-/// Whether a node is this tag without members.
+/// Whether a node is the same as this tag without members.
 fn same_as_leaf(leaf: &Leaf, node: &Node) -> bool
     ensures { IsTrue result ↔ (leaf_tag leaf.now ≡ node_tag node.now) }
 {
@@ -61,7 +61,7 @@ fn same_as_leaf(leaf: &Leaf, node: &Node) -> bool
 }
 
 impl Leaf {
-    /// Whether another tag without members is the same.
+    /// Whether both tags without members have the same form and the same strings.
     fn same(&self, other: &Leaf) -> bool
         ensures { IsTrue result ↔ (leaf_tag self.now ≡ leaf_tag other.now) }
     {
@@ -103,7 +103,7 @@ fn same_ordering(one: RangeOrdering, other: RangeOrdering) -> bool
     one == other
 }
 
-/// Whether two limits are the same, if there are any.
+/// Whether two limits have the same string and strictness, or both are missing.
 fn same_limit(one: &Option<Limit>, other: &Option<Limit>) -> bool
     ensures { IsTrue result ↔ (limit_of one.now ≡ limit_of other.now) }
 {

@@ -42,6 +42,7 @@ pub enum TagFault {
 impl From<AllocError> for TagFault {
     ghost from_gives = { λ _ e. e ≡ Memory };
 
+    /// An allocation that failed is the fault `Memory`.
     fn from(_e: AllocError) -> TagFault {
         TagFault::Memory
     }
@@ -50,6 +51,7 @@ impl From<AllocError> for TagFault {
 impl<T: Drop> From<AllocFailed<T>> for TagFault {
     ghost from_gives = { λ _ e. e ≡ Memory };
 
+    /// An allocation that failed is the fault `Memory`.
     fn from(_e: AllocFailed<T>) -> TagFault {
         TagFault::Memory
     }
@@ -69,6 +71,7 @@ pub enum MeetFault {
 impl From<AllocError> for MeetFault {
     ghost from_gives = { λ _ e. e ≡ meet.Memory };
 
+    /// An allocation that failed is the fault `Memory`.
     fn from(_e: AllocError) -> MeetFault {
         MeetFault::Memory
     }
@@ -77,6 +80,7 @@ impl From<AllocError> for MeetFault {
 impl<T: Drop> From<AllocFailed<T>> for MeetFault {
     ghost from_gives = { λ _ e. e ≡ meet.Memory };
 
+    /// An allocation that failed is the fault `Memory`.
     fn from(_e: AllocFailed<T>) -> MeetFault {
         MeetFault::Memory
     }

@@ -50,7 +50,7 @@ pub enum TagForm<'a> {
     },
 }
 
-/// A limit of a range, as it is shown.
+/// A limit of a range in the form that callers see. None if there is no limit.
 fn limit_shown(limit: &Option<Limit>) -> Option<TagLimit<'_>>
     ensures { limit_shown result ≡ limit_of limit.now }
 {
@@ -63,7 +63,7 @@ fn limit_shown(limit: &Option<Limit>) -> Option<TagLimit<'_>>
     }
 }
 
-/// The form of a tag without members.
+/// The form of a tag without members, for callers: its string, or its limits.
 fn leaf_form(leaf: &Leaf) -> TagForm<'_>
     ensures { IsFormOf (leaf_tag leaf.now) result }
 {
@@ -96,7 +96,7 @@ impl Tag {
         }
     }
 
-    /// Whether this is `(*)`.
+    /// Whether this is `(*)`, the tag that contains every request.
     pub(crate) fn is_everything(&self) -> bool
         ensures value { result ≡ spec.is_star self.now }
         ensures normal { spec.IsNormalTag self.now }
@@ -122,7 +122,7 @@ impl Tag {
     }
 }
 
-/// Whether the tag is a set.
+/// Whether the tag is a set, which `(*)` is not.
 fn is_set(tag: &Tag) -> bool
     ensures { result ≡ spec.is_set tag.now }
 {

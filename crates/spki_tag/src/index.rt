@@ -41,7 +41,7 @@ enum Kind<'a> {
 }
 
 impl<'a> Kind<'a> {
-    /// The kind of a tag.
+    /// The kind of a tag: which requests it can contain.
     fn of(tag: &'a Tag) -> Kind<'a>
         ensures { kind_of result ≡ kind tag.now }
     {
@@ -61,7 +61,7 @@ impl<'a> Kind<'a> {
 /// The places of tags by string, in increasing order.
 type PlacesByString<'a> = BTreeMap<&'a [u8], Vec<usize>>;
 
-/// Adds a place after those of a string.
+/// Appends a place to those that the map has for a string. Err if memory ran out.
 fn put<'a>(map: &mut PlacesByString<'a>, string: &'a [u8], place: usize) -> Result<(), AllocError>
     ensures { OnOk result ((q : List ℕ) → found_at map.new q ≡ found_at map.old q ++ place_if (bytes_eq q string.now) place) }
 {
@@ -69,7 +69,7 @@ fn put<'a>(map: &mut PlacesByString<'a>, string: &'a [u8], place: usize) -> Resu
     Ok(())
 }
 
-/// The places of a string.
+/// The places that the map has for a string, in increasing order. Empty if it has none.
 fn places_at<'m>(map: &'m PlacesByString<'_>, string: &[u8]) -> &'m [usize]
     ensures { result.now ≡ found_at map.now string.now }
 {
@@ -97,7 +97,7 @@ struct PlacesByKind<'a> {
 }
 
 impl<'a> PlacesByKind<'a> {
-    /// The places of no tags.
+    /// An index without tags.
     fn new(alloc: Global) -> PlacesByKind<'a>
         ensures { ArePlacesOf result [] }
     {
@@ -111,7 +111,8 @@ impl<'a> PlacesByKind<'a> {
         }
     }
 
-    /// Adds the place of a tag of this kind, after all others.
+    /// Adds the place of one more tag, which is of this kind. The place must be greater than all others. Err if memory
+    /// ran out.
     fn add(&mut self, kind: Kind<'a>, place: usize) -> Result<(), AllocError>
         ensures { OnOk result (IsAdded self.old self.new (kind_of kind.entry) place) }
     {
@@ -135,7 +136,7 @@ impl<'a> PlacesByKind<'a> {
         Ok(())
     }
 
-    /// The places of these tags.
+    /// Makes the index of these tags: their places, from 1, by their kinds and strings. Err if memory ran out.
     fn of(alloc: Global, tags: &'a [Tag]) -> Result<PlacesByKind<'a>, AllocError>
         ensures { IfOk result (λ places. ArePlacesOf places tags.now) }
     {
@@ -184,7 +185,7 @@ impl<'a> Index<'a> {
         Index::over(alloc, tag.members())
     }
 
-    /// Makes the index of these members.
+    /// Makes the index of these members, whose places count from 1. Err if memory ran out.
     pub(crate) fn over(alloc: Global, members: &'a [Tag]) -> Result<Index<'a>, AllocError>
         ensures { IfOk result (λ index. index ≡ members.now) }
     {
@@ -192,17 +193,17 @@ impl<'a> Index<'a> {
         Ok(Index { members, places })
     }
 
-    /// The members, in order.
+    /// The members that are indexed, in order.
     pub fn members(&self) -> &'a [Tag]
         ensures { result.now ≡ self.now }
     {
         self.members
     }
 
-    /// The places of the members that can have a request in common with a tag, by their kinds and strings, in increasing
-    /// order. For a string these are the members of the same string, prefixes and ranges. For a list they are the lists with
-    /// the same head. For a prefix or a range they are all strings, prefixes and ranges, and for a set or `(*)` all members.
-    /// If the index is that of `(*)`, its place is always included.
+    /// The places, from 1, of the members that can have a request in common with a tag, by their kinds and strings, in
+    /// increasing order. For a string these are the members of the same string, prefixes and ranges. For a list they
+    /// are the lists with the same head. For a prefix or a range they are all strings, prefixes and ranges, and for a
+    /// set or `(*)` all members. If the index is that of `(*)`, its place is always included.
     ///
     /// # Errors
     ///

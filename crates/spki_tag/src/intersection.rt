@@ -18,7 +18,8 @@ use std::alloc::{AllocError, Global};
 /// The greatest product of the numbers of nodes of two tags that are intersected.
 const MOST_NODES: usize = 1_000_000;
 
-/// Returns the intersection of two tags.
+/// Returns the intersection of two tags, whose numbers of nodes have a product of at most 1,000,000. Err if memory ran
+/// out.
 #[cycle(meet)]
 fn meet_tags(alloc: Global, one: &Tag, other: &Tag) -> Result<Tag, AllocError>
     requires { nodes one.now * nodes other.now ≤ most_nodes }
@@ -35,7 +36,8 @@ fn meet_tags(alloc: Global, one: &Tag, other: &Tag) -> Result<Tag, AllocError>
     }
 }
 
-/// Returns the intersection of two tags that are neither sets nor `(*)`.
+/// Returns the intersection of two tags that are neither sets nor `(*)`. It is `(* set)` for a list and a tag without
+/// members. Err if memory ran out.
 #[cycle(meet)]
 fn meet_single(alloc: Global, one: &Tag, other: &Tag) -> Result<Tag, AllocError>
     requires bound { nodes one.now * nodes other.now ≤ most_nodes }
@@ -58,7 +60,8 @@ fn meet_single(alloc: Global, one: &Tag, other: &Tag) -> Result<Tag, AllocError>
     }
 }
 
-/// Returns the intersection of two lists with these heads and further members.
+/// Returns the intersection of two lists: one of `head` and `further`, and one of `other` and `others`. It is `(* set)`
+/// if their heads differ or the intersection of some members is. Err if memory ran out.
 #[cycle(meet)]
 fn meet_lists(
     alloc: Global,
@@ -82,8 +85,8 @@ fn meet_lists(
     }
 }
 
-/// Returns the intersections of the members of two lists, place by place, with the further members of the longer list as
-/// they are. None if some intersection is `(* set)`.
+/// Returns the intersections of the members of two lists, place by place. Where only the longer list has a member, that
+/// member is copied. None if some intersection is `(* set)`. Err if memory ran out.
 #[cycle(meet)]
 fn meet_each(alloc: Global, ones: &[Tag], others: &[Tag]) -> Result<Option<Vec<Tag>>, AllocError>
     requires bound { nodes_all (tags ones.now) * nodes_all (tags others.now) ≤ most_nodes }
@@ -106,8 +109,8 @@ fn meet_each(alloc: Global, ones: &[Tag], others: &[Tag]) -> Result<Option<Vec<T
     Ok(Some(met))
 }
 
-/// Returns the set of the intersections of each tag with each of the others, in the order of the first and then of the
-/// second.
+/// Returns the set of the intersections of each tag of `ones` with each of `others`, without those that are `(* set)`.
+/// The order is that of `ones`, and for each of them that of `others`. Err if memory ran out.
 #[cycle(meet)]
 fn meet_members(alloc: Global, ones: &[Tag], others: &[Tag]) -> Result<Tag, AllocError>
     requires bound { nodes_all (tags ones.now) * nodes_all (tags others.now) ≤ most_nodes }
@@ -123,7 +126,8 @@ fn meet_members(alloc: Global, ones: &[Tag], others: &[Tag]) -> Result<Tag, Allo
     Ok(Tag::gathered(met))
 }
 
-/// Adds the intersections of a tag with the members at these places, except `(* set)`.
+/// Appends to `met` the intersections of a tag with those of `others` at these places, counted from 1, except `(*
+/// set)`. Err if memory ran out.
 #[cycle(meet)]
 fn push_row(
     alloc: Global,
@@ -161,7 +165,7 @@ impl Tag {
         self.meet_within(alloc, other, MOST_NODES)
     }
 
-    /// Like `meet`, with `most` as the limit instead of 1,000,000.
+    /// Like `meet`, with `most`, which is at most 1,000,000, as the limit instead.
     ///
     /// # Errors
     ///

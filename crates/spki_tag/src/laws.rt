@@ -31,18 +31,18 @@ pub fn one_reading()
     ensures { (v : Value) (t u : Tag) → ReadsAs v t → ReadsAs v u → t ≡ u }
 {}
 
-/// A value has no fault as a tag exactly if it is a written tag of at most 1,024 nodes.
+/// A value is read as a tag without fault exactly if it is a written tag of at most 1,024 nodes.
 pub fn tag_fault_none()
     ensures { (v : Value) → (tag_fault v ≡ None) ↔ ((w : Tag) × IsTag w × (tag_value w ≡ v) × (nodes w ≤ 1024)) }
 {}
 
-/// A value of octets has no fault as a request exactly if it is a request.
+/// A value of octets is read as a request without fault exactly if it is a written request.
 pub fn request_fault_none()
     ensures { (v : Value) → HasOctets v
         → (request_fault v ≡ None) ↔ ((g : Request) × IsRequest g × (request_value g ≡ v)) }
 {}
 
-/// A written tag contains as many tags as it has nodes.
+/// A tag has as many nodes as its written value contains tags, itself and those in it.
 pub fn tags_counted()
     ensures { (t : Tag) → IsTag t → length (tags_in (tag_value t)) ≡ nodes t }
 {}
@@ -58,7 +58,7 @@ pub fn prefix_is_range()
         → starts_with nat_eq x p ≡ (is_above (from p) x && is_below (strict_limit (least_above p)) x) }
 {}
 
-/// The rules of the intersection, as equations.
+/// What the intersection of two tags is, by their forms: `(*)`, sets, strings, prefixes, ranges and lists.
 pub fn meet_rules()
     ensures star { StarRule }
     ensures sets { SetRule }
@@ -90,8 +90,8 @@ pub fn meet_apart()
     ensures { (t u : Tag) → may_share t u ≡ false → meet t u ≡ nothing }
 {}
 
-/// The intersections of a tag with some tags, one after another, are those with some of these tags. They are the tags at
-/// the places where the two may have a request in common.
+/// To intersect a tag with several tags, it is enough to take those at the places where the two may have a request in
+/// common: the intersections that are not `(* set)` are the same, in the same order.
 pub fn row_at_places()
     ensures { (t : Tag) (us : List Tag)
         → row (meet t) (tags us) ≡ row (meet t) (tags (tags_at us (places_where (may_share t) 1 us))) }

@@ -44,7 +44,7 @@ pub(crate) enum Leaf {
     Range(RangeOrdering, Option<Limit>, Option<Limit>),
 }
 
-/// Whether a string is in an ordering.
+/// Whether a range of this ordering may contain the string: any string, a time of day, or a moment.
 fn is_ordered(ordering: RangeOrdering, octets: &[u8]) -> bool
     ensures { result ≡ is_ordered (ordering_of ordering) octets.now }
 {
@@ -55,7 +55,7 @@ fn is_ordered(ordering: RangeOrdering, octets: &[u8]) -> bool
     }
 }
 
-/// Whether `x` is below `y`, or, if `strict` is false, equal to it.
+/// Whether `x` is before `y` in the order of their octets, or, if `strict` is false, equal to it.
 pub(crate) fn is_within(strict: bool, x: &[u8], y: &[u8]) -> bool
     ensures { result ≡ is_within strict x.now y.now }
 {
@@ -63,7 +63,8 @@ pub(crate) fn is_within(strict: bool, x: &[u8], y: &[u8]) -> bool
     if strict { order.is_lt() } else { order.is_le() }
 }
 
-/// Whether a string is above the lower limit of a range.
+/// Whether a string is above the lower limit of a range, or equal to a limit that is not strict. True if there is no
+/// limit.
 pub(crate) fn is_above(low: &Option<Limit>, octets: &[u8]) -> bool
     ensures { result ≡ is_above (limit_of low.now) octets.now }
 {
@@ -73,7 +74,8 @@ pub(crate) fn is_above(low: &Option<Limit>, octets: &[u8]) -> bool
     }
 }
 
-/// Whether a string is below the upper limit of a range.
+/// Whether a string is below the upper limit of a range, or equal to a limit that is not strict. True if there is no
+/// limit.
 pub(crate) fn is_below(up: &Option<Limit>, octets: &[u8]) -> bool
     ensures { result ≡ is_below (limit_of up.now) octets.now }
 {
@@ -83,7 +85,7 @@ pub(crate) fn is_below(up: &Option<Limit>, octets: &[u8]) -> bool
     }
 }
 
-/// A copy of a limit that shares its octets.
+/// A copy of a limit that shares its octets. Err if there are too many copies to count.
 pub(crate) fn copied_limit(limit: &Option<Limit>) -> Result<Option<Limit>, AllocError>
     ensures { IfOk result (λ copy. limit_of copy ≡ limit_of limit.now) }
 {
@@ -97,7 +99,7 @@ pub(crate) fn copied_limit(limit: &Option<Limit>) -> Result<Option<Limit>, Alloc
 }
 
 impl Leaf {
-    /// Whether the tag contains a string.
+    /// Whether the tag contains the request that is this string.
     pub(crate) fn holds(&self, octets: &[u8]) -> bool
         ensures { result ≡ contains (leaf_tag self.now) (string octets.now) }
     {
@@ -111,7 +113,7 @@ impl Leaf {
         }
     }
 
-    /// Whether the tag contains lists.
+    /// Whether the tag contains every request that is a list. If not, it contains none of them.
     pub(crate) fn holds_lists(&self) -> bool
         ensures { (head : List ℕ) (further : Requests) → result ≡ contains (leaf_tag self.now) (list head further) }
     {
@@ -123,7 +125,7 @@ impl Leaf {
         }
     }
 
-    /// A copy that shares the octets.
+    /// A copy of the tag that shares its octets. Err if there are too many copies to count.
     pub(crate) fn copy(&self) -> Result<Leaf, AllocError>
         ensures { IfOk result (λ copy. leaf_tag copy ≡ leaf_tag self.now) }
     {

@@ -10,7 +10,7 @@ use crate::limit_intersection::{exclude, greater_low, lesser_up};
 use crate::prefix::Prefix;
 use std::alloc::AllocError;
 
-/// The ordering of the strings that are in both orderings. No string is both a time and a date.
+/// The ordering of the strings that are in both orderings. None for a time and a date, since no string is both.
 fn common_ordering(one: RangeOrdering, other: RangeOrdering) -> Option<RangeOrdering>
     ensures { option_map ordering_of result ≡ ordering_meet (ordering_of one) (ordering_of other) }
 {
@@ -29,7 +29,7 @@ fn common_ordering(one: RangeOrdering, other: RangeOrdering) -> Option<RangeOrde
     }
 }
 
-/// The range of an ordering with two limits, unless they exclude each other.
+/// The range of an ordering with two limits. None if there is no ordering, or if the limits exclude each other.
 fn limited(
     ordering: Option<RangeOrdering>,
     low: &Option<Limit>,
@@ -50,7 +50,8 @@ fn limited(
     }
 }
 
-/// Returns the intersection of two ranges: the greater lower limit and the lesser upper limit.
+/// Returns the intersection of two ranges: the range with the greater lower limit and the lesser upper limit. None if
+/// one ordering is of times and the other of dates, or if these limits exclude each other.
 fn meet_ranges(
     ordering: RangeOrdering,
     low: &Option<Limit>,
@@ -70,7 +71,7 @@ fn meet_ranges(
     )
 }
 
-/// Returns the string if the tag contains it.
+/// Returns the string as a tag if `other` contains it. None if not.
 fn meet_string(octets: &SharedOctets, other: &Leaf) -> Result<Option<Leaf>, AllocError>
     ensures { IfOk result (λ r. leaf_or_nothing r ≡ string_meet (arc_slice_items octets.now) (leaf_tag other.now)) }
 {
@@ -81,7 +82,7 @@ fn meet_string(octets: &SharedOctets, other: &Leaf) -> Result<Option<Leaf>, Allo
     }
 }
 
-/// Returns the longer of two prefixes if it starts with the shorter.
+/// Returns the longer of two prefixes if it starts with the shorter. None if not.
 fn meet_prefixes(one: &Prefix, other: &Prefix) -> Result<Option<Leaf>, AllocError>
     ensures { IfOk result (λ r. leaf_or_nothing r ≡ prefixes_meet one.now other.now) }
 {
@@ -95,8 +96,8 @@ fn meet_prefixes(one: &Prefix, other: &Prefix) -> Result<Option<Leaf>, AllocErro
 }
 
 impl Leaf {
-    /// Returns the intersection of two tags without members. None if it is `(* set)`. A prefix is treated as the range of
-    /// any strings from itself to below the least string above all that start with it.
+    /// Returns the intersection of two tags without members. None if it is `(* set)`. A prefix is treated as the range
+    /// of any strings from itself to below the least string above all that start with it. Err if memory ran out.
     pub(crate) fn meet(&self, other: &Leaf) -> Result<Option<Leaf>, AllocError>
         ensures { IfOk result (λ r. leaf_or_nothing r ≡ meet (leaf_tag self.now) (leaf_tag other.now)) }
     {

@@ -29,7 +29,8 @@ impl Tag {
     }
 }
 
-/// Whether each tag contains the request in its place.
+/// Whether each tag contains the request at the same place. False if there are fewer requests than tags. Further
+/// requests may be anything.
 #[cycle(holds)]
 fn each_holds(members: &[Tag], requests: &[Ground]) -> bool
     ensures { result ≡ contain_each (tags members.now) (spec.requests requests.now) }
@@ -45,7 +46,7 @@ fn each_holds(members: &[Tag], requests: &[Ground]) -> bool
     true
 }
 
-/// Whether some tag contains the request.
+/// Whether at least one of the tags contains the request.
 #[cycle(holds)]
 fn some_holds(members: &[Tag], request: &Ground) -> bool
     ensures { result ≡ some_contains (tags members.now) request.now }

@@ -5,7 +5,7 @@ ghost use Rattle.spki_tag.specs.Merged.{merge};
 
 use std::alloc::{AllocError, Global};
 
-/// Two increasing lists, merged in increasing order. A number that both have comes twice.
+/// Merges two increasing lists, in increasing order. A number that both have comes twice.
 ///
 /// # Errors
 ///

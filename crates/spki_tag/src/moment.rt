@@ -10,7 +10,8 @@ fn is_digit(octet: u8) -> bool
     b'0' <= octet && octet <= b'9'
 }
 
-/// Whether the two octets from `i` on are the digits of a number from `low` to `high`.
+/// Whether the two octets at the offsets `i` and `i` + 1 are decimal digits of a number from `low` to `high`, both
+/// included.
 fn is_number_at(text: &[u8], i: usize, low: u8, high: u8) -> bool
     requires { i + 1 < length text.now }
     ensures { result ≡ spec.is_number_at text.now i low high }

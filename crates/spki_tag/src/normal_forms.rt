@@ -14,7 +14,8 @@ use crate::leaf::SharedOctets;
 use crate::tag::{Node, Tag};
 use std::alloc::{AllocError, Global};
 
-/// Adds a tag to the members of a set. If the tag is a set, its members are added instead.
+/// Appends a tag to the members of a set. If the tag is a set itself, its members are appended instead. Err if memory
+/// ran out.
 fn push_member(members: &mut Vec<Tag>, tag: Tag) -> Result<(), AllocError>
     ensures { OnOk result (members.new.items ≡ members.old.items ++ in_place tag) }
 {
@@ -33,7 +34,7 @@ fn push_member(members: &mut Vec<Tag>, tag: Tag) -> Result<(), AllocError>
 
 impl Tag {
     /// The set of these tags in normal form. The members of a set in it replace that set. A set with a member `(*)` is
-    /// `(*)`, and a set with one member is that member.
+    /// `(*)`, and a set with one member is that member. Err if memory ran out.
     pub(crate) fn set_of(alloc: Global, members: Vec<Tag>) -> Result<Tag, AllocError>
         requires room { nodes (set (tags members.items)) ≤ most_nodes }
         requires normal { AreNormal members.items }
@@ -49,7 +50,7 @@ impl Tag {
         Ok(Tag::gathered(spread))
     }
 
-    /// The list of a head and these tags in normal form. A list with a member `(* set)` is `(* set)`.
+    /// The list of a head and these tags, in normal form. If one of the tags is `(* set)`, so is the list.
     pub(crate) fn list_of(head: SharedOctets, further: Vec<Tag>) -> Tag
         requires head { IsHead (arc_slice_items head) }
         requires room { nodes (list (arc_slice_items head) (tags further.items)) ≤ most_nodes }

@@ -8,7 +8,7 @@ use crate::leaf::Leaf;
 use crate::tag::Tag;
 use std::alloc::{AllocError, Global};
 
-/// A tag without members, or `(* set)`.
+/// The tag of `leaf`, or `(* set)` for None.
 pub(crate) fn leaf_or_nothing(alloc: Global, leaf: Option<Leaf>) -> Tag
     ensures { result ≡ leaf_or_nothing leaf }
 {
@@ -18,7 +18,7 @@ pub(crate) fn leaf_or_nothing(alloc: Global, leaf: Option<Leaf>) -> Tag
     }
 }
 
-/// Adds a tag, unless it is `(* set)`.
+/// Appends a tag to `met`, unless the tag is `(* set)`. Err if memory ran out.
 pub(crate) fn push_kept(met: &mut Vec<Tag>, tag: Tag) -> Result<(), AllocError>
     ensures { OnOk result (met.new.items ≡ met.old.items ++ kept tag []) }
 {
@@ -28,7 +28,7 @@ pub(crate) fn push_kept(met: &mut Vec<Tag>, tag: Tag) -> Result<(), AllocError>
     Ok(())
 }
 
-/// Adds a copy of each tag, in order.
+/// Appends a copy of each member to `met`, in order. Err if memory ran out.
 pub(crate) fn push_copies(met: &mut Vec<Tag>, members: &[Tag]) -> Result<(), AllocError>
     ensures { OnOk result (met.new.items ≡ met.old.items ++ members.now) }
 {

@@ -30,7 +30,7 @@ impl Model for Prefix {
 }
 
 impl Prefix {
-    /// The prefix of these octets.
+    /// The prefix with these octets. Err if memory ran out.
     pub(crate) fn of(alloc: Global, octets: &[u8]) -> Result<Prefix, AllocError>
         ensures { IfOk result (λ p. p ≡ octets.now) }
     {
@@ -40,14 +40,14 @@ impl Prefix {
         })
     }
 
-    /// Its octets.
+    /// The octets with which the strings start.
     pub(crate) fn octets(&self) -> &[u8]
         ensures { result.now ≡ self.now }
     {
         self.octets.as_slice()
     }
 
-    /// The limit that includes the least string that starts with the prefix.
+    /// The lower limit of the strings that start with the prefix: the prefix itself, included. Always Some.
     pub(crate) fn lower_limit(&self) -> Result<Option<Limit>, AllocError>
         ensures { IfOk result (λ low. limit_of low ≡ from self.now) }
     {
@@ -57,7 +57,8 @@ impl Prefix {
         }))
     }
 
-    /// The strict limit above all strings that start with the prefix. None if the prefix has no octets other than `FF`.
+    /// The upper limit of the strings that start with the prefix: a strict limit above all of them. None if the prefix
+    /// has no octets other than `FF`.
     pub(crate) fn upper_limit(&self) -> Result<Option<Limit>, AllocError>
         ensures { IfOk result (λ up. limit_of up ≡ strict_limit (least_above self.now)) }
     {
@@ -75,6 +76,7 @@ impl Prefix {
 impl Clone for Prefix {
     ghost is_clone = { λ p q. q ≡ p };
 
+    /// Returns a copy. Err if there are too many copies to count.
     fn clone(&self) -> Result<Prefix, AllocError> {
         let above = match &self.above {
             None => None,
@@ -87,8 +89,8 @@ impl Clone for Prefix {
     }
 }
 
-/// The least string above all that start with a string: the string without its last octets `FF`, with the last octet then
-/// increased by one. None if no octet is left.
+/// The least string above all that start with `octets`: these without their last octets `FF`, with the last octet then
+/// increased by one. None if no octet is left. Err if memory ran out.
 fn above_all(alloc: Global, octets: &[u8]) -> Result<Option<SharedOctets>, AllocError>
     ensures { IfOk result (λ above. option_map arc_slice_items above ≡ least_above octets.now) }
 {

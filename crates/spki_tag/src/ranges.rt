@@ -25,14 +25,14 @@ fn is_hinted(value: &Node<'_, '_>) -> bool
     }
 }
 
-/// Whether some of the values is a string with a display hint.
+/// Whether at least one of the values is a string with a display hint.
 fn has_hint(values: &[Node<'_, '_>]) -> bool
     ensures { result ≡ list_any is_hinted values.now }
 {
     values.iter().any(|value| is_hinted(value))
 }
 
-/// The ordering with this name, if there is one.
+/// The ordering with this name: `alpha`, `time` or `date`. None for any other name.
 fn ordering_named(name: &[u8]) -> Option<RangeOrdering>
     ensures { MatchOption result ((ordering : Ordering) → name.now ≢ ordering_name ordering)
         (λ ordering. name.now ≡ ordering_name (ordering_of ordering)) }
@@ -48,7 +48,7 @@ fn ordering_named(name: &[u8]) -> Option<RangeOrdering>
     }
 }
 
-/// Reads the name of an ordering.
+/// Reads the name of an ordering. Err is `Hint` for a string with a display hint, otherwise `RangeOrdering`.
 fn read_ordering(name: &Node<'_, '_>) -> Result<RangeOrdering, TagFault>
     ensures read { IfOk result (λ ordering. name.now ≡ plain (ordering_name (ordering_of ordering))) }
     ensures named { IfErr result (λ fault. (vs : List Value) → range_fault (name.now ∷ vs) ≡ Some fault) }
@@ -63,8 +63,8 @@ fn read_ordering(name: &Node<'_, '_>) -> Result<RangeOrdering, TagFault>
     }
 }
 
-/// Reads two values as a limit after its word: one word for a strict limit, and another for any other limit. None if they
-/// are no limit.
+/// Reads two values, a word and a string, as a limit. The word `strict` makes it a strict limit, and `inclusive` any
+/// other. None if the two are no such limit. Err if memory ran out.
 fn read_limit(
     alloc: Global,
     word: &Node<'_, '_>,
@@ -99,7 +99,7 @@ fn read_limit(
 /// The limits of a range.
 type Limits = (Option<Limit>, Option<Limit>);
 
-/// Reads two values as the only limit of a range. None if they are no limit.
+/// Reads two values as the only limit of a range, lower or upper. None if they are no limit. Err if memory ran out.
 fn read_one_limit(
     alloc: Global,
     word: &Node<'_, '_>,
@@ -119,7 +119,7 @@ fn read_one_limit(
     Ok(Some((None, up)))
 }
 
-/// Reads four values as the limits of a range. None if they are no limits.
+/// Reads four values as a lower and an upper limit of a range. None if they are not. Err if memory ran out.
 fn read_two_limits(
     alloc: Global,
     low_word: &Node<'_, '_>,
@@ -142,8 +142,8 @@ fn read_two_limits(
     Ok(Some((low, up)))
 }
 
-/// Reads values as the limits of a range: at most one lower limit, and then at most one upper limit. None if they are no
-/// limits.
+/// Reads values as the limits of a range: at most one lower limit, and then at most one upper limit. None if they are
+/// no limits. Err if memory ran out.
 fn limits_of(alloc: Global, values: &[Node<'_, '_>]) -> Result<Option<Limits>, AllocError>
     ensures { IfOk result (λ found. MatchOption found (AreNoLimits values.now)
         (λ p. AreLimits (limit_of p.0) (limit_of p.1) values.now)) }
@@ -158,7 +158,7 @@ fn limits_of(alloc: Global, values: &[Node<'_, '_>]) -> Result<Option<Limits>, A
     }
 }
 
-/// Returns the members of a list that are left, as a vector.
+/// Returns the members as a vector, in order. Err if memory ran out.
 fn values_of<'d, 'a>(
     alloc: Global,
     members: Members<'d, 'a>,
@@ -172,7 +172,8 @@ fn values_of<'d, 'a>(
     Ok(values)
 }
 
-/// Reads the members after a range's ordering.
+/// Reads the limits of a range from the members after its ordering. Err is `Hint` if a member has a display hint,
+/// `RangeLimit` if they are no limits, or `Memory`.
 fn read_limits(alloc: Global, rest: Members<'_, '_>) -> Result<Limits, TagFault>
     ensures read { IfOk result (λ p. AreLimits (limit_of p.0) (limit_of p.1) rest.entry) }
     ensures named { IfErr result (λ fault. IsNamed fault (limits_fault rest.entry)) }
@@ -187,7 +188,7 @@ fn read_limits(alloc: Global, rest: Members<'_, '_>) -> Result<Limits, TagFault>
     }
 }
 
-/// Reads the members after `*` and `range`.
+/// Reads a range from the members after `*` and `range`: an ordering and limits. Err is the first fault.
 pub(crate) fn read_range(alloc: Global, further: Members<'_, '_>) -> Result<Leaf, TagFault>
     ensures read { IfOk result (λ leaf. tag_value (leaf_tag leaf) ≡ starred (codes "range") (values further.entry)) }
     ensures named { IfErr result (λ fault. IsNamed fault (range_fault further.entry)) }

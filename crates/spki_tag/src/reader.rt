@@ -22,7 +22,8 @@ use std::sync::ArcSlice;
 /// The most nodes that a tag may have when it is read.
 const MOST_READ: usize = 1024;
 
-/// The octets of the first member of a list, which must be a string without a display hint.
+/// The octets of the first member of a list. Err is `ListHead` if the member is a list, and `Hint` if it has a display
+/// hint.
 pub(crate) fn head_of<'a>(first: &Node<'_, 'a>) -> Result<&'a [u8], TagFault>
     ensures string { IfOk result (λ head. first.now ≡ plain head.now) }
     ensures named { IfErr result (λ fault. (vs : List Value)
@@ -35,7 +36,8 @@ pub(crate) fn head_of<'a>(first: &Node<'_, 'a>) -> Result<&'a [u8], TagFault>
     }
 }
 
-/// Reads the members after `*` and `prefix`.
+/// Reads a prefix from the members after `*` and `prefix`. Err is `Hint`, or `UnknownStar` if they are not exactly one
+/// string, or `Memory`.
 fn read_prefix(alloc: Global, further: Members<'_, '_>) -> Result<Leaf, TagFault>
     ensures read { IfOk result (λ leaf. tag_value (leaf_tag leaf) ≡ starred (codes "prefix") (values further.entry)) }
     ensures named { IfErr result (λ fault. IsNamed fault (prefix_fault further.entry)) }
@@ -57,7 +59,8 @@ fn read_prefix(alloc: Global, further: Members<'_, '_>) -> Result<Leaf, TagFault
     }
 }
 
-/// Reads a value as a tag, if `used` nodes were counted before it. Also returns how many are counted after it.
+/// Reads a value as a tag. `used` is how many nodes of the whole tag were counted before it. Also returns how many are
+/// counted after it. Err is the first fault, as for `Tag::of`.
 #[cycle(read)]
 fn read_tag(alloc: Global, value: &Node<'_, '_>, used: usize) -> Result<(Tag, usize), TagFault>
     ensures read { IfOk result (λ p. IsRead used value.now p.0 p.1) }
@@ -76,7 +79,7 @@ fn read_tag(alloc: Global, value: &Node<'_, '_>, used: usize) -> Result<(Tag, us
     }
 }
 
-/// Reads a list of these members as a tag.
+/// Reads a list of these members as a tag. `used` and the result are as for `read_tag`.
 #[cycle(read)]
 fn read_list(alloc: Global, members: Members<'_, '_>, used: usize) -> Result<(Tag, usize), TagFault>
     requires { used < most_read }
@@ -96,7 +99,7 @@ fn read_list(alloc: Global, members: Members<'_, '_>, used: usize) -> Result<(Ta
     }
 }
 
-/// Reads the members after the head `*` of a list.
+/// Reads a tag from the members after the head `*` of a list. `used` and the result are as for `read_tag`.
 #[cycle(read)]
 fn read_starred(
     alloc: Global,
@@ -117,7 +120,8 @@ fn read_starred(
     }
 }
 
-/// Reads the members after `*` and this word.
+/// Reads a tag from the members after `*` and `word`, which must be `set`, `prefix` or `range`. `used` and the result
+/// are as for `read_tag`.
 #[cycle(read)]
 fn read_form(
     alloc: Global,
@@ -140,7 +144,7 @@ fn read_form(
     }
 }
 
-/// Reads the members after `*` and `set`.
+/// Reads a set from the members after `*` and `set`. `used` and the result are as for `read_tag`.
 #[cycle(read)]
 fn read_set(alloc: Global, further: Members<'_, '_>, used: usize) -> Result<(Tag, usize), TagFault>
     requires { used < most_read }
@@ -151,7 +155,8 @@ fn read_set(alloc: Global, further: Members<'_, '_>, used: usize) -> Result<(Tag
     Ok((Tag::set_of(alloc, members)?, after))
 }
 
-/// Reads a list with this head, which is not `*`, and these members after it as a tag.
+/// Reads a list with this head, which is not `*`, and these members after it as a tag. `used` and the result are as for
+/// `read_tag`.
 #[cycle(read)]
 fn read_plain_list(
     alloc: Global,
@@ -172,7 +177,7 @@ fn read_plain_list(
     Ok((Tag::list_of(octets, members), after))
 }
 
-/// Reads each of the members as a tag.
+/// Reads each of the members as a tag. `used` and the result are as for `read_tag`.
 #[cycle(read)]
 fn read_members(
     alloc: Global,
@@ -217,7 +222,7 @@ impl Tag {
         Ok(tag)
     }
 
-    /// Reads node n of a document as a tag. Otherwise like `of`.
+    /// Reads node n of a document as a tag in normal form. The node must exist.
     ///
     /// # Errors
     ///

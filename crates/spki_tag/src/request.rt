@@ -52,7 +52,7 @@ impl Model for Ground {
 }
 
 impl Ground {
-    /// A string.
+    /// The request that is this string.
     pub(crate) fn string(octets: Vec<u8>) -> Ground
         ensures { result ≡ spec.string octets.items }
     {
@@ -61,7 +61,7 @@ impl Ground {
         }
     }
 
-    /// A list of a head and further requests.
+    /// The request that is a list of a head, which is not `*`, and further requests.
     pub(crate) fn list(head: Vec<u8>, further: Vec<Ground>) -> Ground
         requires head { spec.IsHead head.items }
         requires further { spec.AreRequests (spec.requests further.items) }
@@ -73,7 +73,7 @@ impl Ground {
     }
 }
 
-/// Reads a value as a request.
+/// Reads a value as a request. Err is the first fault, as for `Ground::of`.
 #[cycle(read_request)]
 fn read_request(alloc: Global, value: &Node<'_, '_>) -> Result<Ground, TagFault>
     ensures request { IfOk result (λ g. IsRequest g) }
@@ -87,7 +87,7 @@ fn read_request(alloc: Global, value: &Node<'_, '_>) -> Result<Ground, TagFault>
     }
 }
 
-/// Reads a list of these members as a request.
+/// Reads a list of these members as a request. Err is the first fault, as for `Ground::of`.
 #[cycle(read_request)]
 fn read_request_list(alloc: Global, members: Members<'_, '_>) -> Result<Ground, TagFault>
     ensures request { IfOk result (λ g. IsRequest g) }
@@ -107,7 +107,8 @@ fn read_request_list(alloc: Global, members: Members<'_, '_>) -> Result<Ground, 
     }
 }
 
-/// Reads a list with this head, which is not `*`, and these members after it as a request.
+/// Reads a list with this head, which is not `*`, and these members after it as a request. Err is the first fault, as
+/// for `Ground::of`.
 #[cycle(read_request)]
 fn read_headed(alloc: Global, head: &[u8], further: Members<'_, '_>) -> Result<Ground, TagFault>
     requires { IsHead head.now }
@@ -120,7 +121,7 @@ fn read_headed(alloc: Global, head: &[u8], further: Members<'_, '_>) -> Result<G
     Ok(Ground::list(octets, members))
 }
 
-/// Reads each of the members as a request.
+/// Reads each of the members as a request. Err is the first fault, as for `Ground::of`.
 #[cycle(read_request)]
 fn read_request_members(alloc: Global, members: Members<'_, '_>) -> Result<Vec<Ground>, TagFault>
     ensures read { IfOk result (λ gs. AreReadRequests members.entry gs.items) }
@@ -153,7 +154,7 @@ impl Ground {
         read_request(alloc, value)
     }
 
-    /// Reads node n of a document as a request. Otherwise like `of`.
+    /// Reads node n of a document as a request. The node must exist.
     ///
     /// # Errors
     ///

@@ -19,7 +19,7 @@ impl Tag {
     }
 }
 
-/// Whether some tag has a set.
+/// Whether at least one of the tags is a set, or has one as a member at any depth.
 #[cycle(nests_set)]
 fn some_nests_set(members: &[Tag]) -> bool
     ensures { result ≡ some_nests_set (tags members.now) }

@@ -68,7 +68,7 @@ impl Tag {
         }
     }
 
-    /// A string.
+    /// The tag that contains this string only.
     pub(crate) fn string(octets: SharedOctets) -> Tag
         ensures { result ≡ spec.string (arc_slice_items octets) }
     {
@@ -77,7 +77,7 @@ impl Tag {
         }
     }
 
-    /// A tag without members.
+    /// The tag of a leaf: a string, a prefix, a range or `(*)`.
     pub(crate) fn leaf(leaf: Leaf) -> Tag
         ensures { result ≡ leaf_tag leaf }
     {
@@ -86,7 +86,7 @@ impl Tag {
         }
     }
 
-    /// A list of a head and further tags.
+    /// The tag that is a list of a head and further tags, in normal form: none of them is `(* set)`.
     pub(crate) fn list(head: SharedOctets, further: Vec<Tag>) -> Tag
         requires { spec.IsNormalTag (spec.list (arc_slice_items head) (spec.tags further.items)) }
         ensures { result ≡ spec.list (arc_slice_items head) (spec.tags further.items) }
@@ -97,7 +97,7 @@ impl Tag {
         }
     }
 
-    /// A set of these tags, none of which is a set or `(*)`. One tag alone is the tag itself.
+    /// The set of these tags, none of which is a set or `(*)`. If there is only one, the result is that tag.
     pub(crate) fn gathered(members: Vec<Tag>) -> Tag
         requires { spec.IsNormalTag (gather members.items) }
         ensures { result ≡ gather members.items }
@@ -127,7 +127,7 @@ impl Tag {
     }
 }
 
-/// The number of nodes of some tags together.
+/// The sum of the numbers of nodes of these tags, which must be at most 1,000,000.
 fn nodes_of(members: &[Tag]) -> usize
     requires { spec.nodes_all (spec.tags members.now) ≤ spec.most_nodes }
     ensures count { result ≡ spec.nodes_all (spec.tags members.now) }
@@ -144,6 +144,7 @@ fn nodes_of(members: &[Tag]) -> usize
 impl Clone for Tag {
     ghost is_clone = { λ t u. u ≡ t };
 
+    /// Returns a copy. Err if memory ran out.
     #[cycle(copy)]
     fn clone(&self) -> Result<Tag, AllocError> {
         match &self.node {
@@ -164,7 +165,7 @@ impl Clone for Tag {
     }
 }
 
-/// A copy of each tag, in order.
+/// A copy of each tag, in order. Err if memory ran out.
 #[cycle(copy)]
 fn copies_of(alloc: Global, members: &[Tag]) -> Result<Vec<Tag>, AllocError>
     ensures { IfOk result (λ copies. copies.items ≡ members.now) }

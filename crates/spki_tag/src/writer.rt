@@ -11,7 +11,7 @@ use crate::tag::{Node, Tag};
 use sexpr_core::Sexp;
 use std::alloc::{AllocError, Global};
 
-/// The members `*` and a word: the beginning of each list that is not a plain list.
+/// The members `*` and `word`: the beginning of a prefix, a range or a set. Err if memory ran out.
 fn starred(alloc: Global, word: &[u8]) -> Result<Vec<Sexp>, AllocError>
     ensures { IfOk result (λ out. map sexp_value out.items ≡ plain (codes "*") ∷ plain word.now ∷ []) }
 {
@@ -21,7 +21,7 @@ fn starred(alloc: Global, word: &[u8]) -> Result<Vec<Sexp>, AllocError>
     Ok(out)
 }
 
-/// The name of an ordering.
+/// The word for an ordering in a range: `alpha`, `time` or `date`.
 fn ordering_name(ordering: RangeOrdering) -> &'static [u8]
     ensures { result.now ≡ ordering_name (ordering_of ordering) }
 {
@@ -32,7 +32,8 @@ fn ordering_name(ordering: RangeOrdering) -> &'static [u8]
     }
 }
 
-/// Adds a limit after its word: one word for a strict limit, and another for any other limit.
+/// Appends a word and the limit's string. The word is `strict` for a strict limit, otherwise `inclusive`. Appends
+/// nothing for None. Err if memory ran out.
 fn push_limit(
     alloc: Global,
     out: &mut Vec<Sexp>,
@@ -54,7 +55,7 @@ fn push_limit(
     }
 }
 
-/// Writes a range.
+/// Writes `(* range ORDERING LOW UP)`. A limit that is None is left out. Err if memory ran out.
 fn write_range(
     alloc: Global,
     ordering: RangeOrdering,
@@ -70,7 +71,7 @@ fn write_range(
     Ok(Sexp::list(out))
 }
 
-/// Writes a tag without members.
+/// Writes a tag without members: `(*)`, a string, a prefix or a range. Err if memory ran out.
 fn write_leaf(alloc: Global, leaf: &Leaf) -> Result<Sexp, AllocError>
     ensures { IfOk result (λ s. sexp_value s ≡ tag_value (leaf_tag leaf.now)) }
 {
@@ -117,7 +118,7 @@ impl Tag {
     }
 }
 
-/// Writes each tag and adds it.
+/// Writes each tag, and appends it to `out`. Err if memory ran out.
 #[cycle(write)]
 fn push_each(alloc: Global, out: &mut Vec<Sexp>, members: &[Tag]) -> Result<(), AllocError>
     ensures { OnOk result (map sexp_value out.new.items
