@@ -35,8 +35,8 @@ pub enum Form {
     Advanced,
 }
 
-/// Reads a text in any of the three forms and writes its value in another form. It is written while it is read, without a
-/// tree. The refusals are those of `read_any`.
+/// Reads a text in any of the three forms and writes its value in the form `form`. It is written while it is read,
+/// without a tree. The refusals are those of `read_any`.
 pub fn convert(alloc: Global, form: Form, text: &[u8]) -> Result<Vec<u8>, FormFault>
     ensures read { IfOk result (λ out. (v : Value) × IsTextWithin text.now v × (out.items ≡ written form v)) }
     ensures only { (v : Value) → IsTextWithin text.now v → IsOkUnless result FormFault.Memory }
@@ -50,7 +50,7 @@ pub fn convert(alloc: Global, form: Form, text: &[u8]) -> Result<Vec<u8>, FormFa
     convert_advanced(alloc, form, text)
 }
 
-/// Writes the value of a text in braces.
+/// Writes the value of a text in transport form, which is base64 in braces. The refusals are those of `unwrap_braces`.
 fn convert_braces(alloc: Global, form: Form, text: &[u8]) -> Result<Vec<u8>, FormFault>
     ensures read { IfOk result (λ out. (v : Value) × IsBracedWithin text.now v × (out.items ≡ written form v)) }
     ensures only { (v : Value) → IsBracedWithin text.now v → IsOkUnless result FormFault.Memory }
@@ -64,7 +64,7 @@ fn convert_braces(alloc: Global, form: Form, text: &[u8]) -> Result<Vec<u8>, For
     }
 }
 
-/// Writes the value of a canonical text in advanced form.
+/// Writes the value of a canonical text in advanced form. Err if the text is not canonical, or memory ran out.
 fn advanced_of(alloc: Global, octets: &[u8]) -> Result<Vec<u8>, FormFault>
     ensures read { (v : Value) → IsWithinLimits v → octets.now ≡ canon v → IfOk result (λ out. out.items ≡ adv v) }
     ensures only { (v : Value) → IsWithinLimits v → octets.now ≡ canon v → IsOkUnless result FormFault.Memory }
@@ -72,7 +72,7 @@ fn advanced_of(alloc: Global, octets: &[u8]) -> Result<Vec<u8>, FormFault>
     convert_advanced(alloc, Form::Advanced, octets)
 }
 
-/// Reads a text in advanced form, and writes its value in the given form.
+/// Reads a text in advanced form, and writes its value in the form `form`. The refusals are those of `read_advanced`.
 fn convert_advanced(alloc: Global, form: Form, text: &[u8]) -> Result<Vec<u8>, FormFault>
     ensures read { IfOk result (λ out. (v : Value) × IsSpelledWithin text.now v × (out.items ≡ written form v)) }
     ensures only { (v : Value) → IsSpelledWithin text.now v → IsOkUnless result FormFault.Memory }
@@ -89,7 +89,7 @@ fn convert_advanced(alloc: Global, form: Form, text: &[u8]) -> Result<Vec<u8>, F
     Ok(out)
 }
 
-/// Appends a string without a display hint to the output.
+/// Appends a string without a display hint to the output, in the form `form`. Err if memory ran out.
 fn write_string(form: Form, octets: &[u8], out: &mut Vec<u8>) -> Result<(), AllocError>
     ensures { OnOk result (out.new.items ≡ out.old.items ++ written_string form octets.now) }
 {
@@ -103,7 +103,7 @@ fn write_string(form: Form, octets: &[u8], out: &mut Vec<u8>) -> Result<(), Allo
     }
 }
 
-/// The octet between two members, if there is one.
+/// The octet that `form` has between two members of a list: a space in advanced form, None in canonical form.
 fn gap_between(form: Form) -> Option<u8>
     ensures { option_to_list result ≡ gap_of form 1 }
 {
@@ -113,7 +113,7 @@ fn gap_between(form: Form) -> Option<u8>
     }
 }
 
-/// Appends the gap before a member to the output.
+/// Appends the gap before a member to the output, or nothing for None. Err if memory ran out.
 fn write_gap(gap: Option<u8>, out: &mut Vec<u8>) -> Result<(), AllocError>
     ensures { OnOk result (out.new.items ≡ out.old.items ++ option_to_list gap) }
 {
@@ -123,7 +123,8 @@ fn write_gap(gap: Option<u8>, out: &mut Vec<u8>) -> Result<(), AllocError>
     Ok(())
 }
 
-/// Converts a string without a display hint, from its first octet on.
+/// Reads the string without a display hint at the offset `at`, whose first octet is `first`, and appends it to `out`.
+/// Returns the offset after it. Err is the first fault.
 #[inline(always)]
 fn convert_string(
     alloc: Global,
@@ -149,7 +150,8 @@ fn convert_string(
     Ok(string.end)
 }
 
-/// Converts a token, from its first octet on, and returns where it ends.
+/// Reads the token at the offset `at`, whose first octet is `first`, and appends it to `out`. Returns the offset after
+/// it. Err if memory ran out.
 #[inline(always)]
 fn convert_token(
     text: &[u8],
@@ -169,7 +171,8 @@ fn convert_token(
     Ok(end)
 }
 
-/// Appends the string of a token to the output: in canonical form its length, a colon and its octets, in advanced form the token itself.
+/// Appends the string of a token to the output: in canonical form its length, a colon and its octets, in advanced form
+/// the token itself. Err if memory ran out.
 fn write_token(form: Form, octets: &[u8], out: &mut Vec<u8>) -> Result<(), AllocError>
     requires { IsToken octets.now }
     ensures { OnOk result (out.new.items ≡ out.old.items ++ written_string form octets.now) }
@@ -180,8 +183,9 @@ fn write_token(form: Form, octets: &[u8], out: &mut Vec<u8>) -> Result<(), Alloc
     }
 }
 
-/// Converts a value, from its first octet on. At most `room` lists may be open at once in it. This function and those that
-/// it calls for a token are inlined. So a member that is a token takes one call only, the one that writes it.
+/// Reads the value at the offset `at`, and appends it to `out`. Returns the offset after it. At most `room` lists may
+/// be open at once in it. Err is the first fault. This function and those that it calls for a token are inlined. So a
+/// member that is a token takes one call only, the one that writes it.
 #[cycle(converting)]
 #[inline(always)]
 fn convert_value(
@@ -208,7 +212,8 @@ fn convert_value(
     }
 }
 
-/// Converts a list, from its opening parenthesis on. At most `room` lists may be open at once, this one included.
+/// Reads the list whose opening parenthesis is at `at`, and appends it to `out`. Returns the offset after it. At most
+/// `room` lists may be open at once, this one included. Err is the first fault.
 #[cycle(converting)]
 fn convert_list(
     alloc: Global,
@@ -233,7 +238,8 @@ fn convert_list(
     convert_members(alloc, text, at + 1, room - 1, form, out)
 }
 
-/// Converts the members of a list and its closing parenthesis. At most `room` lists may be open at once in them.
+/// Reads the members of a list and its closing parenthesis, from the offset `at` on, and appends them to `out`. Returns
+/// the offset after it. At most `room` lists may be open at once in them. Err is the first fault.
 #[cycle(converting)]
 fn convert_members(
     alloc: Global,
@@ -266,7 +272,8 @@ fn convert_members(
     Err(FormFault::Short)
 }
 
-/// Converts a string with a hint, from its opening bracket on.
+/// Reads the string with a hint whose opening bracket is at `at`, and appends it to `out`. Returns the offset after it.
+/// Err is the first fault.
 fn convert_hinted(
     alloc: Global,
     text: &[u8],

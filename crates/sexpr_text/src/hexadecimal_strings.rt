@@ -22,7 +22,8 @@ struct Digits {
     end: usize,
 }
 
-/// Reads a hexadecimal string, from its opening mark on. Whitespace is allowed anywhere in it.
+/// Reads the hexadecimal string whose opening `#` is at `at`. Whitespace is allowed anywhere in it. Err is the first
+/// fault: `Bad` at the closing `#` for an odd number of digits.
 pub(crate) fn read_hexadecimal(
     alloc: Global,
     text: &[u8],
@@ -44,7 +45,7 @@ pub(crate) fn read_hexadecimal(
     }
 }
 
-/// Why a body with its closing mark at this offset is refused, by the fault of its digits.
+/// The fault of a string whose digits cannot be decoded: `Bad` at the offset `at` of its closing mark, or `Memory`.
 fn digits_fault(error: FromHexError, at: usize) -> FormFault
     ensures fault { IsDigitsFault error at result }
     ensures there { IsFaultAt at result }
@@ -55,7 +56,8 @@ fn digits_fault(error: FromHexError, at: usize) -> FormFault
     }
 }
 
-/// Returns the digits up to the closing mark.
+/// Returns the hexadecimal digits from the offset `at` up to the closing `#`, without whitespace, and the offset of
+/// this mark. Err is `Short` if there is no mark, `Bad` at any other octet, or `Memory`.
 fn gather_digits(alloc: Global, text: &[u8], at: usize) -> Result<Digits, FormFault>
     requires { at ≤ length text.now }
     ensures read { IfOk result (λ read. Keeps text.now at read.digits.items read.end × StandsAt text.now read.end 35) }
@@ -75,7 +77,8 @@ fn gather_digits(alloc: Global, text: &[u8], at: usize) -> Result<Digits, FormFa
     Err(FormFault::Short)
 }
 
-/// Reads one octet of a body: a digit is kept, whitespace is not.
+/// Appends the octet at the offset `at` to `digits`, if it is a hexadecimal digit. Whitespace is skipped. Err is `Bad`
+/// for any other octet, or `Memory`.
 fn keep_digit(octet: u8, at: usize, digits: &mut Vec<u8>) -> Result<(), FormFault>
     ensures kept { OnOk result
         ((is_hexadecimal_octet octet ≡ true) × (digits.new.items ≡ digits.old.items ++ visible (octet ∷ []))) }

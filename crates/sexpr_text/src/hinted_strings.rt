@@ -23,7 +23,7 @@ pub(crate) struct HintedString<'t> {
     pub(crate) end: usize,
 }
 
-/// Reads a string with a hint, from its opening bracket on.
+/// Reads the string with a hint whose opening bracket is at `at`. Err is the first fault.
 pub(crate) fn read_hinted_string<'t>(
     alloc: Global,
     text: &'t [u8],

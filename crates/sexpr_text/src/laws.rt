@@ -27,15 +27,15 @@ pub fn printed_is_advanced()
     ensures { (v : Value) → HasOctets v → Spells (adv v) v }
 {}
 
-/// A text has at most one refusal of advanced form for its form, with its offset. It has none if it spells a value within
-/// the limits. Assume that the text is not too long and that memory does not run out. Then each of TooDeep, Short, Bad and
-/// Trailing is returned exactly if its meaning holds.
+/// A text has at most one of the faults TooDeep, Short, Bad and Trailing of advanced form, with its offset. It has none
+/// if it spells a value within the limits. So, if the text is not too long and memory does not run out, each of these
+/// faults is returned exactly if the text has it.
 pub fn one_refusal()
     ensures none { (text : List ℕ) (e : FormFault) (v : Value) → IsOfForm e → RefusesSpelling text e → ¬ IsSpelledWithin text v }
     ensures one { (text : List ℕ) (e f : FormFault) → IsOfForm e → IsOfForm f → RefusesSpelling text e → RefusesSpelling text f → e ≡ f }
 {}
 
-/// The same for texts in any form. Each is read as transport form or as advanced form.
+/// The same as `one_refusal` for texts in any form. Each is read as transport form or as advanced form.
 pub fn one_refusal_in_any_form()
     ensures none { (text : List ℕ) (e : FormFault) (v : Value) → IsOfForm e → RefusesText text e → ¬ IsTextWithin text v }
     ensures one { (text : List ℕ) (e f : FormFault) → IsOfForm e → IsOfForm f → RefusesText text e → RefusesText text f → e ≡ f }

@@ -20,9 +20,9 @@ const PACKED_OCTETS: usize = 384;
 /// How many symbols these octets have.
 const PACKED_SYMBOLS: usize = 512;
 
-/// Returns the printed text of a tree in advanced form. Each string is a token if it can be one; otherwise quoted, if all
-/// its octets are printable; otherwise base64. Display hints are in brackets directly before the string, and there is one
-/// space between members. The text spells the tree's value (RFC 9804, section 6.4).
+/// Returns the printed text of a tree in advanced form. Each string is a token if it can be one; otherwise quoted, if
+/// all its octets are printable; otherwise base64. Display hints are in brackets directly before the string, and there
+/// is one space between members. The text spells the tree's value (RFC 9804, section 6.4). Err if memory ran out.
 pub fn print_advanced(alloc: Global, tree: &Sexp) -> Result<Vec<u8>, AllocError>
     ensures printed { IfOk result (λ text. text.items ≡ adv (sexp_value tree.now)) }
     ensures spells { IfOk result (λ text. Spells text.items (sexp_value tree.now)) }
@@ -48,6 +48,7 @@ pub fn stands_in_token(octet: u8) -> bool
     (octet >= b'*' && octet <= b':' && octet != b',') || octet == b'='
 }
 
+/// Whether each octet may occur in a token. True for no octets.
 fn all_in_token(octets: &[u8]) -> bool
     ensures { result ≡ every is_token_octet octets.now }
 {
@@ -59,6 +60,7 @@ fn all_in_token(octets: &[u8]) -> bool
     true
 }
 
+/// Whether each octet is a printable ASCII character or a space. True for no octets.
 fn all_printable(octets: &[u8]) -> bool
     ensures { result ≡ every is_printable octets.now }
 {
@@ -70,6 +72,8 @@ fn all_printable(octets: &[u8]) -> bool
     true
 }
 
+/// Whether the octets can be printed as a token: there is at least one, the first is no digit, and each may occur in a
+/// token.
 fn is_token_text(octets: &[u8]) -> bool
     ensures { result ≡ is_token octets.now }
 {
@@ -79,13 +83,14 @@ fn is_token_text(octets: &[u8]) -> bool
     }
 }
 
-/// Whether an octet between quotes has a backslash before it.
+/// Whether an octet between quotes is printed with a backslash before it: a quote or a backslash.
 fn is_escaped(octet: u8) -> bool
     ensures { result ≡ (octet == 34 || octet == 92) }
 {
     octet == b'"' || octet == b'\\'
 }
 
+/// Prints an octet of a quoted string, with a backslash before it if it needs one.
 fn print_quoted_octet<S: Sink>(octet: u8, sink: &mut S)
     ensures { S.takes sink.old (quoted_body (octet ∷ [])) sink.new }
 {
@@ -96,6 +101,7 @@ fn print_quoted_octet<S: Sink>(octet: u8, sink: &mut S)
     sink.put_octet(octet);
 }
 
+/// Prints a string in quotes, with a backslash before each quote and each backslash in it.
 fn print_quoted<S: Sink>(octets: &[u8], sink: &mut S)
     ensures { S.takes sink.old (34 ∷ (quoted_body octets.now ++ 34 ∷ [])) sink.new }
 {
@@ -106,7 +112,7 @@ fn print_quoted<S: Sink>(octets: &[u8], sink: &mut S)
     sink.put_octet(b'"');
 }
 
-/// Prints at most so many octets in base64.
+/// Prints at most 384 octets in base64.
 fn print_piece<S: Sink>(octets: &[u8], sink: &mut S)
     requires { length octets.now ≤ 384 }
     ensures { S.takes sink.old (encode_of standard octets.now) sink.new }
@@ -117,6 +123,7 @@ fn print_piece<S: Sink>(octets: &[u8], sink: &mut S)
     }
 }
 
+/// Prints a string in base64 between `|` and `|`.
 fn print_packed<S: Sink>(octets: &[u8], sink: &mut S)
     ensures { S.takes sink.old (124 ∷ (encode_of standard octets.now ++ 124 ∷ [])) sink.new }
 {
@@ -148,7 +155,7 @@ pub fn print_octets<S: Sink>(octets: &[u8], sink: &mut S)
     }
 }
 
-/// Prints a display hint.
+/// Prints a display hint in brackets.
 fn print_hint<S: Sink>(hint: &[u8], sink: &mut S)
     ensures printed { S.takes sink.old (91 ∷ (printed_string hint.now ++ 93 ∷ [])) sink.new }
     ensures octets { IsBytes hint.now }
@@ -158,6 +165,7 @@ fn print_hint<S: Sink>(hint: &[u8], sink: &mut S)
     sink.put_octet(b']');
 }
 
+/// Prints a string, after its display hint if it has one.
 fn print_atom<S: Sink>(atom: &Atom, sink: &mut S)
     ensures printed { S.takes sink.old (adv (atom_value atom.now)) sink.new }
     ensures octets { HasOctets (atom_value atom.now) }
@@ -171,7 +179,7 @@ fn print_atom<S: Sink>(atom: &Atom, sink: &mut S)
     }
 }
 
-/// Prints the space before a member that is not the first.
+/// Prints the space before a member, unless it is the first. `member` is its place, from 0.
 fn print_gap<S: Sink>(member: usize, sink: &mut S)
     ensures { S.takes sink.old (gap member) sink.new }
 {

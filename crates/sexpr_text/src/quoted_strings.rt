@@ -24,7 +24,8 @@ struct Escape {
     end: usize,
 }
 
-/// Returns the end of the octets from an offset on that mean themselves.
+/// Returns the offset of the first quote or backslash from the offset `at` on, or the length of the text if there is
+/// none.
 fn plain_end(text: &[u8], at: usize) -> usize
     requires { at ≤ length text.now }
     ensures { (octets : List ℕ) × ReadsPlain text.now at octets result }
@@ -39,8 +40,8 @@ fn plain_end(text: &[u8], at: usize) -> usize
     i
 }
 
-/// Reads a quoted string without escapes, from its opening quote on, and borrows its octets from the text. None for any
-/// other text.
+/// Reads the quoted string whose opening quote is at `at`, and borrows its octets from the text. None if it has a
+/// backslash or does not end: then `read_quoted` is called.
 pub(crate) fn lend_quoted<'t>(text: &'t [u8], at: usize) -> Option<ReadString<'t>>
     requires { StandsAt text.now at 34 }
     ensures { IfSome result (λ read. Reads IsQuoted text.now at (cow_slice_items read.octets) read.end) }
@@ -56,7 +57,8 @@ pub(crate) fn lend_quoted<'t>(text: &'t [u8], at: usize) -> Option<ReadString<'t
     }
 }
 
-/// Reads a quoted string, from its opening quote on.
+/// Reads the quoted string whose opening quote is at `at`. Err is the first fault: `Short` if it does not end, `Bad` in
+/// an unknown escape.
 pub(crate) fn read_quoted(alloc: Global, text: &[u8], at: usize) -> Result<MarkedString, FormFault>
     requires { StandsAt text.now at 34 }
     ensures read { IfOk result (λ read. Reads IsQuoted text.now at read.octets.items read.end) }
@@ -75,7 +77,8 @@ pub(crate) fn read_quoted(alloc: Global, text: &[u8], at: usize) -> Result<Marke
     Err(FormFault::Short)
 }
 
-/// Reads an octet that means itself, or an escape.
+/// Reads the octet at `at`, which is `octet`, or the escape that begins there, and appends what it means to `octets`.
+/// Returns the offset after it. Err is the fault of the escape, or `Memory`.
 fn read_piece(text: &[u8], at: usize, octet: u8, octets: &mut Vec<u8>) -> Result<usize, FormFault>
     requires begins { StandsAt text.now at octet }
     requires other { octet ≢ 34 }
@@ -98,7 +101,8 @@ fn read_piece(text: &[u8], at: usize, octet: u8, octets: &mut Vec<u8>) -> Result
     }
 }
 
-/// Reads the part of an escape after the backslash.
+/// Reads the part of an escape after the backslash, from the offset `at` on. Err is `Bad` for an unknown escape, or
+/// `Short`.
 fn read_escape(text: &[u8], at: usize) -> Result<Escape, FormFault>
     requires { at ≤ length text.now }
     ensures read { IfOk result (λ read. ReadsEscape (92 ∷ []) text.now at read.octet read.end) }
@@ -118,7 +122,8 @@ fn read_escape(text: &[u8], at: usize) -> Result<Escape, FormFault>
     }
 }
 
-/// Reads a line end after a backslash: one octet, or two if the second forms a pair with the first.
+/// Reads the line end at the offset `at` after a backslash. It is one octet, or two if the next is `second`. It means
+/// no octet.
 fn line_end(text: &[u8], at: usize, second: u8) -> Escape
     requires { IsLineEnd text.now at second }
     ensures { ReadsEscape (92 ∷ []) text.now at result.octet result.end }
@@ -137,7 +142,7 @@ fn line_end(text: &[u8], at: usize, second: u8) -> Escape
     }
 }
 
-/// The octet that the octet after a backslash means. None if that is no escape.
+/// The octet that a backslash and this octet mean, such as a line feed for `n`. None if they are no escape.
 fn meant_by(octet: u8) -> Option<u8>
     ensures { result ≡ escape_value octet }
 {
@@ -154,7 +159,7 @@ fn meant_by(octet: u8) -> Option<u8>
     }
 }
 
-/// Reads an escape that is one octet.
+/// Reads the escape that is the one octet `octet` at `at`, such as `n`. Err is `Bad` if this is no escape.
 fn read_letter(text: &[u8], at: usize, octet: u8) -> Result<Escape, FormFault>
     requires { StandsAt text.now at octet }
     ensures read { IfOk result (λ read. ReadsEscape (92 ∷ []) text.now at read.octet read.end) }
@@ -171,7 +176,7 @@ fn read_letter(text: &[u8], at: usize, octet: u8) -> Result<Escape, FormFault>
     }
 }
 
-/// The value of a hexadecimal digit. None for another octet.
+/// The value, 0 to 15, of a hexadecimal digit. None for another octet.
 fn hexadecimal_value(octet: u8) -> Option<u8>
     ensures { result ≡ hex_digit_value octet }
 {
@@ -183,6 +188,8 @@ fn hexadecimal_value(octet: u8) -> Option<u8>
     }
 }
 
+/// The value of the hexadecimal digit at the offset `at`. Err is `Bad` for another octet, or `Short` at the end of the
+/// text.
 fn read_hexadecimal_digit(text: &[u8], at: usize) -> Result<u8, FormFault>
     requires { at ≤ length text.now }
     ensures read { IfOk result (λ digit. ReadsDigit text.now at digit) }
@@ -199,7 +206,7 @@ fn read_hexadecimal_digit(text: &[u8], at: usize) -> Result<u8, FormFault>
     }
 }
 
-/// Reads two hexadecimal digits after an x.
+/// Reads the two hexadecimal digits of an escape, from the offset `at` after its `x` on. Err is `Bad` or `Short`.
 fn read_hexadecimal_escape(text: &[u8], at: usize) -> Result<Escape, FormFault>
     requires { at ≤ length text.now }
     ensures read { IfOk result (λ read. ReadsEscape (92 ∷ 120 ∷ []) text.now at read.octet read.end) }
@@ -215,6 +222,7 @@ fn read_hexadecimal_escape(text: &[u8], at: usize) -> Result<Escape, FormFault>
     })
 }
 
+/// The value of the octal digit at the offset `at`. Err is `Bad` for another octet, or `Short` at the end of the text.
 fn read_octal_digit(text: &[u8], at: usize) -> Result<u8, FormFault>
     requires { at ≤ length text.now }
     ensures read { IfOk result (λ digit. (digit < 8) × StandsAt text.now at (48 + digit)) }
@@ -231,7 +239,8 @@ fn read_octal_digit(text: &[u8], at: usize) -> Result<u8, FormFault>
     Ok(octet - b'0')
 }
 
-/// Reads three octal digits. The first is known and at most 3.
+/// Reads the three octal digits of an escape, from the offset `at` on. `first` is the value of the first, at most 3.
+/// Err is `Bad` or `Short`.
 fn read_octal_escape(text: &[u8], at: usize, first: u8) -> Result<Escape, FormFault>
     requires begins { StandsAt text.now at (48 + first) }
     requires low { first < 4 }

@@ -70,7 +70,7 @@ pub fn read_any(alloc: Global, text: &[u8]) -> Result<Sexp, FormFault>
     read_advanced(alloc, text)
 }
 
-/// Reads a value, from its first octet on. At most `room` lists may be open at once in it.
+/// Reads the value at the offset `at`. At most `room` lists may be open at once in it. Err is the first fault.
 #[cycle(reading)]
 fn read_tree(alloc: Global, text: &[u8], at: usize, room: usize) -> Result<ReadTree, FormFault>
     requires short { length text.now ≤ 1048576 }
@@ -97,7 +97,8 @@ fn read_tree(alloc: Global, text: &[u8], at: usize, room: usize) -> Result<ReadT
     }
 }
 
-/// Reads a list, from its opening parenthesis on. At most `room` lists may be open at once, this one included.
+/// Reads the list whose opening parenthesis is at `at`. At most `room` lists may be open at once, this one included.
+/// Err is the first fault.
 #[cycle(reading)]
 fn read_list(alloc: Global, text: &[u8], at: usize, room: usize) -> Result<ReadTree, FormFault>
     requires short { length text.now ≤ 1048576 }
@@ -117,7 +118,8 @@ fn read_list(alloc: Global, text: &[u8], at: usize, room: usize) -> Result<ReadT
     })
 }
 
-/// Reads the members of a list and its closing parenthesis. At most `room` lists may be open at once in them.
+/// Reads the members of a list and its closing parenthesis, from the offset `at` on. At most `room` lists may be open
+/// at once in them. Err is the first fault.
 #[cycle(reading)]
 fn read_members(
     alloc: Global,
@@ -148,7 +150,7 @@ fn read_members(
     Err(FormFault::Short)
 }
 
-/// Reads a string with a hint, from its opening bracket on.
+/// Reads the string with a hint whose opening bracket is at `at`. Err is the first fault.
 fn read_hinted(alloc: Global, text: &[u8], at: usize) -> Result<ReadTree, FormFault>
     requires short { length text.now ≤ 1048576 }
     requires begins { StandsAt text.now at 91 }

@@ -15,11 +15,11 @@ pub trait Sink {
     // The sink stays as it is from now on.
     ghost full: { Self → Bool };
 
-    /// Takes octets.
+    /// Takes octets, after all that were put before.
     fn put(&mut self, octets: &[u8])
         ensures { takes self.old octets.now self.new };
 
-    /// Takes one octet.
+    /// Takes one octet, after all that were put before.
     fn put_octet(&mut self, octet: u8)
         ensures { takes self.old (octet ∷ []) self.new };
 
@@ -54,7 +54,7 @@ impl<'v> VectorSink<'v> {
         }
     }
 
-    /// Ends the sink.
+    /// Ends the sink, and says whether the vector has all octets that were put.
     ///
     /// # Errors
     ///
@@ -76,18 +76,21 @@ impl<'v> Sink for VectorSink<'v> {
 
     ghost full = { has_failed };
 
+    /// Appends octets to the vector. If memory runs out, the sink notes it for `end`.
     fn put(&mut self, octets: &[u8]) {
         if self.octets.extend_from_slice(octets).is_err() {
             self.failed = true;
         }
     }
 
+    /// Appends one octet to the vector. If memory runs out, the sink notes it for `end`.
     fn put_octet(&mut self, octet: u8) {
         if self.octets.push(octet).is_err() {
             self.failed = true;
         }
     }
 
+    /// Whether memory ran out.
     fn is_full(&self) -> bool {
         self.failed
     }
@@ -106,7 +109,7 @@ pub struct Counter {
 }
 
 impl Counter {
-    /// A counter of no octets.
+    /// A counter at 0.
     pub fn new() -> Counter
         ensures { count_of result ≡ 0 }
     {
@@ -126,14 +129,17 @@ impl Sink for Counter {
 
     ghost full = { is_at_end };
 
+    /// Adds the number of these octets to the count.
     fn put(&mut self, octets: &[u8]) {
         self.count = self.count.saturating_add(octets.len() as u64);
     }
 
+    /// Adds one to the count.
     fn put_octet(&mut self, _octet: u8) {
         self.count = self.count.saturating_add(1);
     }
 
+    /// Whether the count is the greatest `u64`.
     fn is_full(&self) -> bool {
         self.count == u64::MAX
     }

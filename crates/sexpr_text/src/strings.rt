@@ -40,7 +40,7 @@ struct Count {
     end: usize,
 }
 
-/// Reads a string, from its first octet on.
+/// Reads the string without a display hint at the offset `at`. Err is the first fault.
 pub(crate) fn read_string<'t>(
     alloc: Global,
     text: &'t [u8],
@@ -74,7 +74,7 @@ pub(crate) fn read_string<'t>(
     })
 }
 
-/// Returns the octets of a string as a vector of their own.
+/// Returns the octets of a string as a vector. They are copied if they are borrowed. Err if memory ran out.
 pub(crate) fn own(alloc: Global, octets: CowSlice<'_, u8, Global>) -> Result<Vec<u8>, AllocError>
     ensures { IfOk result (λ own. own.items ≡ cow_slice_items octets.entry) }
 {
@@ -84,7 +84,8 @@ pub(crate) fn own(alloc: Global, octets: CowSlice<'_, u8, Global>) -> Result<Vec
     }
 }
 
-/// Reads a token. It ends before the next octet that is not allowed in one.
+/// Reads the token at the offset `at`, whose first octet is `first`. It ends before the next octet that may not occur
+/// in one.
 fn read_token<'t>(text: &'t [u8], at: usize, first: u8) -> ReadString<'t>
     requires begins { StandsAt text.now at first }
     requires other { is_digit first ≡ false }
@@ -98,7 +99,7 @@ fn read_token<'t>(text: &'t [u8], at: usize, first: u8) -> ReadString<'t>
     }
 }
 
-/// Returns the end of a token.
+/// Returns the offset after the token at the offset `at`, whose first octet is `first`.
 pub(crate) fn token_end(text: &[u8], at: usize, first: u8) -> usize
     requires begins { StandsAt text.now at first }
     requires other { is_digit first ≡ false }
@@ -115,7 +116,8 @@ pub(crate) fn token_end(text: &[u8], at: usize, first: u8) -> usize
     i
 }
 
-/// Reads a string between marks, from its opening mark on.
+/// Reads the string between marks, `"`, `#` or `|`, whose opening mark is at `at`. Err is `Bad` if no such mark is
+/// there, or the first fault of the string.
 fn read_marked(alloc: Global, text: &[u8], at: usize) -> Result<MarkedString, FormFault>
     requires { at ≤ length text.now }
     ensures read { IfOk result (λ read. Reads IsMarked text.now at read.octets.items read.end) }
@@ -135,7 +137,8 @@ fn read_marked(alloc: Global, text: &[u8], at: usize) -> Result<MarkedString, Fo
     }
 }
 
-/// Reads a length without leading zeros, of any size. One over `MOST_OCTETS` is returned as `MOST_OCTETS` plus one.
+/// Reads the length at the offset `at`, without leading zeros and of any size. `first` is its first digit. One over
+/// `MOST_OCTETS` is returned as `MOST_OCTETS` plus one.
 fn read_count(text: &[u8], at: usize, first: u8) -> Count
     requires begins { StandsAt text.now at first }
     requires digit { (48 ≤ first) × (first < 58) }
@@ -157,7 +160,8 @@ fn read_count(text: &[u8], at: usize, first: u8) -> Count
     Count { number, end: i }
 }
 
-/// Reads a string with its length in front, from the first digit on.
+/// Reads the string with a length in front whose first digit, `first`, is at `at`. Err is the first fault: `Bad` at the
+/// closing mark of a string that does not have this length.
 fn read_counted<'t>(
     alloc: Global,
     text: &'t [u8],
@@ -189,7 +193,7 @@ fn read_counted<'t>(
     })
 }
 
-/// Reads so many octets as they are.
+/// Reads `number` octets as they are, from the offset `at` on. Err is `Short` if the text has fewer.
 fn read_verbatim<'t>(text: &'t [u8], at: usize, number: usize) -> Result<ReadString<'t>, FormFault>
     requires short { length text.now ≤ 1048576 }
     requires begins { at ≤ length text.now }
