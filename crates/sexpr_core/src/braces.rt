@@ -36,6 +36,7 @@ struct Gathered {
 }
 
 /// Returns the transport form of a tree (RFC 9804, section 6.3): the padded base64 of its canonical form, in braces.
+/// Err if memory ran out.
 pub fn wrap(alloc: Global, tree: &Sexp) -> Result<Vec<u8>, AllocError>
     ensures { IfOk result (λ text. text.items ≡ transport (sexp_value tree.now)) }
 {
@@ -43,7 +44,8 @@ pub fn wrap(alloc: Global, tree: &Sexp) -> Result<Vec<u8>, AllocError>
     wrap_octets(alloc, &octets)
 }
 
-/// Returns octets in braces: the padded base64 of any octets. For a value's canonical form this is its transport form.
+/// Returns the padded base64 of octets, in braces. For a value's canonical form this is its transport form. Err if
+/// memory ran out.
 pub fn wrap_octets(alloc: Global, octets: &[u8]) -> Result<Vec<u8>, AllocError>
     ensures { IfOk result (λ text. text.items ≡ in_braces octets.now) }
 {
@@ -67,7 +69,8 @@ fn is_base64_octet(octet: u8) -> bool
         || octet == b'='
 }
 
-/// Returns the offset after the symbols that begin at an offset.
+/// Returns the offset of the first octet from `at` on that may not occur in base64, or the length of the text if there
+/// is none.
 fn skip_symbols(text: &[u8], at: usize) -> usize
     requires { at ≤ length text.now }
     ensures { SkipsSymbols text.now at result }
@@ -82,7 +85,8 @@ fn skip_symbols(text: &[u8], at: usize) -> usize
     i
 }
 
-/// Returns the symbols of a body that ends at a mark.
+/// Returns the base64 symbols from the offset `at` up to the octet `mark`, without whitespace, and the offset after the
+/// mark. Err is `Short` if there is no mark, `Bad` at an octet that is no symbol and no whitespace, or `Memory`.
 fn gather_symbols(alloc: Global, text: &[u8], at: usize, mark: u8) -> Result<Gathered, FormFault>
     requires begins { at ≤ length text.now }
     requires apart { is_body_octet mark ≡ false }
@@ -111,7 +115,7 @@ fn gather_symbols(alloc: Global, text: &[u8], at: usize, mark: u8) -> Result<Gat
     Err(FormFault::Short)
 }
 
-/// Appends missing padding to symbols.
+/// Appends `missing` octets `=` to the symbols. Err if memory ran out.
 fn pad(symbols: &mut Vec<u8>, missing: usize) -> Result<(), AllocError>
     ensures { OnOk result (symbols.new.items ≡ symbols.old.items ++ replicate missing 61) }
 {
@@ -121,7 +125,8 @@ fn pad(symbols: &mut Vec<u8>, missing: usize) -> Result<(), AllocError>
     Ok(())
 }
 
-/// Decodes symbols. If they are no base64, the fault is Bad at the offset given.
+/// Decodes base64 symbols, whose padding may be missing. Err is `Bad` at the offset `at` if they are no base64, or
+/// `Memory`.
 fn unpack(alloc: Global, symbols: Vec<u8>, at: usize) -> Result<Vec<u8>, FormFault>
     ensures read { IfOk result (λ octets. IsBase64 symbols.items octets.items) }
     ensures only { (octets : List ℕ) → IsBase64 symbols.items octets → IsOkUnless result FormFault.Memory }
@@ -140,8 +145,8 @@ fn unpack(alloc: Global, symbols: Vec<u8>, at: usize) -> Result<Vec<u8>, FormFau
     }
 }
 
-/// Reads base64 from an offset up to a closing mark, with whitespace in it. Some or all of the padding may be missing, and
-/// unused bits are zero (RFC 9804, section 4.5; RFC 4648, section 4).
+/// Reads base64 from the offset `at` up to the closing octet `mark`, with whitespace in it. Some or all of the padding
+/// may be missing, and unused bits are zero (RFC 9804, section 4.5; RFC 4648, section 4).
 ///
 /// # Errors
 ///
@@ -161,7 +166,8 @@ pub fn read_base64(alloc: Global, text: &[u8], at: usize, mark: u8) -> Result<Un
     Ok(Unpacked { octets, end })
 }
 
-/// The fault of a body that ends at this offset, if its octets are no canonical form within the limits.
+/// The fault of a text in braces, if the octets in it are no canonical form: `TooDeep` and `Memory` stay, and any other
+/// becomes `Bad` at the offset `at` of the closing brace.
 fn body_fault(fault: FormFault, at: usize) -> FormFault
     ensures { IsBodyFault fault at result }
 {
@@ -172,7 +178,8 @@ fn body_fault(fault: FormFault, at: usize) -> FormFault
     }
 }
 
-/// Checks that the octets of a body that ends at this offset are a canonical form within the limits.
+/// Checks that the octets in a text in braces are a canonical form within the limits. `at` is the offset of the closing
+/// brace, at which the fault is `Bad`, unless it is `TooDeep`.
 fn check_body(octets: &[u8], at: usize) -> Result<(), FormFault>
     requires { length octets.now ≤ 1048576 }
     ensures read { OnOk result ((v : Value) × (octets.now ≡ canon v) × IsWithinLimits v) }
@@ -205,7 +212,7 @@ pub fn unwrap_braces(alloc: Global, text: &[u8]) -> Result<Sexp, FormFault>
     Ok(tree)
 }
 
-/// Returns the canonical form of the value that a text braces. The refusals are those of `unwrap_braces`.
+/// Returns the canonical form of the value in a text in transport form. The refusals are those of `unwrap_braces`.
 pub fn octets_in_braces(alloc: Global, text: &[u8]) -> Result<Vec<u8>, FormFault>
     ensures read { IfOk result (λ octets. (v : Value) × IsBracedWithin text.now v × (octets.items ≡ canon v)) }
     ensures only { (v : Value) → IsBracedWithin text.now v → IsOkUnless result FormFault.Memory }

@@ -11,7 +11,8 @@ use crate::fault::FormFault;
 use crate::parser::{MOST_LISTS, MOST_OCTETS, read_string};
 use crate::spaces::octet_at;
 
-/// Returns the end of a value. At most `room` lists may be open at once in it.
+/// Returns the offset after the value at the offset `at`. At most `room` lists may be open at once in it. Err is the
+/// first fault.
 #[cycle(passing)]
 fn pass_value(text: &[u8], at: usize, room: usize) -> Result<usize, FormFault>
     requires short { length text.now ≤ 1048576 }
@@ -30,7 +31,8 @@ fn pass_value(text: &[u8], at: usize, room: usize) -> Result<usize, FormFault>
     Ok(read.end as usize)
 }
 
-/// Returns the end of the list whose opening parenthesis is at an offset. At most `room` lists may be open at once, this one included.
+/// Returns the offset after the list whose opening parenthesis is at `at`. At most `room` lists may be open at once,
+/// this one included. Err is the first fault.
 #[cycle(passing)]
 fn pass_list(text: &[u8], at: usize, room: usize) -> Result<usize, FormFault>
     requires short { length text.now ≤ 1048576 }
@@ -46,7 +48,8 @@ fn pass_list(text: &[u8], at: usize, room: usize) -> Result<usize, FormFault>
     Ok(end)
 }
 
-/// Returns the end of the list whose members begin at an offset. At most `room` lists may be open at once in them.
+/// Returns the offset after the list whose members begin at `at`. At most `room` lists may be open at once in them. Err
+/// is the first fault.
 #[cycle(passing)]
 fn pass_members(text: &[u8], at: usize, room: usize) -> Result<usize, FormFault>
     requires short { length text.now ≤ 1048576 }

@@ -10,6 +10,7 @@ use std::alloc::{AllocError, Global};
 impl Clone for Atom {
     ghost is_clone = { λ atom copy. atom_value copy ≡ atom_value atom };
 
+    /// Returns a copy of the string and its display hint. Err if memory ran out.
     fn clone(&self) -> Result<Atom, AllocError> {
         let body = self.body.clone()?;
         let Some(octets) = &self.hint else {
@@ -24,6 +25,7 @@ impl Clone for Atom {
 impl Clone for Sexp {
     ghost is_clone = { λ tree copy. sexp_value copy ≡ sexp_value tree };
 
+    /// Returns a copy of the tree. Err if memory ran out.
     #[cycle(copy)]
     fn clone(&self) -> Result<Sexp, AllocError> {
         match self {
@@ -33,7 +35,7 @@ impl Clone for Sexp {
     }
 }
 
-/// Copies each tree, in order.
+/// Copies each tree, in order. Err if memory ran out.
 #[cycle(copy)]
 fn copies_of(alloc: Global, trees: &[Sexp]) -> Result<Vec<Sexp>, AllocError>
     ensures { IfOk result (λ copies. map sexp_value copies.items ≡ map sexp_value trees.now) }

@@ -58,7 +58,7 @@ impl<'a> Doc<'a> {
         Ok(Doc { text, table })
     }
 
-    /// The node of the document's whole value.
+    /// The node of the document's whole value, which is number 0.
     pub fn top<'d>(&'d self) -> Node<'d, 'a>
         ensures { result ≡ self.now }
     {
@@ -76,14 +76,14 @@ impl<'a> Doc<'a> {
         }
     }
 
-    /// The whole text.
+    /// The canonical text that the document was opened from.
     pub(crate) fn text(&self) -> &'a [u8]
         ensures { result.now ≡ canon self.now }
     {
         self.text
     }
 
-    /// The record of a node.
+    /// The record of the node with this number, from 0: its place in the text. The document must have this node.
     pub(crate) fn record(&self, n: usize) -> Record
         requires { n < size self.now }
         ensures place { IsPlace (canon self.now) result (node_at self.now n) }
@@ -93,7 +93,7 @@ impl<'a> Doc<'a> {
         self.table[n]
     }
 
-    /// The number of nodes.
+    /// The number of nodes in the document, its whole value included.
     pub(crate) fn node_count(&self) -> usize
         ensures { result ≡ size self.now }
     {

@@ -15,6 +15,7 @@ impl PartialEq for Atom {
 
     ghost laws = { partial_equiv_from_equiv (on_equiv (λ atom. canon (atom_value atom)) nat_list_eq_equiv) };
 
+    /// Whether both strings have the same octets and the same display hint, or none.
     fn eq(&self, other: &Atom) -> bool
         ensures test { result ≡ is_same (atom_value self.now) (atom_value other.now) }
         ensures meaning { IsTrue result ↔ (atom_value self.now ≡ atom_value other.now) }
@@ -33,6 +34,7 @@ impl PartialEq for Sexp {
 
     ghost laws = { partial_equiv_from_equiv (on_equiv (λ tree. canon (sexp_value tree)) nat_list_eq_equiv) };
 
+    /// Whether both trees have the same value.
     fn eq(&self, other: &Sexp) -> bool
         ensures test { result ≡ is_same (sexp_value self.now) (sexp_value other.now) }
         ensures meaning { IsTrue result ↔ (sexp_value self.now ≡ sexp_value other.now) }
@@ -45,6 +47,7 @@ impl Eq for Sexp {
     ghost laws = { on_equiv (λ tree. canon (sexp_value tree)) nat_list_eq_equiv };
 }
 
+/// Whether both hints have the same octets, or both are missing.
 fn same_hints(hint: &Option<Vec<u8>>, other: &Option<Vec<u8>>) -> bool
     ensures { IsTrue result ↔ (option_map (λ h. h.items) hint.now ≡ option_map (λ h. h.items) other.now) }
 {
@@ -57,12 +60,14 @@ fn same_hints(hint: &Option<Vec<u8>>, other: &Option<Vec<u8>>) -> bool
     }
 }
 
+/// Whether two strings have the same octets and the same display hints.
 fn same_atoms(atom: &Atom, other: &Atom) -> bool
     ensures { IsTrue result ↔ (atom_value atom.now ≡ atom_value other.now) }
 {
     same_hints(&atom.hint, &other.hint) && atom.body.as_slice() == other.body.as_slice()
 }
 
+/// Whether two trees have the same value. The recursion is as deep as the first tree.
 #[cycle(same)]
 fn same_trees(tree: &Sexp, other: &Sexp) -> bool
     ensures { IsTrue result ↔ (sexp_value tree.now ≡ sexp_value other.now) }
@@ -79,6 +84,7 @@ fn same_trees(tree: &Sexp, other: &Sexp) -> bool
     }
 }
 
+/// Whether both lists have equally many members, and those at each place have the same value.
 #[cycle(same)]
 fn same_members(members: &[Sexp], others: &[Sexp]) -> bool
     ensures { IsTrue result ↔ (map sexp_value members.now ≡ map sexp_value others.now) }

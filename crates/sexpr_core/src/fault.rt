@@ -32,6 +32,7 @@ pub enum FormFault {
 impl From<AllocError> for FormFault {
     ghost from_gives = { λ _ fault. fault ≡ Memory };
 
+    /// An allocation that failed is the fault `Memory`.
     fn from(_error: AllocError) -> FormFault {
         FormFault::Memory
     }
@@ -40,6 +41,7 @@ impl From<AllocError> for FormFault {
 impl<T: Drop> From<AllocFailed<T>> for FormFault {
     ghost from_gives = { λ _ fault. fault ≡ Memory };
 
+    /// An allocation that failed is the fault `Memory`.
     fn from(_error: AllocFailed<T>) -> FormFault {
         FormFault::Memory
     }

@@ -47,7 +47,7 @@ pub enum NodeKind<'d, 'a> {
     List(Members<'d, 'a>),
 }
 
-/// The part of a text between two offsets.
+/// The octets of a text from the offset `from` to before the offset `to`.
 fn piece(text: &[u8], from: usize, to: usize) -> &[u8]
     requires ordered { from ≤ to }
     requires within { to ≤ length text.now }
@@ -57,7 +57,7 @@ fn piece(text: &[u8], from: usize, to: usize) -> &[u8]
 }
 
 impl<'d, 'a> Node<'d, 'a> {
-    /// The node with this number.
+    /// The node with this number, from 0. The document must have such a node.
     pub(crate) fn at(document: &'d Doc<'a>, number: usize) -> Node<'d, 'a>
         requires { number < size document.now }
         ensures { result ≡ node_at document.now number }
@@ -77,7 +77,7 @@ impl<'d, 'a> Node<'d, 'a> {
         )
     }
 
-    /// What the node is.
+    /// What the node is: a string with its octets, or a list with its members.
     pub fn kind(&self) -> NodeKind<'d, 'a>
         ensures { kind_value result ≡ self.now }
     {
@@ -138,7 +138,7 @@ impl<'d, 'a> Node<'d, 'a> {
         }
     }
 
-    /// How many members the node has, if it is a list.
+    /// How many members the node has. None if it is a string.
     pub(crate) fn part_count(&self) -> Option<usize>
         ensures { result ≡ part_count self.now }
     {

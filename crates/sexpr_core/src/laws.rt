@@ -20,16 +20,16 @@ pub fn canonical_form_is_prefix_free()
     ensures { (v w : Value) (x y : List ℕ) → canon v ++ x ≡ canon w ++ y → (v ≡ w) × (x ≡ y) }
 {}
 
-/// A text has at most one refusal for its form, with its offset. It has none if it is a value's canonical text within the
-/// limits. Assume that the text is not too long and that memory does not run out. Then each of TooDeep, Short, Bad and
-/// Trailing is returned exactly if its meaning holds.
+/// A text has at most one of the faults TooDeep, Short, Bad and Trailing, with its offset. It has none if it is a
+/// value's canonical text within the limits. So, if the text is not too long and memory does not run out, each of these
+/// faults is returned exactly if the text has it.
 pub fn one_refusal()
     ensures none { (text : List ℕ) (e : FormFault) (v : Value) → IsOfForm e → Refused text e → IsWithinLimits v → text ≢ canon v }
     ensures one { (text : List ℕ) (e f : FormFault) → IsOfForm e → IsOfForm f → Refused text e → Refused text f → e ≡ f }
 {}
 
-/// The same for texts in braces. A text has at most one refusal of the transport form for its form, with its offset. It has
-/// none if it braces a value within the limits.
+/// A text in braces has at most one refusal of the transport form for its form, with its offset. It has none if it
+/// braces a value within the limits.
 pub fn one_refusal_in_braces()
     ensures none { (text : List ℕ) (e : FormFault) (v : Value) → IsOfForm e → RefusesBraces text e → ¬ IsBracedWithin text v }
     ensures one { (text : List ℕ) (e f : FormFault) → IsOfForm e → IsOfForm f → RefusesBraces text e → RefusesBraces text f → e ≡ f }
@@ -56,6 +56,7 @@ pub fn octets_are_below_256(tree: &Sexp)
     }
 }
 
+/// A fact for the prover: each octet of a string and of its display hint is below 256. Does nothing.
 fn atom_of_octets(atom: &Atom)
     ensures { HasOctets (atom_value atom.now) }
 {
@@ -65,6 +66,7 @@ fn atom_of_octets(atom: &Atom)
     are_octets(&atom.body);
 }
 
+/// A fact for the prover: each octet of a slice is below 256. Does nothing.
 fn are_octets(octets: &[u8])
     ensures { IsBytes octets.now }
 {}

@@ -11,14 +11,14 @@ use crate::document::{Doc, NodeId};
 use crate::handle::NodeKind;
 
 impl<'a> Doc<'a> {
-    /// The number of the document's whole value.
+    /// The number of the document's whole value, which is 0.
     pub fn root(&self) -> NodeId
         ensures { result.0 ≡ 0 }
     {
         NodeId(0)
     }
 
-    /// The number of members of a list. None for a string.
+    /// The number of members of a list. None for a string, and if the document has no such node.
     pub fn parts(&self, n: NodeId) -> Option<usize>
         ensures { result ≡ of_node part_count self.now n.0 }
     {
@@ -26,8 +26,9 @@ impl<'a> Doc<'a> {
         node.part_count()
     }
 
-    /// The number of member i of a list, counted from 0. None for a string, and for a list with i or fewer members. It takes
-    /// a step for each member before this one: use `Node::members` to go over all of them.
+    /// The number of member i of a list, counted from 0. None for a string, for a list with i or fewer members, and if
+    /// the document has no such node. It takes a step for each member before this one: use `Node::members` to go over
+    /// all of them.
     pub fn part(&self, n: NodeId, i: usize) -> Option<NodeId>
         ensures number { option_map (λ m. m.0) result ≡ of_node (part_number n.0 i) self.now n.0 }
         ensures member { IfSome result (λ m. node self.now m.0 ≡ of_node (part_at i) self.now n.0) }
@@ -39,7 +40,7 @@ impl<'a> Doc<'a> {
         Some(NodeId(self.member_number(n.0, i)))
     }
 
-    /// The number of member i of node n.
+    /// The number of member i, from 0, of the list with number n. The list must have this member.
     fn member_number(&self, n: usize, i: usize) -> usize
         requires known { n < size self.now }
         requires has_it { i < length (members_of (node_at self.now n)) }
@@ -55,7 +56,7 @@ impl<'a> Doc<'a> {
         number
     }
 
-    /// The octets of a string. None for a list.
+    /// The octets of a string. None for a list, and if the document has no such node.
     pub fn body(&self, n: NodeId) -> Option<&'a [u8]>
         ensures { option_copied result ≡ of_node body_of self.now n.0 }
     {
@@ -65,7 +66,7 @@ impl<'a> Doc<'a> {
         }
     }
 
-    /// The display hint of a string that has one. None otherwise.
+    /// The display hint of a string. None if it has none, for a list, and if the document has no such node.
     pub fn hint(&self, n: NodeId) -> Option<&'a [u8]>
         ensures { option_copied result ≡ of_node hint_of self.now n.0 }
     {
@@ -75,7 +76,7 @@ impl<'a> Doc<'a> {
         }
     }
 
-    /// The canonical text of a node, as it is in the document.
+    /// The canonical text of a node, as it is in the document. None if the document has no such node.
     pub fn slice(&self, n: NodeId) -> Option<&'a [u8]>
         ensures { option_copied result ≡ option_map canon (node self.now n.0) }
     {
@@ -83,8 +84,8 @@ impl<'a> Doc<'a> {
         Some(node.slice())
     }
 
-    /// The offset from 0 where the canonical text of a node begins in the document's text. The `slice` of the node is at
-    /// this offset.
+    /// The offset from 0 where the canonical text of a node begins in the document's text. The `slice` of the node is
+    /// at this offset. None if the document has no such node.
     pub fn start(&self, n: NodeId) -> Option<usize>
         ensures start { result ≡ start_of self.now n.0 }
         ensures place { IfSome result (λ at. LiesAt (canon self.now) (canon (node_at self.now n.0)) at) }

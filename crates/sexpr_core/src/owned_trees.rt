@@ -30,6 +30,7 @@ pub fn decode(alloc: Global, text: &[u8]) -> Result<Sexp, FormFault>
     Ok(tree)
 }
 
+/// Copies the octets of a string and of its display hint, if it has one. Err if memory ran out.
 fn atom_of(alloc: Global, hint: Option<&[u8]>, body: &[u8]) -> Result<Atom, AllocError>
     ensures { IfOk result (λ atom. atom_value atom ≡ string (option_copied hint.entry) body.now) }
 {
@@ -41,6 +42,7 @@ fn atom_of(alloc: Global, hint: Option<&[u8]>, body: &[u8]) -> Result<Atom, Allo
     Ok(Atom { hint, body })
 }
 
+/// Copies a node of a document as an owned tree. Err if memory ran out.
 #[cycle(trees)]
 fn tree_of(alloc: Global, node: &Node) -> Result<Sexp, AllocError>
     ensures { IfOk result (λ tree. sexp_value tree ≡ node.now) }
@@ -51,6 +53,7 @@ fn tree_of(alloc: Global, node: &Node) -> Result<Sexp, AllocError>
     }
 }
 
+/// Copies each member as an owned tree, in order. Err if memory ran out.
 #[cycle(trees)]
 fn trees_of(alloc: Global, members: Members) -> Result<Vec<Sexp>, AllocError>
     ensures { IfOk result (λ trees. map sexp_value trees.items ≡ members.entry) }
@@ -65,7 +68,7 @@ fn trees_of(alloc: Global, members: Members) -> Result<Vec<Sexp>, AllocError>
 }
 
 impl Sexp {
-    /// Copies a node of a document, with all its parts, as an owned tree.
+    /// Copies a node of a document, with all nodes in it, as an owned tree. Err if memory ran out.
     pub fn of_node(alloc: Global, node: &Node) -> Result<Sexp, AllocError>
         ensures { IfOk result (λ tree. sexp_value tree ≡ node.now) }
     {

@@ -40,6 +40,8 @@ struct ListEnd {
     end: usize,
 }
 
+/// The value of the digit at the offset `at`, with which a length begins. Err is `Bad` for another octet, or `Short` at
+/// the end of the text.
 fn first_digit(text: &[u8], at: usize) -> Result<usize, FormFault>
     requires { at ≤ length text.now }
     ensures { MatchResult result
@@ -58,8 +60,9 @@ fn first_digit(text: &[u8], at: usize) -> Result<usize, FormFault>
     }
 }
 
-/// Reads a decimal length without leading zeros, and the colon after it. A length of any size is read, since a text may
-/// continue for as long. One over `MOST_OCTETS` is returned as `MOST_OCTETS` plus one.
+/// Reads the decimal length at the offset `at`, without leading zeros, and the colon after it. A length of any size is
+/// read, since a text may continue for as long. One over `MOST_OCTETS` is returned as `MOST_OCTETS` plus one. Err is
+/// `Bad` or `Short`.
 fn read_length(text: &[u8], at: usize) -> Result<Length, FormFault>
     requires { at ≤ length text.now }
     ensures { MatchResult result
@@ -81,7 +84,8 @@ fn read_length(text: &[u8], at: usize) -> Result<Length, FormFault>
     Err(FormFault::Short)
 }
 
-/// Reads a string in verbatim form. Its octets are not examined.
+/// Reads the string in verbatim form, such as `3:abc`, at the offset `at`. Its octets are not examined. Err is `Bad` or
+/// `Short`.
 fn read_verbatim(text: &[u8], at: usize) -> Result<Piece, FormFault>
     requires short { length text.now ≤ 1048576 }
     requires begins { at ≤ length text.now }
@@ -99,7 +103,7 @@ fn read_verbatim(text: &[u8], at: usize) -> Result<Piece, FormFault>
     })
 }
 
-/// Reads the closing bracket of a hint and the string after it.
+/// Reads the closing bracket of a hint, at the offset `at`, and the string after it. Err is `Bad` or `Short`.
 fn read_closing(text: &[u8], at: usize) -> Result<Piece, FormFault>
     requires short { length text.now ≤ 1048576 }
     requires begins { at ≤ length text.now }
@@ -117,7 +121,7 @@ fn read_closing(text: &[u8], at: usize) -> Result<Piece, FormFault>
     Ok(read)
 }
 
-/// Reads a string with a hint, from its opening bracket on.
+/// Reads the string with a hint whose opening bracket is at `at`. Err is `Bad` or `Short`.
 fn read_hinted(text: &[u8], at: usize) -> Result<Record, FormFault>
     requires short { length text.now ≤ 1048576 }
     requires begins { StandsAt text.now at 91 }
@@ -140,7 +144,8 @@ fn read_hinted(text: &[u8], at: usize) -> Result<Record, FormFault>
     })
 }
 
-/// Reads a string. The first octet of its text is known.
+/// Reads the string at the offset `at`, with or without a hint. `octet` is the octet there, which is no parenthesis.
+/// Err is `Bad` or `Short`.
 pub(crate) fn read_string(text: &[u8], at: usize, octet: u8) -> Result<Record, FormFault>
     requires short { length text.now ≤ 1048576 }
     requires begins { StandsAt text.now at octet }
@@ -166,7 +171,8 @@ pub(crate) fn read_string(text: &[u8], at: usize, octet: u8) -> Result<Record, F
     })
 }
 
-/// Reads a value, and appends its records to those of the nodes before it. At most `room` lists may be open at once in it.
+/// Reads the value at the offset `at`, and appends the records of its nodes to `nodes`. Returns the offset after it. At
+/// most `room` lists may be open at once in it. Err is the first fault.
 #[cycle(reading)]
 fn read_value(
     text: &[u8],
@@ -191,7 +197,8 @@ fn read_value(
     Ok(read.end as usize)
 }
 
-/// Reads a list, from its opening parenthesis on. At most `room` lists may be open at once, this one included.
+/// Reads the list whose opening parenthesis is at `at`, and appends the records of its nodes to `nodes`. Returns the
+/// offset after it. At most `room` lists may be open at once, this one included. Err is the first fault.
 #[cycle(reading)]
 fn read_list(
     text: &[u8],
@@ -228,7 +235,8 @@ fn read_list(
     Ok(read.end)
 }
 
-/// Reads the members of a list and its closing parenthesis. At most `room` lists may be open at once in them.
+/// Reads the members of a list and its closing parenthesis, from the offset `at` on, and appends the records of their
+/// nodes to `nodes`. At most `room` lists may be open at once in them. Err is the first fault.
 #[cycle(reading)]
 fn read_members(
     text: &[u8],
@@ -254,7 +262,8 @@ fn read_members(
     Err(FormFault::Short)
 }
 
-/// Reads a text that is one value in canonical form, and returns the records of its nodes in order.
+/// Reads a text that is one value in canonical form, and returns the records of its nodes in order. The refusals are
+/// those of `Doc::open`.
 pub(crate) fn parse(alloc: Global, text: &[u8]) -> Result<Vec<Record>, FormFault>
     ensures read { IfOk result (λ nodes.
         (v : Value) × IsWithinLimits v × (text.now ≡ canon v) × (nodes.items ≡ records 0 v)) }

@@ -35,7 +35,7 @@ impl<'d, 'a> Model for Members<'d, 'a> {
 }
 
 impl<'d, 'a> Members<'d, 'a> {
-    /// The members of node n, which is a list.
+    /// The members of node n, which must be a list.
     pub(crate) fn of(document: &'d Doc<'a>, n: usize) -> Members<'d, 'a>
         requires known { n < size document.now }
         requires listed { IsList (node_at document.now n) }
@@ -49,7 +49,7 @@ impl<'d, 'a> Members<'d, 'a> {
         }
     }
 
-    /// Whether no member is left.
+    /// Whether all members were read: none is left.
     pub fn is_empty(&self) -> bool
         ensures { IsTrue result ↔ (self.now ≡ []) }
     {
@@ -82,6 +82,7 @@ impl<'d, 'a> Iterator for Members<'d, 'a> {
 
     ghost remaining = { item_count (λ s. s) };
 
+    /// Returns the next member. None if no member is left.
     fn next(&mut self) -> Option<Node<'d, 'a>> {
         if self.from == self.to {
             return None;

@@ -7,7 +7,7 @@ ghost use Rattle.sexpr_core.specs.Spaces.{is_whitespace, AreSpaces, Skips};
 
 use crate::fault::FormFault;
 
-/// The octet at an offset. None at the end of the text.
+/// The octet at an offset, which is at most the length of the text. None at the end of the text.
 pub fn octet_at(text: &[u8], at: usize) -> Option<u8>
     requires { at ≤ length text.now }
     ensures { MatchOption result (drop at text.now ≡ []) (λ octet. StandsAt text.now at octet) }
@@ -41,7 +41,7 @@ pub fn skip_spaces(text: &[u8], at: usize) -> usize
     i
 }
 
-/// Checks that nothing but whitespace follows from an offset on.
+/// Checks that only whitespace follows in the text, from the offset `at` on.
 ///
 /// # Errors
 ///

@@ -25,7 +25,7 @@ pub struct Atom {
 }
 
 impl Sexp {
-    /// Returns a copy of the octets as a string without a display hint.
+    /// Returns a copy of the octets as a string without a display hint. Err if memory ran out.
     pub fn plain(alloc: Global, octets: &[u8]) -> Result<Sexp, AllocError>
         ensures { IfOk result (λ s. sexp_value s ≡ plain octets.now) }
     {

@@ -7,8 +7,8 @@ ghost use Rattle.sexpr_core.specs.Tree.{atom_value, sexp_value};
 use crate::tree::{Atom, Sexp};
 use std::alloc::{AllocError, Global};
 
-/// Returns the canonical form of a tree (RFC 9804, section 6.2). It may be longer, and the tree deeper, than what `decode`
-/// reads.
+/// Returns the canonical form of a tree (RFC 9804, section 6.2). It may be longer, and the tree deeper, than what
+/// `decode` reads. Err if memory ran out.
 pub fn encode(alloc: Global, tree: &Sexp) -> Result<Vec<u8>, AllocError>
     ensures { IfOk result (λ octets. octets.items ≡ canon (sexp_value tree.now)) }
 {
@@ -17,6 +17,7 @@ pub fn encode(alloc: Global, tree: &Sexp) -> Result<Vec<u8>, AllocError>
     Ok(out)
 }
 
+/// Appends a number in decimal to the output. Err if memory ran out.
 fn append_decimal(number: usize, out: &mut Vec<u8>) -> Result<(), AllocError>
     ensures written { OnOk result (out.new.items ≡ out.old.items ++ decimal number) }
     ensures kept { take (length out.old.items) out.new.items ≡ out.old.items }
@@ -30,7 +31,8 @@ fn append_decimal(number: usize, out: &mut Vec<u8>) -> Result<(), AllocError>
     Ok(())
 }
 
-/// Appends a length in decimal to the output. A length of one digit takes no recursion.
+/// Appends the length of a string in decimal to the output. A length of one digit takes no recursion. Err if memory ran
+/// out.
 fn append_length(octets: usize, out: &mut Vec<u8>) -> Result<(), AllocError>
     ensures written { OnOk result (out.new.items ≡ out.old.items ++ decimal octets) }
     ensures kept { take (length out.old.items) out.new.items ≡ out.old.items }
@@ -59,6 +61,7 @@ pub fn append_verbatim(octets: &[u8], out: &mut Vec<u8>) -> Result<(), AllocErro
     Ok(())
 }
 
+/// Appends the canonical form of a string to the output, with its display hint if it has one. Err if memory ran out.
 fn append_atom(atom: &Atom, out: &mut Vec<u8>) -> Result<(), AllocError>
     ensures { OnOk result (out.new.items ≡ out.old.items ++ canon (atom_value atom.now)) }
 {
@@ -70,6 +73,7 @@ fn append_atom(atom: &Atom, out: &mut Vec<u8>) -> Result<(), AllocError>
     append_verbatim(&atom.body, out)
 }
 
+/// Appends the canonical form of a tree to the output. The recursion is as deep as the tree. Err if memory ran out.
 fn append_tree(tree: &Sexp, out: &mut Vec<u8>) -> Result<(), AllocError>
     ensures { OnOk result (out.new.items ≡ out.old.items ++ canon (sexp_value tree.now)) }
 {
