@@ -17,7 +17,7 @@ impl<T, A: Allocator> Model for BoxPointer<T, A> {
 }
 
 impl<T: Drop, A: Allocator> BoxPointer<T, A> {
-    /// Returns the pointer of a box.
+    /// Returns the pointer of a box, which now owns the value. `into_box` gives the box back.
     pub(crate) fn of(value: Box<T, A>) -> BoxPointer<T, A>
         ensures { result.value ≡ value.value }
     {
@@ -25,7 +25,7 @@ impl<T: Drop, A: Allocator> BoxPointer<T, A> {
         BoxPointer { at, alloc }
     }
 
-    /// Returns the box of this pointer.
+    /// Returns the box of this pointer, which owns the value again.
     pub(crate) fn into_box(self) -> Box<T, A>
         ensures { result.value ≡ self.value }
     {

@@ -6,7 +6,9 @@ ghost use Rattle.spki_c.specs.Handed.{IsHanded};
 use crate::numbers::{MISUSED, TOO_SMALL};
 use spki_guard::Answer;
 
-/// Writes an answer to the front of a buffer, and sets `needed` to its length. Returns the given status.
+/// Writes an answer to the front of a buffer, and sets `needed` to its length in octets. Returns the given status.
+///
+/// If the buffer is too small, it is unchanged, and the status is `TOO_SMALL`.
 ///
 /// If the buffer is too small, it is unchanged, and the status says so.
 pub fn hand_over(answer: &Answer, status: u32, buffer: &mut [u8], needed: &mut usize) -> u32
@@ -21,7 +23,7 @@ pub fn hand_over(answer: &Answer, status: u32, buffer: &mut [u8], needed: &mut u
     status
 }
 
-/// Returns the status of misuse, and sets `needed` to 0.
+/// Returns the status `MISUSED`, which is 5, and sets `needed` to 0.
 pub fn misused(needed: &mut usize) -> u32
     ensures status { result ≡ 5 }
     ensures needed { needed.new ≡ 0 }

@@ -17,9 +17,10 @@ use std::alloc::Global;
 
 /// Reads an access list, in any of the three forms, into a guard on the heap. The caller holds the guard by the handle.
 ///
-/// Returns 6 if the handle has the guard. Otherwise the handle is unchanged. Returns 2 for a refusal, whose line is in the buffer,
-/// and 4 if the buffer is too small for the line. Returns 5 if no policy has this number, a limit is too high or the list is not lent
-/// whole. The limits are the first of `limits`, or the usual ones if there are none.
+/// Returns 6 if the handle has the guard. Otherwise the handle is unchanged. Returns 2 for a refusal, whose line is in
+/// the buffer, and 4 if the buffer is too small for the line. `needed` is the length of the line, and 0 if there is
+/// none. Returns 5 if no policy has this number (0 is strict, 1 is open), a limit is too high or the list is not lent
+/// whole. The limits are the first of `limits`, or the default ones if there are none.
 #[unsafe(no_mangle)]
 pub extern "C" fn spki_c_guard_open(
     alloc: Global,
@@ -59,7 +60,7 @@ pub extern "C" fn spki_c_guard_open(
     }
 }
 
-/// Frees the guard of a handle.
+/// Frees the guard of a handle, which must have one.
 #[unsafe(no_mangle)]
 pub extern "C" fn spki_c_guard_close(alloc: Global, handle: Handle)
     requires held { IsSome handle.held }
@@ -67,7 +68,7 @@ pub extern "C" fn spki_c_guard_close(alloc: Global, handle: Handle)
     drop(handle.take(alloc).into_box());
 }
 
-/// The number of entries of a guard.
+/// The number of entries of the guard's access list.
 #[unsafe(no_mangle)]
 pub extern "C" fn spki_c_guard_entries(lent: &mut Lent) -> usize
     ensures { result ≡ length lent.old.guard.texts }

@@ -8,7 +8,7 @@ use spki_cert::Policy;
 use spki_guard::{AclFault, Guard, Limits, SharedGuard};
 use std::alloc::Global;
 
-/// Reads an access list into a guard on the heap.
+/// Reads an access list in any of the three forms into a guard on the heap. The faults are those of `Guard::read`.
 pub(crate) fn read_guard(
     alloc: Global,
     list: &[u8],
@@ -26,7 +26,7 @@ pub(crate) fn read_guard(
     }
 }
 
-/// Puts a guard on the heap.
+/// Puts a guard on the heap. Err is `Memory` if memory ran out.
 fn boxed(alloc: Global, guard: SharedGuard) -> Result<Box<SharedGuard>, AclFault>
     ensures same { IfOk result (λ g. g.value ≡ guard) }
     ensures only { IfErr result (λ fault. fault ≡ AclFault.Memory) }
@@ -37,7 +37,7 @@ fn boxed(alloc: Global, guard: SharedGuard) -> Result<Box<SharedGuard>, AclFault
     }
 }
 
-/// The policy of a number.
+/// The policy of a number: strict for 0, open for 1. None for any other number.
 pub(crate) fn policy_of(number: u32) -> Option<Policy>
     ensures { MatchOption result ((p : Policy) → number ≢ policy_number p) (λ p. number ≡ policy_number p) }
 {

@@ -33,7 +33,7 @@ impl Model for Lent {
 }
 
 impl Handle {
-    /// Takes over a guard. The handle must have none.
+    /// Makes the handle own the guard of this pointer. The handle must have none.
     pub(crate) fn hold(&mut self, pointer: BoxPointer<SharedGuard, Global>)
         requires { self.old.held ≡ None }
         ensures { self.new.held ≡ Some pointer.value }
@@ -42,7 +42,7 @@ impl Handle {
         self.at = at as *mut u8;
     }
 
-    /// Returns the guard, with the right to free it.
+    /// Returns the pointer of the guard, with the right to free it. The handle must have a guard.
     pub(crate) fn take(self, alloc: Global) -> BoxPointer<SharedGuard, Global>
         requires { IsSome self.held }
         ensures { self.held ≡ Some result.value }
@@ -56,7 +56,7 @@ impl Handle {
 }
 
 impl Lent {
-    /// The guard that is borrowed.
+    /// The guard that this call borrows.
     pub(crate) fn guard(&mut self) -> &SharedGuard
         ensures { result.now ≡ self.entry.now.guard }
     {

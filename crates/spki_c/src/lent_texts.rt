@@ -9,7 +9,7 @@ use std::alloc::{AllocError, Global};
 const MOST: usize = 9_223_372_036_854_775_807;
 
 impl Text {
-    /// Whether as many octets are lent as the caller says: no null pointer has a count, and no count is more than memory can have.
+    /// Whether the text is lent whole: its count is 0, or the pointer is not null and memory can have as many octets.
     pub(crate) fn is_lent(&mut self) -> bool
         ensures { (self.new ≡ self.old) × (IsTrue result ↔ IsLent self.old) }
     {
@@ -17,7 +17,7 @@ impl Text {
         count == 0 || (count <= MOST && !self.is_null())
     }
 
-    /// The octets.
+    /// The octets of the text, which must be lent whole.
     pub(crate) fn octets(&mut self) -> &[u8]
         requires { IsLent self.old }
         ensures { result.now ≡ self.entry.now.octets }
@@ -27,7 +27,7 @@ impl Text {
     }
 }
 
-/// Whether all texts are lent whole.
+/// Whether each of the texts is lent whole.
 pub(crate) fn are_lent(texts: &mut [Text]) -> bool
     ensures { (texts.new ≡ texts.old) × (IsTrue result ↔ All IsLent texts.old) }
 {
@@ -39,7 +39,7 @@ pub(crate) fn are_lent(texts: &mut [Text]) -> bool
     true
 }
 
-/// The octets of texts.
+/// The octets of each text, in order. All texts must be lent whole. Err if memory ran out.
 pub(crate) fn words_of<'a>(
     alloc: Global,
     texts: &'a mut [Text],

@@ -23,7 +23,8 @@ pub struct LimitParts {
     pub answer: usize,
 }
 
-/// The first of the limits, or the usual ones if there are none. None if one is over the highest.
+/// The limits that C passes: the first of `limits`, or the default ones if there are none. None if `octets` or `nodes`
+/// is over its highest value.
 pub(crate) fn limits_of(limits: &[LimitParts]) -> Option<Limits>
     ensures { MatchOption result (¬ AreAllowed (numbers_in limits.now)) (AreLimits (numbers_in limits.now)) }
 {

@@ -30,7 +30,7 @@ pub const NONE: u32 = 7;
 /// Memory ran out in a call that writes no line.
 pub const NO_MEMORY: u32 = 8;
 
-/// The command of a number, if there is one.
+/// The command with this number, from 0 for `canonical` to 6 for `explain`. None for any other number.
 pub fn command_of(number: u32) -> Option<Command>
     ensures { MatchOption result ((c : Command) → number ≢ number_of c) (λ c. number ≡ number_of c) }
 {
@@ -46,7 +46,7 @@ pub fn command_of(number: u32) -> Option<Command>
     }
 }
 
-/// The status of the answer to a command.
+/// The status of the answer to a command: `YES`, `NO` or `REFUSED` for `check`, `DONE` or `REFUSED` for any other.
 pub fn status_number(command: Command, verdict: Verdict) -> u32
     ensures { result ≡ status_of command verdict }
 {
@@ -61,7 +61,8 @@ pub fn status_number(command: Command, verdict: Verdict) -> u32
     }
 }
 
-/// The query of a number, if there is one. A query has the number of the command that does the same with a case.
+/// The query with this number: 4 to reduce, 5 to decide, 6 to explain, as for the commands that do the same with a
+/// case. None for any other number.
 pub fn query_of(number: u32) -> Option<Query>
     ensures { MatchOption result ((w : Query) → number ≢ query_number w) (λ w. number ≡ query_number w) }
 {
@@ -73,7 +74,8 @@ pub fn query_of(number: u32) -> Option<Query>
     }
 }
 
-/// The status of the answer to a question.
+/// The status of the answer to a question: `YES`, `NO` or `REFUSED` for a decision, `DONE` or `REFUSED` for any other
+/// query.
 pub fn query_status(query: Query, verdict: Verdict) -> u32
     ensures { result ≡ status_for query verdict }
 {
@@ -84,6 +86,7 @@ pub fn query_status(query: Query, verdict: Verdict) -> u32
     }
 }
 
+/// The status of a decision with this verdict: `YES`, `NO` or `REFUSED`.
 fn decided_number(verdict: Verdict) -> u32
     ensures { result ≡ decided verdict }
 {
@@ -94,6 +97,7 @@ fn decided_number(verdict: Verdict) -> u32
     }
 }
 
+/// The status of an answer that is no decision: `REFUSED` if it is a refusal, otherwise `DONE`.
 fn written_number(verdict: Verdict) -> u32
     ensures { result ≡ written verdict }
 {

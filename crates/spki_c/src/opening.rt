@@ -7,7 +7,7 @@ ghost use Rattle.spki_guard.specs.Held.{IsUnreadQuestion};
 use spki_guard::{AclFault, Answer, Opened, Question, SharedGuard, open_question, refused_list};
 use std::alloc::Global;
 
-/// Opens a question on the heap.
+/// Opens a question for a guard, and puts it on the heap. Err is the line of the refusal, as for `open_question`.
 pub(crate) fn open_boxed(
     alloc: Global,
     guard: &SharedGuard,

@@ -72,7 +72,7 @@ pub extern "C" fn spki_c_guard_ask(
     }
 }
 
-/// Frees the question of a handle.
+/// Frees the question of a handle, which must have one.
 #[unsafe(no_mangle)]
 pub extern "C" fn spki_c_asked_close(alloc: Global, handle: QuestionHandle)
     requires held { IsSome handle.held }
@@ -80,7 +80,7 @@ pub extern "C" fn spki_c_asked_close(alloc: Global, handle: QuestionHandle)
     drop(handle.take(alloc).into_box());
 }
 
-/// The number of signatures of a question that a verifier is asked about.
+/// The number of signatures that a verifier must decide for this question.
 #[unsafe(no_mangle)]
 pub extern "C" fn spki_c_asked_count(lent: &mut LentQuestion) -> usize
     ensures { result ≡ length lent.old.question.signed.items }
@@ -88,7 +88,7 @@ pub extern "C" fn spki_c_asked_count(lent: &mut LentQuestion) -> usize
     lent.question().signed().len()
 }
 
-/// Sets the texts of the signature at this place, from 0. They are those of the question: nothing is copied.
+/// Sets `texts` to those of the signature at this place, from 0. They are those of the question: nothing is copied.
 ///
 /// Returns 6 if they are set. Otherwise they are unchanged: returns 7 if there is no signature at this place, and 8 if memory ran out.
 #[unsafe(no_mangle)]

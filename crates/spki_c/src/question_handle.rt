@@ -33,7 +33,7 @@ impl Model for LentQuestion {
 }
 
 impl QuestionHandle {
-    /// Takes over a question. The handle must have none.
+    /// Makes the handle own the question of this pointer. The handle must have none.
     pub(crate) fn hold(&mut self, pointer: BoxPointer<Opened, Global>)
         requires { self.old.held ≡ None }
         ensures { self.new.held ≡ Some pointer.value }
@@ -42,7 +42,7 @@ impl QuestionHandle {
         self.at = at as *mut u8;
     }
 
-    /// Returns the question, with the right to free it.
+    /// Returns the pointer of the question, with the right to free it. The handle must have a question.
     pub(crate) fn take(self, alloc: Global) -> BoxPointer<Opened, Global>
         requires { IsSome self.held }
         ensures { self.held ≡ Some result.value }
@@ -56,7 +56,7 @@ impl QuestionHandle {
 }
 
 impl LentQuestion {
-    /// The question that is borrowed.
+    /// The question that this call borrows.
     pub(crate) fn question(&mut self) -> &Opened
         ensures { result.now ≡ self.entry.now.question }
     {

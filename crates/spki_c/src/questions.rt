@@ -10,7 +10,7 @@ use spki_guard::{Moment, Question, RequestInput};
 use std::alloc::{AllocError, Global};
 
 impl Parts {
-    /// Whether all texts of a question are lent whole.
+    /// Whether all texts of a question are lent whole: its parts, and `words`, the strings of its request.
     pub(crate) fn are_lent(&mut self, words: &mut [Text]) -> bool
         ensures same { (self.new ≡ self.old) × (words.new ≡ words.old) }
         ensures lent { IsTrue result ↔ AreLent self.old words.old }
@@ -22,7 +22,7 @@ impl Parts {
             && are_lent(words)
     }
 
-    /// Whether a request or a moment is given both ways.
+    /// Whether the request is given both as a text and by its strings, or the moment both as a text and in seconds.
     pub(crate) fn is_ambiguous(&mut self, seconds: &[i64]) -> bool
         requires { IsLent self.old.request × IsLent self.old.moment }
         ensures same { self.new ≡ self.old }
@@ -32,7 +32,8 @@ impl Parts {
             || (!seconds.is_empty() && self.moment.count() > 0)
     }
 
-    /// The question with these parts.
+    /// The question with these parts. `words` are the strings of the request, if it is given so. The moment is the
+    /// first of `seconds`, if there is one.
     pub(crate) fn question<'a>(&'a mut self, words: &'a [&'a [u8]], seconds: &[i64]) -> Question<'a>
         requires { IsLent self.old.sequence × IsLent self.old.key × IsLent self.old.request × IsLent self.old.moment }
         ensures { IsQuestionBy self.entry.now (map (λ w. w.now) words.entry.now) seconds.now result }
@@ -47,7 +48,7 @@ impl Parts {
     }
 }
 
-/// The request: its strings, or its text.
+/// The request: its strings if `is_worded` is true, otherwise its text.
 fn request_of<'a>(is_worded: bool, text: &'a [u8], words: &'a [&'a [u8]]) -> RequestInput<'a>
     ensures { IsRequestBy is_worded text.entry.now (map (λ w. w.now) words.entry.now) result }
 {
@@ -58,7 +59,7 @@ fn request_of<'a>(is_worded: bool, text: &'a [u8], words: &'a [&'a [u8]]) -> Req
     }
 }
 
-/// The moment: the first of the seconds, or its text.
+/// The moment: the first of `seconds`, or the text if there are none.
 fn moment_of<'a>(text: &'a [u8], seconds: &[i64]) -> Moment<'a>
     ensures { IsMomentBy text.entry.now seconds.now result }
 {
@@ -68,7 +69,7 @@ fn moment_of<'a>(text: &'a [u8], seconds: &[i64]) -> Moment<'a>
     }
 }
 
-/// Returns a mark for each octet: true for 1, and false for every other octet.
+/// Returns a mark for each octet: true for 1, and false for every other octet. Err if memory ran out.
 pub(crate) fn marks_of(alloc: Global, octets: &[u8]) -> Result<Vec<bool>, AllocError>
     ensures { IfOk result (λ marks. marks.items ≡ marks_from octets.now) }
 {

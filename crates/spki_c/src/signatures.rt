@@ -23,7 +23,7 @@ pub struct SignatureTexts<'a> {
     pub is_string: bool,
 }
 
-/// Returns the texts of a signature.
+/// Returns the key, the message and the value of a signature as texts, and the octets of a value that is one string.
 ///
 /// # Errors
 ///
@@ -48,7 +48,8 @@ pub(crate) fn texts_of<'a>(
     })
 }
 
-/// The octets of a value in canonical form that is one string. None if it is a list, or no value.
+/// The octets of a value in canonical form that is one string. None if it is a list, or no value. Err if memory ran
+/// out.
 fn string_of<'a>(alloc: Global, value: &'a [u8]) -> Result<Option<&'a [u8]>, AllocError>
     ensures { IfOk result (IsStringOf value.now) }
 {

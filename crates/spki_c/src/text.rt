@@ -37,7 +37,7 @@ impl Text {
         at.is_null()
     }
 
-    /// The octets, if there are any. `count` is their number.
+    /// The octets of the text. `count` is their number, which must not be 0.
     pub(crate) fn slice(&mut self, count: usize) -> &[u8]
         requires { (count ≡ length self.old.octets) × (0 < count) }
         ensures { result.now ≡ self.entry.now.octets }
