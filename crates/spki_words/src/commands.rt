@@ -34,7 +34,7 @@ pub(crate) const COMMANDS: [Command; 7] = [
 ];
 
 impl Command {
-    /// The word of the command.
+    /// The word of the command on the command line, such as `check`.
     pub fn word(self) -> &'static str
         ensures { result.now ≡ word_of self }
     {
@@ -49,7 +49,7 @@ impl Command {
         }
     }
 
-    /// The command with this word, if there is one.
+    /// The command with this word. None for any other word.
     pub(crate) fn named(word: &str) -> Option<Command>
         ensures { MatchOption result ((c : Command) → word.now ≢ word_of c) (λ c. word.now ≡ word_of c) }
     {

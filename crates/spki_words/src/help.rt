@@ -123,7 +123,7 @@ Example, which writes entry 1 grants:
     (key (public-key (test a))) (request (ftp)) (at \"2024-01-01_00:00:00\"))' | spki explain
 ";
 
-/// What a command does, in one line.
+/// What a command does, in one line for the list of commands in the help.
 pub(crate) fn about(command: Command) -> &'static str {
     match command {
         Command::Canonical => "Writes a value in canonical form",

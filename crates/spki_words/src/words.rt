@@ -42,6 +42,7 @@ impl From<AllocError> for WordsFault {
 
     ghost from_gives = { λ _ fault. fault ≡ WordsFault.Memory };
 
+    /// An allocation that failed is the fault `Memory`.
     fn from(_: AllocError) -> WordsFault {
         WordsFault::Memory
     }
@@ -65,7 +66,7 @@ pub fn command_of(alloc: Global, words: &[String]) -> Result<Command, WordsFault
     }
 }
 
-/// `spki` as a command of `clap`: the commands are its subcommands, and one must be given.
+/// `spki` as a command of `clap`: the commands are its subcommands, and one must be given. Err if memory ran out.
 fn program<'a>(alloc: Global) -> Result<clap::Command<'a>, AllocError>
     ensures { IfOk result (λ program. IsProgram spki program) }
 {
@@ -76,7 +77,7 @@ fn program<'a>(alloc: Global) -> Result<clap::Command<'a>, AllocError>
     Ok(program)
 }
 
-/// `spki` without its subcommands.
+/// `spki` as a command of `clap`, before its subcommands are added.
 fn bare<'a>(alloc: Global) -> clap::Command<'a>
     ensures { IsProgram bare result }
 {
@@ -87,7 +88,7 @@ fn bare<'a>(alloc: Global) -> clap::Command<'a>
         .disable_help_subcommand(true)
 }
 
-/// A command as a subcommand of `clap`.
+/// The command as a subcommand of `clap`, with its word and its help.
 fn subcommand<'a>(alloc: Global, command: Command) -> clap::Command<'a>
     ensures { IsProgram (leaf command) result }
 {
@@ -99,7 +100,7 @@ fn subcommand<'a>(alloc: Global, command: Command) -> clap::Command<'a>
         .after_help(details)
 }
 
-/// The command in these matches, which is one of the program's.
+/// The command that `clap` found in the words. They must contain one.
 fn met(matches: &clap::ArgMatches<'_>) -> Command
     requires { (c : Command) × (subcommand_name_of matches.now ≡ Some (word_of c)) }
     ensures { subcommand_name_of matches.now ≡ Some (word_of result) }
@@ -113,7 +114,7 @@ fn met(matches: &clap::ArgMatches<'_>) -> Command
     command
 }
 
-/// The fault that an error of `clap` becomes.
+/// The fault for an error of `clap`: `Help` or `Refused` with its text, or `Memory` if memory ran out.
 fn fault(alloc: Global, error: &clap::Error) -> WordsFault
     ensures { IsFault (kind_of error.now) result }
 {
