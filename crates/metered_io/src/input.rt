@@ -27,7 +27,8 @@ pub enum ReadFault {
     Memory,
 }
 
-/// Reads once. Returns how many octets were read, or None if the read must be repeated.
+/// Reads once, into `buffer`. Returns how many octets were read, or None if the read was interrupted and must be
+/// repeated. Err is `Failed` at any other error.
 fn ask<R: Read>(reader: &mut Metered<R>, buffer: &mut [u8]) -> Result<Option<usize>, ReadFault>
     ensures asks { asks_of reader.new ≡ counted (asks_of reader.old) }
     ensures fault { IsErrOf result ReadFault.Failed → faults_of reader.new ≡ counted (faults_of reader.old) }
@@ -53,8 +54,8 @@ fn ask<R: Read>(reader: &mut Metered<R>, buffer: &mut [u8]) -> Result<Option<usi
     }
 }
 
-/// Reads once, no more than is needed to see that a text is too long, and appends the octets to the text. Returns whether
-/// the reader has ended.
+/// Reads once, no more than is needed to see that a text has over `most` octets, and appends the octets to `text`.
+/// Returns whether the reader has ended. Err is `Failed`, `TooLong` or `Memory`.
 fn read_piece<R: Read>(
     reader: &mut Metered<R>,
     buffer: &mut [u8],
@@ -89,7 +90,7 @@ fn read_piece<R: Read>(
     }
 }
 
-/// Appends octets to the text.
+/// Appends octets to the text. Err is `TooLong` if the text then has over `most` octets, or `Memory`.
 fn append(text: &mut Vec<u8>, octets: &[u8], most: usize) -> Result<(), ReadFault>
     requires short { vec_len text.old ≤ most }
     requires wanted { vec_len text.old + length octets.now ≤ most + 1 }

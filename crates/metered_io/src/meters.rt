@@ -36,7 +36,7 @@ impl<T> Metered<T> {
         }
     }
 
-    /// Resets the counts to 0 and the flags to false.
+    /// Resets the counts to 0 and the flags to false. The reader or writer inside does not change.
     pub fn restart(&mut self)
         ensures asks { asks_of self.new ≡ 0 }
         ensures faults { faults_of self.new ≡ 0 }
@@ -57,8 +57,8 @@ impl<T> Metered<T> {
         self.asks
     }
 
-    /// The number of them that failed with an error other than `Interrupted`, or wrote 0 octets of a buffer that is not
-    /// empty. It stops at the greatest `u64`.
+    /// The number of these calls that failed with an error other than `Interrupted`, or wrote 0 octets of a buffer that
+    /// is not empty. It stops at the greatest `u64`.
     pub fn faults(&self) -> u64
         ensures { result ≡ faults_of self.now }
     {
@@ -94,6 +94,7 @@ pub(crate) fn is_interrupted(error: &Error) -> bool
     error.kind() == ErrorKind::Interrupted
 }
 
+/// The number of faults after one more error. `Interrupted` is no fault.
 fn count_error(faults: u64, error: &Error) -> u64
     ensures { CountsIf (IsFault error.now) faults result }
 {
@@ -107,6 +108,8 @@ fn count_error(faults: u64, error: &Error) -> u64
 impl<R: Read> Read for Metered<R> {
     ghost remaining = { λ m. R.remaining (inner_of m) };
 
+    /// Reads from the reader inside, and returns its answer. Counts the call and an error, and notes whether the reader
+    /// has ended.
     fn read(&mut self, buf: &mut [u8]) -> io::Result<usize>
         ensures bound { ReadsAtMost result buf.new }
         ensures bytes { ReadConsumes (R.remaining (inner_of self.old)) (R.remaining (inner_of self.new)) result buf.new }
@@ -139,6 +142,8 @@ impl<R: Read> Read for Metered<R> {
 impl<W: Write> Write for Metered<W> {
     ghost contents = { λ m. W.contents (inner_of m) };
 
+    /// Writes to the writer inside, and returns its answer. Counts the call, and as a fault an error or 0 octets
+    /// written of a buffer that is not empty.
     fn write(&mut self, buf: &[u8]) -> io::Result<usize>
         ensures bound { WritesAtMost result buf.now }
         ensures bytes { WriteAppends (W.contents (inner_of self.old)) (W.contents (inner_of self.new)) result buf.now }
@@ -161,6 +166,8 @@ impl<W: Write> Write for Metered<W> {
         answer
     }
 
+    /// Flushes the writer inside, and returns its answer. Counts the call and an error, and notes whether the flush
+    /// succeeded.
     fn flush(&mut self) -> io::Result<()>
         ensures bytes { Keeps (W.contents (inner_of self.old)) (W.contents (inner_of self.new)) }
         ensures asks { asks_of self.new ≡ counted (asks_of self.old) }

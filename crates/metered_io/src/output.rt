@@ -16,7 +16,8 @@ const WRITER_ASKS: u64 = 2_097_152;
 #[error("write fault")]
 pub struct WriteFault;
 
-/// Writes once. Returns how many octets were written, 0 if the write must be repeated.
+/// Writes once. Returns how many of the octets were written, 0 if the write was interrupted and must be repeated. There
+/// must be some octets. Err at any other error, and if none was written.
 fn write_piece<W: Write>(writer: &mut Metered<W>, octets: &[u8]) -> Result<usize, WriteFault>
     requires some { 0 < length octets.now }
     ensures asks { asks_of writer.new ≡ counted (asks_of writer.old) }
@@ -39,7 +40,8 @@ fn write_piece<W: Write>(writer: &mut Metered<W>, octets: &[u8]) -> Result<usize
     }
 }
 
-/// Flushes once. Returns true if the flush succeeded, and false if it must be repeated.
+/// Flushes once. Returns true if the flush succeeded, and false if it was interrupted and must be repeated. Err at any
+/// other error.
 fn flush_once<W: Write>(writer: &mut Metered<W>) -> Result<bool, WriteFault>
     ensures asks { asks_of writer.new ≡ counted (asks_of writer.old) }
     ensures fault { OnErr result (faults_of writer.new ≡ counted (faults_of writer.old)) }
