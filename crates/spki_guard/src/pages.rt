@@ -72,7 +72,7 @@ impl<'w, W: Write> PageSink<'w, W> {
     }
 
     /// Takes octets when the page is empty: keeps them in the page, or writes them if they are more than 4,096.
-    fn take_behind(&mut self, octets: &[u8])
+    fn take_on_empty_page(&mut self, octets: &[u8])
         requires { page_of self.old ≡ [] }
         ensures { PageTakes W.contents self.old octets.now self.new }
     {
@@ -120,7 +120,7 @@ impl<'w, W: Write> Sink for PageSink<'w, W> {
             return;
         }
         self.write_page();
-        self.take_behind(octets);
+        self.take_on_empty_page(octets);
     }
 
     /// Keeps one octet in the page. If the page is full, writes it first.
@@ -129,7 +129,7 @@ impl<'w, W: Write> Sink for PageSink<'w, W> {
             return;
         }
         self.write_page();
-        self.take_behind(&[octet]);
+        self.take_on_empty_page(&[octet]);
     }
 
     /// Whether a write failed. Then no more octets are written.

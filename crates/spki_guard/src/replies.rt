@@ -10,8 +10,8 @@ use crate::answers::{Answer, Output, Verdict};
 use crate::capped_sink::CappedSink;
 use crate::entry_lines::print_item;
 use crate::reports::{
-    FoldLine, fold_lines_of, print_as_made, print_folds, print_reasons, some_done, some_fold_done,
-    some_grant, verdict_of,
+    FoldLine, fold_lines_of, make_and_print_folds, print_folds, print_reasons, some_done,
+    some_fold_done, some_grant, verdict_of,
 };
 use crate::tag_printer::print_tag;
 use sexpr_text::{Counter, Sink, VectorSink};
@@ -229,7 +229,7 @@ fn folds_within(alloc: Global, folds: &[EntryFold], most: usize) -> Result<Answe
 {
     let mut out = Vec::new(alloc);
     let mut sink = CappedSink::new(&mut out, most);
-    let printed = print_as_made(alloc, folds, &mut sink);
+    let printed = make_and_print_folds(alloc, folds, &mut sink);
     let ended = sink.end();
     printed?;
     ended?;

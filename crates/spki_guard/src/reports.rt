@@ -121,7 +121,7 @@ pub(crate) fn print_folds<S: Sink>(lines: &[FoldLine], sink: &mut S)
 
 /// Prints the line of an entry, and makes what it needs just before; `entry` is counted from 1. If the sink is full, it
 /// makes and prints no authorization. Err if memory ran out.
-fn print_made<S: Sink>(
+fn make_and_print_fold<S: Sink>(
     alloc: Global,
     entry: usize,
     fold: &EntryFold,
@@ -145,7 +145,7 @@ fn print_made<S: Sink>(
 
 /// Prints a line for each entry, from entry 1. What a line needs is made before it is printed, and not kept. Err if
 /// memory ran out.
-pub(crate) fn print_as_made<S: Sink>(
+pub(crate) fn make_and_print_folds<S: Sink>(
     alloc: Global,
     folds: &[EntryFold],
     sink: &mut S,
@@ -153,7 +153,7 @@ pub(crate) fn print_as_made<S: Sink>(
     ensures { OnOk result ((lines : List ℕ) × AreFoldLines 1 folds.now lines × S.takes sink.old lines sink.new) }
 {
     for (place, fold) in folds.iter().enumerate() {
-        print_made(alloc, place + 1, fold, sink)?;
+        make_and_print_fold(alloc, place + 1, fold, sink)?;
     }
     Ok(())
 }

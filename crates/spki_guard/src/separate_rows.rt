@@ -9,7 +9,7 @@ ghost use Rattle.spki_guard.specs.declared.answers.Refusal.{Refusal};
 ghost use Rattle.spki_guard.specs.declared.answers.Verdict.{Verdict};
 
 use crate::answers::{Answer, Refusal, decision_line, refuse};
-use crate::sources::standing_case;
+use crate::sources::canonical_case;
 use sexpr_core::FormFault;
 use sexpr_text::{Form, convert};
 use spki_case::{AcceptedTable, Case, RowsFault};
@@ -39,7 +39,7 @@ fn checked(alloc: Global, text: &[u8], rows: &[u8]) -> Result<Answer, Refusal>
     ensures refused { IfErr result (λ refusal. RefusesApart text.now rows.now refusal) }
     ensures too_long { 1048576 < length text.now → IsErrOf result (Refusal.Form FormFault.TooLong) }
 {
-    match standing_case(alloc, text)? {
+    match canonical_case(alloc, text)? {
         Some(case) => decide_by_rows(alloc, &case, rows),
         None => checked_converted(alloc, text, rows),
     }

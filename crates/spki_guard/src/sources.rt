@@ -49,7 +49,7 @@ pub(crate) fn read_source<'a>(
     ensures too_long { 1048576 < length text.entry.now → IsErrOf result (Refusal.Form FormFault.TooLong) }
 {
     if let Some(own) = case_command(command) {
-        if let Some(case) = standing_case(alloc, text)? {
+        if let Some(case) = canonical_case(alloc, text)? {
             return Ok(Source::Standing(own, case));
         }
     }
@@ -101,7 +101,7 @@ fn is_of_form(fault: CaseFault) -> bool
 
 /// Reads a case directly from a canonical text. None if the text is not canonical. Err if the text is canonical and its
 /// case is refused, or memory ran out.
-pub(crate) fn standing_case<'a>(
+pub(crate) fn canonical_case<'a>(
     alloc: Global,
     text: &'a [u8],
 ) -> Result<Option<Case<'a>>, CaseFault>

@@ -15,15 +15,15 @@ use Rattle.spki_service.specs.Questions.{IsWanted, IsAskedCase, IsNotAsked}
 -- ---- certificates
 
 -- 1 for a certificate, of either kind, and 0 for another item
-abbrev pub certificate_in : SeqItem → ℕ
-certificate_in (Auth cert) = 1
-certificate_in (Name cert) = 1
-certificate_in _ = 0
+abbrev pub certificate_count : SeqItem → ℕ
+certificate_count (Auth cert) = 1
+certificate_count (Name cert) = 1
+certificate_count _ = 0
 
 -- how many of the items are certificates
 abbrev pub certificates_in : List SeqItem → ℕ
 certificates_in [] = 0
-certificates_in (item ∷ items) = certificate_in item + certificates_in items
+certificates_in (item ∷ items) = certificate_count item + certificates_in items
 
 -- ---- strings
 

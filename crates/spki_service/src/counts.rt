@@ -3,7 +3,7 @@
 ghost use Rattle.std.specs.Prelude.{◌≡◌, ◌≢◌, ◌↔◌, ◌<◌, ◌≤◌, ◌+◌, IsTrue, IfOk, IfErr, MatchOption};
 ghost use Rattle.sexpr_core.specs.Value.{values};
 ghost use Rattle.spki_case.specs.View.{model};
-ghost use Rattle.spki_service.specs.Counted.{certificate_in, certificates_in, strings_in, strings_all, TellsStrings, TellsStringsOf, HasFewStrings, IsTooMany};
+ghost use Rattle.spki_service.specs.Counted.{certificate_count, certificates_in, strings_in, strings_all, TellsStrings, TellsStringsOf, HasFewStrings, IsTooMany};
 ghost use Rattle.spki_service.specs.Questions.{IsAskedCase};
 ghost use Rattle.spki_service.specs.Texts.{IsTextsOf};
 ghost use Rattle.spki_service.specs.declared.question.Question.{Question};
@@ -49,7 +49,7 @@ fn has_more_certificates(items: &[SeqItem], most: usize) -> bool
 {
     let mut left = most;
     for item in items {
-        match left.checked_sub(certificate_in(item)) {
+        match left.checked_sub(certificate_count(item)) {
             None => return true,
             Some(fewer) => left = fewer,
         }
@@ -58,8 +58,8 @@ fn has_more_certificates(items: &[SeqItem], most: usize) -> bool
 }
 
 /// 1 for a certificate, and 0 for another item.
-fn certificate_in(item: &SeqItem) -> usize
-    ensures { result ≡ certificate_in item.now }
+fn certificate_count(item: &SeqItem) -> usize
+    ensures { result ≡ certificate_count item.now }
 {
     match item {
         SeqItem::Key(_) => 0,
@@ -77,9 +77,9 @@ fn has_more_strings(alloc: Global, text: &PartText, most: usize) -> Result<bool,
     ensures only { IfErr result (λ fault. fault ≡ AskFault.Memory) }
 {
     match text {
-        PartText::Standing(document) => Ok(is_over(&document.top(), most)),
+        PartText::Standing(document) => Ok(node_has_more_strings(&document.top(), most)),
         PartText::Made(octets) => match Doc::open(alloc, octets) {
-            Ok(document) => Ok(is_over(&document.top(), most)),
+            Ok(document) => Ok(node_has_more_strings(&document.top(), most)),
             Err(FormFault::Memory) => Err(AskFault::Memory),
             Err(_) => Ok(false),
         },
@@ -88,35 +88,35 @@ fn has_more_strings(alloc: Global, text: &PartText, most: usize) -> Result<bool,
 }
 
 /// Whether a value has more than `most` strings.
-fn is_over(node: &Node, most: usize) -> bool
+fn node_has_more_strings(node: &Node, most: usize) -> bool
     ensures { TellsStrings most result node.now }
 {
-    match left_of(most, node) {
+    match subtract_strings(most, node) {
         None => true,
         Some(_) => false,
     }
 }
 
 /// Subtracts the number of strings in a value from `room`. None if the value has more strings than `room`.
-#[cycle(left_of)]
-fn left_of(room: usize, node: &Node) -> Option<usize>
+#[cycle(subtract_strings)]
+fn subtract_strings(room: usize, node: &Node) -> Option<usize>
     ensures { MatchOption result (room < strings_in node.now) (λ left. left + strings_in node.now ≡ room) }
 {
     match node.kind() {
         NodeKind::String { .. } => room.checked_sub(1),
-        NodeKind::List(members) => left_of_members(room, members),
+        NodeKind::List(members) => subtract_member_strings(room, members),
     }
 }
 
 /// Subtracts the number of strings in all members of a list from `room`. None if they have more strings than `room`.
-#[cycle(left_of)]
-fn left_of_members(room: usize, members: Members) -> Option<usize>
+#[cycle(subtract_strings)]
+fn subtract_member_strings(room: usize, members: Members) -> Option<usize>
     ensures { MatchOption result (room < strings_all (values members.entry)) (λ left. left + strings_all (values members.entry) ≡ room) }
 {
     let mut left = room;
     let mut rest = members;
     while let Some((first, others)) = rest.split_first() {
-        left = left_of(left, &first)?;
+        left = subtract_strings(left, &first)?;
         rest = others;
     }
     Some(left)

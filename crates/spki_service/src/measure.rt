@@ -10,25 +10,25 @@ use crate::question::{Moment, Question, RequestInput};
 pub(crate) fn octets_within(question: &Question, most_octets: usize) -> Option<usize>
     ensures { MatchOption result (most_octets < asked_octets question.now) (λ octets. (octets ≡ asked_octets question.now) × (octets ≤ most_octets)) }
 {
-    let left = left_of(most_octets, question.sequence.len())?;
-    let left = left_of(left, question.key.len())?;
-    let left = left_of_wanted(left, &question.request)?;
-    let left = left_of_moment(left, &question.moment)?;
+    let left = subtract(most_octets, question.sequence.len())?;
+    let left = subtract(left, question.key.len())?;
+    let left = subtract_request(left, &question.request)?;
+    let left = subtract_moment(left, &question.moment)?;
     Some(most_octets - left)
 }
 
 /// Subtracts the octets of a moment from `room`; seconds count as 22 octets. None if it has more octets than `room`.
-fn left_of_moment(room: usize, moment: &Moment) -> Option<usize>
+fn subtract_moment(room: usize, moment: &Moment) -> Option<usize>
     ensures { MatchOption result (room < moment_octets moment.now) (λ left. left + moment_octets moment.now ≡ room) }
 {
     match moment {
-        Moment::Text(text) => left_of(room, text.len()),
-        Moment::Seconds(_) => left_of(room, 22),
+        Moment::Text(text) => subtract(room, text.len()),
+        Moment::Seconds(_) => subtract(room, 22),
     }
 }
 
 /// Subtracts `octets` from `room`, both as numbers of octets. None if `room` is less.
-fn left_of(room: usize, octets: usize) -> Option<usize>
+fn subtract(room: usize, octets: usize) -> Option<usize>
     ensures { MatchOption result (room < octets) (λ left. left + octets ≡ room) }
 {
     room.checked_sub(octets)
@@ -36,39 +36,39 @@ fn left_of(room: usize, octets: usize) -> Option<usize>
 
 /// Subtracts the octets of a request from `room`. None if it has more octets than `room`. Strings count as their
 /// canonical text.
-fn left_of_wanted(room: usize, wanted: &RequestInput) -> Option<usize>
+fn subtract_request(room: usize, wanted: &RequestInput) -> Option<usize>
     ensures { MatchOption result (room < wanted_octets wanted.now) (λ left. left + wanted_octets wanted.now ≡ room) }
 {
     match wanted {
-        RequestInput::Text(text) => left_of(room, text.len()),
-        RequestInput::Words(words) => left_of_words(room, words),
+        RequestInput::Text(text) => subtract(room, text.len()),
+        RequestInput::Words(words) => subtract_words(room, words),
     }
 }
 
 /// Subtracts the octets of the canonical text of a request's strings from `room`. None if it has more octets than
 /// `room`.
-fn left_of_words(room: usize, words: &[&[u8]]) -> Option<usize>
+fn subtract_words(room: usize, words: &[&[u8]]) -> Option<usize>
     ensures { MatchOption result (room < length (canon (words_value (map (λ w. w.now) words.now))))
         (λ left. left + length (canon (words_value (map (λ w. w.now) words.now))) ≡ room) }
 {
     if words.len() == 1 {
-        return left_of_string(room, words[0]);
+        return subtract_string(room, words[0]);
     }
-    let mut left = left_of(room, 2)?;
+    let mut left = subtract(room, 2)?;
     for word in words {
-        left = left_of_string(left, word)?;
+        left = subtract_string(left, word)?;
     }
     Some(left)
 }
 
 /// Subtracts the octets of a string's canonical form, such as `3:abc`, from `room`. None if it has more octets than
 /// `room`.
-fn left_of_string(room: usize, octets: &[u8]) -> Option<usize>
+fn subtract_string(room: usize, octets: &[u8]) -> Option<usize>
     ensures { MatchOption result (room < length (verbatim octets.now)) (λ left. left + length (verbatim octets.now) ≡ room) }
 {
-    let left = left_of(room, octets.len())?;
-    let left = left_of(left, decimal_length(octets.len()))?;
-    left_of(left, 1)
+    let left = subtract(room, octets.len())?;
+    let left = subtract(left, decimal_length(octets.len()))?;
+    subtract(left, 1)
 }
 
 /// The number of digits of a number in decimal.

@@ -9,7 +9,7 @@ returns-in_err-ended-clause-large c e =
     let (lines, are, taken) = c.in_ok-printed.ensures in
     let (more, exact) = c.in_err-ended.ensures.large (search rules) in
     let empty = c.new-sink.ensures.kept ∙ c.new-out.ensures.items in
-    let long = too_many c.new-sink.result c.print_as_made-printed.new.sink lines taken empty c.new-sink.ensures.count exact more in
+    let long = too_many c.new-sink.result c.make_and_print_folds-printed.new.sink lines taken empty c.new-sink.ensures.count exact more in
     let verdict = verdict_of (some_done c.args.folds.now) in
     (verdict, lines, reported_as c.args.folds.now lines lines verdict c.requires are refl refl, rw c.new-sink.ensures.most at long)
 

@@ -1,7 +1,7 @@
 use Rattle.std.proofs.Common.{[], ◌∷◌, sym, refl}
 use Rattle.sexpr_text.specs.Printed.{adv}
 use Rattle.spki_guard.specs.Lines.{entry_line}
-use Rattle.spki_guard.proofs.reports.print_made.Goals as goal
+use Rattle.spki_guard.proofs.reports.make_and_print_fold.Goals as goal
 
 pub returns-then-is_full : goal.returns-then-is_full
 returns-then-is_full g c =

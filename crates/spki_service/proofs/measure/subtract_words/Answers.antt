@@ -1,6 +1,6 @@
 use Rattle.spki_service.proofs.WordLaws.{none_left, too_few, one_less, all_less}
 use Rattle.std.proofs.Common.{rules}
-use Rattle.spki_service.proofs.measure.left_of_words.Goals as goal
+use Rattle.spki_service.proofs.measure.subtract_words.Goals as goal
 
 pub returns-in_err-left-2 : goal.returns-in_err-left-2
 returns-in_err-left-2 c = search (rules, none_left, too_few)

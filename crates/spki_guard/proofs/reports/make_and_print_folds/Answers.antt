@@ -1,6 +1,6 @@
 use Rattle.std.proofs.Common.{[], ◌++◌, refl}
 use Rattle.spki_guard.proofs.ReportLines.{lines_at}
-use Rattle.spki_guard.proofs.reports.print_as_made.Goals as goal
+use Rattle.spki_guard.proofs.reports.make_and_print_folds.Goals as goal
 
 pub loop-place-init : goal.loop-place-init
 loop-place-init g c = ([], refl, g.met.S.Sink.nothing _)
@@ -8,7 +8,7 @@ loop-place-init g c = ([], refl, g.met.S.Sink.nothing _)
 pub loop-place-preserved : goal.loop-place-preserved
 loop-place-preserved g c =
     let (lines, are, taken) = c.loop-place.invariant in
-    let (line, is, more) = c.in_ok-print_made.ensures in (
+    let (line, is, more) = c.in_ok-make_and_print_fold.ensures in (
       lines ++ line,
       lines_at c.args.folds.now c.loop-place.place c.index-folds-place.result lines line c.loop-place-test.true c.index-folds-place.is are is,
       g.met.S.Sink.both _ _ _ _ _ taken more,
