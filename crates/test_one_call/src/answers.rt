@@ -16,7 +16,31 @@ pub(crate) type Reply = Result<Vec<u8>, Failure>;
 /// A value that a call returns.
 pub(crate) trait Answered {
     /// The answer to a row whose call returned this value.
-    fn answered(self, alloc: Global) -> Reply;
+    fn answered(&self, alloc: Global) -> Reply;
+}
+
+/// What a call returned, as an answer. The value is dropped here.
+pub(crate) fn answer<T: Answered + Drop>(alloc: Global, value: T) -> Reply {
+    value.answered(alloc)
+}
+
+/// A value that is read for several calls.
+pub(crate) trait Called {
+    /// The answer of the call with this name and these texts.
+    fn call(&self, alloc: Global, name: &str, texts: &[Vec<u8>]) -> Reply;
+}
+
+/// The answer of a call on a value that was read. The value is dropped here.
+pub(crate) fn call_on<T: Called + Drop, E: Into<Failure>>(
+    alloc: Global,
+    value: Result<T, E>,
+    name: &str,
+    texts: &[Vec<u8>],
+) -> Reply {
+    match value {
+        Ok(value) => value.call(alloc, name, texts),
+        Err(fault) => Err(fault.into()),
+    }
 }
 
 /// A word as an answer.
@@ -48,57 +72,57 @@ fn numbered<T: Debug>(alloc: Global, number: usize, value: &T) -> Reply {
     Ok(format!(in alloc; "{number} {value:?}")?.into_bytes())
 }
 
-impl<T: Answered, E: Into<Failure>> Answered for Result<T, E> {
-    fn answered(self, alloc: Global) -> Reply {
+impl<T: Answered, E: Copy + Into<Failure>> Answered for Result<T, E> {
+    fn answered(&self, alloc: Global) -> Reply {
         match self {
             Ok(value) => value.answered(alloc),
-            Err(fault) => Err(fault.into()),
+            Err(fault) => Err((*fault).into()),
         }
     }
 }
 
 impl Answered for Vec<u8> {
-    fn answered(self, _: Global) -> Reply {
-        Ok(self)
+    fn answered(&self, alloc: Global) -> Reply {
+        octets(alloc, self)
     }
 }
 
 impl Answered for Vec<usize> {
-    fn answered(self, alloc: Global) -> Reply {
-        shown(alloc, &self)
+    fn answered(&self, alloc: Global) -> Reply {
+        shown(alloc, self)
     }
 }
 
 impl Answered for bool {
-    fn answered(self, alloc: Global) -> Reply {
-        word(alloc, if self { "yes" } else { "no" })
+    fn answered(&self, alloc: Global) -> Reply {
+        word(alloc, if *self { "yes" } else { "no" })
     }
 }
 
 /// In canonical form.
 impl Answered for Sexp {
-    fn answered(self, alloc: Global) -> Reply {
-        Ok(encode(alloc, &self)?)
+    fn answered(&self, alloc: Global) -> Reply {
+        Ok(encode(alloc, self)?)
     }
 }
 
 impl Answered for Tag {
-    fn answered(self, alloc: Global) -> Reply {
-        self.write(alloc).answered(alloc)
+    fn answered(&self, alloc: Global) -> Reply {
+        answer(alloc, self.write(alloc))
     }
 }
 
 /// That it was read.
 impl Answered for Ground {
-    fn answered(self, alloc: Global) -> Reply {
+    fn answered(&self, alloc: Global) -> Reply {
         word(alloc, "yes")
     }
 }
 
 /// Its octets, if it names itself.
 impl Answered for Key<'_> {
-    fn answered(self, alloc: Global) -> Reply {
-        if Principal::Key(self.share()).names(&self, Policy::Strict) {
+    fn answered(&self, alloc: Global) -> Reply {
+        if Principal::Key(self.share()).names(self, Policy::Strict) {
             octets(alloc, self.as_slice())
         } else {
             word(alloc, "no")
@@ -107,78 +131,72 @@ impl Answered for Key<'_> {
 }
 
 impl Answered for Date {
-    fn answered(self, alloc: Global) -> Reply {
+    fn answered(&self, alloc: Global) -> Reply {
         octets(alloc, self.as_slice())
     }
 }
 
 /// The number of entries of an access list.
 impl Answered for Vec<Entry<'_>> {
-    fn answered(self, alloc: Global) -> Reply {
+    fn answered(&self, alloc: Global) -> Reply {
         shown(alloc, &self.len())
     }
 }
 
 /// The number of items of a sequence.
 impl Answered for Vec<SeqItem<'_>> {
-    fn answered(self, alloc: Global) -> Reply {
+    fn answered(&self, alloc: Global) -> Reply {
         shown(alloc, &self.len())
     }
 }
 
 /// An authorization in canonical form.
-impl Answered for &Five<'_> {
-    fn answered(self, alloc: Global) -> Reply {
-        self.write(alloc).answered(alloc)
+impl Answered for Five<'_> {
+    fn answered(&self, alloc: Global) -> Reply {
+        answer(alloc, self.write(alloc))
     }
 }
 
-/// An authorization, or the cause of a stop.
-impl Answered for Joined<Five<'_>> {
-    fn answered(self, alloc: Global) -> Reply {
+/// The name that is defined, and the rest as an authorization of everything.
+impl Answered for Four<'_> {
+    fn answered(&self, alloc: Global) -> Reply {
+        let subject = self.subject.clone()?;
+        let five = Five {
+            issuer: Issuer::Key(self.key.share()),
+            subject,
+            propagate: false,
+            tag: Tag::everything(),
+            window: self.window,
+        };
+        let text = five.answered(alloc);
+        drop(five);
+        joined(alloc, &[self.name.as_slice(), b" ", &text?])
+    }
+}
+
+/// A tuple, or the cause of a stop.
+impl<T: Answered> Answered for Joined<T> {
+    fn answered(&self, alloc: Global) -> Reply {
         match self {
-            Joined::Done(five) => (&five).answered(alloc),
-            Joined::Stopped(cause) => shown(alloc, &cause),
+            Joined::Done(tuple) => tuple.answered(alloc),
+            Joined::Stopped(cause) => shown(alloc, cause),
         }
     }
-}
-
-/// The name that is defined, and the rest as an authorization of everything; or the cause of a stop.
-impl Answered for Joined<Four<'_>> {
-    fn answered(self, alloc: Global) -> Reply {
-        match self {
-            Joined::Done(four) => defined(alloc, four),
-            Joined::Stopped(cause) => shown(alloc, &cause),
-        }
-    }
-}
-
-fn defined(alloc: Global, four: Four) -> Reply {
-    let name = four.name.share();
-    let five = Five {
-        issuer: Issuer::Key(four.key),
-        subject: four.subject,
-        propagate: false,
-        tag: Tag::everything(),
-        window: four.window,
-    };
-    let text = (&five).answered(alloc)?;
-    joined(alloc, &[name.as_slice(), b" ", &text])
 }
 
 /// An authorization, or the step that stops the chain, and the cause.
 impl Answered for Fold<'_> {
-    fn answered(self, alloc: Global) -> Reply {
+    fn answered(&self, alloc: Global) -> Reply {
         match self {
-            Fold::Done(five) => (&five).answered(alloc),
-            Fold::Stopped { step, cause } => numbered(alloc, step, &cause),
+            Fold::Done(five) => five.answered(alloc),
+            Fold::Stopped { step, cause } => numbered(alloc, *step, cause),
         }
     }
 }
 
 /// An authorization, or the item that stops the entry, and the cause.
-impl Answered for &EntryFold<'_> {
-    fn answered(self, alloc: Global) -> Reply {
+impl Answered for EntryFold<'_> {
+    fn answered(&self, alloc: Global) -> Reply {
         match self {
             EntryFold::Done(five) => five.answered(alloc),
             EntryFold::Stopped { item, cause } => numbered(alloc, *item, cause),
@@ -188,42 +206,42 @@ impl Answered for &EntryFold<'_> {
 
 /// The number of tuples, or the first item whose certificate fails, and why.
 impl Answered for Evidence<'_> {
-    fn answered(self, alloc: Global) -> Reply {
+    fn answered(&self, alloc: Global) -> Reply {
         match self {
             Evidence::Verified(steps) => shown(alloc, &steps.len()),
-            Evidence::Fails { item, stop } => numbered(alloc, item, &stop),
+            Evidence::Fails { item, stop } => numbered(alloc, *item, stop),
         }
     }
 }
 
 impl Answered for Decision {
-    fn answered(self, alloc: Global) -> Reply {
-        shown(alloc, &self)
+    fn answered(&self, alloc: Global) -> Reply {
+        shown(alloc, self)
     }
 }
 
 impl Answered for (Decision, Decision) {
-    fn answered(self, alloc: Global) -> Reply {
-        shown(alloc, &self)
+    fn answered(&self, alloc: Global) -> Reply {
+        shown(alloc, self)
     }
 }
 
 /// The reasons of the entries, or an item and its stop.
 impl Answered for Explanation {
-    fn answered(self, alloc: Global) -> Reply {
+    fn answered(&self, alloc: Global) -> Reply {
         match self {
-            Explanation::Entries(reasons) => shown(alloc, &reasons),
-            Explanation::Evidence { item, stop } => numbered(alloc, item, &stop),
+            Explanation::Entries(reasons) => shown(alloc, reasons),
+            Explanation::Evidence { item, stop } => numbered(alloc, *item, stop),
         }
     }
 }
 
 /// A line for each entry, or an item and its stop.
 impl Answered for Reduction<'_> {
-    fn answered(self, alloc: Global) -> Reply {
+    fn answered(&self, alloc: Global) -> Reply {
         match self {
-            Reduction::Entries(folds) => lines_of(alloc, &folds),
-            Reduction::Evidence { item, stop } => numbered(alloc, item, &stop),
+            Reduction::Entries(folds) => lines_of(alloc, folds),
+            Reduction::Evidence { item, stop } => numbered(alloc, *item, stop),
         }
     }
 }
@@ -239,22 +257,18 @@ fn lines_of(alloc: Global, folds: &[EntryFold]) -> Reply {
 
 /// Its verdict and its line.
 impl Answered for Answer {
-    fn answered(self, alloc: Global) -> Reply {
+    fn answered(&self, alloc: Global) -> Reply {
         if self.verdict == Verdict::Refused && self.octets() == b"refused Memory\n".as_slice() {
             return Err(Failure::Memory);
         }
-        with_verdict(alloc, self.verdict, self.octets())
+        let verdict = shown(alloc, &self.verdict)?;
+        joined(alloc, &[&verdict, b" ", self.octets()])
     }
-}
-
-fn with_verdict(alloc: Global, verdict: Verdict, line: &[u8]) -> Reply {
-    let word = shown(alloc, &verdict)?;
-    joined(alloc, &[&word, b" ", line])
 }
 
 /// None if there are not as many marks as signatures.
 impl Answered for Option<Answer> {
-    fn answered(self, alloc: Global) -> Reply {
+    fn answered(&self, alloc: Global) -> Reply {
         match self {
             Some(answer) => answer.answered(alloc),
             None => word(alloc, "other marks"),

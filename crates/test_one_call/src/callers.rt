@@ -4,14 +4,13 @@ ghost use Rattle.std.specs.Prelude.{◌≡◌};
 ghost use Rattle.spki_reduce.specs.Tuples.{own};
 ghost use Rattle.spki_reduce.specs.Views.{issuer_of};
 
-use crate::answers::{Answered, Reply, octets, shown, word};
+use crate::answers::{Reply, answer, octets, shown, word};
 use crate::failure::Failure;
-use crate::texts::{at, behind, date, key, keys, number, read_tag, request};
-use crate::tuples::entry;
+use crate::texts::{at, behind, keys, number, read};
 use metered_io::Metered;
 use sexpr_core::Doc;
 use sexpr_core::syntax::Node;
-use spki_cert::{Entry, Key, Policy, acl_of};
+use spki_cert::{Entry, Policy};
 use spki_guard::{AcceptedTable, Case, Moment, Question as Posed, RequestInput};
 use spki_reduce::{Five, Issuer};
 use spki_tag::Tag;
@@ -31,7 +30,7 @@ pub(crate) fn call(alloc: Global, name: &str, texts: &[Vec<u8>]) -> Option<Reply
     let (one, other) = (at(texts, 0), at(texts, 1));
     match name {
         "first_member" => Some(member(alloc, one)),
-        "same_value" => Some(same_value(alloc, one, other).answered(alloc)),
+        "same_value" => Some(answer(alloc, same_value(alloc, one, other))),
         "text_from" => Some(whole(alloc, one, number(other))),
         "narrowed" => Some(narrow(alloc, one, other)),
         "pinned_key" => Some(pinned(alloc, one, other)),
@@ -53,31 +52,35 @@ fn member(alloc: Global, text: &[u8]) -> Reply {
 /// A text that a reader passes on, of so many octets at most.
 fn whole(alloc: Global, text: &[u8], most: usize) -> Reply {
     let mut client = Metered::new(text);
-    text_from(alloc, &mut client, most).answered(alloc)
+    answer(alloc, text_from(alloc, &mut client, most))
 }
 
 /// A tag, narrowed by a given one.
 fn narrow(alloc: Global, text: &[u8], given: &[u8]) -> Reply {
-    let own = read_tag(alloc, text)?;
-    narrow_by(alloc, &own, given)
+    let own: Tag = read(alloc, text)?;
+    let reply = narrow_by(alloc, &own, given);
+    drop(own);
+    reply
 }
 
 fn narrow_by(alloc: Global, own: &Tag, given: &[u8]) -> Reply {
     let document = Doc::open(alloc, given)?;
-    narrowed(alloc, own, &document.top()).answered(alloc)
+    answer(alloc, narrowed(alloc, own, &document.top()))
 }
 
 /// Whether a text is the key with this digest.
 fn pinned(alloc: Global, text: &[u8], pin: &[u8]) -> Reply {
     let document = Doc::open(alloc, text)?;
     let found = pinned_key(&document, pin)?;
-    found.is_some().answered(alloc)
+    answer(alloc, found.is_some())
 }
 
 /// Whether an entry grants a key a request at a moment, which are three texts.
 fn granted(alloc: Global, text: &[u8], texts: &[Vec<u8>]) -> Reply {
-    let first = of_list(entry(alloc, text)?);
-    asks(alloc, &first, texts)
+    let first = of_list(read(alloc, text)?);
+    let reply = asks(alloc, &first, texts);
+    drop(first);
+    reply
 }
 
 /// The authorization of an entry of the owner's access list.
@@ -96,21 +99,24 @@ fn of_list<'a>(entry: Entry<'a>) -> Five<'a>
 fn asks(alloc: Global, first: &Five, texts: &[Vec<u8>]) -> Reply
     requires { issuer_of first.now.issuer ≡ own }
 {
-    let (holder, moment) = (key(alloc, at(texts, 0))?, date(alloc, at(texts, 2))?);
-    let request = request(alloc, at(texts, 1))?;
+    let question = question(alloc, texts)?;
     let asked = Asked {
-        key: &holder,
-        request: &request,
-        moment: &moment,
+        key: &question.key,
+        request: &question.request,
+        moment: &question.moment,
     };
-    grants(alloc, first, &[], &asked, Policy::Open).answered(alloc)
+    let granted = grants(alloc, first, &[], &asked, Policy::Open);
+    drop(question);
+    answer(alloc, granted)
 }
 
 /// The decision of a case of five parts: its list, its sequence, its key, its request and its moment. Behind them are the accepted list
 /// and the revoked keys.
 fn decide(alloc: Global, texts: &[Vec<u8>]) -> Reply {
     let case = made(alloc, texts)?;
-    with_revoked(alloc, &case, at(texts, 5), behind(texts, 6))
+    let reply = with_revoked(alloc, &case, at(texts, 5), behind(texts, 6));
+    drop(case);
+    reply
 }
 
 fn made<'a>(alloc: Global, texts: &'a [Vec<u8>]) -> Result<Case<'a>, Failure> {
@@ -123,14 +129,14 @@ fn of_parts<'a>(
     shown: &Node<'_, 'a>,
     texts: &'a [Vec<u8>],
 ) -> Result<Case<'a>, Failure> {
+    let entries = read(alloc, at(texts, 0))?;
     let question = question(alloc, behind(texts, 2))?;
-    let entries = entries(alloc, at(texts, 0))?;
-    Ok(case_of(alloc, entries, shown, question)?)
+    case_of(alloc, entries, shown, question).map_err(Failure::Cert)
 }
 
 fn question<'a>(alloc: Global, texts: &'a [Vec<u8>]) -> Result<Question<'a>, Failure> {
-    let (key, moment) = (key(alloc, at(texts, 0))?, date(alloc, at(texts, 2))?);
-    let request = request(alloc, at(texts, 1))?;
+    let (key, moment) = (read(alloc, at(texts, 0))?, read(alloc, at(texts, 2))?);
+    let request = read(alloc, at(texts, 1))?;
     Ok(Question {
         key,
         request,
@@ -138,19 +144,10 @@ fn question<'a>(alloc: Global, texts: &'a [Vec<u8>]) -> Result<Question<'a>, Fai
     })
 }
 
-fn entries<'a>(alloc: Global, text: &'a [u8]) -> Result<Vec<Entry<'a>>, Failure> {
-    let document = Doc::open(alloc, text)?;
-    Ok(acl_of(alloc, &document.top())?)
-}
-
 fn with_revoked(alloc: Global, case: &Case, rows: &[u8], texts: &[Vec<u8>]) -> Reply {
     let revoked = keys(alloc, texts)?;
-    by_rows(alloc, case, rows, &revoked)
-}
-
-fn by_rows(alloc: Global, case: &Case, rows: &[u8], revoked: &[Key]) -> Reply {
     let table = AcceptedTable::read(alloc, rows)?;
-    decide_unrevoked(alloc, case, &table, revoked).answered(alloc)
+    answer(alloc, decide_unrevoked(alloc, case, &table, &revoked))
 }
 
 /// The question whether a key may do `(ftp host)` with a sequence.
@@ -166,18 +163,17 @@ fn posed<'a>(sequence: &'a [u8], key: &'a [u8]) -> Posed<'a> {
 /// The decisions on two keys. The texts are the list, the sequence, the keys, the accepted list, and the revoked keys.
 fn both(alloc: Global, texts: &[Vec<u8>]) -> Reply {
     let revoked = keys(alloc, behind(texts, 5))?;
-    both_without(alloc, texts, &revoked)
-}
-
-fn both_without(alloc: Global, texts: &[Vec<u8>], revoked: &[Key]) -> Reply {
     let table = AcceptedTable::read(alloc, at(texts, 4))?;
     let first = posed(at(texts, 1), at(texts, 2));
     let second = posed(at(texts, 1), at(texts, 3));
-    answer_both(alloc, at(texts, 0), &first, &second, &table, revoked).answered(alloc)
+    let decisions = answer_both(alloc, at(texts, 0), &first, &second, &table, &revoked);
+    answer(alloc, decisions)
 }
 
 /// The number of entries of a guard that threads may share.
 fn entries_of(alloc: Global, list: &[u8]) -> Reply {
     let guard = shared_guard(alloc, list)?;
-    shown(alloc, &guard.entries())
+    let entries = guard.entries();
+    drop(guard);
+    shown(alloc, &entries)
 }

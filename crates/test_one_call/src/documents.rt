@@ -3,8 +3,9 @@
 ghost use Rattle.std.specs.Prelude.{IsSome};
 ghost use Rattle.sexpr_core.specs.Value.{node};
 
-use crate::answers::{Answered, Reply, joined, octets, shown};
+use crate::answers::{Answered, Called, Reply, answer, call_on, joined, octets, shown};
 use crate::failure::Failure;
+use crate::tags;
 use crate::texts::at;
 use sexpr_core::syntax::append_verbatim;
 use sexpr_core::{Doc, NodeId, Sexp};
@@ -12,33 +13,31 @@ use spki_cert::{read_acl, read_date, read_key, read_sequence};
 use spki_tag::{Ground, Tag};
 use std::alloc::{AllocError, Global};
 
-/// The answer of the call with this name. None if there is no such call.
+/// The answer of the call with this name, of this module or of those behind it. None if there is no such call.
 pub(crate) fn call(alloc: Global, name: &str, texts: &[Vec<u8>]) -> Option<Reply> {
     match name {
-        "Doc::open" | "Doc::nodes" | "Sexp::of_node" => Some(with_document(alloc, name, texts)),
-        "read_key"
+        "Doc::open"
+        | "Doc::nodes"
+        | "Sexp::of_node"
+        | "read_key"
         | "read_hash"
         | "read_date"
         | "read_acl"
         | "read_sequence"
         | "Tag::read"
-        | "Ground::read" => Some(with_document(alloc, name, texts)),
-        _ => None,
+        | "Ground::read" => Some(call_on(alloc, Doc::open(alloc, at(texts, 0)), name, texts)),
+        _ => tags::call(alloc, name, texts),
     }
 }
 
-/// The same for a document that the first text is.
-fn with_document(alloc: Global, name: &str, texts: &[Vec<u8>]) -> Reply {
-    let document = Doc::open(alloc, at(texts, 0))?;
-    of_document(alloc, name, &document, texts)
-}
-
-fn of_document(alloc: Global, name: &str, document: &Doc, texts: &[Vec<u8>]) -> Reply {
-    match name {
-        "Doc::open" => octets(alloc, document.top().slice()),
-        "Doc::nodes" => nodes(alloc, document, at(texts, 0).len()),
-        "Sexp::of_node" => Sexp::of_node(alloc, &document.top()).answered(alloc),
-        _ => of_root(alloc, name, document, at(texts, 1)),
+impl Called for Doc<'_> {
+    fn call(&self, alloc: Global, name: &str, texts: &[Vec<u8>]) -> Reply {
+        match name {
+            "Doc::open" => octets(alloc, self.top().slice()),
+            "Doc::nodes" => nodes(alloc, self, at(texts, 0).len()),
+            "Sexp::of_node" => answer(alloc, Sexp::of_node(alloc, &self.top())),
+            _ => of_root(alloc, name, self, at(texts, 1)),
+        }
     }
 }
 
@@ -104,13 +103,13 @@ fn read(alloc: Global, name: &str, document: &Doc, n: NodeId, octets: &[u8]) -> 
     requires { IsSome (node document.now n.0) }
 {
     match name {
-        "read_key" => read_key(document, n).answered(alloc),
+        "read_key" => answer(alloc, read_key(document, n)),
         "read_hash" => read_hash(alloc, document, n, octets),
-        "read_date" => read_date(document, n).answered(alloc),
-        "read_acl" => read_acl(alloc, document, n).answered(alloc),
-        "read_sequence" => read_sequence(alloc, document, n).answered(alloc),
+        "read_date" => answer(alloc, read_date(document, n)),
+        "read_acl" => answer(alloc, read_acl(alloc, document, n)),
+        "read_sequence" => answer(alloc, read_sequence(alloc, document, n)),
         "Tag::read" => read_tag(alloc, document, n),
-        "Ground::read" => Ground::read(alloc, document, n).answered(alloc),
+        "Ground::read" => answer(alloc, Ground::read(alloc, document, n)),
         _ => Err(Failure::Unknown),
     }
 }
@@ -128,16 +127,14 @@ fn read_tag(alloc: Global, document: &Doc, n: NodeId) -> Reply
     requires { IsSome (node document.now n.0) }
 {
     let tag = Tag::read(alloc, document, n)?;
-    counted(alloc, &tag)
+    let reply = counted(alloc, &tag);
+    drop(tag);
+    reply
 }
 
 /// The number of nodes of a tag, and its normal form.
 fn counted(alloc: Global, tag: &Tag) -> Reply {
-    let text = tag.write(alloc).answered(alloc)?;
-    behind_number(alloc, tag.nodes(), &text)
-}
-
-fn behind_number(alloc: Global, number: usize, text: &[u8]) -> Reply {
-    let number = shown(alloc, &number)?;
-    joined(alloc, &[&number, b" ", text])
+    let nodes = shown(alloc, &tag.nodes())?;
+    let text = tag.answered(alloc)?;
+    joined(alloc, &[&nodes, b" ", &text])
 }

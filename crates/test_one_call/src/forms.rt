@@ -1,40 +1,37 @@
 //! The calls for forms of S-expressions that take octets or a tree.
 
-use crate::answers::{Answered, Reply};
+use crate::answers::{Called, Reply, answer, call_on};
+use crate::documents;
 use crate::texts::at;
 use sexpr_core::syntax::{append_verbatim, octets_in_braces, read_base64, wrap_octets};
 use sexpr_core::{Sexp, decode, unwrap_braces, wrap};
 use sexpr_text::{print_advanced, read_advanced, read_any};
 use std::alloc::Global;
 
-/// The answer of the call with this name. None if there is no such call.
+/// The answer of the call with this name, of this module or of those behind it. None if there is no such call.
 pub(crate) fn call(alloc: Global, name: &str, texts: &[Vec<u8>]) -> Option<Reply> {
     let text = at(texts, 0);
     match name {
-        "decode" => Some(decode(alloc, text).answered(alloc)),
-        "read_any" => Some(read_any(alloc, text).answered(alloc)),
-        "read_advanced" => Some(read_advanced(alloc, text).answered(alloc)),
-        "unwrap_braces" => Some(unwrap_braces(alloc, text).answered(alloc)),
-        "print_advanced" | "wrap" => Some(with_tree(alloc, name, text)),
+        "decode" => Some(answer(alloc, decode(alloc, text))),
+        "read_any" => Some(answer(alloc, read_any(alloc, text))),
+        "read_advanced" => Some(answer(alloc, read_advanced(alloc, text))),
+        "unwrap_braces" => Some(answer(alloc, unwrap_braces(alloc, text))),
+        "print_advanced" | "wrap" => Some(call_on(alloc, decode(alloc, text), name, texts)),
         "append_verbatim" => Some(verbatim(alloc, text)),
-        "wrap_octets" => Some(wrap_octets(alloc, text).answered(alloc)),
-        "octets_in_braces" => Some(octets_in_braces(alloc, text).answered(alloc)),
+        "wrap_octets" => Some(answer(alloc, wrap_octets(alloc, text))),
+        "octets_in_braces" => Some(answer(alloc, octets_in_braces(alloc, text))),
         "read_base64" => Some(base64(alloc, text)),
         "Sexp::clone" => Some(list_of(alloc, text)),
-        _ => None,
+        _ => documents::call(alloc, name, texts),
     }
 }
 
-/// The same for the calls that write a tree.
-fn with_tree(alloc: Global, name: &str, text: &[u8]) -> Reply {
-    let tree = decode(alloc, text)?;
-    of_tree(alloc, name, &tree)
-}
-
-fn of_tree(alloc: Global, name: &str, tree: &Sexp) -> Reply {
-    match name {
-        "wrap" => wrap(alloc, tree).answered(alloc),
-        _ => print_advanced(alloc, tree).answered(alloc),
+impl Called for Sexp {
+    fn call(&self, alloc: Global, name: &str, _: &[Vec<u8>]) -> Reply {
+        match name {
+            "wrap" => answer(alloc, wrap(alloc, self)),
+            _ => answer(alloc, print_advanced(alloc, self)),
+        }
     }
 }
 
@@ -52,7 +49,8 @@ fn base64(alloc: Global, text: &[u8]) -> Reply {
 
 /// A copy of the list of one string.
 fn list_of(alloc: Global, octets: &[u8]) -> Reply {
-    let members = vec![in alloc; Sexp::plain(alloc, octets)?]?;
-    let copy = Sexp::list(members).clone()?;
-    copy.answered(alloc)
+    let list = Sexp::list(vec![in alloc; Sexp::plain(alloc, octets)?]?);
+    let copy: Result<_, _> = list.clone();
+    drop(list);
+    answer(alloc, copy)
 }

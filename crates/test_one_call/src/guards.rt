@@ -1,49 +1,49 @@
 //! The calls for guards. Their first texts are the access list, its policy, and the most octets and nodes of a question.
 
-use crate::answers::{Answered, Reply, shown, word};
+use crate::answers::{Called, Reply, answer, call_on, shown, word};
 use crate::failure::Failure;
-use crate::texts::{at, behind, number};
+use crate::opened;
+use crate::texts::{at, behind, number, word_of};
 use crate::verifier::RowVerifier;
 use spki_cert::Policy;
 use spki_guard::{
     Asked, Guard, Limits, Moment, Query, Question, RequestInput, Texts, answer_question,
 };
 use std::alloc::{AllocError, Global};
-use std::str;
 
-/// The answer of the call with this name. None if there is no such call.
+/// The answer of the call with this name, of this module or of those behind it. None if there is no such call.
 pub(crate) fn call(alloc: Global, name: &str, texts: &[Vec<u8>]) -> Option<Reply> {
     match name {
         "Limits::new" => Some(new_limits(alloc, texts)),
         "refused_list" => Some(refused_list(alloc, texts)),
-        "Guard::read" | "Guard::ask" | "answer_question" => Some(with_guard(alloc, name, texts)),
-        "Guard::texts"
+        "Guard::read"
+        | "Guard::ask"
+        | "answer_question"
+        | "Guard::texts"
         | "Asked::decide"
         | "Asked::decide_by"
         | "Asked::explain"
         | "Asked::explain_by"
         | "Asked::reduce"
-        | "Asked::reduce_by" => { Some(with_guard(alloc, name, texts)) }
-        _ => None,
+        | "Asked::reduce_by" => { Some(call_on(alloc, guard(alloc, texts), name, texts)) }
+        _ => opened::call(alloc, name, texts),
     }
 }
 
 /// Whether these are limits, and which: of octets, certificates, strings, nodes, work and the answer.
 fn new_limits(alloc: Global, texts: &[Vec<u8>]) -> Reply {
-    let (octets, certificates, words) = (
+    let limits = Limits::new(
         number(at(texts, 0)),
         number(at(texts, 1)),
         number(at(texts, 2)),
-    );
-    let (nodes, work, answer) = (
         number(at(texts, 3)),
         number(at(texts, 4)),
         number(at(texts, 5)),
     );
-    let Some(limits) = Limits::new(octets, certificates, words, nodes, work, answer) else {
-        return word(alloc, "none");
-    };
-    word(alloc, name_of(&limits))
+    match limits {
+        Some(limits) => word(alloc, name_of(&limits)),
+        None => word(alloc, "none"),
+    }
 }
 
 /// The name of limits.
@@ -68,10 +68,9 @@ fn limits(octets: &[u8], nodes: &[u8]) -> Option<Limits> {
 
 /// The guard of the first four texts.
 pub(crate) fn guard(alloc: Global, texts: &[Vec<u8>]) -> Result<Guard, Failure> {
-    let policy = if at(texts, 1) == b"strict".as_slice() {
-        Policy::Strict
-    } else {
-        Policy::Open
+    let policy = match word_of(at(texts, 1)) {
+        "strict" => Policy::Strict,
+        _ => Policy::Open,
     };
     let Some(limits) = limits(at(texts, 2), at(texts, 3)) else {
         return Err(Failure::Unknown);
@@ -82,8 +81,11 @@ pub(crate) fn guard(alloc: Global, texts: &[Vec<u8>]) -> Result<Guard, Failure> 
 /// The line of a refused list.
 fn refused_list(alloc: Global, texts: &[Vec<u8>]) -> Reply {
     match guard(alloc, texts) {
-        Ok(_) => word(alloc, "read"),
-        Err(Failure::Acl(fault)) => spki_guard::refused_list(alloc, fault).answered(alloc),
+        Ok(guard) => {
+            drop(guard);
+            word(alloc, "read")
+        }
+        Err(Failure::Acl(fault)) => answer(alloc, spki_guard::refused_list(alloc, fault)),
         Err(failure) => Err(failure),
     }
 }
@@ -98,24 +100,21 @@ pub(crate) fn question(texts: &[Vec<u8>]) -> Question<'_> {
     }
 }
 
-/// What the guard of the first four texts answers. The ninth text is the verifier, or the marks.
-fn with_guard(alloc: Global, name: &str, texts: &[Vec<u8>]) -> Reply {
-    let guard = guard(alloc, texts)?;
-    of_guard(alloc, name, &guard, texts)
-}
-
-fn of_guard(alloc: Global, name: &str, guard: &Guard, texts: &[Vec<u8>]) -> Reply {
-    match name {
-        "Guard::read" => shown(alloc, &guard.entries()),
-        "Guard::ask" => ask_words(alloc, guard, behind(texts, 4)),
-        "answer_question" => answer(alloc, guard, query_of(at(texts, 4)), behind(texts, 5)),
-        _ => ask(
-            alloc,
-            name,
-            guard,
-            &question(behind(texts, 4)),
-            at(texts, 8),
-        ),
+/// What the guard of the first four texts answers. The texts behind a question are the verifier, or the marks.
+impl Called for Guard {
+    fn call(&self, alloc: Global, name: &str, texts: &[Vec<u8>]) -> Reply {
+        match name {
+            "Guard::read" => shown(alloc, &self.entries()),
+            "Guard::ask" => ask_words(alloc, self, behind(texts, 4)),
+            "answer_question" => answer_all(alloc, self, query_of(at(texts, 4)), behind(texts, 5)),
+            _ => ask(
+                alloc,
+                name,
+                self,
+                &question(behind(texts, 4)),
+                behind(texts, 8),
+            ),
+        }
     }
 }
 
@@ -132,15 +131,12 @@ fn ask_words(alloc: Global, guard: &Guard, texts: &[Vec<u8>]) -> Reply {
         moment: Moment::Seconds(seconds(at(texts, 1))),
     };
     let read = guard.texts(alloc, &question)?;
-    of_texts(alloc, "Asked::decide_by", guard, &read, b"")
+    of_texts(alloc, "Asked::decide_by", guard, read, &[])
 }
 
 /// Seconds in decimal digits.
 fn seconds(text: &[u8]) -> i64 {
-    match str::from_utf8(text) {
-        Ok(digits) => digits.parse().unwrap_or(0),
-        Err(_) => 0,
-    }
+    word_of(text).parse().unwrap_or(0)
 }
 
 /// Which signatures are verified: those whose octet is 1.
@@ -154,15 +150,15 @@ pub(crate) fn marks(alloc: Global, text: &[u8]) -> Result<Vec<bool>, AllocError>
 
 /// What is asked for.
 pub(crate) fn query_of(text: &[u8]) -> Query {
-    match text {
-        b"explain" => Query::Explain,
-        b"reduce" => Query::Reduce,
+    match word_of(text) {
+        "explain" => Query::Explain,
+        "reduce" => Query::Reduce,
         _ => Query::Decide,
     }
 }
 
 /// What a guard answers to several questions. Each has four texts and its marks.
-fn answer(alloc: Global, guard: &Guard, query: Query, texts: &[Vec<u8>]) -> Reply {
+fn answer_all(alloc: Global, guard: &Guard, query: Query, texts: &[Vec<u8>]) -> Reply {
     let mut out = Vec::new(alloc);
     for asked in texts.chunks(5) {
         out.extend_from_slice(&answer_to(alloc, guard, query, asked)?)?;
@@ -172,58 +168,58 @@ fn answer(alloc: Global, guard: &Guard, query: Query, texts: &[Vec<u8>]) -> Repl
 
 fn answer_to(alloc: Global, guard: &Guard, query: Query, texts: &[Vec<u8>]) -> Reply {
     let marks = marks(alloc, at(texts, 4))?;
-    answer_question(alloc, query, guard, &question(texts), &marks).answered(alloc)
+    answer(
+        alloc,
+        answer_question(alloc, query, guard, &question(texts), &marks),
+    )
 }
 
 /// What is answered to a question of a guard, by a verifier or by marks.
-fn ask(alloc: Global, name: &str, guard: &Guard, question: &Question, by: &[u8]) -> Reply {
+fn ask(alloc: Global, name: &str, guard: &Guard, question: &Question, by: &[Vec<u8>]) -> Reply {
     let texts = guard.texts(alloc, question)?;
-    of_texts(alloc, name, guard, &texts, by)
+    of_texts(alloc, name, guard, texts, by)
 }
 
-fn of_texts(alloc: Global, name: &str, guard: &Guard, texts: &Texts, by: &[u8]) -> Reply {
-    match name {
+fn of_texts(alloc: Global, name: &str, guard: &Guard, texts: Texts, by: &[Vec<u8>]) -> Reply {
+    let reply = match name {
         "Guard::texts" => word(alloc, "read"),
-        _ => with_asked(alloc, name, guard, texts, by),
-    }
+        _ => call_on(alloc, guard.ask(alloc, &texts), name, by),
+    };
+    drop(texts);
+    reply
 }
 
-fn with_asked(alloc: Global, name: &str, guard: &Guard, texts: &Texts, by: &[u8]) -> Reply {
-    let asked = guard.ask(alloc, texts)?;
-    of_asked(alloc, name, &asked, by)
-}
-
-fn of_asked(alloc: Global, name: &str, asked: &Asked, by: &[u8]) -> Reply {
-    match name {
-        "Asked::decide" | "Asked::explain" | "Asked::reduce" => {
-            with_verifier(alloc, name, asked, by)
+impl Called for Asked<'_> {
+    fn call(&self, alloc: Global, name: &str, texts: &[Vec<u8>]) -> Reply {
+        match name {
+            "Asked::decide" | "Asked::explain" | "Asked::reduce" => {
+                with_verifier(alloc, name, self, at(texts, 0))
+            }
+            _ => with_marks(alloc, name, self, at(texts, 0)),
         }
-        _ => with_marks(alloc, name, asked, by),
     }
 }
 
 fn with_verifier(alloc: Global, name: &str, asked: &Asked, rows: &[u8]) -> Reply {
     let verifier = RowVerifier::read(alloc, rows)?;
-    by_verifier(alloc, name, asked, &verifier)
+    let reply = by_verifier(alloc, name, asked, &verifier);
+    drop(verifier);
+    reply
 }
 
 fn by_verifier(alloc: Global, name: &str, asked: &Asked, verifier: &RowVerifier) -> Reply {
     match name {
-        "Asked::decide" => asked.decide(alloc, verifier).answered(alloc),
-        "Asked::explain" => asked.explain(alloc, verifier).answered(alloc),
-        _ => asked.reduce(alloc, verifier).answered(alloc),
+        "Asked::decide" => answer(alloc, asked.decide(alloc, verifier)),
+        "Asked::explain" => answer(alloc, asked.explain(alloc, verifier)),
+        _ => answer(alloc, asked.reduce(alloc, verifier)),
     }
 }
 
 fn with_marks(alloc: Global, name: &str, asked: &Asked, text: &[u8]) -> Reply {
     let marks = marks(alloc, text)?;
-    by_marks(alloc, name, asked, &marks)
-}
-
-fn by_marks(alloc: Global, name: &str, asked: &Asked, marks: &[bool]) -> Reply {
     match name {
-        "Asked::decide_by" => asked.decide_by(alloc, marks).answered(alloc),
-        "Asked::explain_by" => asked.explain_by(alloc, marks).answered(alloc),
-        _ => asked.reduce_by(alloc, marks).answered(alloc),
+        "Asked::decide_by" => answer(alloc, asked.decide_by(alloc, &marks)),
+        "Asked::explain_by" => answer(alloc, asked.explain_by(alloc, &marks)),
+        _ => answer(alloc, asked.reduce_by(alloc, &marks)),
     }
 }

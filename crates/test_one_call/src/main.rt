@@ -2,8 +2,8 @@
 //! digits, with one space between them. For each row it writes a line: the answer, as hexadecimal digits. `tests/calls.py` says
 //! which texts a call takes.
 //!
-//! A function `with_..` reads a value, and passes it by reference to the one that does the calls. So a function owns one value at most that
-//! is freed, which keeps its proof short.
+//! Where a value goes out of scope, the proof of the function goes through the drop of each of its parts. So a value with many parts is
+//! moved, before the function ends, to a generic function, whose proof is the same for all types: to `answer`, `call_on` or `drop`.
 //!
 //! If memory runs out for a row, its line is `refused Memory`, and the program ends with status 2. `tests/test_hostile.py` refuses each
 //! allocation of a call in turn.
@@ -31,23 +31,9 @@ use std::io;
 use std::io::{BufRead, BufReader};
 use std::process::ExitCode;
 
-/// The answer of the call with this name. None if there is no such call.
-fn answer_of(alloc: Global, name: &str, texts: &[Vec<u8>]) -> Option<Reply> {
-    forms::call(alloc, name, texts)
-        .or_else(|| documents::call(alloc, name, texts))
-        .or_else(|| tags::call(alloc, name, texts))
-        .or_else(|| windows::call(alloc, name, texts))
-        .or_else(|| tuples::call(alloc, name, texts))
-        .or_else(|| cases::call(alloc, name, texts))
-        .or_else(|| guards::call(alloc, name, texts))
-        .or_else(|| opened::call(alloc, name, texts))
-        .or_else(|| streams::call(alloc, name, texts))
-        .or_else(|| callers::call(alloc, name, texts))
-}
-
-/// What is answered to a call: its answer, or why there is none.
+/// What is answered to a call: its answer, or why there is none. Each module passes a name that it does not have on to the next one.
 fn said(alloc: Global, name: &str, texts: &[Vec<u8>]) -> Reply {
-    match answer_of(alloc, name, texts) {
+    match forms::call(alloc, name, texts) {
         Some(Err(failure)) => failure.said(alloc),
         Some(answer) => answer,
         None => Err(Failure::Unknown),
@@ -82,15 +68,19 @@ fn answer_rows(rt: &HostRuntime) -> Result<bool, Failure> {
     let alloc = rt.alloc();
     let mut is_enough = true;
     for line in BufReader::new(alloc, rt.reader())?.lines(alloc) {
-        match line_for(alloc, &line?) {
-            Ok(answer) => println!(rt; "{answer}")?,
-            Err(failure) => {
-                println!(rt; "refused {failure:?}")?;
-                is_enough = false;
-            }
-        }
+        is_enough &= answer_row(rt, &line?)?;
     }
     Ok(is_enough)
+}
+
+/// Answers a row. Whether memory was enough.
+fn answer_row(rt: &HostRuntime, line: &str) -> Result<bool, Failure> {
+    let answer = line_for(rt.alloc(), line);
+    match &answer {
+        Ok(answer) => println!(rt; "{answer}")?,
+        Err(failure) => println!(rt; "refused {failure:?}")?,
+    }
+    Ok(answer.is_ok())
 }
 
 fn main(rt: HostRuntime) -> io::Result<ExitCode> {

@@ -1,18 +1,21 @@
 //! The calls for questions that are opened. Their texts are those of `answer_question`, and of one question.
 
-use crate::answers::{Answered, Reply, word};
+use crate::answers::{Called, Reply, answer, call_on, word};
 use crate::failure::Failure;
 use crate::guards::{guard, marks, query_of, question};
+use crate::streams;
 use crate::texts::{at, behind};
-use spki_guard::{Opened, Query, Question, SharedGuard, answer_opened, open_question};
+use spki_guard::{Opened, Query, SharedGuard, answer_opened, open_question};
 use std::alloc::Global;
 
-/// The answer of the call with this name. None if there is no such call.
+/// The answer of the call with this name, of this module or of those behind it. None if there is no such call.
 pub(crate) fn call(alloc: Global, name: &str, texts: &[Vec<u8>]) -> Option<Reply> {
     match name {
-        "Opened::signed" | "Opened::decide_by" => Some(with_opened(alloc, name, texts)),
-        "answer_opened" => Some(answer(alloc, texts)),
-        _ => None,
+        "Opened::signed" | "Opened::decide_by" => {
+            Some(call_on(alloc, opened(alloc, texts), name, texts))
+        }
+        "answer_opened" => Some(answer_marked(alloc, texts)),
+        _ => streams::call(alloc, name, texts),
     }
 }
 
@@ -24,18 +27,17 @@ fn shared(alloc: Global, texts: &[Vec<u8>]) -> Result<SharedGuard, Failure> {
 /// The question behind that guard. The guard is freed before the question is returned.
 fn opened(alloc: Global, texts: &[Vec<u8>]) -> Result<Opened, Failure> {
     let shared = shared(alloc, texts)?;
-    Ok(Opened::open(alloc, &shared, &question(behind(texts, 4)))?)
+    let opened = Opened::open(alloc, &shared, &question(behind(texts, 4)));
+    drop(shared);
+    opened.map_err(Failure::Ask)
 }
 
-fn with_opened(alloc: Global, name: &str, texts: &[Vec<u8>]) -> Reply {
-    let opened = opened(alloc, texts)?;
-    of_opened(alloc, name, &opened, at(texts, 8))
-}
-
-fn of_opened(alloc: Global, name: &str, opened: &Opened, marks: &[u8]) -> Reply {
-    match name {
-        "Opened::signed" => signed(alloc, opened),
-        _ => with_marks(alloc, opened, marks),
+impl Called for Opened {
+    fn call(&self, alloc: Global, name: &str, texts: &[Vec<u8>]) -> Reply {
+        match name {
+            "Opened::signed" => signed(alloc, self),
+            _ => decide(alloc, self, at(texts, 8)),
+        }
     }
 }
 
@@ -51,40 +53,30 @@ fn signed(alloc: Global, opened: &Opened) -> Reply {
     Ok(out)
 }
 
-fn with_marks(alloc: Global, opened: &Opened, text: &[u8]) -> Reply {
-    let marks = marks(alloc, text)?;
-    decide(alloc, opened, &marks)
-}
-
 /// The decision by marks, which is asked for twice.
-fn decide(alloc: Global, opened: &Opened, marks: &[bool]) -> Reply {
-    if opened.decide_by(marks) != opened.decide_by(marks) {
+fn decide(alloc: Global, opened: &Opened, text: &[u8]) -> Reply {
+    let marks = marks(alloc, text)?;
+    let decision = opened.decide_by(&marks);
+    if opened.decide_by(&marks) != decision {
         return word(alloc, "two decisions");
     }
-    opened.decide_by(marks).answered(alloc)
+    answer(alloc, decision)
 }
 
 /// The line by marks. The fifth text says what is asked for.
-fn answer(alloc: Global, texts: &[Vec<u8>]) -> Reply {
+fn answer_marked(alloc: Global, texts: &[Vec<u8>]) -> Reply {
     let marks = marks(alloc, at(texts, 9))?;
-    answer_by(alloc, texts, &marks)
-}
-
-fn answer_by(alloc: Global, texts: &[Vec<u8>], marks: &[bool]) -> Reply {
     let shared = shared(alloc, texts)?;
-    let query = query_of(at(texts, 4));
-    answer_of(alloc, query, &shared, &question(behind(texts, 5)), marks)
+    let opened = open_question(alloc, &shared, &question(behind(texts, 5)));
+    drop(shared);
+    match opened {
+        Err(refusal) => answer(alloc, refusal),
+        Ok(opened) => answer_of(alloc, query_of(at(texts, 4)), opened, &marks),
+    }
 }
 
-fn answer_of(
-    alloc: Global,
-    query: Query,
-    guard: &SharedGuard,
-    question: &Question,
-    marks: &[bool],
-) -> Reply {
-    match open_question(alloc, guard, question) {
-        Err(refusal) => refusal.answered(alloc),
-        Ok(opened) => answer_opened(alloc, query, &opened, marks).answered(alloc),
-    }
+fn answer_of(alloc: Global, query: Query, opened: Opened, marks: &[bool]) -> Reply {
+    let line = answer_opened(alloc, query, &opened, marks);
+    drop(opened);
+    answer(alloc, line)
 }

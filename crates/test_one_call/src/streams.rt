@@ -3,8 +3,9 @@
 ghost use Rattle.std.specs.Prelude.{◌≡◌, ◌≤◌, IfOk};
 
 use crate::answers::{Reply, joined};
+use crate::callers;
 use crate::failure::Failure;
-use crate::texts::{at, behind, number};
+use crate::texts::{at, behind, number, word_of};
 use metered_io::{ReadFault, WriteFault};
 use sexpr_core::FormFault;
 use spki_cert::CertFaultKind;
@@ -15,14 +16,14 @@ use std::alloc::Global;
 use std::io;
 use std::io::{Error, ErrorKind, Read, Write};
 
-/// The answer of the call with this name. None if there is no such call.
+/// The answer of the call with this name, of this module or of those behind it. None if there is no such call.
 pub(crate) fn call(alloc: Global, name: &str, texts: &[Vec<u8>]) -> Option<Reply> {
     match name {
         "run" => Some(run(alloc, texts)),
         "Metered::read" => Some(read_once(alloc, at(texts, 0))),
         "Metered::write" => Some(write_once(alloc, at(texts, 0))),
         "fault_texts" => Some(fault_texts(alloc)),
-        _ => None,
+        _ => callers::call(alloc, name, texts),
     }
 }
 
@@ -38,6 +39,14 @@ enum Past {
 }
 
 impl Past {
+    fn of(word: &[u8]) -> Past {
+        match word_of(word) {
+            "fails" => Past::Fails,
+            "interrupted" => Past::IsInterrupted,
+            _ => Past::Stops,
+        }
+    }
+
     fn answer(self) -> io::Result<usize>
         ensures { IfOk result (λ count. count ≡ 0) }
     {
@@ -71,17 +80,12 @@ struct End<'a> {
 impl<'a> End<'a> {
     /// An end of three texts: the octets of each call, the room, and what it answers then. A fourth may say that a flush fails.
     fn new(alloc: Global, text: &'a [u8], texts: &[Vec<u8>]) -> End<'a> {
-        let past = match at(texts, 2) {
-            b"fails" => Past::Fails,
-            b"interrupted" => Past::IsInterrupted,
-            _ => Past::Stops,
-        };
         End {
             text,
             taken: Vec::new(alloc),
             step: number(at(texts, 0)),
             room: number(at(texts, 1)),
-            past,
+            past: Past::of(at(texts, 2)),
             calls: 0,
             last: 0,
             flushes: 0,
@@ -137,13 +141,13 @@ impl Write for End<'_> {
 }
 
 fn command(word: &[u8]) -> Command {
-    match word {
-        b"canonical" => Command::Canonical,
-        b"advanced" => Command::Advanced,
-        b"transport" => Command::Transport,
-        b"intersect" => Command::Intersect,
-        b"reduce" => Command::Reduce,
-        b"explain" => Command::Explain,
+    match word_of(word) {
+        "canonical" => Command::Canonical,
+        "advanced" => Command::Advanced,
+        "transport" => Command::Transport,
+        "intersect" => Command::Intersect,
+        "reduce" => Command::Reduce,
+        "explain" => Command::Explain,
         _ => Command::Check,
     }
 }

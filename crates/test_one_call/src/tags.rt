@@ -1,12 +1,13 @@
 //! The calls for tags and requests.
 
-use crate::answers::{Answered, Reply};
-use crate::texts::{at, number, read_tag, request};
+use crate::answers::{Called, Reply, answer, call_on};
+use crate::texts::{at, number, read};
+use crate::windows;
 use spki_guard::intersect;
-use spki_tag::{Index, Tag, merged};
+use spki_tag::{Ground, Index, Tag, merged};
 use std::alloc::{AllocError, Global};
 
-/// The answer of the call with this name. None if there is no such call.
+/// The answer of the call with this name, of this module or of those behind it. None if there is no such call.
 pub(crate) fn call(alloc: Global, name: &str, texts: &[Vec<u8>]) -> Option<Reply> {
     match name {
         "Tag::clone"
@@ -14,50 +15,46 @@ pub(crate) fn call(alloc: Global, name: &str, texts: &[Vec<u8>]) -> Option<Reply
         | "Tag::same"
         | "Tag::meet"
         | "Tag::meet_within"
-        | "Index::places" => Some(with_tag(alloc, name, texts)),
+        | "Index::places" => Some(call_on(alloc, read::<Tag>(alloc, at(texts, 0)), name, texts)),
         "merged" => Some(merge(alloc, at(texts, 0), at(texts, 1))),
-        "intersect" => Some(intersect(alloc, at(texts, 0)).answered(alloc)),
-        _ => None,
+        "intersect" => Some(answer(alloc, intersect(alloc, at(texts, 0)))),
+        _ => windows::call(alloc, name, texts),
     }
 }
 
-/// The same for the tag that the first text is.
-fn with_tag(alloc: Global, name: &str, texts: &[Vec<u8>]) -> Reply {
-    let tag = read_tag(alloc, at(texts, 0))?;
-    of_tag(alloc, name, &tag, texts)
-}
-
-fn of_tag(alloc: Global, name: &str, tag: &Tag, texts: &[Vec<u8>]) -> Reply {
-    match name {
-        "Tag::clone" => copied(alloc, tag),
-        "Tag::holds" => holds(alloc, tag, at(texts, 1)),
-        _ => with_other(alloc, name, tag, texts),
+impl Called for Tag {
+    fn call(&self, alloc: Global, name: &str, texts: &[Vec<u8>]) -> Reply {
+        match name {
+            "Tag::clone" => answer(alloc, self.clone()?),
+            "Tag::holds" => holds(alloc, self, at(texts, 1)),
+            _ => with_other(alloc, name, self, texts),
+        }
     }
-}
-
-fn copied(alloc: Global, tag: &Tag) -> Reply {
-    tag.clone()?.answered(alloc)
 }
 
 fn holds(alloc: Global, tag: &Tag, text: &[u8]) -> Reply {
-    let request = request(alloc, text)?;
-    tag.holds(&request).answered(alloc)
+    let request: Ground = read(alloc, text)?;
+    let is_held = tag.holds(&request);
+    drop(request);
+    answer(alloc, is_held)
 }
 
 /// The same for that tag and another one, which the second text is.
 fn with_other(alloc: Global, name: &str, tag: &Tag, texts: &[Vec<u8>]) -> Reply {
-    let other = read_tag(alloc, at(texts, 1))?;
-    of_both(alloc, name, tag, &other, at(texts, 2))
+    let other: Tag = read(alloc, at(texts, 1))?;
+    let reply = of_both(alloc, name, tag, &other, at(texts, 2));
+    drop(other);
+    reply
 }
 
 /// The last text is a number of nodes, which is 1,000,000 at most.
 fn of_both(alloc: Global, name: &str, tag: &Tag, other: &Tag, most: &[u8]) -> Reply {
     match name {
-        "Tag::same" => tag.same(other).answered(alloc),
-        "Tag::meet" => tag.meet(alloc, other).answered(alloc),
+        "Tag::same" => answer(alloc, tag.same(other)),
+        "Tag::meet" => answer(alloc, tag.meet(alloc, other)),
         "Tag::meet_within" => {
             let most = number(most).min(1_000_000);
-            tag.meet_within(alloc, other, most).answered(alloc)
+            answer(alloc, tag.meet_within(alloc, other, most))
         }
         _ => places(alloc, tag, other),
     }
@@ -66,18 +63,16 @@ fn of_both(alloc: Global, name: &str, tag: &Tag, other: &Tag, most: &[u8]) -> Re
 /// The places of the members of a set for the intersection with another tag.
 fn places(alloc: Global, set: &Tag, tag: &Tag) -> Reply {
     let index = Index::of(alloc, set)?;
-    index.places(alloc, tag).answered(alloc)
+    let places = index.places(alloc, tag);
+    drop(index);
+    answer(alloc, places)
 }
 
 /// Numbers below 256, as octets, in order.
 fn merge(alloc: Global, some: &[u8], others: &[u8]) -> Reply {
     let some = numbers(alloc, some)?;
-    merge_with(alloc, &some, others)
-}
-
-fn merge_with(alloc: Global, some: &[usize], others: &[u8]) -> Reply {
     let others = numbers(alloc, others)?;
-    merged(alloc, some, &others).answered(alloc)
+    answer(alloc, merged(alloc, &some, &others))
 }
 
 fn numbers(alloc: Global, octets: &[u8]) -> Result<Vec<usize>, AllocError> {

@@ -2,7 +2,8 @@
 
 use crate::failure::Failure;
 use sexpr_core::Doc;
-use spki_cert::{Date, Key, date_of, key_of};
+use sexpr_core::syntax::Node;
+use spki_cert::{Date, Entry, Key, acl_of, date_of, entry_of, key_of};
 use spki_tag::{Ground, Tag};
 use std::alloc::Global;
 use std::str;
@@ -23,38 +24,68 @@ pub(crate) fn behind(texts: &[Vec<u8>], place: usize) -> &[Vec<u8>] {
     }
 }
 
+/// The word that a text is, and no word where it is none.
+pub(crate) fn word_of(text: &[u8]) -> &str {
+    str::from_utf8(text).unwrap_or("")
+}
+
 /// A number in decimal digits, and the greatest one for any other text.
 pub(crate) fn number(text: &[u8]) -> usize {
-    match str::from_utf8(text) {
-        Ok(digits) => digits.parse().unwrap_or(usize::MAX),
-        Err(_) => usize::MAX,
+    word_of(text).parse().unwrap_or(usize::MAX)
+}
+
+/// A value that a node is read as.
+pub(crate) trait OfNode<'a>: Sized {
+    fn of_node(alloc: Global, node: &Node<'_, 'a>) -> Result<Self, Failure>;
+}
+
+/// The value that a text is.
+pub(crate) fn read<'a, T: OfNode<'a> + Drop>(alloc: Global, text: &'a [u8]) -> Result<T, Failure> {
+    let document = Doc::open(alloc, text)?;
+    T::of_node(alloc, &document.top())
+}
+
+impl<'a> OfNode<'a> for Tag {
+    fn of_node(alloc: Global, node: &Node<'_, 'a>) -> Result<Tag, Failure> {
+        Tag::of(alloc, node).map_err(Failure::Tag)
     }
 }
 
-pub(crate) fn read_tag(alloc: Global, text: &[u8]) -> Result<Tag, Failure> {
-    let document = Doc::open(alloc, text)?;
-    Ok(Tag::of(alloc, &document.top())?)
+impl<'a> OfNode<'a> for Ground {
+    fn of_node(alloc: Global, node: &Node<'_, 'a>) -> Result<Ground, Failure> {
+        Ground::of(alloc, node).map_err(Failure::Tag)
+    }
 }
 
-pub(crate) fn request(alloc: Global, text: &[u8]) -> Result<Ground, Failure> {
-    let document = Doc::open(alloc, text)?;
-    Ok(Ground::of(alloc, &document.top())?)
+impl<'a> OfNode<'a> for Date {
+    fn of_node(_: Global, node: &Node<'_, 'a>) -> Result<Date, Failure> {
+        date_of(node).map_err(Failure::Kind)
+    }
 }
 
-pub(crate) fn date(alloc: Global, text: &[u8]) -> Result<Date, Failure> {
-    let document = Doc::open(alloc, text)?;
-    Ok(date_of(&document.top())?)
+impl<'a> OfNode<'a> for Key<'a> {
+    fn of_node(_: Global, node: &Node<'_, 'a>) -> Result<Key<'a>, Failure> {
+        key_of(node).map_err(Failure::Kind)
+    }
 }
 
-pub(crate) fn key<'a>(alloc: Global, text: &'a [u8]) -> Result<Key<'a>, Failure> {
-    let document = Doc::open(alloc, text)?;
-    Ok(key_of(&document.top())?)
+impl<'a> OfNode<'a> for Entry<'a> {
+    fn of_node(alloc: Global, node: &Node<'_, 'a>) -> Result<Entry<'a>, Failure> {
+        entry_of(alloc, node).map_err(Failure::Kind)
+    }
+}
+
+/// The entries of an access list.
+impl<'a> OfNode<'a> for Vec<Entry<'a>> {
+    fn of_node(alloc: Global, node: &Node<'_, 'a>) -> Result<Vec<Entry<'a>>, Failure> {
+        acl_of(alloc, node).map_err(Failure::Cert)
+    }
 }
 
 pub(crate) fn keys<'a>(alloc: Global, texts: &'a [Vec<u8>]) -> Result<Vec<Key<'a>>, Failure> {
     let mut keys = Vec::new(alloc);
     for text in texts {
-        keys.push(key(alloc, text)?)?;
+        keys.push(read(alloc, text)?)?;
     }
     Ok(keys)
 }

@@ -1,17 +1,18 @@
 //! The calls for windows, and for keys that a principal names.
 
-use crate::answers::{Answered, Reply, shown, word};
+use crate::answers::{Reply, answer, shown, word};
 use crate::failure::Failure;
-use crate::texts::{at, date, keys};
+use crate::texts::{at, keys, read};
+use crate::tuples;
 use spki_cert::{Date, HashAlg, Key, Octets, Principal, Window};
 use std::alloc::Global;
 
-/// The answer of the call with this name. None if there is no such call.
+/// The answer of the call with this name, of this module or of those behind it. None if there is no such call.
 pub(crate) fn call(alloc: Global, name: &str, texts: &[Vec<u8>]) -> Option<Reply> {
     match name {
         "Window::holds" | "Window::meet" => Some(at_moment(alloc, name, texts)),
         "first_named" => Some(first_named(alloc, texts)),
-        _ => None,
+        _ => tuples::call(alloc, name, texts),
     }
 }
 
@@ -20,7 +21,7 @@ fn limit(alloc: Global, text: &[u8]) -> Result<Option<Date>, Failure> {
     if text.is_empty() {
         return Ok(None);
     }
-    Ok(Some(date(alloc, text)?))
+    Ok(Some(read(alloc, text)?))
 }
 
 fn window(alloc: Global, from: &[u8], until: &[u8]) -> Result<Window, Failure> {
@@ -34,15 +35,21 @@ fn window(alloc: Global, from: &[u8], until: &[u8]) -> Result<Window, Failure> {
 /// the window until the first text and that from the second on.
 fn at_moment(alloc: Global, name: &str, texts: &[Vec<u8>]) -> Reply {
     let (one, other) = (at(texts, 0), at(texts, 1));
-    let moment = date(alloc, at(texts, 2))?;
-    if name == "Window::holds" {
-        return window(alloc, one, other)?.holds(&moment).answered(alloc);
-    }
-    let up_to = window(alloc, b"", one)?;
-    match up_to.meet(&window(alloc, other, b"")?) {
+    let moment: Date = read(alloc, at(texts, 2))?;
+    let both = match name {
+        "Window::holds" => Some(window(alloc, one, other)?),
+        _ => meet(alloc, one, other)?,
+    };
+    match both {
         None => word(alloc, "no moment"),
-        Some(both) => both.holds(&moment).answered(alloc),
+        Some(both) => answer(alloc, both.holds(&moment)),
     }
+}
+
+/// The intersection of the window until a limit and of that from another on.
+fn meet(alloc: Global, until: &[u8], from: &[u8]) -> Result<Option<Window>, Failure> {
+    let up_to = window(alloc, b"", until)?;
+    Ok(up_to.meet(&window(alloc, from, b"")?))
 }
 
 /// A digest that two keys share. No real digest does this.
