@@ -7,7 +7,7 @@ use Rattle.std.proofs.Math.Bool.{and-false, or-false, or-true}
 use Rattle.std.proofs.lemmas.Bool.{and_parts, or_parts}
 use Rattle.spki_tag.specs.Request as request
 use Rattle.spki_tag.specs.Request.{Request, IsHead}
-use Rattle.spki_tag.specs.Tag.{Tag, Tags, tags, star, string, list, set, none, more, IsTag, AreTags, contains, some_contains, nodes, nodes_all, is_star, is_nothing, is_set_or_star, is_none_or_many, is_normal, each_normal, most_nodes, IsNormalTag}
+use Rattle.spki_tag.specs.Tag.{Tag, Tags, tags, star, list, set, none, more, IsTag, AreTags, contains, some_contains, nodes, nodes_all, is_star, is_nothing, is_set_or_star, is_none_or_many, is_normal, each_normal, most_nodes, IsNormalTag}
 use Rattle.spki_tag.specs.Meet.{items, gather, nothing, has_nothing, listed}
 use Rattle.spki_tag.specs.NormalForm.{IsNormalOf, AreNormal}
 use Rattle.spki_tag.specs.Normal.{spread, set_of}

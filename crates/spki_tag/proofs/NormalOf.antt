@@ -4,7 +4,7 @@ use Rattle.std.specs.Str.{bytes_eq}
 use Rattle.sexpr_core.specs.Value.{Value}
 use Rattle.spki_tag.specs.Request as request
 use Rattle.spki_tag.specs.Request.{Request, Requests}
-use Rattle.spki_tag.specs.Tag.{Tag, Tags, tags, string, list, set, none, more, IsTag, AreTags, contains, contain_each, some_contains, nodes_all}
+use Rattle.spki_tag.specs.Tag.{Tag, Tags, tags, list, set, none, more, IsTag, AreTags, contains, contain_each, some_contains, nodes_all}
 use Rattle.spki_tag.specs.Meet.{listed}
 use Rattle.spki_tag.specs.NormalForm.{IsNormalOf, AreNormal}
 use Rattle.spki_tag.specs.Normal.{spread, set_of, normal, normals}

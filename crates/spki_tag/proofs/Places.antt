@@ -5,7 +5,7 @@ use Rattle.std.specs.Prelude.{if◌then◌else◌}
 use Rattle.std.specs.Str.{bytes_eq}
 use Rattle.std.proofs.Math.Bool.{and-false, or-false}
 use Rattle.spki_tag.specs.Tag.{Tag}
-use Rattle.spki_tag.specs.Index.{Kind, any, strings, one, lists, kind, kinds_share, places_where}
+use Rattle.spki_tag.specs.Index.{Kind, one, lists, kind, kinds_share, places_where}
 use Rattle.spki_tag.specs.Places.{is_any, has_many_strings, is_one, is_lists, has_strings, place_if, ArePlacesOf, IsAdded}
 use Rattle.spki_tag.specs.Merged.{merge}
 use Rattle.spki_tag.proofs.Merging.{StartsAbove, merge-left, merge-right}

@@ -1,4 +1,4 @@
-use Rattle.std.proofs.Common.{sym}
+use Rattle.std.proofs.Common.{rules}
 use Rattle.spki_tag.proofs.Named.{head-list, head-hinted}
 use Rattle.spki_tag.proofs.reader.head_of.Goals as goal
 
@@ -6,6 +6,4 @@ pub returns-in-List-clause-named : goal.returns-in-List-clause-named
 returns-in-List-clause-named c = head-list c.args.first.now c.in-List.field-0 c.in-List.ensures
 
 pub returns-in-String-Some-default-clause-named : goal.returns-in-String-Some-default-clause-named
-returns-in-String-Some-default-clause-named c =
-    let e = rw c.in-String-Some-default.hint-is at c.in-String-Some-default.ensures in
-    head-hinted c.args.first.now (c.in-String-Some-default.hint-0.now, c.in-String-Some-default.body.now, sym e)
+returns-in-String-Some-default-clause-named c = search (rules, head-hinted)

@@ -1,55 +1,38 @@
-use Rattle.std.proofs.Common.{◌≡◌, ap, sym, ◌∙◌, arith}
-use Rattle.std.specs.Prelude.{codes}
-use Rattle.std.specs.Cmp.Lexicographic.{same_text}
-use Rattle.sexpr_core.specs.Value.{plain}
+use Rattle.std.proofs.Common.{arith, rules}
 use Rattle.spki_tag.proofs.Requests.{so_far_weight, so_far_push, list_is_request}
 use Rattle.std.proofs.Common.{[], refl}
-use Rattle.spki_tag.specs.FaultOf.{part_fault}
 use Rattle.spki_tag.proofs.Named.{named-first, out_of_memory, passed}
 use Rattle.spki_tag.proofs.NamedRequests.{group-itself, star-group, group-members, so_far-named, part-itself}
 use Rattle.spki_tag.proofs.request.+read_request.Goals as goal
 
 pub read_request_members-read_request-requires : goal.read_request_members-read_request-requires
-read_request_members-read_request-requires t c =
-    (omega (arith, c.decreases, so_far_weight c.args.members c.loop-first.left c.in-Some.further c.loop-first.requests.items c.in-Some.first c.loop-first.invariant c.in-Some.ensures), tt)
+read_request_members-read_request-requires t c = (omega (arith, c.decreases, so_far_weight _ _ _ _ _ c.loop-first.invariant c.in-Some.ensures), tt)
 
 pub read_request_members-loop-first-preserved : goal.read_request_members-loop-first-preserved
 read_request_members-loop-first-preserved t c =
-    rw c.in_ok-push.ensures.items
-    (so_far_push c.args.members c.loop-first.left c.in-Some.further c.loop-first.requests.items c.in-Some.first c.in_ok-read_request.field-0 c.loop-first.invariant c.in-Some.ensures c.in_ok-read_request.ensures.request c.in_ok-read_request.ensures.read)
+    rw c.in_ok-push.ensures.items (so_far_push _ _ _ _ _ _ c.loop-first.invariant c.in-Some.ensures c.in_ok-read_request.ensures.request c.in_ok-read_request.ensures.read)
 
 pub read_headed-returns-clause-read : goal.read_headed-returns-clause-read
-read_headed-returns-clause-read t c =
-    rw (c.list.ensures, c.in_ok-octets.ensures.items) (list_is_request c.args.head.now c.args.further c.in_ok-members.members.items c.in_ok-members.ensures.read)
+read_headed-returns-clause-read t c = rw (c.list.ensures, c.in_ok-octets.ensures.items) (list_is_request _ _ _ c.in_ok-members.ensures.read)
 
 pub read_request_list-returns-in_err-head-in-Some-clause-named : goal.read_request_list-returns-in_err-head-in-Some-clause-named
-read_request_list-returns-in_err-head-in-Some-clause-named t c =
-    passed _ _ _ c.from_residual.ensures.1
-    (group-itself c.args.members _ _ c.in-Some.ensures
-    (named-first _ _ (c.in_err-head-in-Some.ensures.named c.in-Some.further).1))
+read_request_list-returns-in_err-head-in-Some-clause-named t c = search (rules, passed, group-itself, named-first)
 
 pub read_request_list-returns-in-None-clause-named : goal.read_request_list-returns-in-None-clause-named
 read_request_list-returns-in-None-clause-named t c = group-itself c.args.members [] _ c.in-None.ensures (named-first _ _ refl)
 
 pub read_request_list-returns-then-eq-clause-named : goal.read_request_list-returns-then-eq-clause-named
-read_request_list-returns-then-eq-clause-named t c =
-    let star : c.in_ok-head-in-Some.head.now ≡ codes "*" = same_text _ _ c.if-eq.ensures ∙ c.as_slice.ensures in
-    group-itself c.args.members c.args.members _ refl
-    (named-first _ _
-    (star-group c.args.members c.in-Some.first c.in-Some.further c.in-Some.ensures (c.in_ok-head-in-Some.ensures.string ∙ ap plain star)))
+read_request_list-returns-then-eq-clause-named t c = search (rules, group-itself, named-first, star-group)
 
 pub read_request_members-returns-in_err-read_request-clause-named : goal.read_request_members-returns-in_err-read_request-clause-named
 read_request_members-returns-in_err-read_request-clause-named t c =
-    passed _ _ _ c.from_residual.ensures.1
-    (so_far-named _ c.args.members c.loop-first.left c.in-Some.further c.loop-first.requests.items c.in-Some.first c.loop-first.invariant c.in-Some.ensures c.in_err-read_request.ensures.named)
+    passed _ _ _ c.from_residual.ensures.1 (so_far-named _ _ _ _ _ _ c.loop-first.invariant c.in-Some.ensures c.in_err-read_request.ensures.named)
 
 pub read_request_members-returns-in_err-push-clause-named : goal.read_request_members-returns-in_err-push-clause-named
 read_request_members-returns-in_err-push-clause-named t c = out_of_memory _ _ c.from_residual-in_err-push.ensures.1
 
 pub read_headed-returns-in_err-members-clause-named : goal.read_headed-returns-in_err-members-clause-named
-read_headed-returns-in_err-members-clause-named t c =
-    passed _ _ _ c.from_residual.ensures.1
-    (group-members c.args.head.now c.args.further _ c.requires c.in_err-members.ensures.named)
+read_headed-returns-in_err-members-clause-named t c = search (rules, passed, group-members)
 
 pub read_headed-returns-in_err-octets-clause-named : goal.read_headed-returns-in_err-octets-clause-named
 read_headed-returns-in_err-octets-clause-named t c = out_of_memory _ _ c.from_residual-in_err-octets.ensures.1
@@ -58,7 +41,4 @@ pub read_request-returns-in_err-from_slice-in-String-None-default-clause-named :
 read_request-returns-in_err-from_slice-in-String-None-default-clause-named t c = out_of_memory _ _ c.from_residual.ensures.1
 
 pub read_request-returns-in-String-Some-default-clause-named : goal.read_request-returns-in-String-Some-default-clause-named
-read_request-returns-in-String-Some-default-clause-named t c =
-    let e = rw c.in-String-Some-default.hint-is at c.in-String-Some-default.ensures in
-    part-itself c.args.value.now _ (part_fault c.args.value.now) refl
-    (named-first _ _ (ap part_fault (sym e)))
+read_request-returns-in-String-Some-default-clause-named t c = search (rules, part-itself, named-first)
