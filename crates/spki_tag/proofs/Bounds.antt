@@ -4,8 +4,8 @@ use Rattle.std.proofs.Math.Nat.{mul-add, add-mul, mul-one, one-mul, mul_comm, tw
 use Rattle.std.specs.Prelude.{if◌then◌else◌}
 use Rattle.std.specs.Str.{bytes_eq}
 use Rattle.spki_tag.specs.Request as request
-use Rattle.spki_tag.specs.Tag.{Tag, Tags, tags, Limit, Ordering, alpha, star, string, prefix, range, list, set, none, more, contains, nodes, nodes_all, is_nothing}
-use Rattle.spki_tag.specs.Meet.{greater_low, lesser_up, exclude, ordering_meet, nothing, ranged, least_above, strict_limit, from, string_meet, range_meet, prefix_meet, kept, row, gather, has_nothing, listed, list_meet, across, set_across, meet, each_meet, pairs}
+use Rattle.spki_tag.specs.Tag.{Tag, Tags, tags, Limit, Ordering, star, string, prefix, range, list, set, none, more, contains, nodes, nodes_all, is_nothing}
+use Rattle.spki_tag.specs.Meet.{greater_low, lesser_up, exclude, ordering_meet, nothing, ranged, string_meet, range_meet, prefix_meet, kept, row, gather, has_nothing, listed, list_meet, across, set_across, meet, each_meet, pairs}
 use Rattle.spki_tag.proofs.Exact.{tags-items}
 
 -- ---- at least one node
@@ -27,16 +27,14 @@ string-one s b = if_one (contains b (request.string s)) (string s) nothing refl 
 
 pub range-one : (o : Ordering) (l u : Option Limit) (b : Tag) → nodes (range_meet o l u b) ≡ 1
 range-one o l u (string s) = string-one s (range o l u)
-range-one o l u (prefix p) =
-    ranged-one (ordering_meet o alpha) (greater_low l (from p)) (lesser_up u (strict_limit (least_above p)))
+range-one o l u (prefix p) = search (rules, ranged-one)
 range-one o l u (range p m v) = ranged-one (ordering_meet o p) (greater_low l m) (lesser_up u v)
 range-one o l u b = refl
 
 pub prefix-one : (p : List ℕ) (b : Tag) → nodes (prefix_meet p b) ≡ 1
 prefix-one p (string s) = string-one s (prefix p)
 prefix-one p (prefix q) = search (rules, if_one)
-prefix-one p (range o l u) =
-    ranged-one (ordering_meet alpha o) (greater_low (from p) l) (lesser_up (strict_limit (least_above p)) u)
+prefix-one p (range o l u) = search (rules, ranged-one)
 prefix-one p b = refl
 
 -- ---- sets
@@ -59,16 +57,14 @@ append-nodes (t ∷ ts) us = omega (arith, append-nodes ts us)
 row-le : (f : Tag → Tag) (n : ℕ) (bs : Tags) → ((b : Tag) → nodes (f b) ≤ n * nodes b)
     → nodes_all (tags (row f bs)) ≤ n * nodes_all bs
 row-le f n none h = omega arith
-row-le f n (more b bs) h =
-    omega (arith, kept-le (f b) (row f bs), h b, row-le f n bs h, mul-add n (nodes b) (nodes_all bs))
+row-le f n (more b bs) h = search (rules, kept-le, row-le f n bs h, mul-add)
 
 -- ---- tags
 
 across-le : (a : Tag) (f : Tag → Tag) (b : Tag) → ((b : Tag) → nodes (f b) ≤ nodes a * nodes b)
     → nodes (across a f b) ≤ nodes a * nodes b
 across-le a f star h = omega (arith, mul-one (nodes a))
-across-le a f (set bs) h =
-    omega (arith, gather-le (row f bs), row-le f (nodes a) bs h, mul-add (nodes a) 1 (nodes_all bs), mul-one (nodes a), nodes-some a)
+across-le a f (set bs) h = search (rules, gather-le, row-le, mul-add, mul-one, nodes-some)
 across-le a f b h = h b
 
 -- a set of tags with some of a tag
@@ -81,8 +77,7 @@ set_across-le : (ms : Tags) (f : Tags → List Tag) (b : Tag)
 set_across-le ms f star h = omega (arith, mul-one (1 + nodes_all ms))
 set_across-le ms f (list head us) h = search (rules, set_across-by, gather-le)
 set_across-le ms f (set bs) h = search (rules, set_across-by, gather-le, le_trans, mul-le-mul_left)
-set_across-le ms f b h =
-    set_across-by (nodes_all ms) 1 _ _ (gather-le (f (more b none))) (h (more b none)) (omega arith)
+set_across-le ms f b h = search (rules, set_across-by, gather-le)
 
 if_few : (b : Bool) (t u : Tag) (n : ℕ) → nodes t ≤ n → nodes u ≤ n → nodes (if b then t else u) ≤ n
 if_few true t u n h k = h

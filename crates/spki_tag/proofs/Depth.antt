@@ -1,11 +1,10 @@
 -- What two tags leave together has no more lists one inside another than they.
 use Rattle.std.proofs.Common.{ℕ, zero, suc, ◌+◌, ◌≤◌, max, Bool, true, false, List, [], ◌∷◌, ◌++◌, Option, Some, None, arith, rules}
-use Rattle.std.specs.Prelude.{if◌then◌else◌, nat_eq}
-use Rattle.std.specs.List.{starts_with}
+use Rattle.std.specs.Prelude.{if◌then◌else◌}
 use Rattle.std.specs.Str.{bytes_eq}
 use Rattle.spki_tag.specs.Request as request
-use Rattle.spki_tag.specs.Tag.{Tag, Tags, tags, Limit, Ordering, alpha, star, string, prefix, range, list, set, none, more, contains, ldepth, ldepth_most, is_nothing}
-use Rattle.spki_tag.specs.Meet.{greater_low, lesser_up, exclude, ordering_meet, nothing, ranged, least_above, strict_limit, from, string_meet, range_meet, prefix_meet, items, kept, row, gather, has_nothing, listed, list_meet, across, set_across, meet, each_meet, pairs}
+use Rattle.spki_tag.specs.Tag.{Tag, Tags, tags, Limit, Ordering, star, string, prefix, range, list, set, none, more, contains, ldepth, ldepth_most, is_nothing}
+use Rattle.spki_tag.specs.Meet.{greater_low, lesser_up, exclude, ordering_meet, nothing, ranged, string_meet, range_meet, prefix_meet, items, kept, row, gather, has_nothing, listed, list_meet, across, set_across, meet, each_meet, pairs}
 
 if_flat : (n : ℕ) (b : Bool) (t u : Tag) → ldepth t ≤ n → ldepth u ≤ n → ldepth (if b then t else u) ≤ n
 if_flat n true t u h k = h
@@ -23,18 +22,14 @@ string-flat n s b = if_flat n (contains b (request.string s)) (string s) nothing
 
 range-flat : (n : ℕ) (o : Ordering) (l u : Option Limit) (b : Tag) → ldepth (range_meet o l u b) ≤ n
 range-flat n o l u (string s) = string-flat n s (range o l u)
-range-flat n o l u (prefix p) =
-    ranged-flat n (ordering_meet o alpha) (greater_low l (from p)) (lesser_up u (strict_limit (least_above p)))
+range-flat n o l u (prefix p) = search (rules, ranged-flat)
 range-flat n o l u (range p m v) = ranged-flat n (ordering_meet o p) (greater_low l m) (lesser_up u v)
 range-flat n o l u b = least n
 
 prefix-flat : (n : ℕ) (p : List ℕ) (b : Tag) → ldepth (prefix_meet p b) ≤ n
 prefix-flat n p (string s) = string-flat n s (prefix p)
-prefix-flat n p (prefix q) =
-    if_flat n (starts_with nat_eq p q) (prefix p) (if starts_with nat_eq q p then prefix q else nothing) (least n)
-    (if_flat n (starts_with nat_eq q p) (prefix q) nothing (least n) (least n))
-prefix-flat n p (range o l u) =
-    ranged-flat n (ordering_meet alpha o) (greater_low (from p) l) (lesser_up (strict_limit (least_above p)) u)
+prefix-flat n p (prefix q) = search (rules, if_flat, least)
+prefix-flat n p (range o l u) = search (rules, ranged-flat)
 prefix-flat n p b = least n
 
 -- ---- sets
@@ -84,10 +79,8 @@ alone n m h = both m 0 n h (least n)
 set_across-flat : (n : ℕ) (ms : Tags) (f : Tags → List Tag) (b : Tag) → ldepth_most ms ≤ n → ldepth b ≤ n
     → ((bs : Tags) → ldepth_most bs ≤ n → ldepth_most (tags (f bs)) ≤ n) → ldepth (set_across ms f b) ≤ n
 set_across-flat n ms f star h k e = h
-set_across-flat n ms f (range o l u) h k e =
-    gather-flat n (f (more (range o l u) none)) (e (more (range o l u) none) (alone n 0 k))
-set_across-flat n ms f (list head us) h k e =
-    gather-flat n (f (more (list head us) none)) (e (more (list head us) none) (alone n (1 + ldepth_most us) k))
+set_across-flat n ms f (range o l u) h k e = search (rules, gather-flat, alone)
+set_across-flat n ms f (list head us) h k e = search (rules, gather-flat, alone)
 set_across-flat n ms f (set bs) h k e = gather-flat n (f bs) (e bs k)
 set_across-flat n ms f b h k e = gather-flat n (f (more b none)) (e (more b none) (alone n 0 k))
 
@@ -137,5 +130,4 @@ mutual
       (pairs-flat n ms bs (right (ldepth a) (ldepth_most ms) n h) k)
 
 pub meet-ldepth : (a b : Tag) → ldepth (meet a b) ≤ max (ldepth a) (ldepth b)
-meet-ldepth a b =
-    meet-flat (max (ldepth a) (ldepth b)) a b (omega arith) (omega arith)
+meet-ldepth a b = search (rules, meet-flat)

@@ -10,7 +10,7 @@ use Rattle.spki_tag.specs.Time.{is_time, is_date}
 use Rattle.spki_tag.specs.Request as request
 use Rattle.spki_tag.specs.Request.{Request, Requests, IsRequest, AreRequests}
 use Rattle.spki_tag.specs.Tag.{Tag, Tags, tags, Limit, Ordering, alpha, time, date, star, string, prefix, range, list, set, none, more, contains, contain_each, some_contains, is_above, is_below, is_ordered, is_nothing, is_normal, each_normal, is_set_or_star}
-use Rattle.spki_tag.specs.Meet.{greater_low, lesser_up, exclude, ordering_meet, nothing, ranged, least_above, strict_limit, from, string_meet, range_meet, prefix_meet, items, kept, row, gather, has_nothing, listed, list_meet, across, set_across, meet, each_meet, pairs}
+use Rattle.spki_tag.specs.Meet.{greater_low, lesser_up, exclude, ordering_meet, nothing, ranged, string_meet, range_meet, prefix_meet, items, kept, row, gather, has_nothing, listed, list_meet, across, set_across, meet, each_meet, pairs}
 use Rattle.spki_tag.proofs.Limits.{and_left, and_never, greater_low-exact, lesser_up-exact, exclude-none}
 use Rattle.spki_tag.proofs.Prefixes.{least_above-exact, prefixes-exact}
 
@@ -118,11 +118,9 @@ range-exact : (o : Ordering) (l u : Option Limit) (b : Tag) (g : Request) → Is
     → contains (range_meet o l u b) g ≡ (contains (range o l u) g && contains b g)
 range-exact o l u (string s) g k n = string-exact s (range o l u) g ∙ and_comm (contains (string s) g) (contains (range o l u) g)
 range-exact o l u (prefix p) (request.string x) k n = search (rules, ranges, least_above-exact)
-range-exact o l u (prefix p) (request.list head gs) k n =
-    ranged-list (ordering_meet o alpha) (greater_low l (from p)) (lesser_up u (strict_limit (least_above p))) head gs
+range-exact o l u (prefix p) (request.list head gs) k n = search (rules, ranged-list)
 range-exact o l u (range p m v) (request.string x) k n = ranges o p l u m v x
-range-exact o l u (range p m v) (request.list head gs) k n =
-    ranged-list (ordering_meet o p) (greater_low l m) (lesser_up u v) head gs
+range-exact o l u (range p m v) (request.list head gs) k n = search (rules, ranged-list)
 range-exact o l u (list other us) (request.string x) k n = sym (and-false _)
 range-exact o l u (list other us) (request.list head gs) k n = refl
 range-exact o l u b g k n = absurd (true≢false n)
@@ -144,11 +142,8 @@ prefix-exact p (prefix q) (request.list head gs) k n = by (starts_with nat_eq p 
     by true t = refl
     by false true = refl
     by false false = refl
-prefix-exact p (range o l u) (request.string x) k n =
-    ranges alpha o (from p) (strict_limit (least_above p)) l u x
-    ∙ ap (λ b. b && (is_ordered o x && is_above l x && is_below u x)) (sym (least_above-exact p x k))
-prefix-exact p (range o l u) (request.list head gs) k n =
-    ranged-list (ordering_meet alpha o) (greater_low (from p) l) (lesser_up (strict_limit (least_above p)) u) head gs
+prefix-exact p (range o l u) (request.string x) k n = search (rules, ranges, least_above-exact)
+prefix-exact p (range o l u) (request.list head gs) k n = search (rules, ranged-list)
 prefix-exact p (list other us) (request.string x) k n = sym (and-false _)
 prefix-exact p (list other us) (request.list head gs) k n = refl
 prefix-exact p b g k n = absurd (true≢false n)
@@ -167,8 +162,7 @@ gather-exact ts g = refl
 pub append-exact : (ts us : List Tag) (g : Request)
     → some_contains (tags (ts ++ us)) g ≡ (some_contains (tags ts) g || some_contains (tags us) g)
 append-exact [] us g = refl
-append-exact (t ∷ ts) us g = ap (λ b. contains t g || b) (append-exact ts us g)
-    ∙ sym (or_assoc (contains t g) (some_contains (tags ts) g) (some_contains (tags us) g))
+append-exact (t ∷ ts) us g = search (rules, append-exact ts us g, or_assoc)
 
 row-exact : (f : Tag → Tag) (t : Bool) (g : Request) (bs : Tags)
     → ((b : Tag) → is_set_or_star b ≡ false → is_normal b ≡ true → contains (f b) g ≡ (t && contains b g))
@@ -192,11 +186,9 @@ set_across-exact : (ms : Tags) (f : Tags → List Tag) (b : Tag) (g : Request) �
     → ((bs : Tags) → each_normal is_set_or_star bs ≡ true → some_contains (tags (f bs)) g ≡ (some_contains ms g && some_contains bs g))
     → contains (set_across ms f b) g ≡ (some_contains ms g && contains b g)
 set_across-exact ms f star g n e = sym (and-true _)
-set_across-exact ms f (list head us) g n e =
-    gather-exact (f (more (list head us) none)) g ∙ e (more (list head us) none) (and-true _ ∙ n) ∙ ap (λ b. some_contains ms g && b) (or-false _)
+set_across-exact ms f (list head us) g n e = search (rules, gather-exact, and-true, or-false)
 set_across-exact ms f (set bs) g n e = gather-exact (f bs) g ∙ e bs ((and_parts _ _ n).1)
-set_across-exact ms f b g n e =
-    gather-exact (f (more b none)) g ∙ e (more b none) refl ∙ ap (λ b. some_contains ms g && b) (or-false _)
+set_across-exact ms f b g n e = search (rules, gather-exact, or-false)
 
 -- ---- lists
 

@@ -9,7 +9,7 @@ use Rattle.sexpr_core.specs.Value as value
 use Rattle.sexpr_core.specs.Value.{Value, Values, plain, members}
 use Rattle.spki_tag.specs.declared.fault.TagFault.{TagFault}
 use Rattle.spki_tag.specs.declared.fault.TagFault.TheVariants as faults
-use Rattle.spki_tag.specs.FirstFault.{first_fault, unless}
+use Rattle.spki_tag.specs.FirstFault.{first_fault}
 use Rattle.spki_tag.specs.FaultOf.{tags_in, tags_in_all, own_fault, star_fault, range_fault, limits_fault, looks}
 use Rattle.spki_tag.specs.Request.{IsHead}
 use Rattle.spki_tag.specs.Tag.{Tag, Tags, Limit, Ordering, alpha, range, list, set, none, more, IsTag, AreTags, tag_value, tag_values, ordering_name, low_values, up_values, nodes, nodes_all}
@@ -53,8 +53,7 @@ look-own n v vs fault h e = search (rules, below)
 
 pub look-full : (n : ℕ) (v : Value) (vs : List Value) → most_read ≤ n
     → first_fault (looks n (v ∷ vs)) ≡ Some faults.TooManyNodes
-look-full n v vs h =
-    ap (λ b. first_fault (unless b faults.TooManyNodes ∷ own_fault v ∷ looks (n + 1) vs)) (not_below n h)
+look-full n v vs h = search (rules, not_below)
 
 pub looks-fine : (n : ℕ) (vs : List Value) → n + length vs ≤ most_read → AllByRecursion IsFine vs
     → first_fault (looks n vs) ≡ None
@@ -120,9 +119,7 @@ one-part Q v us vs e h = rw e h
 mutual
   pub tag-fine : (w : Tag) → IsTag w → AllByRecursion IsFine (tags_in (tag_value w))
   tag-fine (range o low up) h = (range-fine o low up, tt)
-  tag-fine (list head further) h =
-      one-part IsFine (plain head) _ _ (tags_in-list head (tag_values further) h.0)
-      (list-fine head (tag_values further) h.0, (refl, tags-fine further h.1))
+  tag-fine (list head further) h = search (rules, one-part, tags_in-list, list-fine, tags-fine further h.1)
   tag-fine (set members) h = (refl, tags-fine members h)
   tag-fine w h = (refl, tt)
 
@@ -134,8 +131,7 @@ mutual
 mutual
   -- there are as many tags in a written tag as nodes
   pub tags-count : (w : Tag) → IsTag w → length (tags_in (tag_value w)) ≡ nodes w
-  tags-count (list head further) h =
-      omega (arith, ap (λ (us : List Value). length us) (tags_in-list head (tag_values further) h.0), tags-count_all further h.1)
+  tags-count (list head further) h = search (rules, tags_in-list, tags-count_all further h.1)
   tags-count (set ws) h = omega (arith, tags-count_all ws h)
   tags-count w h = refl
 
@@ -146,11 +142,8 @@ mutual
 
 -- tags of few enough nodes
 pub tag-past : (n : ℕ) (w : Tag) → IsTag w → n + nodes w ≤ most_read → first_fault (looks n (tags_in (tag_value w))) ≡ None
-tag-past n w h few =
-    looks-fine n (tags_in (tag_value w)) (omega (arith, tags-count w h)) (tag-fine w h)
+tag-past n w h few = search (rules, looks-fine, tags-count, tag-fine)
 
 pub tags-past : (n : ℕ) (ws : Tags) → AreTags ws → n + nodes_all ws ≤ most_read
     → first_fault (looks n (tags_in_all (tag_values ws))) ≡ None
-tags-past n ws h few =
-    looks-fine n (tags_in_all (tag_values ws)) (omega (arith, tags-count_all ws h))
-    (tags-fine ws h)
+tags-past n ws h few = search (rules, looks-fine, tags-count_all, tags-fine)

@@ -1,5 +1,5 @@
 -- A value without a fault is one that is written as a tag, or as a request.
-use Rattle.std.proofs.Common.{◌≡◌, ℕ, ◌+◌, ◌≤◌, ◌<◌, Bool, true, false, not, ◌↔◌, List, [], ◌∷◌, ◌++◌, map, length, Option, Some, None, Result, Ok, Err, inl, inr, refl, sym, ap, ◌∙◌, subst, arith, nat_lt, true≢false}
+use Rattle.std.proofs.Common.{◌≡◌, ℕ, ◌+◌, ◌≤◌, ◌<◌, Bool, true, false, not, ◌↔◌, List, [], ◌∷◌, ◌++◌, map, length, Option, Some, None, Result, Ok, Err, inl, inr, refl, sym, ap, ◌∙◌, subst, arith, nat_lt, true≢false, rules}
 use Rattle.std.specs.Prelude.{codes, if◌then◌else◌, slice_index, IfErr}
 use Rattle.std.specs.List.{AllByRecursion}
 use Rattle.std.specs.Str.{bytes_eq}
@@ -169,15 +169,11 @@ mutual
 
 pub tag_none : (v : Value) → tag_fault v ≡ None → (w : Tag) × IsTag w × (tag_value w ≡ v) × (nodes w ≤ 1024)
 unfolding tag_fault
-tag_none v e =
-    let p = looks-none 0 (tags_in v) (omega arith) e in
-    let t = tag-of v p.0 in
-    (t.0, t.1, t.2, omega (arith, p.1, ap (λ (u : Value). length (tags_in u)) t.2, tags-count t.0 t.1))
+tag_none v e = search (rules, looks-none, tag-of, tags-count)
 
 pub tag_some : (v : Value) → ((w : Tag) × IsTag w × (tag_value w ≡ v) × (nodes w ≤ 1024)) → tag_fault v ≡ None
 unfolding tag_fault
-tag_some v t =
-    subst (λ (u : Value). first_fault (looks 0 (tags_in u)) ≡ None) t.2 (tag-past 0 t.0 t.1 (omega (arith, t.3)))
+tag_some v t = search (rules, tag-past)
 
 pub tag_none_exactly : (v : Value) → (tag_fault v ≡ None) ↔ ((w : Tag) × IsTag w × (tag_value w ≡ v) × (nodes w ≤ 1024))
 tag_none_exactly v = (tag_none v, tag_some v)

@@ -7,7 +7,7 @@ use Rattle.std.proofs.Math.Bool.{and-false, or-false, or-true}
 use Rattle.std.proofs.lemmas.Bool.{and_parts, or_parts}
 use Rattle.spki_tag.specs.Request as request
 use Rattle.spki_tag.specs.Request.{Request, IsHead}
-use Rattle.spki_tag.specs.Tag.{Tag, Tags, tags, star, list, set, none, more, IsTag, AreTags, contains, some_contains, nodes, nodes_all, is_star, is_nothing, is_set_or_star, is_none_or_many, is_normal, each_normal, most_nodes, IsNormalTag}
+use Rattle.spki_tag.specs.Tag.{Tag, Tags, tags, star, list, set, none, more, IsTag, AreTags, contains, some_contains, nodes, nodes_all, is_star, is_nothing, is_set_or_star, is_normal, each_normal, most_nodes, IsNormalTag}
 use Rattle.spki_tag.specs.Meet.{items, gather, nothing, has_nothing, listed}
 use Rattle.spki_tag.specs.NormalForm.{IsNormalOf, AreNormal}
 use Rattle.spki_tag.specs.Normal.{spread, set_of}
@@ -71,14 +71,12 @@ items-members (more t ts) h k = (
 )
 
 in_place-members : (t : Tag) → IsTag t → is_normal t ≡ true → AreMembers (in_place t)
-in_place-members (set ts) h k =
-    items-members ts h (and_parts (is_none_or_many ts) (each_normal is_set_or_star ts) k).1
+in_place-members (set ts) h k = search (rules, items-members, and_parts)
 in_place-members t h k = ((h, refl, k), tt)
 
 spread-members : (ts : List Tag) → AreNormal ts → AreMembers (spread ts)
 spread-members [] h = tt
-spread-members (t ∷ ts) h =
-    AreMembers-append (in_place t) (spread ts) (in_place-members t h.0 h.1) (spread-members ts h.2)
+spread-members (t ∷ ts) h = search (rules, AreMembers-append, in_place-members, spread-members ts h.2)
 
 -- when none is left, all are put in their place
 pub spread-all : (front rest ts : List Tag) (n : ℕ) → front ++ spread rest ≡ spread ts → n ≡ length rest → n ≡ 0
@@ -94,8 +92,7 @@ star-all t g h = absurd (true≢false (sym h))
 
 star_among : (ts : List Tag) (g : Request) → list_any is_star ts ≡ true → some_contains (tags ts) g ≡ true
 star_among [] g h = absurd (true≢false (sym h))
-star_among (t ∷ ts) g h =
-    some_too (is_star t) (list_any is_star ts) (contains t g) (some_contains (tags ts) g) (star-all t g) (star_among ts g) h
+star_among (t ∷ ts) g h = search (rules, some_too, star-all, star_among ts g)
 
 -- a set with a member (*)
 pub star_of_set : (ts : List Tag) → list_any is_star (spread ts) ≡ true → IsNormalOf (set (tags ts)) star

@@ -1,12 +1,11 @@
 -- What two tags in normal form leave together is in normal form.
 use Rattle.std.proofs.Common.{◌≡◌, ℕ, Bool, true, false, ◌&&◌, ◌||◌, not, List, [], ◌∷◌, ◌++◌, Option, Some, None, refl, sym, true≢false, rules}
 use Rattle.std.specs.Prelude.{if◌then◌else◌}
-use Rattle.std.specs.Str.{bytes_eq}
 use Rattle.std.proofs.lemmas.Bool.{and_parts, and_from, or_parts}
 use Rattle.spki_tag.specs.Request as request
-use Rattle.spki_tag.specs.Tag.{Tag, Tags, tags, Limit, Ordering, alpha, star, string, prefix, range, list, set, none, more, contains, is_nothing, is_set_or_star, is_normal, each_normal, is_none_or_many}
+use Rattle.spki_tag.specs.Tag.{Tag, Tags, tags, Limit, Ordering, star, string, prefix, range, list, set, none, more, contains, is_nothing, is_set_or_star, is_normal, each_normal, is_none_or_many}
 use Rattle.spki_tag.proofs.Exact.{three_parts, all_three}
-use Rattle.spki_tag.specs.Meet.{greater_low, lesser_up, exclude, ordering_meet, nothing, ranged, least_above, strict_limit, from, string_meet, range_meet, prefix_meet, items, kept, row, gather, has_nothing, listed, list_meet, across, set_across, meet, each_meet, pairs}
+use Rattle.spki_tag.specs.Meet.{greater_low, lesser_up, exclude, ordering_meet, nothing, ranged, string_meet, range_meet, prefix_meet, items, kept, row, gather, has_nothing, listed, list_meet, across, set_across, meet, each_meet, pairs}
 
 -- (* set), or neither a set nor a star; and in normal form
 abbrev fits : Tag → Bool
@@ -28,16 +27,14 @@ string-fits s b = if_fits (contains b (request.string s)) (string s) nothing ref
 
 range-fits : (o : Ordering) (l u : Option Limit) (b : Tag) → fits (range_meet o l u b) ≡ true
 range-fits o l u (string s) = string-fits s (range o l u)
-range-fits o l u (prefix p) =
-    ranged-fits (ordering_meet o alpha) (greater_low l (from p)) (lesser_up u (strict_limit (least_above p)))
+range-fits o l u (prefix p) = search (rules, ranged-fits)
 range-fits o l u (range p m v) = ranged-fits (ordering_meet o p) (greater_low l m) (lesser_up u v)
 range-fits o l u b = refl
 
 prefix-fits : (p : List ℕ) (b : Tag) → fits (prefix_meet p b) ≡ true
 prefix-fits p (string s) = string-fits s (prefix p)
 prefix-fits p (prefix q) = search (rules, if_fits)
-prefix-fits p (range o l u) =
-    ranged-fits (ordering_meet alpha o) (greater_low (from p) l) (lesser_up (strict_limit (least_above p)) u)
+prefix-fits p (range o l u) = search (rules, ranged-fits)
 prefix-fits p b = refl
 
 -- ---- sets
@@ -93,8 +90,7 @@ listed-fits head ts h = by (has_nothing ts) refl
 list-fits : (head : List ℕ) (f : Tags → List Tag) (b : Tag) → is_normal b ≡ true
     → ((us : Tags) → each_normal is_nothing us ≡ true → each_normal never (tags (f us)) ≡ true)
     → fits (list_meet head f b) ≡ true
-list-fits head f (list other us) n e =
-    if_fits (bytes_eq head other) (listed head (f us)) nothing (listed-fits head (f us) (e us n)) refl
+list-fits head f (list other us) n e = search (rules, if_fits, listed-fits)
 list-fits head f b n e = refl
 
 items-normal : (ts : Tags) → each_normal is_nothing ts ≡ true → each_normal never (tags (items ts)) ≡ true
@@ -114,8 +110,7 @@ across-fits a f b n e = e
 across-normal : (a : Tag) (f : Tag → Tag) (b : Tag) → is_normal a ≡ true → is_normal b ≡ true
     → ((b : Tag) → is_normal b ≡ true → fits (f b) ≡ true) → is_normal (across a f b) ≡ true
 across-normal a f star m n e = m
-across-normal a f (set bs) m n e =
-    gather-normal (row f bs) (row-normal f bs (λ b p q. e b q) (and_parts (is_none_or_many bs) (each_normal is_set_or_star bs) n).1)
+across-normal a f (set bs) m n e = search (rules, gather-normal, row-normal, and_parts)
 across-normal a f b m n e = (and_parts (is_nothing (f b) || not (is_set_or_star (f b))) (is_normal (f b)) (e b n)).1
 
 set_across-normal : (ms : Tags) (f : Tags → List Tag) (b : Tag) → is_normal (set ms) ≡ true → is_normal b ≡ true
@@ -123,8 +118,7 @@ set_across-normal : (ms : Tags) (f : Tags → List Tag) (b : Tag) → is_normal 
     → is_normal (set_across ms f b) ≡ true
 set_across-normal ms f star m n e = m
 set_across-normal ms f (list head us) m n e = search (rules, gather-normal, and_from)
-set_across-normal ms f (set bs) m n e =
-    gather-normal (f bs) (e bs (and_parts (is_none_or_many bs) (each_normal is_set_or_star bs) n).1)
+set_across-normal ms f (set bs) m n e = search (rules, gather-normal, and_parts)
 set_across-normal ms f b m n e = gather-normal (f (more b none)) (e (more b none) refl)
 
 mutual

@@ -5,7 +5,7 @@ use Rattle.std.proofs.Math.Seq.{drop-cons}
 use Rattle.std.proofs.lemmas.List.{append-nil}
 use Rattle.std.proofs.lemmas.Bool.{and_parts, or_from, or_right}
 use Rattle.spki_tag.specs.Tag.{Tag, Tags, tags, star, string, prefix, range, list, set, none, more, IsNormalTag, is_star, is_set, is_nothing, is_set_or_star, is_normal, each_normal, is_none_or_many, nodes, nodes_all, most_nodes}
-use Rattle.spki_tag.specs.Meet.{nothing, string_meet, prefix_meet, range_meet, row, gather, has_nothing, list_meet, across, meet, each_meet, pairs}
+use Rattle.spki_tag.specs.Meet.{nothing, row, gather, has_nothing, across, meet, each_meet, pairs}
 use Rattle.spki_tag.specs.Index.{members}
 use Rattle.spki_tag.proofs.Exact.{three_parts, tags-items, items-tags}
 use Rattle.spki_tag.proofs.NormalTag.{meet-normal_tag}
@@ -44,14 +44,10 @@ one_row f g bs e n = search (rules, row-same f g bs e (and_parts (is_none_or_man
 pub meet-by_members : (a b : Tag) → is_star a ≡ false → is_star b ≡ false → (is_set a || is_set b) ≡ true
     → is_normal b ≡ true → gather (pairs (members_of a) (members_of b)) ≡ meet a b
 meet-by_members star b h k j n = absurd (true≢false h)
-meet-by_members (string s) (set us) h k j n =
-    sym (one_row (string_meet s) (meet (string s)) us (across-same (string s) (string_meet s)) n)
-meet-by_members (prefix s) (set us) h k j n =
-    sym (one_row (prefix_meet s) (meet (prefix s)) us (across-same (prefix s) (prefix_meet s)) n)
-meet-by_members (range o l u) (set us) h k j n =
-    sym (one_row (range_meet o l u) (meet (range o l u)) us (across-same (range o l u) (range_meet o l u)) n)
-meet-by_members (list head ts) (set us) h k j n =
-    sym (one_row (list_meet head (each_meet ts)) (meet (list head ts)) us (across-same (list head ts) (list_meet head (each_meet ts))) n)
+meet-by_members (string s) (set us) h k j n = search (rules, one_row, across-same)
+meet-by_members (prefix s) (set us) h k j n = search (rules, one_row, across-same)
+meet-by_members (range o l u) (set us) h k j n = search (rules, one_row, across-same)
+meet-by_members (list head ts) (set us) h k j n = search (rules, one_row, across-same)
 meet-by_members a star h k j n = absurd (true≢false k)
 meet-by_members (set ms) b h k j n = refl
 meet-by_members a b h k j n = absurd (true≢false (sym j))

@@ -1,8 +1,8 @@
 -- The members of a tag one after the other, as loops visit them.
-use Rattle.std.proofs.Common.{◌≡◌, ℕ, zero, suc, ◌≤◌, ◌<◌, false, List, [], ◌∷◌, length, get_or, refl, ap, ◌∙◌, arith, ◌&&◌}
+use Rattle.std.proofs.Common.{◌≡◌, ℕ, zero, suc, ◌≤◌, ◌<◌, false, List, [], ◌∷◌, length, get_or, refl, arith, rules}
 use Rattle.std.proofs.Math.Bool.{and-false}
 use Rattle.spki_tag.specs.Request.{Request, requests}
-use Rattle.spki_tag.specs.Tag.{Tag, tags, contains, contain_each, nodes, nodes_all}
+use Rattle.spki_tag.specs.Tag.{Tag, tags, contain_each, nodes, nodes_all}
 
 -- a member has no more nodes than all of them
 pub nodes_le-nodes_all : (ts : List Tag) (i : ℕ) (d : Tag) → i < length ts
@@ -21,5 +21,4 @@ pub contain_each-too_few : (ts : List Tag) (gs : List Request) → length gs < l
     → contain_each (tags ts) (requests gs) ≡ false
 contain_each-too_few [] gs h = absurd (omega arith)
 contain_each-too_few (t ∷ ts) [] h = refl
-contain_each-too_few (t ∷ ts) (g ∷ gs) h =
-    ap (λ b. contains t g && b) (contain_each-too_few ts gs (omega arith)) ∙ and-false (contains t g)
+contain_each-too_few (t ∷ ts) (g ∷ gs) h = search (rules, contain_each-too_few ts gs (omega arith), and-false)

@@ -2,7 +2,6 @@
 use Rattle.std.proofs.Common.{◌≡◌, ℕ, ◌<◌, ◌≤◌, List, [], ◌∷◌, ◌++◌, length, take, drop, refl, sym, ap, ◌∙◌, arith, ◌-◌, append-nil, append_assoc, length-drop, ◌⊎◌, inl, inr, rules}
 use Rattle.std.proofs.lemmas.Bool.{lt-ltb, le-ltb}
 use Rattle.std.proofs.lemmas.List.{take_all, drop_all}
-use Rattle.std.specs.Prelude.{if◌then◌else◌}
 use Rattle.spki_tag.specs.Merged.{merge}
 
 -- the first of a list, if there is one, is above a number
@@ -12,13 +11,11 @@ StartsAbove n (x ∷ xs) = n < x
 
 pub merge-left : (n : ℕ) (xs ys : List ℕ) → StartsAbove n ys → merge (n ∷ xs) ys ≡ n ∷ merge xs ys
 merge-left n xs [] h = refl
-merge-left n xs (y ∷ ys) h =
-    ap (λ b. if b then n ∷ merge xs (y ∷ ys) else y ∷ merge (n ∷ xs) ys) (lt-ltb n y h)
+merge-left n xs (y ∷ ys) h = search (rules, lt-ltb)
 
 pub merge-right : (n : ℕ) (xs ys : List ℕ) → StartsAbove n xs → merge xs (n ∷ ys) ≡ n ∷ merge xs ys
 merge-right n [] ys h = refl
-merge-right n (x ∷ xs) ys h =
-    ap (λ b. if b then x ∷ merge xs (n ∷ ys) else n ∷ merge (x ∷ xs) ys) (le-ltb x n (omega arith))
+merge-right n (x ∷ xs) ys h = search (rules, le-ltb)
 
 -- ---- joining, step by step
 

@@ -122,13 +122,11 @@ star-hinted vs v ws e h = ap star_fault (e ∙ ap (λ (x : Value). x ∷ ws) h.2
 
 pub head-list : (v : Value) (us : List Value) → group us ≡ v → (vs : List Value)
     → (list_fault (v ∷ vs) ≡ Some faults.ListHead) × (group_fault (v ∷ vs) ≡ Some faults.ListHead)
-head-list v us e vs =
-    (ap (λ (x : Value). list_fault (x ∷ vs)) (sym e), ap (λ (x : Value). group_fault (x ∷ vs)) (sym e))
+head-list v us e vs = search rules
 
 pub head-hinted : (v : Value) → IsHinted v → (vs : List Value)
     → (list_fault (v ∷ vs) ≡ Some faults.Hint) × (group_fault (v ∷ vs) ≡ Some faults.Hint)
-head-hinted v h vs =
-    (ap (λ (x : Value). list_fault (x ∷ vs)) h.2, ap (λ (x : Value). group_fault (x ∷ vs)) h.2)
+head-hinted v h vs = search rules
 
 -- ---- prefixes
 

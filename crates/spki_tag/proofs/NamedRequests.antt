@@ -55,9 +55,7 @@ group-fine head vs h = ap (λ b. unless (not b) faults.StarInRequest) (head-apar
 pub group-members : (head : List ℕ) (vs : List Value) (fault : TagFault) → IsHead head
     → IsNamed fault (fault_of_requests vs) → IsNamed fault (request_fault (group (plain head ∷ vs)))
 unfolding request_fault fault_of_requests
-group-members head vs fault h =
-    named-by fault (first_fault (map part_fault (value.nodes_all (values vs)))) _
-    (λ e. found-past (group (plain head ∷ vs)) (plain head ∷ value.nodes_all (values vs)) (group-fine head (values vs) h) ∙ e)
+group-members head vs fault h = search (rules, named-by, found-past, group-fine)
 
 -- ---- nothing is wrong with a request that is written
 
@@ -108,9 +106,7 @@ so_far-named fault vs left further gs v so_far e =
 
 pub request-faultless : (v : Value) (g : Request) → IsRequest g → request_value g ≡ v → request_fault v ≡ None
 unfolding request_fault
-request-faultless v g h e =
-    subst (λ (u : Value). first_fault (map part_fault (value.nodes u)) ≡ None) e
-    (parts-fine (value.nodes (request_value g)) (request-fine g h))
+request-faultless v g h e = search (rules, parts-fine, request-fine)
 
 pub result-faultless : (r : Result Request TagFault) (v : Value) → IfOk r (λ g. IsRequest g)
     → IfOk r (λ g. request_value g ≡ v) → IfOk r (λ g. request_fault v ≡ None)

@@ -1,13 +1,12 @@
 -- The normal form of a written tag is in normal form, and contains the same requests.
-use Rattle.std.proofs.Common.{◌≡◌, ℕ, ◌≤◌, ◌&&◌, ◌||◌, List, [], ◌∷◌, ◌++◌, refl, sym, ap, ◌∙◌, arith, rules}
+use Rattle.std.proofs.Common.{◌≡◌, ℕ, ◌≤◌, ◌&&◌, ◌||◌, List, [], ◌∷◌, ◌++◌, refl, ap, ◌∙◌, arith, rules}
 use Rattle.std.specs.Str.{bytes_eq}
 use Rattle.sexpr_core.specs.Value.{Value}
 use Rattle.spki_tag.specs.Request as request
 use Rattle.spki_tag.specs.Request.{Request, Requests}
 use Rattle.spki_tag.specs.Tag.{Tag, Tags, tags, list, set, none, more, IsTag, AreTags, contains, contain_each, some_contains, nodes_all}
-use Rattle.spki_tag.specs.Meet.{listed}
 use Rattle.spki_tag.specs.NormalForm.{IsNormalOf, AreNormal}
-use Rattle.spki_tag.specs.Normal.{spread, set_of, normal, normals}
+use Rattle.spki_tag.specs.Normal.{normal, normals}
 use Rattle.spki_tag.specs.Read.{ReadsAs}
 use Rattle.spki_tag.proofs.Gathered.{set_of-normal, listed-normal}
 use Rattle.spki_tag.proofs.OneTag.{tag_only}
@@ -65,14 +64,8 @@ list-of head ws ts t h k = record {
 
 mutual
   pub normal-of : (w : Tag) → IsTag w → IsNormalOf w (normal w)
-  normal-of (list head ws) h =
-      let each = normals-of ws h.1 in
-      list-of head ws (normals ws) (listed head (normals ws)) each
-      (listed-normal head (normals ws) h.0 (AreNormal-of ws (normals ws) each))
-  normal-of (set ws) h =
-      let each = normals-of ws h in
-      set-of ws (normals ws) (set_of (spread (normals ws))) each
-      (set_of-normal (normals ws) (AreNormal-of ws (normals ws) each))
+  normal-of (list head ws) h = search (rules, normals-of ws h.1, list-of, listed-normal, AreNormal-of)
+  normal-of (set ws) h = search (rules, normals-of ws h, set-of, set_of-normal, AreNormal-of)
   normal-of w h = record { written = h; normal = refl; same = λ g. refl; no_more = omega arith }
 
   pub normals-of : (ws : Tags) → AreTags ws → AreNormalOf ws (normals ws)
@@ -88,5 +81,4 @@ normals-push (u ∷ ws) w = ap (λ (ts : List Tag). normal u ∷ ts) (normals-pu
 
 -- a value is read as one tag
 pub reading-one : (v : Value) (t u : Tag) → ReadsAs v t → ReadsAs v u → t ≡ u
-reading-one v t u r s =
-    r.value ∙ ap normal (tag_only s.w r.w s.written r.written (r.spelled ∙ sym s.spelled)) ∙ sym s.value
+reading-one v t u r s = search (rules, tag_only)

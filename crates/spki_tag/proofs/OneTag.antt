@@ -71,17 +71,12 @@ mutual
   tag_only star star h k e = refl
   tag_only (string octets) (string s) h k e = ap string cc
   tag_only (prefix octets) (prefix s) h k e = ap prefix cc
-  tag_only (prefix octets) (range ordering low up) h k e =
-      absurd (apart (codes "range") (codes "prefix") refl (word_only _ _ _ _ e))
+  tag_only (prefix octets) (range ordering low up) h k e = search (rules, apart, word_only)
   tag_only (prefix octets) (set ws) h k e = absurd (apart (codes "set") (codes "prefix") refl (word_only _ _ _ _ e))
   tag_only (range o l u) (prefix s) h k e = absurd (apart (codes "prefix") (codes "range") refl (word_only _ _ _ _ e))
-  tag_only (range o l u) (range ordering low up) h k e =
-      same_range ordering o low up l u (ordering_only ordering o cc) (limits_only low up l u cc)
+  tag_only (range o l u) (range ordering low up) h k e = search (rules, same_range, ordering_only, limits_only)
   tag_only (range o l u) (set ws) h k e = absurd (apart (codes "set") (codes "range") refl (word_only _ _ _ _ e))
-  tag_only (list other ts) (list head ws) h k e =
-      let a : head ≡ other = cc in
-      let b : ws ≡ ts = tags_only ts ws h.1 k.1 cc in
-      cc
+  tag_only (list other ts) (list head ws) h k e = search (rules, tags_only ts ws h.1 k.1 cc)
   tag_only (set ts) (prefix s) h k e = absurd (apart (codes "prefix") (codes "set") refl (word_only _ _ _ _ e))
   tag_only (set ts) (range ordering low up) h k e = absurd (apart (codes "range") (codes "set") refl (word_only _ _ _ _ e))
   tag_only (set ts) (set ws) h k e = ap set (tags_only ts ws h k cc)

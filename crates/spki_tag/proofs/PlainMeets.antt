@@ -5,8 +5,8 @@ use Rattle.std.specs.List.{AllByRecursion}
 use Rattle.std.specs.Str.{bytes_eq}
 use Rattle.std.proofs.lemmas.Bool.{or_from}
 use Rattle.spki_tag.specs.Request as request
-use Rattle.spki_tag.specs.Tag.{Tag, Tags, tags, Limit, Ordering, alpha, star, string, prefix, range, list, set, none, more, contains, nodes, nodes_all, nests_set, some_nests_set, is_nothing}
-use Rattle.spki_tag.specs.Meet.{greater_low, lesser_up, exclude, ordering_meet, nothing, ranged, least_above, strict_limit, from, string_meet, range_meet, prefix_meet, items, has_nothing, listed, list_meet, across, meet, each_meet}
+use Rattle.spki_tag.specs.Tag.{Tag, Tags, tags, Limit, Ordering, star, string, prefix, range, list, set, none, more, contains, nodes, nodes_all, nests_set, some_nests_set, is_nothing}
+use Rattle.spki_tag.specs.Meet.{greater_low, lesser_up, exclude, ordering_meet, nothing, ranged, string_meet, range_meet, prefix_meet, items, has_nothing, listed, list_meet, across, meet, each_meet}
 use Rattle.spki_tag.proofs.Bounds.{nodes-some, string-one, range-one, prefix-one}
 use Rattle.spki_tag.proofs.Exact.{tags-items}
 
@@ -38,16 +38,14 @@ ranged_plain (Some o) l u = if_plain (exclude l u) nothing (range o l u) (inr re
 
 range_plain : (o : Ordering) (l u : Option Limit) (b : Tag) → IsPlain (range_meet o l u b)
 range_plain o l u (string s) = string_plain s (range o l u)
-range_plain o l u (prefix p) =
-    ranged_plain (ordering_meet o alpha) (greater_low l (from p)) (lesser_up u (strict_limit (least_above p)))
+range_plain o l u (prefix p) = search (rules, ranged_plain)
 range_plain o l u (range p m v) = ranged_plain (ordering_meet o p) (greater_low l m) (lesser_up u v)
 range_plain o l u b = inr refl
 
 prefix_plain : (p : List ℕ) (b : Tag) → IsPlain (prefix_meet p b)
 prefix_plain p (string s) = string_plain s (prefix p)
 prefix_plain p (prefix q) = search (rules, if_plain)
-prefix_plain p (range o l u) =
-    ranged_plain (ordering_meet alpha o) (greater_low (from p) l) (lesser_up (strict_limit (least_above p)) u)
+prefix_plain p (range o l u) = search (rules, ranged_plain)
 prefix_plain p b = inr refl
 
 -- ---- lists
@@ -113,13 +111,9 @@ one_plain t c h e = record { plain = h; few = omega (arith, e) }
 mutual
   two_plain : (a b : Tag) → nests_set a ≡ false → nests_set b ≡ false → IsPlainWithin (nodes a + nodes b) (meet a b)
   two_plain star b p q = record { plain = inl q; few = omega arith }
-  two_plain (string s) b p q =
-      across_plain (string s) (string_meet s) b refl (λ c r. one_plain (string_meet s c) c (string_plain s c) (string-one s c)) q
-  two_plain (prefix s) b p q =
-      across_plain (prefix s) (prefix_meet s) b refl (λ c r. one_plain (prefix_meet s c) c (prefix_plain s c) (prefix-one s c)) q
-  two_plain (range o l u) b p q =
-      across_plain (range o l u) (range_meet o l u) b refl
-      (λ c r. one_plain (range_meet o l u c) c (range_plain o l u c) (range-one o l u c)) q
+  two_plain (string s) b p q = search (rules, across_plain, one_plain, string_plain, string-one)
+  two_plain (prefix s) b p q = search (rules, across_plain, one_plain, prefix_plain, prefix-one)
+  two_plain (range o l u) b p q = search (rules, across_plain, one_plain, range_plain, range-one)
   two_plain (list head ts) b p q =
       across_plain (list head ts) (list_meet head (each_meet ts)) b p
       (λ c r. list_plain head (nodes_all ts) (each_meet ts) c (λ us k. each_plain ts us p k) r) q

@@ -1,5 +1,5 @@
 -- Which requests are written as a value.
-use Rattle.std.proofs.Common.{◌≡◌, ℕ, List, [], ◌∷◌, ◌++◌, map, refl, ap, ◌∙◌, append_assoc, ◌≤◌, rules}
+use Rattle.std.proofs.Common.{◌≡◌, ℕ, List, [], ◌∷◌, ◌++◌, map, refl, ap, append_assoc, ◌≤◌, rules}
 use Rattle.std.proofs.lemmas.List.{map_push}
 use Rattle.sexpr_core.specs.Value as value
 use Rattle.sexpr_core.specs.Value.{Value, plain, values, group}
@@ -12,10 +12,7 @@ use Rattle.spki_tag.proofs.Weight.{weight, weights, weight_le-weights}
 mutual
   pub request_only : (g h : Request) → request_value h ≡ request_value g → h ≡ g
   request_only (string octets) (string s) e = ap string cc
-  request_only (list head gs) (list other hs) e =
-      let a : other ≡ head = cc in
-      let b : hs ≡ gs = requests_only gs hs cc in
-      cc
+  request_only (list head gs) (list other hs) e = search (rules, requests_only gs hs cc)
   request_only g h e = absurd cc
 
   pub requests_only : (gs hs : Requests) → request_values hs ≡ request_values gs → hs ≡ gs
@@ -57,5 +54,4 @@ so_far_weight vs left further gs v so_far e = search (rules, weight, weights, we
 -- a list of members that were read
 pub list_is_request : (head : List ℕ) (vs : List Value) (gs : List Request) → AreReadRequests vs gs
     → request_value (list head (requests gs)) ≡ group (plain head ∷ vs)
-list_is_request head vs gs r =
-    ap (λ us. value.list (value.more (plain head) us)) (request_values-requests gs ∙ ap values r.spelled)
+list_is_request head vs gs r = search (rules, request_values-requests)

@@ -1,5 +1,5 @@
 -- What a tag leaves of those that it can have a request in common with, and of the others.
-use Rattle.std.proofs.Common.{◌≡◌, ℕ, suc, ◌+◌, ◌-◌, ◌<◌, ◌≤◌, Bool, true, false, List, [], ◌∷◌, length, refl, sym, ap, ◌∙◌, arith}
+use Rattle.std.proofs.Common.{◌≡◌, ℕ, suc, ◌+◌, ◌-◌, ◌<◌, ◌≤◌, Bool, true, false, List, [], ◌∷◌, length, refl, sym, ap, ◌∙◌, arith, rules}
 use Rattle.std.specs.Prelude.{if◌then◌else◌, slice_index_or, All}
 use Rattle.std.specs.Cmp.Lexicographic.{bytes_decides}
 use Rattle.std.specs.Str.{bytes_eq}
@@ -18,8 +18,7 @@ bytes_eq_sym xs ys = by (bytes_eq xs ys) (bytes_eq ys xs) refl refl
 
 -- tags that can have no request in common leave nothing together
 pub meet-apart : (t u : Tag) → may_share t u ≡ false → meet t u ≡ nothing
-meet-apart (string octets) (string other) e =
-    ap (λ b. if b then string octets else nothing) (bytes_eq_sym other octets ∙ e)
+meet-apart (string octets) (string other) e = search (rules, bytes_eq_sym)
 meet-apart (string octets) (list head ts) e = refl
 meet-apart (prefix p) (list head ts) e = refl
 meet-apart (range o l u) (list head ts) e = refl

@@ -1,5 +1,5 @@
 -- Which tags are written as a value.
-use Rattle.std.proofs.Common.{◌≡◌, ℕ, ◌+◌, ◌≤◌, List, [], ◌∷◌, ◌++◌, map, refl, sym, ap, ◌∙◌, subst, arith, append_assoc, rules}
+use Rattle.std.proofs.Common.{◌≡◌, ℕ, ◌+◌, ◌≤◌, List, [], ◌∷◌, ◌++◌, map, refl, sym, ap, ◌∙◌, arith, append_assoc, rules}
 use Rattle.std.specs.Prelude.{codes}
 use Rattle.std.proofs.lemmas.List.{map_push}
 use Rattle.sexpr_core.specs.Value as value
@@ -82,8 +82,7 @@ set_is_read used after vs ts t r n = record {
 }
 
 each_normal : (used after : ℕ) (vs : List Value) (ts : List Tag) (r : AreRead used vs ts after) → AreNormalOf (tags r.ws) ts
-each_normal used after vs ts r =
-    subst (AreNormalOf (tags r.ws)) (sym r.value) (normals-of (tags r.ws) r.written)
+each_normal used after vs ts r = search (rules, normals-of)
 
 -- few enough nodes for a list or a set of members that were read
 pub members_fit : (used after : ℕ) (vs : List Value) (ts : List Tag) → AreRead used vs ts after

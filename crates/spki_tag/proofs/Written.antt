@@ -3,8 +3,8 @@ use Rattle.std.proofs.Common.{ℕ, Bool, true, false, List, [], ◌∷◌, ◌++
 use Rattle.std.specs.Prelude.{if◌then◌else◌}
 use Rattle.spki_tag.specs.Request as request
 use Rattle.spki_tag.specs.Request.{IsHead}
-use Rattle.spki_tag.specs.Tag.{Tag, Tags, tags, IsTag, AreTags, Limit, Ordering, alpha, star, string, prefix, range, list, set, none, more, contains, is_nothing}
-use Rattle.spki_tag.specs.Meet.{greater_low, lesser_up, exclude, ordering_meet, nothing, ranged, least_above, strict_limit, from, string_meet, range_meet, prefix_meet, items, kept, row, gather, list_meet, across, set_across, meet, each_meet, pairs}
+use Rattle.spki_tag.specs.Tag.{Tag, Tags, tags, IsTag, AreTags, Limit, Ordering, star, string, prefix, range, list, set, none, more, contains, is_nothing}
+use Rattle.spki_tag.specs.Meet.{greater_low, lesser_up, exclude, ordering_meet, nothing, ranged, string_meet, range_meet, prefix_meet, items, kept, row, gather, list_meet, across, set_across, meet, each_meet, pairs}
 
 if_tag : (b : Bool) (t u : Tag) → IsTag t → IsTag u → IsTag (if b then t else u)
 if_tag true t u h k = h
@@ -19,16 +19,14 @@ string-tag s b = if_tag (contains b (request.string s)) (string s) nothing tt tt
 
 range-tag : (o : Ordering) (l u : Option Limit) (b : Tag) → IsTag (range_meet o l u b)
 range-tag o l u (string s) = string-tag s (range o l u)
-range-tag o l u (prefix p) =
-    ranged-tag (ordering_meet o alpha) (greater_low l (from p)) (lesser_up u (strict_limit (least_above p)))
+range-tag o l u (prefix p) = search (rules, ranged-tag)
 range-tag o l u (range p m v) = ranged-tag (ordering_meet o p) (greater_low l m) (lesser_up u v)
 range-tag o l u b = tt
 
 prefix-tag : (p : List ℕ) (b : Tag) → IsTag (prefix_meet p b)
 prefix-tag p (string s) = string-tag s (prefix p)
 prefix-tag p (prefix q) = search (rules, if_tag)
-prefix-tag p (range o l u) =
-    ranged-tag (ordering_meet alpha o) (greater_low (from p) l) (lesser_up (strict_limit (least_above p)) u)
+prefix-tag p (range o l u) = search (rules, ranged-tag)
 prefix-tag p b = tt
 
 -- ---- sets
