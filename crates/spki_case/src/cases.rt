@@ -115,15 +115,15 @@ impl<'a> Case<'a> {
         };
         let acl = match acl_of(alloc, &parts.acl) {
             Ok(acl) => acl,
-            Err(fault) => return Err(fault_of_acl(fault)),
+            Err(fault) => return Err(outer_fault(fault.kind, CaseFault::Acl(fault))),
         };
         let accepted = match table_of(alloc, parts.rows) {
             Ok(accepted) => accepted,
-            Err(fault) => return Err(fault_of_rows(fault)),
+            Err(fault) => return Err(outer_fault(fault.kind, CaseFault::Accepted(fault))),
         };
         let sequence = match sequence_of(alloc, &parts.sequence) {
             Ok(items) => items,
-            Err(fault) => return Err(fault_of_sequence(fault)),
+            Err(fault) => return Err(outer_fault(fault.kind, CaseFault::Sequence(fault))),
         };
         let key = match key_of(&parts.key) {
             Ok(key) => key,
@@ -214,33 +214,13 @@ fn fault_of_part(kind: CertFaultKind) -> CertFault
     CertFault { item: 0, kind }
 }
 
-/// The fault of a case: `Acl` with this fault, or `Memory` if memory ran out.
-fn fault_of_acl(fault: CertFault) -> CaseFault
-    ensures { IsOuter (fault.kind ≡ CertFaultKind.Memory) CaseFault.Memory (CaseFault.Acl fault) result }
+/// The fault of a part as the case's: `named`, or `Memory` if memory ran out while the part was read.
+fn outer_fault(kind: CertFaultKind, named: CaseFault) -> CaseFault
+    ensures { IsOuter (kind ≡ CertFaultKind.Memory) CaseFault.Memory named result }
 {
-    match fault.kind {
+    match kind {
         CertFaultKind::Memory => CaseFault::Memory,
-        _ => CaseFault::Acl(fault),
-    }
-}
-
-/// The fault of a case: `Accepted` with this fault, or `Memory` if memory ran out.
-fn fault_of_rows(fault: CertFault) -> CaseFault
-    ensures { IsOuter (fault.kind ≡ CertFaultKind.Memory) CaseFault.Memory (CaseFault.Accepted fault) result }
-{
-    match fault.kind {
-        CertFaultKind::Memory => CaseFault::Memory,
-        _ => CaseFault::Accepted(fault),
-    }
-}
-
-/// The fault of a case: `Sequence` with this fault, or `Memory` if memory ran out.
-fn fault_of_sequence(fault: CertFault) -> CaseFault
-    ensures { IsOuter (fault.kind ≡ CertFaultKind.Memory) CaseFault.Memory (CaseFault.Sequence fault) result }
-{
-    match fault.kind {
-        CertFaultKind::Memory => CaseFault::Memory,
-        _ => CaseFault::Sequence(fault),
+        _ => named,
     }
 }
 

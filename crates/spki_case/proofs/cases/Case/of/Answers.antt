@@ -20,36 +20,21 @@ pub returns-in-Err-clause-refused : goal.returns-in-Err-clause-refused
 returns-in-Err-clause-refused c =
     let h = c.in-Some.ensures in
     let parts : Parts = h.0 in
-    lacks c.args.node.now parts _ _ c.fault_of_acl.result h.1 c.fault_of_acl.ensures (λ known.
+    lacks c.args.node.now parts _ _ c.outer_fault.result h.1 c.outer_fault.ensures (λ known.
     let named = rw h.2.acl at (c.in-Err.ensures.named known) in
-    record {
-      found = known;
-      named = named;
-      none = acl-refused (acl_value parts) c.in-Err.fault named;
-    })
+    record { found = known; named = named; none = acl-refused (acl_value parts) c.in-Err.fault named })
 
 pub returns-in-Err-table_of-clause-refused : goal.returns-in-Err-table_of-clause-refused
-returns-in-Err-table_of-clause-refused c =
-    let h = c.in-Some.ensures in
-    let parts : Parts = h.0 in
-    let reads : ReadsAcl parts = search rules in
-    lacks c.args.node.now parts _ _ c.fault_of_rows.result h.1 c.fault_of_rows.ensures (λ known.
-    let named = rw h.2.rows at (c.in-Err-table_of.ensures.named known) in
-    record { before = reads; found = known; named = named; none = rows-refused parts.rows c.in-Err-table_of.fault named })
+returns-in-Err-table_of-clause-refused c = search (rules, lacks, rows-refused)
 
 pub returns-in-Err-sequence_of-clause-refused : goal.returns-in-Err-sequence_of-clause-refused
 returns-in-Err-sequence_of-clause-refused c =
     let h = c.in-Some.ensures in
     let parts : Parts = h.0 in
     let reads : ReadsRows parts = search rules in
-    lacks c.args.node.now parts _ _ c.fault_of_sequence.result h.1 c.fault_of_sequence.ensures (λ known.
+    lacks c.args.node.now parts _ _ c.outer_fault-in-Err-sequence_of.result h.1 c.outer_fault-in-Err-sequence_of.ensures (λ known.
     let named = rw h.2.sequence at (c.in-Err-sequence_of.ensures.named known) in
-    record {
-      before = reads;
-      found = known;
-      named = named;
-      none = sequence-refused (sequence_value parts) c.in-Err-sequence_of.fault named;
-    })
+    record { before = reads; found = known; named = named; none = sequence-refused (sequence_value parts) c.in-Err-sequence_of.fault named })
 
 pub returns-in-Err-key_of-clause-refused : goal.returns-in-Err-key_of-clause-refused
 returns-in-Err-key_of-clause-refused c =
@@ -97,5 +82,4 @@ returns-in-Err-date_of-clause-refused c =
     })
 
 pub invariant_of-result-clause-signed : goal.invariant_of-result-clause-signed
-invariant_of-result-clause-signed c =
-    rw c.digested_items-sequence.ensures (signed c.in-Some.parts.sequence c.in-Ok-sequence_of.items.items c.in-Ok-sequence_of.ensures.sequence)
+invariant_of-result-clause-signed c = search (rules, signed)
