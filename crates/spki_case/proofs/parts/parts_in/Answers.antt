@@ -1,4 +1,4 @@
-use Rattle.std.proofs.Common.{◌≡◌, ◌∷◌, [], refl}
+use Rattle.std.proofs.Common.{◌≡◌, ◌∷◌, [], refl, rules}
 use Rattle.spki_case.specs.CaseForm as spec
 use Rattle.spki_case.specs.CaseForm.{headed, part_values}
 use Rattle.spki_case.proofs.Building.{after, inside, joined}
@@ -8,33 +8,22 @@ pub returns-in_err-acl : goal.returns-in_err-acl
 returns-in_err-acl c = rw c.from_residual.ensures (λ p e. c.in_err-acl.ensures p.entries _ e)
 
 pub returns-in_err-accepted : goal.returns-in_err-accepted
-returns-in_err-accepted c = rw c.from_residual-in_err-accepted.ensures (λ p e.
-    c.in_err-accepted.ensures p.rows _ (after _ _ _ _ _ c.in_ok-acl.ensures e))
+returns-in_err-accepted c = rw c.from_residual-in_err-accepted.ensures (λ p e. search (rules, after, c.in_err-accepted.ensures p.rows))
 
 pub returns-in_err-sequence : goal.returns-in_err-sequence
-returns-in_err-sequence c = rw c.from_residual-in_err-sequence.ensures (λ p e.
-    c.in_err-sequence.ensures p.items _ (after _ _ _ _ _ c.in_ok-accepted.ensures (after _ _ _ _ _ c.in_ok-acl.ensures e)))
+returns-in_err-sequence c = rw c.from_residual-in_err-sequence.ensures (λ p e. search (rules, after, c.in_err-sequence.ensures p.items))
 
 pub returns-in_err-key : goal.returns-in_err-key
-returns-in_err-key c = rw c.from_residual-in_err-key.ensures (λ p e.
-    c.in_err-key.ensures (p.key ∷ []) _ (after _ _ _ _ _ c.in_ok-sequence.ensures
-    (after _ _ _ _ _ c.in_ok-accepted.ensures (after _ _ _ _ _ c.in_ok-acl.ensures e))))
+returns-in_err-key c = rw c.from_residual-in_err-key.ensures (λ p e. search (rules, after, c.in_err-key.ensures (p.key ∷ [])))
 
 pub returns-in_err-request : goal.returns-in_err-request
-returns-in_err-request c = rw c.from_residual-in_err-request.ensures (λ p e.
-    c.in_err-request.ensures (p.request ∷ []) _ (after _ _ _ _ _ c.in_ok-key.ensures (after _ _ _ _ _ c.in_ok-sequence.ensures
-    (after _ _ _ _ _ c.in_ok-accepted.ensures (after _ _ _ _ _ c.in_ok-acl.ensures e)))))
+returns-in_err-request c = rw c.from_residual-in_err-request.ensures (λ p e. search (rules, after, c.in_err-request.ensures (p.request ∷ [])))
 
 pub returns-in_err-at : goal.returns-in_err-at
-returns-in_err-at c = rw c.from_residual-in_err-at.ensures (λ p e.
-    c.in_err-at.ensures (p.at ∷ []) _ (after _ _ _ _ _ c.in_ok-request.ensures (after _ _ _ _ _ c.in_ok-key.ensures
-    (after _ _ _ _ _ c.in_ok-sequence.ensures (after _ _ _ _ _ c.in_ok-accepted.ensures (after _ _ _ _ _ c.in_ok-acl.ensures e))))))
+returns-in_err-at c = rw c.from_residual-in_err-at.ensures (λ p e. search (rules, after, c.in_err-at.ensures (p.at ∷ [])))
 
 pub returns-in_err-policy : goal.returns-in_err-policy
-returns-in_err-policy c = rw c.from_residual-in_err-policy.ensures (λ p e.
-    c.in_err-policy.ensures p.policy (after _ _ _ _ _ c.in_ok-at.ensures (after _ _ _ _ _ c.in_ok-request.ensures
-    (after _ _ _ _ _ c.in_ok-key.ensures (after _ _ _ _ _ c.in_ok-sequence.ensures
-    (after _ _ _ _ _ c.in_ok-accepted.ensures (after _ _ _ _ _ c.in_ok-acl.ensures e)))))))
+returns-in_err-policy c = search (rules, after)
 
 pub returns-in_err-sole : goal.returns-in_err-sole
 returns-in_err-sole c = rw c.from_residual-in_err-sole.ensures (λ p e.

@@ -1,4 +1,4 @@
-use Rattle.std.proofs.Common.{◌≡◌, ◌∷◌, ◌++◌, [], List, map, ap, sym, subst, arith, ◌∙◌, refl}
+use Rattle.std.proofs.Common.{◌≡◌, ◌∷◌, ◌++◌, [], List, map, ap, sym, subst, arith, ◌∙◌, refl, rules}
 use Rattle.std.specs.List.{AllZip}
 use Rattle.std.proofs.lemmas.List.{map-append, length-map}
 use Rattle.std.proofs.lemmas.Slice.Zip.{AllZip-long}
@@ -36,9 +36,4 @@ loop-member-preserved c =
     )
 
 pub loop-member-init : goal.loop-member-init
-loop-member-init c = (
-  [],
-  refl,
-  subst (λ (rows : List Row). AllZip RowOf [] rows) (sym (ap (map row_of) c.new-rows.ensures.items)) tt,
-  items-all row_fault c.args.members,
-)
+loop-member-init c = search (rules, items-all)

@@ -16,9 +16,7 @@ returns-in_default-split_first-clause-named c = search (rules, triple-form row-l
 
 pub returns-in_err-key-clause-named : goal.returns-in_err-key-clause-named
 unfolding row_fault
-returns-in_err-key-clause-named c =
-    carried c.from_residual.result _ (λ (kind : CertFaultKind). row_fault c.args.node.now ≡ Some kind) c.from_residual.ensures.1
-    (search (rules, triple-form row-looks))
+returns-in_err-key-clause-named c = search (rules, carried, triple-form, row-looks)
 
 pub returns-in_default-split_first-2-clause-named : goal.returns-in_default-split_first-2-clause-named
 unfolding row_fault
@@ -26,9 +24,7 @@ returns-in_default-split_first-2-clause-named c = search (rules, triple-form row
 
 pub returns-in_err-digest-clause-named : goal.returns-in_err-digest-clause-named
 unfolding row_fault
-returns-in_err-digest-clause-named c =
-    carried c.from_residual-in_err-digest.result _ (λ (kind : CertFaultKind). row_fault c.args.node.now ≡ Some kind) c.from_residual-in_err-digest.ensures.1
-    (search (rules, triple-form row-looks))
+returns-in_err-digest-clause-named c = search (rules, carried, triple-form, row-looks)
 
 pub returns-in_default-split_first-3-clause-named : goal.returns-in_default-split_first-3-clause-named
 unfolding row_fault
@@ -36,9 +32,7 @@ returns-in_default-split_first-3-clause-named c = search (rules, triple-form row
 
 pub returns-then-not-is_empty-clause-named : goal.returns-then-not-is_empty-clause-named
 unfolding row_fault
-returns-then-not-is_empty-clause-named c =
-    let some = none-some c.in-Some-split_first-3.rest Shape (λ e. absurd (let f = c.if-not-is_empty.ensures.1 e in cc)) in
-    search (rules, triple-form row-looks)
+returns-then-not-is_empty-clause-named c = search (rules, none-some, triple-form, row-looks)
 
 pub returns-clause-faultless : goal.returns-clause-faultless
 unfolding row_fault

@@ -1,4 +1,4 @@
-use Rattle.std.proofs.Common.{◌≡◌, ◌∙◌, ◌∷◌, [], ap, sym, refl, map, take, arith}
+use Rattle.std.proofs.Common.{◌≡◌, ◌∙◌, ◌∷◌, [], ap, sym, refl, map, take, arith, rules}
 use Rattle.std.specs.List.{list_any}
 use Rattle.std.proofs.lemmas.List.{take_more, take_all, map-append}
 use Rattle.std.proofs.lemmas.List.Sorted.{IsPermutation-map, list_any-IsPermutation}
@@ -21,14 +21,4 @@ loop-row-preserved c =
 
 -- the sort moves them
 pub returns : goal.returns
-returns c =
-    let rows = c.args.rows.now in
-    let old = c.loop-row.sorted.items in
-    let new = c.sort_unstable.new.self.items in
-    record {
-      same = λ test.
-          ap (λ l. list_any test (map row_of l)) (sym (take_all c.loop-row.row-index rows (omega arith)))
-          ∙ ap (list_any test) c.loop-row.invariant
-          ∙ list_any-IsPermutation test (map sorted_row old) (map sorted_row new) (IsPermutation-map sorted_row old new c.sort_unstable.ensures.permutation);
-      ordered = c.sort_unstable.ensures.sorted;
-    }
+returns c = search (rules, take_all, list_any-IsPermutation, IsPermutation-map)

@@ -2,5 +2,4 @@ use Rattle.spki_case.proofs.LackingRow.{lacks_row}
 use Rattle.spki_case.proofs.table.AcceptedTable.of.Goals as goal
 
 pub returns-in-Err-clause-refused : goal.returns-in-Err-clause-refused
-returns-in-Err-clause-refused c =
-    lacks_row c.args.node.now c.in-Some.rows c.in-Err.fault c.fault_of_row.result c.in-Some.ensures c.fault_of_row.ensures c.in-Err.ensures.named
+returns-in-Err-clause-refused c = lacks_row _ _ _ _ c.in-Some.ensures c.fault_of_row.ensures c.in-Err.ensures.named
