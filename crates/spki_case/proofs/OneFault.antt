@@ -1,5 +1,5 @@
 -- A value that is no case, or no accepted list, has one fault.
-use Rattle.std.proofs.Common.{◌≡◌, Option, Some, sym, ap, subst, ◌∙◌, inl, inr}
+use Rattle.std.proofs.Common.{◌≡◌, Option, Some, sym, ap, subst, ◌∙◌, inl, inr, rules}
 use Rattle.std.specs.Prelude.{codes}
 use Rattle.sexpr_core.specs.Value.{Value}
 use Rattle.spki_cert.specs.declared.fault.CertFault.{CertFault}
@@ -22,59 +22,21 @@ at-zero e f g = λ i. record { item = (e ∙ sym f) i; kind = g i }
 -- of two parts that are refused the earlier has a reading in what is said of the later
 one-part : (p : Parts) (f g : CaseFault) → PartRefused p f → PartRefused p g → f ≡ g
 one-part p (faults.Acl x) (faults.Acl y) a b = ap faults.Acl (some-one a.named b.named)
-one-part p (faults.Acl x) (faults.Accepted y) a b = absurd (a.none b.before.0 b.before.1)
-one-part p (faults.Acl x) (faults.Sequence y) a b = absurd (a.none b.before.0.0 b.before.0.1)
-one-part p (faults.Acl x) (faults.Key y) a b = absurd (a.none b.before.0.0.0 b.before.0.0.1)
-one-part p (faults.Acl x) (faults.Request y) a b = absurd (a.none b.before.0.0.0.0 b.before.0.0.0.1)
-one-part p (faults.Acl x) (faults.At y) a b = absurd (a.none b.before.0.0.0.0.0 b.before.0.0.0.0.1)
-one-part p (faults.Accepted x) (faults.Acl y) a b = absurd (b.none a.before.0 a.before.1)
 one-part p (faults.Accepted x) (faults.Accepted y) a b = ap faults.Accepted (some-one a.named b.named)
-one-part p (faults.Accepted x) (faults.Sequence y) a b = absurd (a.none b.before.1 b.before.2)
-one-part p (faults.Accepted x) (faults.Key y) a b = absurd (a.none b.before.0.1 b.before.0.2)
-one-part p (faults.Accepted x) (faults.Request y) a b = absurd (a.none b.before.0.0.1 b.before.0.0.2)
-one-part p (faults.Accepted x) (faults.At y) a b = absurd (a.none b.before.0.0.0.1 b.before.0.0.0.2)
-one-part p (faults.Sequence x) (faults.Acl y) a b = absurd (b.none a.before.0.0 a.before.0.1)
-one-part p (faults.Sequence x) (faults.Accepted y) a b = absurd (b.none a.before.1 a.before.2)
 one-part p (faults.Sequence x) (faults.Sequence y) a b = ap faults.Sequence (some-one a.named b.named)
-one-part p (faults.Sequence x) (faults.Key y) a b = absurd (a.none b.before.1 b.before.2)
-one-part p (faults.Sequence x) (faults.Request y) a b = absurd (a.none b.before.0.1 b.before.0.2)
-one-part p (faults.Sequence x) (faults.At y) a b = absurd (a.none b.before.0.0.1 b.before.0.0.2)
-one-part p (faults.Key x) (faults.Acl y) a b = absurd (b.none a.before.0.0.0 a.before.0.0.1)
-one-part p (faults.Key x) (faults.Accepted y) a b = absurd (b.none a.before.0.1 a.before.0.2)
-one-part p (faults.Key x) (faults.Sequence y) a b = absurd (b.none a.before.1 a.before.2)
 one-part p (faults.Key x) (faults.Key y) a b = ap faults.Key (at-zero a.outer b.outer (some-one a.named b.named))
-one-part p (faults.Key x) (faults.Request y) a b = absurd (a.none b.before.1 b.before.2)
-one-part p (faults.Key x) (faults.At y) a b = absurd (a.none b.before.0.1 b.before.0.2)
-one-part p (faults.Request x) (faults.Acl y) a b = absurd (b.none a.before.0.0.0.0 a.before.0.0.0.1)
-one-part p (faults.Request x) (faults.Accepted y) a b = absurd (b.none a.before.0.0.1 a.before.0.0.2)
-one-part p (faults.Request x) (faults.Sequence y) a b = absurd (b.none a.before.0.1 a.before.0.2)
-one-part p (faults.Request x) (faults.Key y) a b = absurd (b.none a.before.1 a.before.2)
 one-part p (faults.Request x) (faults.Request y) a b = ap faults.Request (some-one a.named b.named)
-one-part p (faults.Request x) (faults.At y) a b = absurd (a.none b.before.1 b.before.2)
-one-part p (faults.At x) (faults.Acl y) a b = absurd (b.none a.before.0.0.0.0.0 a.before.0.0.0.0.1)
-one-part p (faults.At x) (faults.Accepted y) a b = absurd (b.none a.before.0.0.0.1 a.before.0.0.0.2)
-one-part p (faults.At x) (faults.Sequence y) a b = absurd (b.none a.before.0.0.1 a.before.0.0.2)
-one-part p (faults.At x) (faults.Key y) a b = absurd (b.none a.before.0.1 a.before.0.2)
-one-part p (faults.At x) (faults.Request y) a b = absurd (b.none a.before.1 a.before.2)
 one-part p (faults.At x) (faults.At y) a b = ap faults.At (a.no_date ∙ sym b.no_date)
 one-part p faults.Shape g a b = absurd a
 one-part p faults.Memory g a b = absurd a
 one-part p (faults.Form x) g a b = absurd a
-one-part p f g a b = absurd b
+one-part p f faults.Shape a b = absurd b
+one-part p f faults.Memory a b = absurd b
+one-part p f (faults.Form y) a b = absurd b
+one-part p f g a b = absurd (search (rules, a.none, b.none))
 
 parts-same : (p q : Parts) → SameParts p q → p ≡ q
-parts-same p q same =
-    let entries = behind_head (codes "acl") p.entries q.entries same.acl in
-    let items = behind_head (codes "sequence") p.items q.items same.sequence in
-    λ i. record {
-      entries = entries i;
-      rows = same.rows i;
-      items = items i;
-      key = same.key i;
-      request = same.request i;
-      at = same.at i;
-      policy = same.policy i;
-    }
+parts-same p q same = search (rules, behind_head)
 
 pub one-fault : (v : Value) (f g : CaseFault) → ValueRefused v f → ValueRefused v g → f ≡ g
 one-fault v f g (inl a) (inl b) = a.named ∙ sym b.named

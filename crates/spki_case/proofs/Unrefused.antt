@@ -1,5 +1,5 @@
 -- A text that is a case's, or an accepted list's, is refused by no fault.
-use Rattle.std.proofs.Common.{◌≡◌, ◌≢◌, ℕ, List, [], ◌++◌, refl, sym, ap, subst, ◌∙◌, inl, inr, arith}
+use Rattle.std.proofs.Common.{◌≡◌, ◌≢◌, ℕ, List, [], ◌++◌, refl, sym, ap, subst, ◌∙◌, inl, inr, arith, rules}
 use Rattle.std.specs.Prelude.{codes}
 use Rattle.std.specs.List.{AllZip}
 use Rattle.sexpr_core.specs.declared.fault.FormFault.{FormFault}
@@ -8,12 +8,12 @@ use Rattle.sexpr_core.specs.Value.{Value, canon, IsWithinLimits}
 use Rattle.sexpr_core.specs.Refusal.{Refused}
 use Rattle.sexpr_core.proofs.Refusals.{no_refusal}
 use Rattle.sexpr_core.proofs.Texts.{canon_one}
-use Rattle.spki_cert.specs.Readings.{KeyOf, DateOf}
+use Rattle.spki_cert.specs.Readings.{KeyOf}
 use Rattle.spki_cert.specs.Entries.{AclOf}
 use Rattle.spki_cert.specs.Sequences.{SeqOf}
 use Rattle.spki_case.specs.Case.{Case, Row}
 use Rattle.spki_case.specs.Rows.{RowOf}
-use Rattle.spki_case.specs.CaseForm.{Parts, RequestOf, CaseOf, IsCaseText, PartRefused, ValueRefused, TextRefused}
+use Rattle.spki_case.specs.CaseForm.{Parts, CaseOf, IsCaseText, PartRefused, ValueRefused, TextRefused}
 use Rattle.spki_case.specs.RowsForm.{RowsOf, NoRows, IsRowsText, RowsTextRefused}
 use Rattle.spki_case.specs.declared.cases.CaseFault.{CaseFault}
 use Rattle.spki_case.specs.declared.cases.CaseFault.TheVariants as faults
@@ -42,17 +42,11 @@ one_text text v w e f = (canon_one v w [] [] (ap (λ (octets : List ℕ). octets
 no_part : (p : Parts) (c : Case) (v : Value) (fault : CaseFault) (read : CaseOf v c) → SameParts p read.parts → ¬ PartRefused p fault
 no_part p c v (faults.Acl fault) read same refused =
     refused.none c.entries (subst (λ (w : Value). AclOf w c.entries) (sym same.acl) read.acl)
-no_part p c v (faults.Accepted fault) read same refused =
-    refused.none c.rows (subst (λ (vs : List Value). AllZip RowOf vs c.rows) (sym same.rows) read.rows)
 no_part p c v (faults.Sequence fault) read same refused =
     refused.none c.items (subst (λ (w : Value). SeqOf w c.items) (sym same.sequence) read.sequence)
 no_part p c v (faults.Key fault) read same refused =
     refused.none c.key (subst (λ (w : Value). KeyOf w c.key) (sym same.key) read.key)
-no_part p c v (faults.Request fault) read same refused =
-    refused.none c.request (subst (λ (w : Value). RequestOf w c.request) (sym same.request) read.request)
-no_part p c v (faults.At fault) read same refused =
-    refused.none c.moment (subst (λ (w : Value). DateOf w c.moment) (sym same.at) read.moment)
-no_part p c v fault read same refused = refused
+no_part p c v fault read same refused = search rules
 
 no_fault : (v : Value) (c : Case) (fault : CaseFault) → CaseOf v c → ¬ ValueRefused v fault
 no_fault v c fault read (inl misbuilt) = misbuilt.none read.parts read.written
@@ -78,9 +72,4 @@ rows_unrefused text rows fault read (inr other) =
     no_row other.value rows fault (subst (λ (v : Value). RowsOf v rows) (one_text text read.value other.value read.written other.written) read.is) other.is
 
 pub one_list : (text : List ℕ) (rows others : List Row) → IsRowsText text rows → IsRowsText text others → rows ≡ others
-one_list text rows others read other =
-    let value : read.value ≡ other.value = one_text text read.value other.value read.written other.written in
-    let there : RowsOf other.value rows = subst (λ (v : Value). RowsOf v rows) value read.is in
-    let same : there.members ≡ other.is.members =
-    behind_head (codes "accepted") there.members other.is.members (sym there.written ∙ other.is.written) in
-    rows-one other.is.members rows others (subst (λ (vs : List Value). AllZip RowOf vs rows) same there.read) other.is.read
+one_list text rows others read other = search (rules, one_text, behind_head, rows-one)
