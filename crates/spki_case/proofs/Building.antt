@@ -1,5 +1,5 @@
 -- How a case is built of its parts.
-use Rattle.std.proofs.Common.{◌≡◌, ◌≢◌, ℕ, List, [], ◌∷◌, Option, Some, None, MatchOption, refl, sym, ap, ◌∙◌}
+use Rattle.std.proofs.Common.{◌≡◌, ◌≢◌, ℕ, List, [], ◌∷◌, Option, Some, None, MatchOption, refl, sym, ap, ◌∙◌, rules}
 use Rattle.std.specs.Prelude.{codes}
 use Rattle.sexpr_core.specs.Value.{Value, string, list, none, more, members, plain}
 use Rattle.sexpr_core.specs.Labels.{members-values}
@@ -34,8 +34,7 @@ after vs word p y ys part e = ap others (sym part.parts ∙ e)
 
 -- what stands in it
 pub inside : (vs : List Value) (word : List ℕ) (p : TakenPart) (inner ys : List Value) → IsPart vs word p → vs ≡ headed word inner ∷ ys → p.members ≡ inner
-inside vs word p inner ys part e =
-    behind_head word p.members inner (sym part.written ∙ ap (first_or (plain [])) (sym part.parts ∙ e))
+inside vs word p inner ys part e = search (rules, behind_head)
 
 -- a part and what stands behind it
 pub joined : (vs : List Value) (word : List ℕ) (p : TakenPart) (inner ys : List Value) → IsPart vs word p → p.members ≡ inner → p.rest ≡ ys → vs ≡ headed word inner ∷ ys
@@ -46,9 +45,7 @@ pub lifted : (v : Value) (ms : List Value) (r : Option Parts) → v ≡ headed (
     → MatchOption r ((p : spec.Parts) → ms ≢ part_values p) (λ p. (parts : spec.Parts) × ArePartsOf ms p parts)
     → MatchOption r ((p : spec.Parts) → v ≢ case_value p) (λ p. (parts : spec.Parts) × (v ≡ case_value parts) × ArePartsOf (part_values parts) p parts)
 lifted v ms None e h = λ p k. h p (behind_head (codes "case") ms (part_values p) (sym e ∙ k))
-lifted v ms (Some p) e h =
-    let a = h.1 in
-    (h.0, e ∙ ap (headed (codes "case")) a.written, record { written = refl; acl = a.acl; rows = a.rows; sequence = a.sequence; key = a.key; request = a.request; at = a.at; policy = a.policy })
+lifted v ms (Some p) e h = search rules
 
 -- ---- the policy
 

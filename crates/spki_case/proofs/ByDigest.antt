@@ -1,5 +1,5 @@
 -- What is kept by a digest, where one more comes behind others.
-use Rattle.std.proofs.Common.{◌≡◌, ℕ, Ordering, Bool, true, false, cond, List, ◌⊎◌, inl, inr, Vec, Option, Some, None, refl, sym, ap, subst, ◌∙◌}
+use Rattle.std.proofs.Common.{◌≡◌, ℕ, Ordering, Bool, true, false, cond, List, ◌⊎◌, inl, inr, Vec, Option, Some, None, refl, sym, ap, subst, ◌∙◌, rules}
 use Rattle.std.specs.Option.{option_or, is_some}
 use Rattle.std.specs.BTreeMap.{BTreeMap, UpdatesBy}
 use Rattle.std.specs.Cmp.Lexicographic.{slice_cmp}
@@ -8,7 +8,7 @@ use Rattle.std.specs.Ordering.{nat_cmp, is_eq, eq_by_cmp}
 use Rattle.std.specs.Str.{bytes_eq}
 use Rattle.std.specs.declared.alloc.Global.{Global}
 use Rattle.std.proofs.lemmas.Bool.{cases_Bool, cond-true, cond-false}
-use Rattle.std.proofs.lemmas.Cmp.{eq_by_cmp_equiv, nat_list_cmp_total, nat_list_eq_equiv}
+use Rattle.std.proofs.lemmas.Cmp.{eq_by_cmp_equiv, nat_list_cmp_total}
 use Rattle.std.proofs.lemmas.Map.Text.{is_eq-slice_cmp}
 use Rattle.std.proofs.lemmas.Slice.Eq.{bytes_eq-Decides}
 use Rattle.spki_case.specs.ByDigest.{at_digest}
@@ -23,9 +23,7 @@ unfolding KeepsOthers
 others test old new h = h
 
 apart : (own digest ks : List ℕ) → bytes_eq own digest ≡ false → is_eq (slice_cmp nat_cmp own ks) ≡ true → is_eq (slice_cmp nat_cmp digest ks) ≡ false
-apart own digest ks n y =
-    let own_is : bytes_eq own ks ≡ true = sym (is_eq-slice_cmp own ks) ∙ y in
-    is_eq-slice_cmp digest ks ∙ nat_list_eq_equiv.symm digest ks ∙ sym (nat_list_eq_equiv.congr own ks digest own_is) ∙ n
+apart own digest ks n y = search (rules, is_eq-slice_cmp)
 
 -- the map after a value is put at octets, at each digest
 pub written : {X : Type 0} (own : List ℕ) (value : X) (old new : BTreeMap (Vec ℕ Global) X)

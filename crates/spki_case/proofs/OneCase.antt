@@ -1,15 +1,14 @@
 -- A value is one case.
-use Rattle.std.proofs.Common.{◌≡◌, ℕ, List, [], ◌∷◌, ◌++◌, refl, sym, ap, subst, ◌∙◌}
+use Rattle.std.proofs.Common.{◌≡◌, ℕ, List, [], ◌∷◌, ◌++◌, refl, sym, ap, subst, ◌∙◌, rules}
 use Rattle.std.specs.Prelude.{codes}
 use Rattle.std.specs.List.{AllZip}
-use Rattle.sexpr_core.specs.Value.{Value, canon}
+use Rattle.sexpr_core.specs.Value.{Value}
 use Rattle.sexpr_core.proofs.Texts.{canon_one}
 use Rattle.spki_tag.specs.Request.{Request}
 use Rattle.spki_tag.proofs.Requests.{request_only}
 use Rattle.spki_cert.specs.declared.principal.Policy.{Policy}
 use Rattle.spki_cert.specs.declared.principal.Policy.TheVariants.{Open, Strict}
-use Rattle.spki_cert.specs.declared.hash.HashAlg.TheVariants.{Sha256}
-use Rattle.spki_cert.specs.Readings.{KeyOf, HashOf, DateOf}
+use Rattle.spki_cert.specs.Readings.{KeyOf, DateOf}
 use Rattle.spki_cert.specs.Entries.{AclOf}
 use Rattle.spki_cert.specs.Sequences.{SeqOf}
 use Rattle.spki_cert.proofs.OneReading.{key-one, hash-one, date-one, acl-one, sequence-one}
@@ -21,25 +20,13 @@ use Rattle.spki_case.proofs.Building.{behind_head}
 -- ---- rows
 
 pub row-one : (v : Value) (r s : Row) → RowOf v r → RowOf v s → r ≡ s
-row-one v r s read other =
-    let all : read.key ∷ read.hash ∷ read.value ∷ [] ≡ other.key ∷ other.hash ∷ other.value ∷ [] =
-    behind_head (codes "by") (read.key ∷ read.hash ∷ read.value ∷ []) (other.key ∷ other.hash ∷ other.value ∷ []) (sym read.written ∙ other.written) in
-    let at_key : read.key ≡ other.key = cc in
-    let at_hash : read.hash ≡ other.hash = cc in
-    let at_value : read.value ≡ other.value = cc in
-    let key : r.key ≡ s.key = key-one other.key r.key s.key (subst (λ (w : Value). KeyOf w r.key) at_key read.key_is) other.key_is in
-    let digests = hash-one other.hash Sha256 Sha256 r.digest s.digest (subst (λ (w : Value). HashOf w Sha256 r.digest) at_hash read.digest_is) other.digest_is in
-    let value : r.value ≡ s.value = read.value_is ∙ ap canon at_value ∙ sym other.value_is in
-    λ i. record { key = key i; digest = digests.1 i; value = value i }
+row-one v r s read other = search (rules, behind_head, key-one, hash-one)
 
 pub rows-one : (vs : List Value) (rs ss : List Row) → AllZip RowOf vs rs → AllZip RowOf vs ss → rs ≡ ss
 rows-one [] [] [] read other = refl
 rows-one [] (r ∷ rs) ss read other = absurd read
 rows-one (v ∷ vs) [] ss read other = absurd read
-rows-one (v ∷ vs) (r ∷ rs) (s ∷ ss) read other =
-    let first : r ≡ s = row-one v r s read.0 other.0 in
-    let others : rs ≡ ss = rows-one vs rs ss read.1 other.1 in
-    λ i. first i ∷ others i
+rows-one (v ∷ vs) (r ∷ rs) (s ∷ ss) read other = search (rules, row-one, rows-one vs rs ss read.1 other.1)
 rows-one vs rs ss read other = absurd other
 
 -- ---- the parts of a case

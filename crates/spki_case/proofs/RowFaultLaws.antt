@@ -1,5 +1,5 @@
 -- The fault that is named of a row, along the way of its reading.
-use Rattle.std.proofs.Common.{◌≡◌, ◌≢◌, ◌⊎◌, inl, inr, sym, ℕ, ◌+◌, length, List, [], ◌∷◌, Bool, true, false, Option, Some, None, refl, ap, ◌∙◌}
+use Rattle.std.proofs.Common.{◌≡◌, ◌≢◌, ◌⊎◌, inl, inr, sym, ℕ, ◌+◌, length, List, [], ◌∷◌, Bool, true, false, Option, Some, None, refl, ap, ◌∙◌, rules}
 use Rattle.std.specs.Prelude.{codes}
 use Rattle.std.specs.Str.{bytes_eq}
 use Rattle.sexpr_core.specs.Value.{Value}
@@ -30,10 +30,7 @@ by_sha256 alg = bytes_eq (alg_name alg) (codes "sha256")
 
 sha256-tested : (v : Value) (alg : HashAlg) (digest : List ℕ) (b : Bool) → hash_fault v ≡ None → HashOf v alg digest → by_sha256 alg ≡ b → sha256_fault v ≡ looked None b
 unfolding sha256_fault
-sha256-tested v alg digest b e read f =
-    ap (λ (x : Option CertFaultKind). looked x (begins_sha256 (behind_head v))) e
-    ∙ ap (λ (w : Value). looked None (begins_sha256 (behind_head w))) read.written
-    ∙ ap (λ (x : Bool). looked None x) f
+sha256-tested v alg digest b e read f = search rules
 
 pub sha256-whole : (v : Value) (alg : HashAlg) (digest : List ℕ) → hash_fault v ≡ None → HashOf v alg digest → alg ≡ Sha256 → sha256_fault v ≡ None
 sha256-whole v alg digest e read f = sha256-tested v alg digest true e read (ap by_sha256 f)

@@ -1,10 +1,9 @@
 -- A value has no fault as a row, and the parts of a case have none, exactly where they are such.
-use Rattle.std.proofs.Common.{◌≡◌, ℕ, List, [], ◌∷◌, Some, None, refl, sym, ap, ◌∙◌, rules}
+use Rattle.std.proofs.Common.{◌≡◌, ℕ, List, Some, None, refl, sym, ◌∙◌, rules}
 use Rattle.std.specs.Prelude.{◌↔◌}
 use Rattle.std.specs.List.{AllZip}
 use Rattle.sexpr_core.specs.Value.{Value, canon}
 use Rattle.sexpr_core.specs.Octets.{HasOctets}
-use Rattle.spki_tag.specs.FirstFault.{unless}
 use Rattle.spki_tag.specs.FaultOf.{request_fault}
 use Rattle.spki_tag.proofs.Faultless.{request_none_exactly}
 use Rattle.spki_cert.specs.declared.hash.HashAlg.{HashAlg}
@@ -12,7 +11,6 @@ use Rattle.spki_cert.specs.declared.hash.HashAlg.TheVariants.{Sha1, Sha256, Sha5
 use Rattle.spki_cert.specs.declared.fault.CertFault.{CertFault}
 use Rattle.spki_cert.specs.declared.fault.CertFaultKind.TheVariants.{HashAlg as OtherAlg}
 use Rattle.spki_cert.specs.Readings.{HashOf}
-use Rattle.spki_cert.specs.Fields.{behind_head}
 use Rattle.spki_cert.specs.FixedFaults.{key_fault, hash_fault, date_fault}
 use Rattle.spki_cert.specs.EntryFaults.{acl_fault}
 use Rattle.spki_cert.specs.SequenceFaults.{sequence_fault}
@@ -24,7 +22,7 @@ use Rattle.spki_cert.proofs.SequenceFaultNone.{sequence-none}
 use Rattle.spki_case.specs.Case.{Row, Case}
 use Rattle.spki_case.specs.Rows.{RowOf}
 use Rattle.spki_case.specs.CaseForm.{Parts, acl_value, sequence_value, case_value, CaseOf}
-use Rattle.spki_case.specs.RowFaults.{begins_sha256, sha256_fault, row_fault, rows_fault}
+use Rattle.spki_case.specs.RowFaults.{sha256_fault, row_fault, rows_fault}
 use Rattle.spki_case.proofs.OneCase.{parts-one}
 use Rattle.spki_case.proofs.RowFaultLaws.{sha256-whole, sha256-other, row-looks}
 
@@ -43,9 +41,7 @@ digest-of v Sha512 digest e read f = other-alg v Sha512 f (sha256-other v Sha512
 
 sha256-read : (v : Value) → sha256_fault v ≡ None → SomeDigest v
 unfolding sha256_fault
-sha256-read v e =
-    let looks = none-found (hash_fault v) (unless (begins_sha256 (behind_head v)) OtherAlg ∷ []) e in
-    let hash = (hash-none v).0 looks.0 in digest-of v hash.0 hash.1 looks.0 hash.2 e
+sha256-read v e = search (rules, none-found, hash-none, digest-of)
 
 sha256-faultless : (v : Value) (digest : List ℕ) → HashOf v Sha256 digest → sha256_fault v ≡ None
 sha256-faultless v digest read = sha256-whole v Sha256 digest ((hash-none v).1 (Sha256, digest, read)) read refl
@@ -133,15 +129,7 @@ case-of p octets (acl, rows, sequence, key, request, at) =
     )
 
 case-faultless : (p : Parts) → HasOctets p.request → SomeCase p → AreFaultless p
-case-faultless p octets (c, read) =
-    let same = parts-one p read.parts read.written in (
-      ap acl_fault same.acl ∙ (acl-none (acl_value read.parts)).1 (c.entries, read.acl),
-      ap rows_fault same.rows ∙ (rows-none read.parts.rows).1 (c.rows, read.rows),
-      ap sequence_fault same.sequence ∙ (sequence-none (sequence_value read.parts)).1 (c.items, read.sequence),
-      ap key_fault same.key ∙ (key-none read.parts.key).1 (c.key, read.key),
-      (request_none_exactly p.request octets).1 (c.request, read.request.is_request, read.request.written ∙ sym same.request),
-      ap date_fault same.at ∙ (date-none read.parts.at).1 (c.moment, read.moment),
-    )
+case-faultless p octets (c, read) = search (rules, parts-one, acl-none, rows-none, sequence-none, key-none, request_none_exactly, date-none)
 
 pub case-none : (p : Parts) → HasOctets p.request → AreFaultless p ↔ SomeCase p
 case-none p octets = (case-of p octets, case-faultless p octets)

@@ -1,5 +1,5 @@
 -- What a search by halves finds in rows in order.
-use Rattle.std.proofs.Common.{◌≡◌, ℕ, ◌<◌, ◌≤◌, ◌&&◌, ◌||◌, Ordering, Bool, List, [], ◌∷◌, map, length, Result, Ok, Err, refl, sym, ap, ◌∙◌, ⊎_elim, bytes_eq, arith}
+use Rattle.std.proofs.Common.{◌≡◌, ℕ, ◌<◌, ◌≤◌, ◌&&◌, ◌||◌, Ordering, Bool, List, [], ◌∷◌, map, length, Result, Ok, Err, refl, sym, ap, ◌∙◌, ⊎_elim, bytes_eq, arith, rules}
 use Rattle.std.proofs.Math.Bool.{and_comm, and_assoc}
 use Rattle.std.specs.Cmp.{IsTotalOrder, tied_then}
 use Rattle.std.specs.Cmp.Lexicographic.{slice_cmp}
@@ -50,9 +50,7 @@ is_equal message x y e =
     ∙ sym (and_assoc (bytes_eq x.2.now y.2.now) (bytes_eq (sha256 message) x.0.now) (bytes_eq x.1.now y.1.now))
 
 total : IsTotalOrder compared
-total =
-    then_total (then_total (on_total (λ (x : SortedRow). x.0.now) nat_list_cmp_total) (on_total (λ (x : SortedRow). x.1.now) nat_list_cmp_total))
-    (on_total (λ (x : SortedRow). x.2.now) nat_list_cmp_total)
+total = search (rules, then_total, on_total, nat_list_cmp_total)
 
 pub accepts_found : (message : List ℕ) (rows : List code_row.Row) (sorted : List SortedRow) (y : SortedRow) (r : Result ℕ ℕ) → sha256 message ≡ y.0.now
     → AreSorted rows sorted → IsSearchInRange r (length sorted) → IsBinarySearchResult (λ x. compared x y) sorted r

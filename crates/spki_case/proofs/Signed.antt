@@ -1,5 +1,5 @@
 -- In a sequence each certificate is followed by its signature.
-use Rattle.std.proofs.Common.{◌≡◌, ℕ, suc, List, [], ◌∷◌, Bool, true, false, refl, sym, ◌∙◌, inl, inr}
+use Rattle.std.proofs.Common.{◌≡◌, ℕ, suc, List, [], ◌∷◌, Bool, true, false, refl, sym, ◌∙◌, inl, inr, rules}
 use Rattle.std.specs.Prelude.{codes, IsSome, is_some}
 use Rattle.std.specs.List.{AllZip, list_all}
 use Rattle.std.proofs.lemmas.Bool.{and_from}
@@ -22,19 +22,13 @@ late v s h = let clash : true ≡ false = sym s ∙ h in cc
 pub signature_comes : (vs : List Value) (is : List SeqItem) → AllZip ItemOf vs is → AreInPlace true vs → waits_after true vs ≡ false
     → IsSome (signature_in is)
 signature_comes [] [] zip placed end = absurd cc
-signature_comes (v ∷ vs) (Key octets ∷ is) zip placed end =
-    let e = zip.0.written in
-    absurd (stray v (rw e refl) (rw e refl) placed.0)
+signature_comes (v ∷ vs) (Key octets ∷ is) zip placed end = search (rules, stray)
 signature_comes (v ∷ vs) (DoHash alg ∷ is) zip placed end =
     let e = zip.0 in
     let waits : waits_behind true v ≡ true = rw e refl in
     signature_comes vs is zip.1 (rw waits at placed.1) (rw waits at end)
-signature_comes (v ∷ vs) (Auth c ∷ is) zip placed end =
-    let e = zip.0.written in
-    absurd (stray v (rw e refl) (rw e refl) placed.0)
-signature_comes (v ∷ vs) (Name c ∷ is) zip placed end =
-    let e = zip.0.written in
-    absurd (stray v (rw e refl) (rw e refl) placed.0)
+signature_comes (v ∷ vs) (Auth c ∷ is) zip placed end = search (rules, stray)
+signature_comes (v ∷ vs) (Name c ∷ is) zip placed end = search (rules, stray)
 signature_comes (v ∷ vs) (Signature s ∷ is) zip placed end = refl
 signature_comes vs is zip placed end = absurd zip
 

@@ -1,5 +1,4 @@
-use Rattle.std.proofs.Common.{◌≢◌, [], ◌∷◌, rules, codes}
-use Rattle.sexpr_core.specs.Value.{plain}
+use Rattle.std.proofs.Common.{rules}
 use Rattle.spki_case.proofs.Building.{no_policy, other_policy}
 use Rattle.spki_case.proofs.parts.policy_in.Goals as goal
 

@@ -1,7 +1,5 @@
-use Rattle.std.proofs.Common.{◌≡◌, Some, rules}
-use Rattle.spki_cert.specs.declared.fault.CertFaultKind.{CertFaultKind}
+use Rattle.std.proofs.Common.{rules}
 use Rattle.spki_cert.proofs.Looking.{carried, none-some}
-use Rattle.spki_cert.specs.declared.fault.CertFaultKind.TheVariants.{Shape}
 use Rattle.spki_cert.proofs.Triples.{triple-unheaded, triple-form}
 use Rattle.spki_case.specs.RowFaults.{row_fault}
 use Rattle.spki_case.proofs.RowFaultLaws.{row-looks}

@@ -1,7 +1,5 @@
-use Rattle.std.proofs.Common.{◌≡◌, Some, rules}
-use Rattle.spki_cert.specs.declared.fault.CertFaultKind.{CertFaultKind}
+use Rattle.std.proofs.Common.{rules}
 use Rattle.spki_cert.proofs.Looking.{carried}
-use Rattle.spki_case.specs.RowFaults.{sha256_fault}
 use Rattle.spki_case.proofs.RowFaultLaws.{sha256-hash, sha256-whole, sha256-other, not-sha256}
 use Rattle.spki_case.proofs.rows.sha256_of.Goals as goal
 

@@ -2,7 +2,7 @@ use Rattle.std.proofs.Common.{◌≢◌, refl, sym, ◌∙◌, rules, inl, inr, 
 use Rattle.spki_cert.specs.declared.fault.CertFaultKind.TheVariants as kinds
 use Rattle.spki_cert.proofs.EntryFaultNone.{acl-refused}
 use Rattle.spki_cert.proofs.SequenceFaultNone.{sequence-refused}
-use Rattle.spki_case.specs.CaseForm.{Parts, acl_value, sequence_value, ReadsAcl, ReadsRows, ReadsItems, ReadsKey, ReadsRequest}
+use Rattle.spki_case.specs.CaseForm.{Parts, acl_value, sequence_value, ReadsRows, ReadsItems, ReadsKey, ReadsRequest}
 use Rattle.spki_case.proofs.Lacking.{lacks}
 use Rattle.spki_case.proofs.RowFaultNone.{rows-refused}
 use Rattle.spki_case.proofs.Signed.{signed}
