@@ -28,7 +28,7 @@ range-flat n o l u b = least n
 
 prefix-flat : (n : ℕ) (p : List ℕ) (b : Tag) → ldepth (prefix_meet p b) ≤ n
 prefix-flat n p (string s) = string-flat n s (prefix p)
-prefix-flat n p (prefix q) = search (rules, if_flat, least)
+prefix-flat n p (prefix q) = search (rules, if_flat)
 prefix-flat n p (range o l u) = search (rules, ranged-flat)
 prefix-flat n p b = least n
 
@@ -79,7 +79,7 @@ alone n m h = both m 0 n h (least n)
 set_across-flat : (n : ℕ) (ms : Tags) (f : Tags → List Tag) (b : Tag) → ldepth_most ms ≤ n → ldepth b ≤ n
     → ((bs : Tags) → ldepth_most bs ≤ n → ldepth_most (tags (f bs)) ≤ n) → ldepth (set_across ms f b) ≤ n
 set_across-flat n ms f star h k e = h
-set_across-flat n ms f (range o l u) h k e = search (rules, gather-flat, alone)
+set_across-flat n ms f (range o l u) h k e = search (rules, gather-flat)
 set_across-flat n ms f (list head us) h k e = search (rules, gather-flat, alone)
 set_across-flat n ms f (set bs) h k e = gather-flat n (f bs) (e bs k)
 set_across-flat n ms f b h k e = gather-flat n (f (more b none)) (e (more b none) (alone n 0 k))

@@ -118,7 +118,7 @@ prefix_rule p q h = (by (starts_with nat_eq p q) refl, ap (λ b. if b then prefi
     by false e = ap (λ b. if b then prefix q else nothing) h
 
 pub prefixes_apart : PrefixesApart
-prefixes_apart p q h k = search (rules, nat_eq)
+prefixes_apart p q h k = search rules
 
 -- ---- lists
 

@@ -55,7 +55,7 @@ group-fine head vs h = ap (λ b. unless (not b) faults.StarInRequest) (head-apar
 pub group-members : (head : List ℕ) (vs : List Value) (fault : TagFault) → IsHead head
     → IsNamed fault (fault_of_requests vs) → IsNamed fault (request_fault (group (plain head ∷ vs)))
 unfolding request_fault fault_of_requests
-group-members head vs fault h = search (rules, named-by, found-past, group-fine)
+group-members head vs fault h = search (rules, named-by, group-fine)
 
 -- ---- nothing is wrong with a request that is written
 

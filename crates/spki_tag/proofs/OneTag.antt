@@ -18,14 +18,9 @@ word_only a b us vs e = cc
 
 ordering_only : (a b : Ordering) → ordering_name a ≡ ordering_name b → a ≡ b
 ordering_only alpha alpha e = refl
-ordering_only alpha time e = absurd (apart (codes "alpha") (codes "time") refl e)
-ordering_only alpha date e = absurd (apart (codes "alpha") (codes "date") refl e)
-ordering_only time alpha e = absurd (apart (codes "time") (codes "alpha") refl e)
 ordering_only time time e = refl
-ordering_only time date e = absurd (apart (codes "time") (codes "date") refl e)
-ordering_only date alpha e = absurd (apart (codes "date") (codes "alpha") refl e)
-ordering_only date time e = absurd (apart (codes "date") (codes "time") refl e)
 ordering_only date date e = refl
+ordering_only a b e = absurd (apart _ _ refl e)
 
 low_word_only : (a b : Bool) → (if a then codes "g" else codes "ge") ≡ (if b then codes "g" else codes "ge") → a ≡ b
 low_word_only true false e = absurd (apart (codes "g") (codes "ge") refl e)
@@ -71,18 +66,12 @@ mutual
   tag_only star star h k e = refl
   tag_only (string octets) (string s) h k e = ap string cc
   tag_only (prefix octets) (prefix s) h k e = ap prefix cc
-  tag_only (prefix octets) (range ordering low up) h k e = search (rules, apart, word_only)
-  tag_only (prefix octets) (set ws) h k e = absurd (apart (codes "set") (codes "prefix") refl (word_only _ _ _ _ e))
-  tag_only (range o l u) (prefix s) h k e = absurd (apart (codes "prefix") (codes "range") refl (word_only _ _ _ _ e))
   tag_only (range o l u) (range ordering low up) h k e = search (rules, same_range, ordering_only, limits_only)
-  tag_only (range o l u) (set ws) h k e = absurd (apart (codes "set") (codes "range") refl (word_only _ _ _ _ e))
   tag_only (list other ts) (list head ws) h k e = search (rules, tags_only ts ws h.1 k.1 cc)
-  tag_only (set ts) (prefix s) h k e = absurd (apart (codes "prefix") (codes "set") refl (word_only _ _ _ _ e))
-  tag_only (set ts) (range ordering low up) h k e = absurd (apart (codes "range") (codes "set") refl (word_only _ _ _ _ e))
   tag_only (set ts) (set ws) h k e = ap set (tags_only ts ws h k cc)
   tag_only t (list head ws) h k e = absurd (k.0 cc)
   tag_only (list other ts) w h k e = absurd (h.0 (sym cc))
-  tag_only t w h k e = absurd cc
+  tag_only t w h k e = search rules
 
   pub tags_only : (ts ws : Tags) → AreTags ts → AreTags ws → tag_values ws ≡ tag_values ts → ws ≡ ts
   tags_only none none h k e = refl
