@@ -1,9 +1,10 @@
 -- A derivation may be bracketed from the left, and its leaves determine its root.
 use Rattle.std.proofs.Common.{◌≡◌, ℕ, List, [], ◌∷◌, ◌++◌, refl, sym, ◌∙◌, ap, append_assoc, append-nil, rules}
 use Rattle.spki_cert.specs.declared.principal.Policy.{Policy}
+use Rattle.spki_cert.specs.declared.principal.Principal.{Principal}
 use Rattle.spki_tag.specs.Request.{Request}
 use Rattle.spki_reduce.specs.Tuples.{FiveTuple, FourTuple, Tuple, five, four}
-use Rattle.spki_reduce.specs.Rules.{Delegate, Resolve, Link, Joins, delegated, resolved, linked}
+use Rattle.spki_reduce.specs.Rules.{Begins, Delegate, Resolve, Link, Joins, delegated, resolved, linked}
 use Rattle.spki_reduce.specs.Derivation.{Tree, leaf, join, leaves, Derives, extended, from_left}
 use Rattle.spki_reduce.specs.Supports.{Supports}
 
@@ -53,87 +54,43 @@ module _ (policy : Policy) where
 
   delegate-delegate : (a b c m r : FiveTuple) → Delegate policy b c m → Delegate policy a m r
       → Delegate policy a b (delegated a b) × Delegate policy (delegated a b) c r
-  delegate-delegate a b c m r h k = (
-    record {
-      issues = record {
-        holder = k.issues.holder;
-        issued = sym (ap (λ (t : FiveTuple). t.issuer) h.result_is) ∙ k.issues.issued;
-        is_for = k.issues.is_for;
-      };
-      allowed = k.allowed;
-      result_is = refl;
-    },
-    record {
-      issues = record {
-        holder = h.issues.holder;
-        issued = h.issues.issued;
-        is_for = record { whole = h.issues.is_for.whole; named = h.issues.is_for.named };
-      };
-      allowed = h.allowed;
-      result_is = simp append_assoc (k.result_is ∙ ap (delegated a) h.result_is);
-    },
-  )
+  delegate-delegate a b c m r h k = search (rules, append_assoc)
 
   delegate-resolve : (a b : FiveTuple) (c : FourTuple) (m r : FiveTuple) → Resolve policy b c m → Delegate policy a m r
       → Delegate policy a b (delegated a b) × Resolve policy (delegated a b) c r
   delegate-resolve a b c m r h k = (
-    record {
-      issues = record {
-        holder = k.issues.holder;
-        issued = sym (ap (λ (t : FiveTuple). t.issuer) h.result_is) ∙ k.issues.issued;
-        is_for = k.issues.is_for;
-      };
-      allowed = k.allowed;
-      result_is = refl;
-    },
+    search rules,
     record {
       begins = record { rest = h.begins.rest; named = h.begins.named; name = h.begins.name };
       result_is = simp append_assoc (k.result_is ∙ ap (delegated a) h.result_is);
     },
   )
 
+  -- a path that begins with the name of two definitions together begins with that of the first
+  abbrev begins-first : (p : Principal) (path : List (List ℕ)) (b c m : FourTuple) → Link policy b c m → Begins policy p path m → Begins policy p path b
+  begins-first p path b c m h k = record {
+    rest = k.rest;
+    named = rw (← ap (λ (t : FourTuple). t.key) h.result_is) k.named;
+    name = k.name ∙ ap (λ (t : FourTuple). t.name ∷ k.rest) h.result_is;
+  }
+
+  abbrev begins-second : (p : Principal) (path more : List (List ℕ)) (c : FourTuple) → Begins policy p path c → Begins policy p (path ++ more) c
+  begins-second p path more c h = record { rest = h.rest ++ more; named = h.named; name = ap (λ ns. ns ++ more) h.name }
+
   resolve-link : (a : FiveTuple) (b c m : FourTuple) (r : FiveTuple) → Link policy b c m → (k : Resolve policy a m r)
       → Resolve policy a b (resolved a b k.begins.rest) × Resolve policy (resolved a b k.begins.rest) c r
   resolve-link a b c m r h k =
       let made = k.result_is ∙ ap (λ (t : FourTuple). resolved a t k.begins.rest) h.result_is in (
-        record {
-          begins = record {
-            rest = k.begins.rest;
-            named = rw (← ap (λ (t : FourTuple). t.key) h.result_is) k.begins.named;
-            name = k.begins.name ∙ ap (λ (t : FourTuple). t.name ∷ k.begins.rest) h.result_is;
-          };
-          result_is = refl;
-        },
-        record {
-          begins = record {
-            rest = h.begins.rest ++ k.begins.rest;
-            named = h.begins.named;
-            name = ap (λ ns. ns ++ k.begins.rest) h.begins.name;
-          };
-          result_is = simp append_assoc (simp append_assoc at made);
-        },
+        record { begins = begins-first _ _ b c m h k.begins; result_is = refl },
+        record { begins = begins-second _ _ k.begins.rest c h.begins; result_is = simp append_assoc (simp append_assoc at made) },
       )
 
   link-link : (a b c m r : FourTuple) → Link policy b c m → (k : Link policy a m r)
       → Link policy a b (linked a b k.begins.rest) × Link policy (linked a b k.begins.rest) c r
   link-link a b c m r h k =
       let made = k.result_is ∙ ap (λ (t : FourTuple). linked a t k.begins.rest) h.result_is in (
-        record {
-          begins = record {
-            rest = k.begins.rest;
-            named = rw (← ap (λ (t : FourTuple). t.key) h.result_is) k.begins.named;
-            name = k.begins.name ∙ ap (λ (t : FourTuple). t.name ∷ k.begins.rest) h.result_is;
-          };
-          result_is = refl;
-        },
-        record {
-          begins = record {
-            rest = h.begins.rest ++ k.begins.rest;
-            named = h.begins.named;
-            name = ap (λ ns. ns ++ k.begins.rest) h.begins.name;
-          };
-          result_is = simp append_assoc (simp append_assoc at made);
-        },
+        record { begins = begins-first _ _ b c m h k.begins; result_is = refl },
+        record { begins = begins-second _ _ k.begins.rest c h.begins; result_is = simp append_assoc (simp append_assoc at made) },
       )
 
   regrouped : (a b c m r : Tuple) → Joins policy b c m → Joins policy a m r → (x : Tuple) × Joins policy a b x × Joins policy x c r
@@ -161,9 +118,7 @@ module _ (policy : Policy) where
 
   leftmost : (tree : Tree) (root : Tuple) → Derives policy tree root → Derives policy (from_left (first_of tree) (others tree)) root
   leftmost (leaf t) root d = d
-  leftmost (join left right) root d =
-      let first = leftmost left d.0 d.2 in
-      rw extended-append (behind (from_left (first_of left) (others left)) right d.0 d.1 root first d.3 d.4)
+  leftmost (join left right) root d = search (rules, leftmost left d.0 d.2, extended-append, behind)
 
   pub bracketed : (tree : Tree) (root first : Tuple) (rest : List Tuple) → Derives policy tree root → leaves tree ≡ first ∷ rest
       → Derives policy (from_left first rest) root
@@ -172,18 +127,15 @@ module _ (policy : Policy) where
   pub supported : (tree : Tree) (holder : List ℕ) (request : Request) (moment : List ℕ) (first : Tuple) (rest : List Tuple)
       → Supports policy tree holder request moment → leaves tree ≡ first ∷ rest
       → Supports policy (from_left first rest) holder request moment
-  supported tree holder request moment first rest s e =
-      record { root = s.root; derived = bracketed tree (five s.root) first rest s.derived e; grants = s.grants }
+  supported tree holder request moment first rest s e = search (rules, bracketed)
 
   -- ---- one root
 
   same_resolve : (a : FiveTuple) (b : FourTuple) (r s : FiveTuple) → Resolve policy a b r → Resolve policy a b s → r ≡ s
-  same_resolve a b r s h k =
-      h.result_is ∙ ap (resolved a b) (same_rest a.names h.begins.rest k.begins.rest b.name h.begins.name k.begins.name) ∙ sym k.result_is
+  same_resolve a b r s h k = search rules
 
   same_link : (a b r s : FourTuple) → Link policy a b r → Link policy a b s → r ≡ s
-  same_link a b r s h k =
-      h.result_is ∙ ap (linked a b) (same_rest a.names h.begins.rest k.begins.rest b.name h.begins.name k.begins.name) ∙ sym k.result_is
+  same_link a b r s h k = search (rules, same_rest)
 
   same_join : (a b r s : Tuple) → Joins policy a b r → Joins policy a b s → r ≡ s
   same_join (five a) (five b) (five r) (five s) h k = ap five (h.result_is ∙ sym k.result_is)
@@ -196,10 +148,7 @@ module _ (policy : Policy) where
 
   same_tree : (tree : Tree) (r s : Tuple) → Derives policy tree r → Derives policy tree s → r ≡ s
   same_tree (leaf t) r s d e = d ∙ sym e
-  same_tree (join left right) r s d e =
-      let x : d.0 ≡ e.0 = same_tree left d.0 e.0 d.2 e.2 in
-      let y : d.1 ≡ e.1 = same_tree right d.1 e.1 d.3 e.3 in
-      same_join e.0 e.1 r s (rw (← x, ← y) d.4) e.4
+  same_tree (join left right) r s d e = search (rules, same_tree left d.0 e.0 d.2 e.2, same_tree right d.1 e.1 d.3 e.3, same_join)
 
   pub one_root : (tree other : Tree) (r s : Tuple) → leaves tree ≡ leaves other → Derives policy tree r → Derives policy other s → r ≡ s
   one_root tree other r s e d f =

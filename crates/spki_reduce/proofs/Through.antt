@@ -120,8 +120,7 @@ module _ (policy : Policy) (first : Tuple) (others : List Tuple) (tagged : AreTa
 
 pub steps_tagged : (steps : List Step) → AreTagged (tuples_of steps)
 steps_tagged [] place tuple e = absurd cc
-steps_tagged (Auth f ∷ steps) zero tuple e =
-    let same : five (five_tuple f) ≡ tuple = cc in subst HasTag same (λ none_left. absurd cc)
+steps_tagged (Auth f ∷ steps) zero tuple e = search rules
 steps_tagged (Name f ∷ steps) zero tuple e = let same : four (four_tuple f) ≡ tuple = cc in subst HasTag same tt
 steps_tagged (step ∷ steps) (suc place) tuple e = steps_tagged steps place tuple e
 
@@ -201,30 +200,12 @@ some_or_none windows s n = never (within_each s.0 windows) (n s.0) s.2
 module _ (policy : Policy) (root : FiveTuple) where
   one_cause : (tuple : Tuple) (a b : Cause) → Stops policy (five root) tuple a → Stops policy (five root) tuple b → a ≡ b
   one_cause (five right) NotIssuer NotIssuer h k = refl
-  one_cause (five right) NotIssuer NoDelegation h k = absurd (h k.0)
-  one_cause (five right) NotIssuer NoValidity h k = absurd (h k.0)
-  one_cause (five right) NotIssuer NoTag h k = absurd (h k.0.issues)
-  one_cause (five right) NotTheName b h k = absurd h
-  one_cause (five right) NoDelegation NotIssuer h k = absurd (k h.0)
   one_cause (five right) NoDelegation NoDelegation h k = refl
-  one_cause (five right) NoDelegation NoValidity h k = absurd (never root.delegation h.1 k.1)
-  one_cause (five right) NoDelegation NoTag h k = absurd (never root.delegation h.1 k.0.allowed)
-  one_cause (five right) NoValidity NotIssuer h k = absurd (k h.0)
-  one_cause (five right) NoValidity NoDelegation h k = absurd (never root.delegation k.1 h.1)
   one_cause (five right) NoValidity NoValidity h k = refl
-  one_cause (five right) NoValidity NoTag h k = absurd (some_or_none (root.windows ++ right.windows) k.0.timely h.2)
-  one_cause (five right) NoTag NotIssuer h k = absurd (k h.0.issues)
-  one_cause (five right) NoTag NoDelegation h k = absurd (never root.delegation k.1 h.0.allowed)
-  one_cause (five right) NoTag NoValidity h k = absurd (some_or_none (root.windows ++ right.windows) h.0.timely k.2)
   one_cause (five right) NoTag NoTag h k = refl
   one_cause (four right) NotTheName NotTheName h k = refl
-  one_cause (four right) NotTheName NoValidity h k = absurd (h k.0)
-  one_cause (four right) NoValidity NotTheName h k = absurd (k h.0)
   one_cause (four right) NoValidity NoValidity h k = refl
-  one_cause (four right) NotIssuer b h k = absurd h
-  one_cause (four right) NoDelegation b h k = absurd h
-  one_cause (four right) NoTag b h k = absurd h
-  one_cause tuple a b h k = absurd k
+  one_cause tuple a b h k = absurd (search (rules, never, some_or_none, h, k))
 
 module _ (policy : Policy) (first : Tuple) (others : List Tuple) (tagged : AreTagged others) where
   -- the later of two stops would be behind the earlier one
