@@ -246,9 +246,7 @@ module _
       → BecomesFive policy (five (five_tuple f)) (step_tuple step) g
       × (g.tag ≡ set none → (f.tag ≡ set none) × (tags_of (step_tuple step) ≡ []))
       → FoldsTo policy first (take (place + 1) (tuples_of steps)) g
-  goes_on g h =
-      let P : List Tuple → Type 0 = λ ts. FoldsTo policy first ts g in
-      subst P (sym one_more) (grown policy first (take place (tuples_of steps)) (step_tuple step) f g so_far h.0 h.1)
+  goes_on g h = search (rules, one_more, grown)
 
   pub too_large_here : (most : ℕ) → TooLargeFor most policy (five_tuple f) (step_tuple step)
       → TooLargeAt most policy first (tuples_of steps)

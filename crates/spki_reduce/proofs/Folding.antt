@@ -52,8 +52,7 @@ shallower tag tags more n h k = rw deepest-append (omega arith)
 module _ (tag : Tag) (tags more : List Tag) where
   in_more : (request : Request) → contains tag request ≡ in_each request tags
       → in_each request (tag ∷ more) ≡ in_each request (tags ++ more)
-  in_more request h =
-      ap (λ x. x && in_each request more) h ∙ sym (list_all-append (λ t. contains t request) tags more)
+  in_more request h = search (rules, list_all-append)
 
 module _ (window : Window) (windows more : List Window) (same : (t : List ℕ) → within t window ≡ within_each t windows) where
   within_more : (t : List ℕ) → within_each t (window ∷ more) ≡ within_each t (windows ++ more)
@@ -138,11 +137,7 @@ module _ (policy : Policy) (root : FiveTuple) (f : Five) (reduced : ReducesToFiv
   pub stops : (right : Tuple) (cause : Cause) → Stops policy (five (five_tuple f)) right cause → Stops policy (five root) right cause
   stops (five right) NotIssuer h = λ k. h (issues_back right k)
   stops (five right) NoDelegation h = (issues right h.0, sym reduced.delegation ∙ h.1)
-  stops (five right) NoValidity h = (
-    issues right h.0,
-    sym reduced.delegation ∙ h.1,
-    none_more f.window root.windows right.windows reduced.moments h.2,
-  )
+  stops (five right) NoValidity h = search (rules, issues, none_more)
   stops (five right) NoTag h = (
     record {
       issues = issues right h.0.issues;
@@ -161,22 +156,13 @@ module _ (policy : Policy) (root : FiveTuple) (f : Five) (reduced : ReducesToFiv
   -- ---- steps that are reached
 
   pub reaches : (right : Tuple) → Reaches policy (five_tuple f) right → Reaches policy root right
-  reaches (five right) h = record {
-    issues = issues right h.issues;
-    allowed = sym reduced.delegation ∙ h.allowed;
-    timely = some_more f.window root.windows right.windows reduced.moments h.timely;
-  }
+  reaches (five right) h = search (rules, issues, some_more)
   reaches (four right) h =
       record { begins = begins right h.begins; timely = some_more f.window root.windows right.windows reduced.moments h.timely }
 
   pub reaches_back : (right : Tuple) → Reaches policy root right → Reaches policy (five_tuple f) right
-  reaches_back (five right) h = record {
-    issues = issues_back right h.issues;
-    allowed = reduced.delegation ∙ h.allowed;
-    timely = some_fewer f.window root.windows right.windows reduced.moments h.timely;
-  }
-  reaches_back (four right) h =
-      record { begins = begins_back right h.begins; timely = some_fewer f.window root.windows right.windows reduced.moments h.timely }
+  reaches_back (five right) h = search (rules, issues, issues_back, some_fewer)
+  reaches_back (four right) h = search (rules, begins_back, some_fewer)
 
   pub too_large : (most : ℕ) (right : Tuple) → TooLargeFor most policy (five_tuple f) right → TooLargeFor most policy root right
   too_large most (five right) h =

@@ -47,13 +47,11 @@ module _ (policy : Policy) (holder : List ℕ) (request : Request) (moment : Lis
 
     pub window_lacks : IsFor policy (five_tuple f) holder → contains f.tag request ≡ true → within moment f.window ≡ false
         → IsFirstDenial policy root holder request moment (Some WindowLacks)
-    window_lacks h k l =
-        (is_for policy root f reduced holder h, sym (reduced.requests request is) ∙ k, sym (reduced.moments moment) ∙ l)
+    window_lacks h k l = search (rules, is_for)
 
     pub lacks_nothing : IsFor policy (five_tuple f) holder → contains f.tag request ≡ true → within moment f.window ≡ true
         → IsFirstDenial policy root holder request moment None
-    lacks_nothing h k l =
-        (is_for policy root f reduced holder h, sym (reduced.requests request is) ∙ k, sym (reduced.moments moment) ∙ l)
+    lacks_nothing h k l = search (rules, is_for)
 
   -- ---- a chain
 
@@ -68,7 +66,4 @@ module _ (policy : Policy) (holder : List ℕ) (request : Request) (moment : Lis
     pub supported : (denial : Option Denial) → issuer_of f.issuer ≡ own → IsFirstDenial policy folds.root holder request moment denial
         → IsNone denial ↔ IsSupported policy first others holder request moment
     supported None is h = (λ _. supporting is h, λ _. refl)
-    supported (Some denial) is h = (
-      λ e. let g : true ≡ false = e in absurd cc,
-      λ s. passed folds.root (Some denial) h (root_is s),
-    )
+    supported (Some denial) is h = search (rules, passed, root_is)

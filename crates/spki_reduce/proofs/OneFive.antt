@@ -9,7 +9,7 @@ use Rattle.spki_reduce.specs.declared.tuple.Issuer.{Issuer}
 use Rattle.spki_reduce.specs.declared.tuple.Issuer.TheVariants.{Own, Key}
 use Rattle.spki_reduce.specs.declared.tuple.Five.{Five}
 use Rattle.spki_reduce.specs.Views.{issuer_of, five_tuple}
-use Rattle.spki_reduce.specs.Written.{headed, IsWrittenPrincipal, IsWrittenSubject, IsWrittenIssuer, named, delegation_values, in_valid, window_limits, five_value, IsWrittenFive}
+use Rattle.spki_reduce.specs.Written.{headed, IsWrittenPrincipal, IsWrittenSubject, IsWrittenIssuer, delegation_values, in_valid, window_limits, five_value, IsWrittenFive}
 
 -- ---- tuples
 
@@ -32,8 +32,7 @@ written_principal (principal.Key octets) v w a b = value_one octets v w a b
 written_principal (principal.Hash alg digest) v w a b = a ∙ sym b
 
 written_subject : (p : Principal) (ns : List (List ℕ)) (v w : Value) → IsWrittenSubject p ns v → IsWrittenSubject p ns w → v ≡ w
-written_subject p ns v w (owner, is, written) (other, also, spelled) =
-    written ∙ ap (λ (o : Value). named o ns) (written_principal p owner other is also) ∙ sym spelled
+written_subject p ns v w (owner, is, written) (other, also, spelled) = search (rules, written_principal)
 
 written_issuer : (i : Issuer) (vs ws : List Value) → IsWrittenIssuer i vs → IsWrittenIssuer i ws → vs ≡ ws
 written_issuer Own vs ws a b = a ∙ sym b

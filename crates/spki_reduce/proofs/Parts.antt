@@ -1,5 +1,5 @@
 -- A root has the tags and the windows of all leaves.
-use Rattle.std.proofs.Common.{◌≡◌, ◌++◌, refl, sym, ◌∙◌, ap, append-nil, flat_map}
+use Rattle.std.proofs.Common.{◌≡◌, ◌++◌, refl, sym, ◌∙◌, ap, append-nil, flat_map, rules}
 use Rattle.std.proofs.lemmas.Grind.{flat_map-append}
 use Rattle.spki_cert.specs.declared.principal.Policy.{Policy}
 use Rattle.spki_reduce.specs.Tuples.{FiveTuple, FourTuple, Tuple, five, four, tags_of, windows_of}
@@ -21,15 +21,9 @@ module _ (policy : Policy) where
 
   pub all_tags : (tree : Tree) (root : Tuple) → Derives policy tree root → tags_of root ≡ flat_map tags_of (leaves tree)
   all_tags (leaf t) root d = ap tags_of d ∙ sym (append-nil (tags_of t))
-  all_tags (join left right) root d =
-      let x = all_tags left d.0 d.2 in
-      let y = all_tags right d.1 d.3 in
-      joined_tags d.0 d.1 root d.4 ∙ rw (x, y) (sym (flat_map-append tags_of (leaves left) (leaves right)))
+  all_tags (join left right) root d = search (rules, all_tags left d.0 d.2, all_tags right d.1 d.3, joined_tags, flat_map-append)
 
   pub all_windows : (tree : Tree) (root : Tuple) → Derives policy tree root
       → windows_of root ≡ flat_map windows_of (leaves tree)
   all_windows (leaf t) root d = ap windows_of d ∙ sym (append-nil (windows_of t))
-  all_windows (join left right) root d =
-      let x = all_windows left d.0 d.2 in
-      let y = all_windows right d.1 d.3 in
-      joined_windows d.0 d.1 root d.4 ∙ rw (x, y) (sym (flat_map-append windows_of (leaves left) (leaves right)))
+  all_windows (join left right) root d = search (rules, all_windows left d.0 d.2, all_windows right d.1 d.3, joined_windows, flat_map-append)

@@ -38,8 +38,7 @@ joined_openly a b r h = absurd h
 
 pub derived_openly : (tree : Tree) (root : Tuple) → Derives Strict tree root → Derives Open tree root
 derived_openly (leaf t) root d = d
-derived_openly (join left right) root d =
-    (d.0, d.1, derived_openly left d.0 d.2, derived_openly right d.1 d.3, joined_openly d.0 d.1 root d.4)
+derived_openly (join left right) root d = search (rules, derived_openly left d.0 d.2, derived_openly right d.1 d.3, joined_openly)
 
 pub supported_openly : (tree : Tree) (holder : List ℕ) (request : Request) (moment : List ℕ) → Supports Strict tree holder request moment
     → Supports Open tree holder request moment

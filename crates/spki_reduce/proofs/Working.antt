@@ -7,8 +7,8 @@ use Rattle.spki_reduce.specs.declared.tuple.Five.{Five}
 use Rattle.spki_reduce.specs.declared.tuple.Step.{Step}
 use Rattle.spki_reduce.specs.Tuples.{Tuple, tags_of}
 use Rattle.spki_reduce.specs.Views.{five_tuple, step_tuple}
-use Rattle.spki_reduce.specs.Restrictions.{met, nodes_product}
-use Rattle.spki_reduce.specs.Chain.{tuples_of, FoldsTo, HasMet, StopsAt, all_tags}
+use Rattle.spki_reduce.specs.Restrictions.{nodes_product}
+use Rattle.spki_reduce.specs.Chain.{tuples_of, FoldsTo, HasMet, StopsAt}
 use Rattle.spki_reduce.specs.Work.{Reaches, ReachedAt, IsCost, IsWorkOf, IsCostOf, Takes, IsOver, IsOverworked}
 use Rattle.spki_reduce.proofs.Bracketing.{one_root}
 use Rattle.spki_reduce.proofs.Folding.{reaches, reaches_back}
@@ -41,9 +41,7 @@ module _
 
   pub work_here : (so_far n : ℕ) → IsWorkOf policy first (tuples_of steps) place so_far
       → IsCostOf policy (five_tuple f) f.tag (step_tuple step) n → IsWorkOf policy first (tuples_of steps) (place + 1) (so_far + n)
-  work_here so_far n before h =
-      let more : IsWorkOf policy first (tuples_of steps) (suc place) (so_far + n) = (so_far, n, before, cost_here n h, refl) in
-      subst (λ k. IsWorkOf policy first (tuples_of steps) k (so_far + n)) (sym (add-one place)) more
+  work_here so_far n before h = search (rules, cost_here, add-one)
 
 -- what is taken twice is taken at once
 pub taken : (a b c : Option ℕ) (n m : ℕ) → Takes a b n → Takes b c m → Takes a c (n + m)
@@ -84,27 +82,18 @@ module _ (policy : Policy) (first : Tuple) (others : List Tuple) where
   -- ---- one work
 
   one_cost : (place n m : ℕ) → IsCost policy first others place n → IsCost policy first others place m → n ≡ m
-  one_cost place n m (inl h) (inl k) =
-      let both : Some h.0.tuple ≡ Some k.0.tuple = sym h.0.stands ∙ k.0.stands in
-      let tuples : h.0.tuple ≡ k.0.tuple = cc in
-      h.1 ∙ ap (λ t. nodes_product (met (all_tags (first ∷ take place others)) ∷ tags_of t)) tuples ∙ sym k.1
+  one_cost place n m (inl h) (inl k) = search rules
   one_cost place n m (inl h) (inr k) = absurd (k.0 h.0)
   one_cost place n m (inr h) (inl k) = absurd (h.0 k.0)
   one_cost place n m (inr h) (inr k) = h.1 ∙ sym k.1
 
   pub one_work : (steps n m : ℕ) → IsWorkOf policy first others steps n → IsWorkOf policy first others steps m → n ≡ m
   one_work zero n m h k = h ∙ sym k
-  one_work (suc steps) n m h k =
-      let before = one_work steps h.0 k.0 h.2 k.2 in
-      let here = one_cost steps h.1 k.1 h.3 k.3 in
-      omega (arith, before, here, h.4, k.4)
+  one_work (suc steps) n m h k = search (rules, one_work steps h.0 k.0 h.2 k.2, one_cost)
 
   -- the work of fewer steps is at most that of more
   pub grows : (few many n m : ℕ) → few ≤ many → IsWorkOf policy first others few n → IsWorkOf policy first others many m → n ≤ m
-  grows few zero n m fewer h k =
-      let same : few ≡ 0 = omega arith in
-      let one : n ≡ m = one_work 0 n m (subst (λ s. IsWorkOf policy first others s n) same h) k in
-      omega (arith, one)
+  grows few zero n m fewer h k = search (rules, one_work)
   grows few (suc many) n m fewer h k = grows_by (cases_lt many few) (λ before. grows few many n k.0 before h k.2)
     where
       grows_by : (many < few) ⊎ (few ≤ many) → (few ≤ many → n ≤ k.0) → n ≤ m

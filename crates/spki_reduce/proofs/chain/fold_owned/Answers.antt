@@ -1,4 +1,4 @@
-use Rattle.std.proofs.Common.{◌≡◌, inl, inr, sym, ◌∙◌, ap, ◌+◌, ◌<◌, length, arith, Result, Ok, Err, IsErrAnd}
+use Rattle.std.proofs.Common.{◌≡◌, inl, inr, sym, ◌∙◌, ap, ◌+◌, ◌<◌, length, arith, Result, Ok, Err, IsErrAnd, rules}
 use Rattle.spki_reduce.specs.declared.fault.ReduceFault.TheVariants.{TooLarge}
 use Rattle.spki_reduce.specs.Tuples.{five}
 use Rattle.spki_reduce.specs.Views.{five_tuple, step_tuple}
@@ -47,9 +47,7 @@ returns-in-Stopped-clause-fold c =
     c.loop-place.invariant.value c.in-Stopped.cause stopped nothing
 
 pub returns-in-Stopped-clause-excluded : goal.returns-in-Stopped-clause-excluded
-returns-in-Stopped-clause-excluded c =
-    excluded c.args.policy (five (five_tuple c.args.first)) (tuples_of c.args.steps.now) (c.loop-place.place + 1)
-    c.in-Stopped.cause (returns-in-Stopped-clause-fold c)
+returns-in-Stopped-clause-excluded c = search (rules, excluded, returns-in-Stopped-clause-fold)
 
 pub returns-in-Stopped-clause-unsupported : goal.returns-in-Stopped-clause-unsupported
 returns-in-Stopped-clause-unsupported c =
