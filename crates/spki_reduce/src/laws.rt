@@ -19,7 +19,7 @@ ghost use Rattle.spki_reduce.specs.Written.{IsWrittenFive};
 /// What is derived in any bracketing is derived when the same tuples are joined from the left, one after another (RFC 2693,
 /// sections 6.3 and 6.4). So it is enough to look for a derivation in that bracketing.
 ///
-/// The converse does not hold: see `other_bracketings`.
+/// The converse does not hold: see `not_every_bracketing`.
 pub fn any_bracketing()
     ensures leaves { (first : Tuple) (rest : List Tuple) → leaves (from_left first rest) ≡ first ∷ rest }
     ensures derives { (policy : Policy) (tree : Tree) (root first : Tuple) (rest : List Tuple) →
@@ -63,7 +63,7 @@ pub fn one_writing()
 
 /// Under every policy there are tuples that, in one order, have a derivation in one bracketing and none in another. A name's definition
 /// may join the authorization before it, and never the one after it.
-pub fn other_bracketings()
+pub fn not_every_bracketing()
     ensures { (policy : Policy) → (tree other : Tree) × (root : Tuple) ×
         (leaves other ≡ leaves tree) × Derives policy tree root ×
         ((another : Tuple) → ¬ Derives policy other another) }

@@ -1,5 +1,5 @@
 use Rattle.spki_reduce.proofs.Between.{only_from_left}
-use Rattle.spki_reduce.proofs.laws.other_bracketings.Goals as goal
+use Rattle.spki_reduce.proofs.laws.not_every_bracketing.Goals as goal
 
 pub returns : goal.returns
 returns c = only_from_left
