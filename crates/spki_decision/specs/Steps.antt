@@ -28,9 +28,9 @@ is_operation (DoHash alg) = true
 is_operation _ = false
 
 -- the signature of an item
-abbrev pub signature_of : SeqItem → Option signature.Signature
-signature_of (Signature s) = Some s
-signature_of _ = None
+abbrev pub as_signature : SeqItem → Option signature.Signature
+as_signature (Signature s) = Some s
+as_signature _ = None
 
 -- the certificate of an item, if it is one
 abbrev pub certificate_at : ℕ → SeqItem → List SeqItem → List Shown

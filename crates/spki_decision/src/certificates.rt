@@ -6,7 +6,7 @@ ghost use Rattle.spki_reduce.specs.Views.{step_tuple, five_tuple, four_tuple, au
 ghost use Rattle.spki_case.specs.Sequence.{certificates, signature_in, issuer_of, octets_of};
 ghost use Rattle.spki_decision.specs.Standing.{tuple_of};
 ghost use Rattle.spki_decision.specs.Views.{certificate_of, shown_of};
-ghost use Rattle.spki_decision.specs.Steps.{IsItem, IsOther, is_operation, signature_of, certificate_at};
+ghost use Rattle.spki_decision.specs.Steps.{IsItem, IsOther, is_operation, as_signature, certificate_at};
 
 use spki_cert::{AuthCert, Key, NameCert, Principal, SeqItem, Signature};
 use spki_reduce::{Five, Four, Issuer, Step};
@@ -104,8 +104,8 @@ fn is_operation(item: &SeqItem) -> bool
 }
 
 /// The item as a signature. None if it is a key, an operation or a certificate.
-fn signature_of<'s, 'a>(item: &'s SeqItem<'a>) -> Option<&'s Signature<'a>>
-    ensures { option_copied result ≡ signature_of item.entry.now }
+fn as_signature<'s, 'a>(item: &'s SeqItem<'a>) -> Option<&'s Signature<'a>>
+    ensures { option_copied result ≡ as_signature item.entry.now }
 {
     match item {
         SeqItem::Signature(signature) => Some(signature),
@@ -123,14 +123,14 @@ fn signature_in<'s, 'a>(items: &'s [SeqItem<'a>]) -> Option<&'s Signature<'a>>
 {
     for item in items {
         if !is_operation(item) {
-            return signature_of(item);
+            return as_signature(item);
         }
     }
     None
 }
 
 /// The item as a certificate. None if it is a key, an operation or a signature.
-fn certificate_in<'s, 'a>(item: &'s SeqItem<'a>) -> Option<Certificate<'s, 'a>>
+fn as_certificate<'s, 'a>(item: &'s SeqItem<'a>) -> Option<Certificate<'s, 'a>>
     ensures { MatchOption result (IsOther item.entry.now) (λ cert. IsItem item.entry.now (certificate_of cert)) }
 {
     match item {
@@ -153,7 +153,7 @@ fn push_certificate<'s, 'a>(
     ensures { OnOk result (map shown_of shown.new.items
         ≡ map shown_of shown.old.items ++ certificate_at number item.entry.now behind.entry.now) }
 {
-    let Some(certificate) = certificate_in(item) else {
+    let Some(certificate) = as_certificate(item) else {
         return Ok(());
     };
     shown.push(ShownCert {
