@@ -14,7 +14,7 @@ use crate::entry::{Entry, Subject};
 use crate::fault::{CertFault, CertFaultKind};
 use crate::fields::{Fields, Known, Place, fields_of};
 use crate::names::Names;
-use crate::principal_reader::{Who, who_of};
+use crate::principal_reader::{Who, written_subject_of};
 use crate::validity::one_way;
 use crate::version::check_version;
 use sexpr_core::syntax::{Members, Node};
@@ -28,7 +28,7 @@ fn entry_subject<'a>(alloc: Global, node: &Node<'_, 'a>) -> Result<Subject<'a>, 
     ensures faultless { IfOk result (λ _. entry_subject_fault node.now ≡ None) }
     ensures named { IfErr result (λ kind. kind ≢ CertFaultKind.Memory → entry_subject_fault node.now ≡ Some kind) }
 {
-    let Who { principal, names } = who_of(alloc, node)?;
+    let Who { principal, names } = written_subject_of(alloc, node)?;
     match principal {
         Some(principal) => Ok(Subject {
             principal,

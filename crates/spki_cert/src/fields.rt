@@ -14,7 +14,7 @@ ghost use Rattle.spki_cert.specs.Inner.Gathering.{fault_in, IsTagKind, IssuerAt,
 use crate::date::Date;
 use crate::fault::CertFaultKind;
 use crate::octets::Octets;
-use crate::principal_reader::{Issuer, Who, issuer_of, who_of};
+use crate::principal_reader::{Issuer, Who, issuer_of, written_subject_of};
 use crate::validity::{date_in, valid_in};
 use crate::version::check_version;
 use crate::window::Window;
@@ -121,7 +121,7 @@ fn subject_in<'a>(alloc: Global, members: Members<'_, 'a>) -> Result<Who<'a>, Ce
     let Some((value, more)) = members.split_first() else {
         return Err(CertFaultKind::Shape);
     };
-    let who = who_of(alloc, &value)?;
+    let who = written_subject_of(alloc, &value)?;
     if more.is_empty() {
         Ok(who)
     } else {

@@ -79,7 +79,7 @@ fn names_behind<'a>(
 
 /// Reads the members after the head `name`: a principal and its names, or names alone, which are relative. Err says why
 /// they are none: `Shape` if there is no name.
-fn named_by<'a>(alloc: Global, members: Members<'_, 'a>) -> Result<Who<'a>, CertFaultKind>
+fn read_name_members<'a>(alloc: Global, members: Members<'_, 'a>) -> Result<Who<'a>, CertFaultKind>
     ensures found { IfOk result (λ who. NamesWho members.entry who.principal who.names.items) }
     ensures faultless { IfOk result (λ _. names_fault members.entry ≡ None) }
     ensures named { IfErr result (λ kind. kind ≢ CertFaultKind.Memory → names_fault members.entry ≡ Some kind) }
@@ -109,7 +109,10 @@ fn named_by<'a>(alloc: Global, members: Members<'_, 'a>) -> Result<Who<'a>, Cert
 
 /// Reads a subject from its node, as it is written: a principal, a name `(name principal n n*)`, or a relative name
 /// `(name n n*)`. Err is its fault: `Threshold` for a list headed `k-of-n`, and `Keyholder` for one headed `keyholder`.
-pub(crate) fn who_of<'a>(alloc: Global, node: &Node<'_, 'a>) -> Result<Who<'a>, CertFaultKind>
+pub(crate) fn written_subject_of<'a>(
+    alloc: Global,
+    node: &Node<'_, 'a>,
+) -> Result<Who<'a>, CertFaultKind>
     ensures found { IfOk result (λ who. WhoOf node.now who.principal who.names.items) }
     ensures faultless { IfOk result (λ _. subject_fault node.now ≡ None) }
     ensures named { IfErr result (λ kind. kind ≢ CertFaultKind.Memory → subject_fault node.now ≡ Some kind) }
@@ -127,7 +130,7 @@ pub(crate) fn who_of<'a>(alloc: Global, node: &Node<'_, 'a>) -> Result<Who<'a>, 
             names: Vec::new(alloc),
         });
     };
-    named_by(alloc, members)
+    read_name_members(alloc, members)
 }
 
 /// Reads an issuer from its node: a principal, or `(name PRINCIPAL N)` with exactly one name. Err is its fault.

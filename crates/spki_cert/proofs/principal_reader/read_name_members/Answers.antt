@@ -4,7 +4,7 @@ use Rattle.std.proofs.Common.{arith, ◌++◌, ◌∙◌, ap, List, ℕ}
 use Rattle.spki_cert.specs.SubjectFaults.{names_fault}
 use Rattle.spki_cert.proofs.SubjectFaultLaws.{some-names, are-plains}
 use Rattle.spki_cert.specs.FixedFaults.{any_octets}
-use Rattle.spki_cert.proofs.principal_reader.named_by.Goals as goal
+use Rattle.spki_cert.proofs.principal_reader.read_name_members.Goals as goal
 
 pub returns-clause-found : goal.returns-clause-found
 returns-clause-found c =

@@ -7,7 +7,7 @@ use Rattle.std.proofs.Common.{Some}
 use Rattle.std.proofs.lemmas.Result.{IfOk-weaker}
 use Rattle.spki_cert.specs.SubjectFaults.{subject_fault}
 use Rattle.spki_cert.proofs.SubjectFaultLaws.{subject-threshold, subject-keyholder, subject-principal, subject-names}
-use Rattle.spki_cert.proofs.principal_reader.who_of.Goals as goal
+use Rattle.spki_cert.proofs.principal_reader.written_subject_of.Goals as goal
 
 pub returns-in-Some-clause-named : goal.returns-in-Some-clause-named
 returns-in-Some-clause-named c = λ _. subject-threshold c.args.node.now _ c.in-Some.ensures
@@ -26,8 +26,8 @@ returns-in_default-headed-2-clause-faultless c =
 
 pub returns-clause-faultless : goal.returns-clause-faultless
 returns-clause-faultless c =
-    IfOk-weaker c.named_by.result _ _ (λ who faultless. subject-names c.args.node.now _ _ c.in-Some-headed-2.ensures faultless) c.named_by.ensures.faultless
+    IfOk-weaker c.read_name_members.result _ _ (λ who faultless. subject-names c.args.node.now _ _ c.in-Some-headed-2.ensures faultless) c.read_name_members.ensures.faultless
 
 pub returns-clause-named : goal.returns-clause-named
 returns-clause-named c =
-    IfErr-weaker c.named_by.result _ _ (λ kind named known. subject-names c.args.node.now _ _ c.in-Some-headed-2.ensures (named known)) c.named_by.ensures.named
+    IfErr-weaker c.read_name_members.result _ _ (λ kind named known. subject-names c.args.node.now _ _ c.in-Some-headed-2.ensures (named known)) c.read_name_members.ensures.named
