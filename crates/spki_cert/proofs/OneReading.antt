@@ -239,22 +239,11 @@ do-one v a b read other = search (rules, same_rest, alg-one)
 
 item-one : (v : Value) (i j : SeqItem) → ItemOf v i → ItemOf v j → i ≡ j
 item-one v (items.Key k) (items.Key l) read other = ap items.Key (key-one v k l read other)
-item-one v (items.Key k) (items.DoHash b) read other = absurd (apart (codes "do") v _ _ other read.written refl refl)
-item-one v (items.Key k) (items.Signature t) read other = absurd (apart (codes "signature") v _ _ other.written read.written refl refl)
-item-one v (items.DoHash a) (items.Key l) read other = absurd (apart (codes "do") v _ _ read other.written refl refl)
 item-one v (items.DoHash a) (items.DoHash b) read other = ap items.DoHash (do-one v a b read other)
-item-one v (items.DoHash a) (items.Signature t) read other = absurd (apart (codes "signature") v _ _ other.written read refl refl)
 item-one v (items.Auth b) (items.Auth c) read other = ap items.Auth (auth-one v b c read other)
-item-one v (items.Auth b) (items.Name c) read other = absurd (no-auth_and_name v b c read other)
-item-one v (items.Name b) (items.Auth c) read other = absurd (no-auth_and_name v c b other read)
 item-one v (items.Name b) (items.Name c) read other = ap items.Name (name_cert-one v b c read other)
-item-one v (items.Signature s) (items.DoHash a) read other = absurd (apart (codes "signature") v _ _ read.written other refl refl)
 item-one v (items.Signature s) (items.Signature t) read other = ap items.Signature (signature-one v s t read other)
-item-one v (items.Key k) j read other = absurd (apart (codes "cert") v _ _ other.written read.written refl refl)
-item-one v (items.DoHash a) j read other = absurd (apart (codes "cert") v _ _ other.written read refl refl)
-item-one v i (items.DoHash a) read other = absurd (apart (codes "cert") v _ _ read.written other refl refl)
-item-one v (items.Signature s) j read other = absurd (apart (codes "signature") v _ _ read.written other.written refl refl)
-item-one v i j read other = absurd (apart (codes "cert") v _ _ read.written other.written refl refl)
+item-one v i j read other = absurd (search (rules, apart (codes "cert") v, apart (codes "do") v, apart (codes "signature") v, no-auth_and_name v))
 
 pub sequence-one : (v : Value) (is js : List SeqItem) → SeqOf v is → SeqOf v js → is ≡ js
 sequence-one v is js read other =
