@@ -1,16 +1,11 @@
-use Rattle.std.proofs.Common.{◌≢◌, ◌≡◌, Some, None, true, false, refl}
-use Rattle.spki_cert.specs.declared.fault.CertFaultKind.{CertFaultKind}
-use Rattle.spki_cert.specs.declared.fault.CertFaultKind.TheVariants.{Memory}
+use Rattle.std.proofs.Common.{None, true, false, refl, rules}
 use Rattle.spki_cert.proofs.Looking.{carried}
-use Rattle.spki_cert.specs.Inner.Gathering.{parts_fault}
 use Rattle.spki_cert.proofs.FieldFaultLaws.{both-ways, one-way}
 use Rattle.spki_cert.proofs.SequenceFaultLaws.{parts-tested, parts-known}
 use Rattle.spki_cert.proofs.certificate_reader.parts_of.Goals as goal
 
 pub returns-in_err-propagate-clause-named : goal.returns-in_err-propagate-clause-named
-returns-in_err-propagate-clause-named c =
-    carried c.from_residual.result _ (λ (kind : CertFaultKind). kind ≢ Memory → parts_fault c.args.members ≡ Some kind) c.from_residual.ensures.1
-    (λ known. parts-tested c.args.members _ _ _ _ (c.in_err-propagate.ensures.named known) refl refl refl)
+returns-in_err-propagate-clause-named c = search (rules, carried, parts-tested)
 
 pub returns-in_default-clause-named : goal.returns-in_default-clause-named
 returns-in_default-clause-named c = λ _.

@@ -1,5 +1,4 @@
 use Rattle.std.proofs.Common.{◌≡◌, ◌∙◌, [], List, ap, rules}
-use Rattle.std.proofs.lemmas.Result.{IfErr-weaker, IfOk-weaker}
 use Rattle.spki_cert.proofs.Looking.{carried, none-some}
 use Rattle.sexpr_core.specs.Value.{Value}
 use Rattle.spki_cert.specs.declared.fault.CertFaultKind.TheVariants.{Shape}
@@ -27,11 +26,7 @@ pub returns-in-Some-headed-2-clause-faultless : goal.returns-in-Some-headed-2-cl
 returns-in-Some-headed-2-clause-faultless c = entry-comment c.args.field.now _ c.in-Some-headed-2.ensures
 
 pub returns-clause-faultless : goal.returns-clause-faultless
-returns-clause-faultless c =
-    IfOk-weaker c.read_validity_field.result _ _
-    (λ _ faultless. entry-time c.args.field.now _ c.in_default.ensures c.in_default-headed.ensures c.in_default-headed-2.ensures faultless) c.read_validity_field.ensures.faultless
+returns-clause-faultless c = search (rules, entry-time)
 
 pub returns-clause-named : goal.returns-clause-named
-returns-clause-named c =
-    IfErr-weaker c.read_validity_field.result _ _
-    (λ kind named _. entry-time c.args.field.now _ c.in_default.ensures c.in_default-headed.ensures c.in_default-headed-2.ensures named) c.read_validity_field.ensures.named
+returns-clause-named c = search (rules, entry-time)

@@ -1,14 +1,13 @@
 use Rattle.spki_cert.specs.declared.fault.CertFaultKind.TheVariants.{Shape}
 use Rattle.spki_cert.proofs.Looking.{carried, no-plain, none-some}
-use Rattle.std.proofs.Common.{◌∙◌, arith}
+use Rattle.std.proofs.Common.{◌∙◌, arith, rules}
 use Rattle.spki_cert.specs.SubjectFaults.{issuer_fault}
 use Rattle.spki_cert.proofs.SubjectFaultLaws.{issuer-principal, issuer-form}
 use Rattle.spki_cert.specs.FixedFaults.{any_octets}
 use Rattle.spki_cert.proofs.principal_reader.issuer_of.Goals as goal
 
 pub returns-in_err-principal-clause-named : goal.returns-in_err-principal-clause-named
-returns-in_err-principal-clause-named c =
-    carried _ _ _ c.from_residual.ensures.1 (issuer-principal c.args.node.now _ c.in_default.ensures c.in_err-principal.ensures.named)
+returns-in_err-principal-clause-named c = search (rules, carried, issuer-principal)
 
 pub returns-in_default-clause-faultless : goal.returns-in_default-clause-faultless
 returns-in_default-clause-faultless c = issuer-principal c.args.node.now _ c.in_default.ensures c.in_ok-principal.ensures.faultless

@@ -1,9 +1,8 @@
 use Rattle.spki_cert.proofs.Looking.{carried, no-plain}
 use Rattle.spki_cert.proofs.SubjectLaws.{principal-names}
-use Rattle.std.proofs.Common.{arith, ◌++◌, ◌∙◌, ap, List, ℕ}
+use Rattle.std.proofs.Common.{arith, ◌++◌, ◌∙◌, ap, List, ℕ, rules}
 use Rattle.spki_cert.specs.SubjectFaults.{names_fault}
 use Rattle.spki_cert.proofs.SubjectFaultLaws.{some-names, are-plains}
-use Rattle.spki_cert.specs.FixedFaults.{any_octets}
 use Rattle.spki_cert.proofs.principal_reader.read_name_members.Goals as goal
 
 pub returns-clause-found : goal.returns-clause-found
@@ -18,20 +17,15 @@ returns-in_default-clause-named c = λ _. rw c.in_default.ensures
 
 pub returns-in_err-names-clause-named : goal.returns-in_err-names-clause-named
 unfolding names_fault
-returns-in_err-names-clause-named c =
-    carried _ _ _ c.from_residual-in_err-names.ensures.1
-    (λ known. let named = c.in_err-names.ensures.named known in rw (c.in-Some.ensures, c.in-Some-plain_octets.ensures, named.0, named.1))
+returns-in_err-names-clause-named c = search (rules, carried)
 
 pub returns-in-Some-plain_octets-clause-faultless : goal.returns-in-Some-plain_octets-clause-faultless
 unfolding names_fault
-returns-in-Some-plain_octets-clause-faultless c =
-    let found = c.in_ok-names.ensures.found in rw (c.in-Some.ensures, c.in-Some-plain_octets.ensures, are-plains _ found.0 found.2)
+returns-in-Some-plain_octets-clause-faultless c = search (rules, are-plains)
 
 pub returns-in_err-principal-clause-named : goal.returns-in_err-principal-clause-named
 unfolding names_fault
-returns-in_err-principal-clause-named c =
-    carried _ _ _ c.from_residual-in_err-principal.ensures.1
-    (λ _. rw (c.in-Some.ensures, no-plain any_octets _ c.in_default-plain_octets.ensures, c.in_err-principal.ensures.named))
+returns-in_err-principal-clause-named c = search (rules, carried, no-plain)
 
 pub returns-then-is_empty-clause-named : goal.returns-then-is_empty-clause-named
 unfolding names_fault

@@ -1,11 +1,6 @@
-use Rattle.std.proofs.Common.{◌≡◌, ◌≢◌}
+use Rattle.std.proofs.Common.{rules}
 use Rattle.std.proofs.lemmas.Result.{IfErr-weaker}
-use Rattle.spki_cert.specs.declared.fault.CertFaultKind.{CertFaultKind}
-use Rattle.spki_cert.specs.declared.fault.CertFaultKind.TheVariants.{Memory}
 use Rattle.spki_cert.proofs.Looking.{carried}
-use Rattle.std.proofs.Common.{Some}
-use Rattle.std.proofs.lemmas.Result.{IfOk-weaker}
-use Rattle.spki_cert.specs.SubjectFaults.{subject_fault}
 use Rattle.spki_cert.proofs.SubjectFaultLaws.{subject-threshold, subject-keyholder, subject-principal, subject-names}
 use Rattle.spki_cert.proofs.principal_reader.written_subject_of.Goals as goal
 
@@ -16,17 +11,13 @@ pub returns-in-Some-headed-clause-named : goal.returns-in-Some-headed-clause-nam
 returns-in-Some-headed-clause-named c = λ _. subject-keyholder c.args.node.now _ c.in_default.ensures c.in-Some-headed.ensures
 
 pub returns-in_err-principal-clause-named : goal.returns-in_err-principal-clause-named
-returns-in_err-principal-clause-named c =
-    carried c.from_residual.result _ (λ (kind : CertFaultKind). kind ≢ Memory → subject_fault c.args.node.now ≡ Some kind) c.from_residual.ensures.1
-    (λ _. subject-principal c.args.node.now _ c.in_default.ensures c.in_default-headed.ensures c.in_default-headed-2.ensures c.in_err-principal.ensures.named)
+returns-in_err-principal-clause-named c = search (rules, carried, subject-principal)
 
 pub returns-in_default-headed-2-clause-faultless : goal.returns-in_default-headed-2-clause-faultless
-returns-in_default-headed-2-clause-faultless c =
-    subject-principal c.args.node.now _ c.in_default.ensures c.in_default-headed.ensures c.in_default-headed-2.ensures c.in_ok-principal.ensures.faultless
+returns-in_default-headed-2-clause-faultless c = search (rules, subject-principal)
 
 pub returns-clause-faultless : goal.returns-clause-faultless
-returns-clause-faultless c =
-    IfOk-weaker c.read_name_members.result _ _ (λ who faultless. subject-names c.args.node.now _ _ c.in-Some-headed-2.ensures faultless) c.read_name_members.ensures.faultless
+returns-clause-faultless c = search (rules, subject-names)
 
 pub returns-clause-named : goal.returns-clause-named
 returns-clause-named c =

@@ -1,12 +1,10 @@
-use Rattle.std.proofs.Common.{rules, ◌∙◌}
-use Rattle.std.proofs.lemmas.Result.{IfErr-weaker}
+use Rattle.std.proofs.Common.{rules}
 use Rattle.spki_cert.proofs.Looking.{carried}
 use Rattle.spki_cert.proofs.SequenceFaultLaws.{item-cert, item-signature, item-do, item-key}
 use Rattle.spki_cert.proofs.sequence.item_of.Goals as goal
 
 pub returns-in-Some-clause-named : goal.returns-in-Some-clause-named
-returns-in-Some-clause-named c =
-    IfErr-weaker c.cert_of.result _ _ (λ kind named known. item-cert c.args.node.now _ c.in-Some.ensures ∙ named known) c.cert_of.ensures.named
+returns-in-Some-clause-named c = search (rules, item-cert)
 
 pub returns-in_err-signature_of-clause-named : goal.returns-in_err-signature_of-clause-named
 returns-in_err-signature_of-clause-named c = search (rules, carried, item-signature)

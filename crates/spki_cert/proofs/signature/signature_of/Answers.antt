@@ -1,5 +1,5 @@
 use Rattle.spki_cert.specs.declared.fault.CertFaultKind.TheVariants.{Shape}
-use Rattle.std.proofs.Common.{◌∙◌}
+use Rattle.std.proofs.Common.{◌∙◌, rules}
 use Rattle.spki_cert.proofs.Looking.{carried, none-some}
 use Rattle.spki_cert.proofs.ItemFaultLaws.{signature-looks}
 use Rattle.spki_cert.proofs.Triples.{triple-unheaded, triple-form}
@@ -12,31 +12,16 @@ pub returns-in_default-split_first-clause-named : goal.returns-in_default-split_
 returns-in_default-split_first-clause-named c = triple-form signature-looks c.args.node.now _ c.in-Some.ensures ∙ rw c.in_default-split_first.ensures
 
 pub returns-in_err-alg-clause-named : goal.returns-in_err-alg-clause-named
-returns-in_err-alg-clause-named c =
-    carried _ _ _ c.from_residual.ensures.1
-    (triple-form signature-looks c.args.node.now _ c.in-Some.ensures ∙ rw (c.in-Some-split_first.ensures, c.in_err-alg.ensures.named))
+returns-in_err-alg-clause-named c = search (rules, carried, triple-form, signature-looks)
 
 pub returns-in_default-split_first-2-clause-named : goal.returns-in_default-split_first-2-clause-named
-returns-in_default-split_first-2-clause-named c =
-    triple-form signature-looks c.args.node.now _ c.in-Some.ensures
-    ∙ rw (c.in-Some-split_first.ensures, c.in_ok-alg.ensures.faultless, c.in_default-split_first-2.ensures)
+returns-in_default-split_first-2-clause-named c = search (rules, triple-form, signature-looks)
 
 pub returns-in_err-signer-clause-named : goal.returns-in_err-signer-clause-named
-returns-in_err-signer-clause-named c =
-    carried _ _ _ c.from_residual-in_err-signer.ensures.1
-    (triple-form signature-looks c.args.node.now _ c.in-Some.ensures
-    ∙ rw (c.in-Some-split_first.ensures, c.in_ok-alg.ensures.faultless, c.in-Some-split_first-2.ensures, c.in_err-signer.ensures.named))
+returns-in_err-signer-clause-named c = search (rules, carried, triple-form, signature-looks)
 
 pub returns-in_default-split_first-3-clause-named : goal.returns-in_default-split_first-3-clause-named
-returns-in_default-split_first-3-clause-named c =
-    triple-form signature-looks c.args.node.now _ c.in-Some.ensures
-    ∙ rw (
-      c.in-Some-split_first.ensures,
-      c.in_ok-alg.ensures.faultless,
-      c.in-Some-split_first-2.ensures,
-      c.in_ok-signer.ensures.faultless,
-      c.in_default-split_first-3.ensures,
-    )
+returns-in_default-split_first-3-clause-named c = search (rules, triple-form, signature-looks)
 
 pub returns-then-not-is_empty-clause-named : goal.returns-then-not-is_empty-clause-named
 returns-then-not-is_empty-clause-named c =
