@@ -1,9 +1,9 @@
-use Rattle.std.proofs.lemmas.Grind.{common_steps}
-use Rattle.std.proofs.Common.{◌≡◌, length, drop, List, ◌++◌, ap, ◌∙◌, subst, arith, le_trans, append_assoc, true≢false, length-drop, ◌-◌, rules}
+use Rattle.std.proofs.Common.{◌≡◌, ℕ, ◌≤◌, length, drop, List, ◌++◌, sym, ap, ◌∙◌, subst, arith, le_trans, append_assoc, true≢false, length-drop, ◌-◌, rules}
 use Rattle.std.proofs.lemmas.Nat.{mul-le}
 use Rattle.std.proofs.lemmas.List.{take_all}
-use Rattle.spki_tag.specs.Tag.{Tag, tags}
-use Rattle.spki_tag.specs.Meet.{each_meet}
+use Rattle.spki_tag.specs.Tag.{Tag, tags, nodes, nodes_all}
+use Rattle.spki_tag.specs.Meet.{meet, each_meet, pairs, row}
+use Rattle.spki_tag.specs.Index.{may_share, places_where, tags_at}
 use Rattle.spki_tag.proofs.Sharing.{places_where-within, row-at_places}
 use Rattle.spki_tag.proofs.Members.{nodes_le-of_read}
 use Rattle.spki_tag.proofs.MeetSteps.{tags-members, members_meet, meet-by_members, pairs-step, lists_meet, each_meet-rest, has_nothing-found, has_nothing-push, nothing-is, nothing-is_not, each_meet-last}
@@ -13,10 +13,34 @@ pub push_row-meet_tags-requires : goal.push_row-meet_tags-requires
 push_row-meet_tags-requires t c = search (rules, nodes_le-of_read, le_trans, mul-le)
 
 pub meet_members-push_row-requires : goal.meet_members-push_row-requires
-meet_members-push_row-requires t c = search (rules, nodes_le-of_read, le_trans, mul-le, places_where-within)
+meet_members-push_row-requires t c =
+    let others = tags c.args.others.now in
+    let less : nodes c.one-item.result ≤ nodes_all (tags c.args.ones.now) =
+    nodes_le-of_read c.args.ones.now c.loop-one.one-index c.one-item.result c.loop-one-test.true c.one-item.is in (
+      omega (arith, c.decreases, less),
+      (
+        le_trans (mul-le (nodes c.one-item.result) (nodes_all others) (nodes_all (tags c.args.ones.now)) (nodes_all others) less (omega arith)) c.requires.bound,
+        (
+            rw (c.deref.ensures.value, c.in_ok-places.ensures, c.in_ok-index.ensures)
+            (places_where-within (may_share c.one-item.result) 1 c.args.others.now)
+            ),
+      ),
+    )
 
 pub meet_members-loop-one-preserved : goal.meet_members-loop-one-preserved
-meet_members-loop-one-preserved t c = grind (arith, common_steps, row-at_places, pairs-step)
+meet_members-loop-one-preserved t c =
+    let one = c.one-item.result in
+    let others = c.args.others.now in
+    let places = c.in_ok-places.places.items in
+    let found : places ≡ places_where (may_share one) 1 others =
+    c.in_ok-places.ensures ∙ ap (places_where (may_share one) 1) c.in_ok-index.ensures in
+    let same : row (meet one) (tags (tags_at others places)) ≡ row (meet one) (tags others) =
+    ap (λ (ps : List ℕ). row (meet one) (tags (tags_at others ps))) found ∙ sym (row-at_places one others) in
+    let pushed : c.push_row.new.met.items ≡ c.loop-one.met.items ++ row (meet one) (tags (tags_at others places)) =
+    rw c.deref.ensures.value at c.in_ok-push_row.ensures in
+    pairs-step c.args.ones.now others c.loop-one.met.items c.push_row.new.met.items
+    (pairs (tags c.args.ones.now) (tags others)) (row (meet one) (tags (tags_at others places)))
+    c.loop-one.one-index one c.loop-one-test.true c.loop-one.invariant c.one-item.is pushed same
 
 pub meet_single-meet_lists-requires : goal.meet_single-meet_lists-requires
 meet_single-meet_lists-requires t c = search (rules, lists_meet)
