@@ -116,8 +116,7 @@ fn as_signature<'s, 'a>(item: &'s SeqItem<'a>) -> Option<&'s Signature<'a>>
     }
 }
 
-/// The signature of a certificate. `items` are those after the certificate: the first that is no operation must be the
-/// signature, otherwise the result is None.
+/// The signature of a certificate, which `items` follow: the first that is no operation. None if it is something else.
 fn signature_in<'s, 'a>(items: &'s [SeqItem<'a>]) -> Option<&'s Signature<'a>>
     ensures { option_copied result ≡ signature_in items.entry.now }
 {
@@ -142,8 +141,7 @@ fn as_certificate<'s, 'a>(item: &'s SeqItem<'a>) -> Option<Certificate<'s, 'a>>
     }
 }
 
-/// Appends an item to the certificates, if it is one. `number` is its number in the sequence, from 1, and the items of
-/// `behind` follow it. Err if memory ran out.
+/// Appends the item with this number, from 1, to the certificates, if it is one. The items of `behind` follow it.
 fn push_certificate<'s, 'a>(
     shown: &mut Vec<ShownCert<'s, 'a>>,
     number: usize,

@@ -75,9 +75,8 @@ pub fn first_granted<'a>(
     Ok(Decision::No)
 }
 
-/// The first entry, from 1, of a case's access list that grants the request, together with certificates whose tuples
-/// are `steps`. `No` if there is none. Each entry up to it is tested for tags that are too large, and no later entry is
-/// examined.
+/// The first entry, from 1, of a case's access list that grants the request with certificates whose tuples are `steps`.
+/// `No` if there is none. Each entry up to it, and no later one, is tested for tags that are too large.
 ///
 /// # Errors
 ///

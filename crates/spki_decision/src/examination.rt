@@ -71,8 +71,7 @@ pub fn examine<'a>(
     Ok(Examined { signed, evidence })
 }
 
-/// Does the first three tests of a certificate: its issuer's key is known, the digest of its signature is right, and
-/// the signature is by this key. `keys` are those of the sequence. Err if memory ran out.
+/// Does the tests of a certificate that need no verifier: its issuer's key is shown, its digest is right, this key signed.
 fn test<'a>(
     alloc: Global,
     shown: &ShownCert<'_, 'a>,

@@ -59,8 +59,7 @@ pub enum Explanation {
 
 /// Explains a case (RFC 2693, section 6). If every certificate of its sequence stands, the answer is for each entry why
 /// it and all certificates, in their order, grant the request or do not. Otherwise it is the first certificate that
-/// does not stand. A certificate stands if it passes the four tests of `Stop`; the last is that the verifier accepts
-/// its signature.
+/// does not stand: it fails a test of `Stop`, of which the last is that the verifier accepts its signature.
 ///
 /// The reason is `Grants` for exactly the entries that are granted. `decide` names the first of them.
 ///
@@ -117,9 +116,8 @@ pub fn entry_reasons<'a>(
     Ok(reasons)
 }
 
-/// Returns why an entry and the certificates of the case grant the request or do not. `shown` are the certificates and
-/// `steps` their tuples. The products of intersected nodes are taken from `work`. Err is `TooLarge` or `Memory`, as for
-/// `explain`.
+/// Returns why an entry and the certificates `shown` of the case, with the tuples `steps`, grant the request or do not.
+/// The products of intersected nodes are taken from `work`. Err is `TooLarge` or `Memory`.
 fn entry_reason<'a>(
     alloc: Global,
     case: &Case<'a>,

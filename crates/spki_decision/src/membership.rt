@@ -27,8 +27,7 @@ pub(crate) struct Membership<'a> {
 }
 
 impl<'a> Membership<'a> {
-    /// What these certificates require of an entry for the case's key, request and moment. `steps` are their tuples, in
-    /// order. This takes time in proportion to the steps.
+    /// What certificates with the tuples `steps` require of an entry. This takes time in proportion to the steps.
     ///
     /// # Errors
     ///
@@ -48,8 +47,7 @@ impl<'a> Membership<'a> {
         Ok(Membership { required })
     }
 
-    /// Whether an entry and the certificates grant what the case asks. The case must be that of `of`. This takes time
-    /// in proportion to the entry. Allocates nothing.
+    /// Whether an entry and the certificates grant what this case asks, in time in proportion to the entry. Allocates nothing.
     pub(crate) fn grants(&self, entry: &Entry, case: &Case) -> bool
         ensures { (tuples : List Tuple) → IsMembership (model case.now) tuples self.now
             → IsTrue result ↔ Supported (model case.now) tuples entry.now }
@@ -65,8 +63,7 @@ impl<'a> Membership<'a> {
     }
 }
 
-/// Whether the tags of all steps contain the request of a case, and their windows its moment. A name's definition has
-/// no tag.
+/// Whether the tags of all steps contain the request of a case, and their windows its moment.
 fn all_contain(steps: &[Step], case: &Case) -> bool
     ensures { IsTrue result ↔ ((in_each case.now.request (all_tags (tuples_of steps.now)) ≡ true)
         × (within_each case.now.moment (all_windows (tuples_of steps.now)) ≡ true)) }
@@ -79,8 +76,7 @@ fn all_contain(steps: &[Step], case: &Case) -> bool
     true
 }
 
-/// Whether the tag of a step contains the request of a case, and its window the moment. A name's definition has no tag,
-/// so only its window is tested.
+/// Whether the tag of a step contains the request of a case, and its window the moment. A definition has no tag.
 fn contains(step: &Step, case: &Case) -> bool
     ensures { IsTrue result ↔ ((in_each case.now.request (tags_of (step_tuple step.now)) ≡ true)
         × (within_each case.now.moment (windows_of (step_tuple step.now)) ≡ true)) }

@@ -111,9 +111,8 @@ pub fn entry_folds<'a>(
     Ok(folds)
 }
 
-/// Returns what an entry and the certificates of the case become. `shown` are the certificates and `steps` their
-/// tuples. The products of intersected nodes are taken from `work`. Err is `TooLarge` or `Memory`, as for
-/// `reduce_case`.
+/// Returns what an entry and the certificates `shown` of the case, with the tuples `steps`, become. The products of
+/// intersected nodes are taken from `work`. Err is `TooLarge` or `Memory`.
 pub(crate) fn entry_fold<'a>(
     alloc: Global,
     case: &Case<'a>,

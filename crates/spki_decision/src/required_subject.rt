@@ -63,8 +63,7 @@ impl<'a> RequiredSubject<'a> {
             && subject.principal.names(&self.key, policy)
     }
 
-    /// The subject that is required before a step, if `self` is required after it. None if the step leads to no such
-    /// subject. Err if memory ran out.
+    /// The subject that is required before a step, if `self` is required after it. None if there is none.
     fn before(
         self,
         alloc: Global,
@@ -103,8 +102,7 @@ impl<'a> RequiredSubject<'a> {
     }
 
     /// The subject that is required before a name's definition: the defined name, and after it the required names
-    /// without those of the definition's subject. None if that subject does not lead to what is required. Err if memory
-    /// ran out.
+    /// without those of the definition's subject. None if that subject does not lead to what is required.
     fn before_definition(
         self,
         alloc: Global,

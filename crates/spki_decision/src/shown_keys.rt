@@ -50,8 +50,7 @@ impl<'a> ShownKeys<'a> {
         }
     }
 
-    /// The key of a certificate's issuer: the issuer itself if it is a key, or the first key of the sequence whose hash
-    /// it is. None if there is no such key, or if no such hash names a key under the policy. Err if memory ran out.
+    /// The key of an issuer: the issuer if it is a key, or the first key of the sequence that it names. None if there is none.
     pub(crate) fn holder(
         &mut self,
         alloc: Global,
@@ -91,8 +90,7 @@ impl<'a> ShownKeys<'a> {
     }
 }
 
-/// The first of the keys whose digest by the algorithm is `digest`, found in `index`. None if there is none. The index
-/// is made if it is None. Err if memory ran out.
+/// The first of the keys whose digest by the algorithm is `digest`, or None. It is found in `index`, made if it is None.
 fn first_in<'a>(
     index: &mut Option<FirstKeys<'a>>,
     alloc: Global,

@@ -77,8 +77,7 @@ fn product_of(steps: &[Step]) -> Option<usize>
     Some(product)
 }
 
-/// How many nodes the steps' tags have together, and the largest of them. None if a tag has a set, or if they have over
-/// 1,000,000 nodes together.
+/// How many nodes the steps' tags have together, and the largest. None if a tag has a set, or they have over 1,000,000.
 fn plain_of(steps: &[Step]) -> Option<PlainNodes>
     ensures { IfSome result (ArePlain (tuples_of steps.now)) }
 {
