@@ -56,7 +56,8 @@ MOST = {"10,000 keys, no certificate": 1.5, "10,000 keys, three certificates": 1
         "three caveats, opened before": 0.05, "by the digests": 5.0, "Rust": 1.02, "Python, µs more": 12.0,
         "memory of an opened question by its octets": 70.0,
         "opening a question of 1 MiB, ms": 500.0, "a decision, ms": 100.0, "a decision, MiB": 16.0, "a decision by default, ms": 100.0,
-        "an explanation or a reduction, ms": 200.0, "an explanation or a reduction, MiB": 16.0, "waits of 1,000 decisions": 1.0}
+        "an explanation or a reduction, ms": 200.0, "an explanation or a reduction, MiB": 16.0, "a reduction of short entries, MiB": 28.0,
+        "waits of 1,000 decisions": 1.0}
 LEAST = {"threads": 3.5}
 # What the library's statuses say.
 ANSWERS = {1: "no", 2: "refused", 6: "done", 9: "yes"}
@@ -306,6 +307,16 @@ def key_of_lists(entries, lists):
     return case([entry(issuer)] * entries, [(certificate(issuer, subject), issuer)], asks=subject)
 
 
+def short_entries(driver):
+    """The MiB of the reduction that takes most of all known: a list of 1 MiB with as many entries as can be. What each becomes is kept until all
+    are judged."""
+    asker = group(string("public-key"), group(string("a")))
+    listed = group(string("entry"), asker, group(string("tag"), string("a")))
+    text = case([listed] * ((MOST_OCTETS - len(group(string("acl")))) // len(listed)), [], asks=asker)
+    *_, mebibytes = driver.run("widest", "reduce", driver.question("short", text))
+    yield "a reduction of short entries, MiB", mebibytes
+
+
 def lists_in_lists(entries, depth):
     """Entries for the first issuer, and a certificate for a list of one list, and so on: nothing takes more memory for each node."""
     tag = string("x")
@@ -448,7 +459,7 @@ def main():
     library = os.path.abspath(sys.argv[1] if len(sys.argv) > 1 else LIBRARY)
     with tempfile.TemporaryDirectory() as room:
         driver = Driver(room, library)
-        parts = (by_instructions, through_python, opening_of_widest, by_default, widest, threads)
+        parts = (by_instructions, through_python, opening_of_widest, by_default, widest, short_entries, threads)
         met = [each for part in parts for each in part(driver)]
     if not all([is_kept(*each) for each in met]):
         sys.exit(1)
