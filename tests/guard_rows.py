@@ -212,6 +212,8 @@ def of_question(place: str, wish: str, parts: list[bytes], rows: bytes, said: by
     marks = marks_of(rows, listed)
     yield CallRow(f"{place} {wish}", f"Asked::{wish}", (*at, *asked, rows), in_debug(wish, said))
     yield CallRow(f"{place} {wish}_by", f"Asked::{wish}_by", (*at, *asked, marks), in_debug(wish, said))
+    if wish == "reduce":
+        yield CallRow(f"{place} reduce_into", "Asked::reduce_into", (*at, *asked, marks), in_debug(wish, said))
     verdict = b"Done" if is_done(said) else b"No"
     for way, call in (("in lines", "answer_question"), ("opened, in lines", "answer_opened")):
         yield CallRow(f"{place} {wish} {way}", call, (*at, wish.encode(), *asked, marks), verdict + b" " + said)

@@ -15,12 +15,13 @@ use Rattle.spki_decision.specs.declared.fault.GuardFault.{GuardFault}
 use Rattle.spki_decision.specs.declared.fault.GuardFault.TheVariants.{TooLarge, Memory}
 use Rattle.spki_decision.specs.declared.explanation.Explanation.{Explanation}
 use Rattle.spki_decision.specs.declared.explanation.Explanation.TheVariants as explanation
+use Rattle.spki_decision.specs.declared.reduction.EntryFold.{EntryFold}
 use Rattle.spki_decision.specs.declared.reduction.Reduction.{Reduction}
 use Rattle.spki_decision.specs.declared.reduction.Reduction.TheVariants as reduction
 use Rattle.spki_decision.specs.Standing.{Stands, StandsAs, FailsBy, FailsAt, AreShown}
 use Rattle.spki_decision.specs.Granted.{Granted, IsTooLarge}
 use Rattle.spki_decision.specs.Decision.{IsDecision}
-use Rattle.spki_decision.specs.Reduced.{IsReduction, IsFailure, SomeTooLarge}
+use Rattle.spki_decision.specs.Reduced.{IsReduction, AreFolds, IsFailure, SomeTooLarge}
 use Rattle.spki_decision.specs.Answered.{IsDecided, IsExplained, IsReduced}
 use Rattle.spki_decision.proofs.Finding.{some_same}
 use Rattle.spki_decision.proofs.AskedOf.{stands_asked, accepted_too}
@@ -119,7 +120,7 @@ module _ (c : Case) (one other : Verified) (agree : AgreeOn one other (asked c))
   granted_back : (n : ℕ) → Granted n c other → Granted n c one
   granted_back = granted_with c other one (swap one other (asked c) agree)
 
-  failure_by : (item : ℕ) (stop : Stop) → IsFailure c one item stop → IsFailure c other item stop
+  pub failure_by : (item : ℕ) (stop : Stop) → IsFailure c one item stop → IsFailure c other item stop
   failure_by item stop f = search (rules, still_failing, shown_back)
 
   large_by : IsTooLarge c one → IsTooLarge c other
@@ -134,7 +135,7 @@ module _ (c : Case) (one other : Verified) (agree : AgreeOn one other (asked c))
     large = l.large;
   }
 
-  some_large_by : SomeTooLarge c one → SomeTooLarge c other
+  pub some_large_by : SomeTooLarge c one → SomeTooLarge c other
   some_large_by l = record { tuples = l.tuples; shown = shown_by l.tuples l.shown; large = l.large }
 
   pub decision_by : (d : Decision) → IsDecision c one d → IsDecision c other d
@@ -152,10 +153,13 @@ module _ (c : Case) (one other : Verified) (agree : AgreeOn one other (asked c))
   explained_by (Err TooLarge) a = some_large_by a
   explained_by (Err Memory) a = absurd a
 
+  pub folds_by : (folds : List EntryFold) → AreFolds c one folds → AreFolds c other folds
+  folds_by folds a =
+      record { tuples = a.tuples; shown = shown_by a.tuples a.shown; each = a.each; within_limit = a.within_limit; worked = a.worked }
+
   reduction_by : (r : Reduction) → IsReduction c one r → IsReduction c other r
   reduction_by (reduction.Evidence item stop) a = failure_by item stop a
-  reduction_by (reduction.Entries folds) a =
-      record { tuples = a.tuples; shown = shown_by a.tuples a.shown; each = a.each; within_limit = a.within_limit; worked = a.worked }
+  reduction_by (reduction.Entries folds) a = folds_by folds.items a
 
   pub reduced_by : (x : Result Reduction GuardFault) → IsReduced c one x → IsReduced c other x
   reduced_by (Ok r) a = (reduction_by r a.0, a.1)

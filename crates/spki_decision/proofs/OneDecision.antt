@@ -12,6 +12,7 @@ use Rattle.spki_decision.specs.declared.fault.GuardFault.{GuardFault}
 use Rattle.spki_decision.specs.declared.fault.GuardFault.TheVariants.{TooLarge, Memory}
 use Rattle.spki_decision.specs.declared.explanation.Explanation.{Explanation}
 use Rattle.spki_decision.specs.declared.explanation.Explanation.TheVariants as explanation
+use Rattle.spki_decision.specs.declared.reduction.EntryFold.{EntryFold}
 use Rattle.spki_decision.specs.declared.reduction.Reduction.{Reduction}
 use Rattle.spki_decision.specs.declared.reduction.Reduction.TheVariants as reduction
 use Rattle.spki_decision.specs.Standing.{AreShown}
@@ -19,7 +20,7 @@ use Rattle.spki_decision.specs.Supported.{AllSmall}
 use Rattle.spki_decision.specs.Granted.{IsFirstGranted}
 use Rattle.spki_decision.specs.Decision.{IsDecision}
 use Rattle.spki_decision.specs.Explained.{IsExplanation, IsSameExplanation}
-use Rattle.spki_decision.specs.Reduced.{IsReduction, IsSameReduction, IsWithinWork, HasLargeTags, HasMuchWork, SomeTooLarge}
+use Rattle.spki_decision.specs.Reduced.{IsReduction, AreFolds, IsSameReduction, IsWithinWork, HasLargeTags, HasMuchWork, SomeTooLarge}
 use Rattle.spki_decision.specs.Answered.{IsDecided, IsExplained, IsReduced, AreSame}
 use Rattle.spki_decision.proofs.Evident.{one_list}
 use Rattle.spki_decision.proofs.EntryWork.{much}
@@ -81,9 +82,12 @@ module _ (c : Case) (verified : Verified) where
   explained_one (Err TooLarge) (Err Memory) a b = absurd b
   explained_one (Err Memory) y a b = absurd a
 
+  pub folds_small : (folds : List EntryFold) → AreFolds c verified folds → SomeTooLarge c verified → ⊥
+  folds_small folds a some = all_small a.tuples a.shown a.within_limit a.worked some
+
   pub reduced_small : (x : Reduction) → IsReduction c verified x → SomeTooLarge c verified → ⊥
   reduced_small (reduction.Evidence item stop) a some = a.none_shown some.tuples some.shown
-  reduced_small (reduction.Entries folds) a some = all_small a.tuples a.shown a.within_limit a.worked some
+  reduced_small (reduction.Entries folds) a some = folds_small folds.items a some
 
   pub reduced_one : (x y : Result Reduction GuardFault) → IsReduced c verified x → IsReduced c verified y
       → AreSame IsSameReduction x y

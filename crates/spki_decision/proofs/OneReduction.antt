@@ -46,7 +46,7 @@ module _ (c : Case) (tuples : List Tuple) (tagged : AreTagged tuples) where
   each_one (e ∷ es) (x ∷ xs) (y ∷ ys) d l h k =
       λ i. one_entry e x y d.0 l.0 h.0 k.0 i ∷ each_one es xs ys d.1 l.1 h.1 k.1 i
 
-one_answer : (c : Case) (verified : Verified) (xs ys : List EntryFold) → AllByRecursion IsDated xs → AllByRecursion IsDated ys
+pub one_answer : (c : Case) (verified : Verified) (xs ys : List EntryFold) → AllByRecursion IsDated xs → AllByRecursion IsDated ys
     → AreFolds c verified xs → AreFolds c verified ys → xs ≡ ys
 one_answer c verified xs ys d l h k = search (rules, one_list, each_one, are_tagged)
 

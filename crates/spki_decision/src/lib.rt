@@ -25,5 +25,5 @@ pub use examination::{Examined, examine};
 pub use explanation::{Explanation, Reason, entry_reasons, explain};
 pub use fault::GuardFault;
 pub use named_key::{first_named, keys_of};
-pub use reduction::{EntryFold, Reduction, entry_folds, reduce_case};
+pub use reduction::{EntryFold, Reduction, entry_fold, reduce_case};
 pub use signed::Signed;

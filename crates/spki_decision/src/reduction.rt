@@ -80,12 +80,8 @@ pub fn reduce_case<'a, V: Verifier>(
 }
 
 /// Returns for each entry of an access list what it and the certificates of the case become. `steps` are the tuples of
-/// all certificates, in order. The case's own access list is not examined.
-///
-/// # Errors
-///
-/// Those of `reduce_case`.
-pub fn entry_folds<'a>(
+/// all certificates, in order. The case's own access list is not examined. Err is `TooLarge` or `Memory`, as for `reduce_case`.
+fn entry_folds<'a>(
     alloc: Global,
     acl: &[Entry<'a>],
     case: &Case<'a>,
@@ -111,9 +107,14 @@ pub fn entry_folds<'a>(
     Ok(folds)
 }
 
-/// Returns what an entry and the certificates `shown` of the case, with the tuples `steps`, become. The products of
-/// intersected nodes are taken from `work`. Err is `TooLarge` or `Memory`.
-pub(crate) fn entry_fold<'a>(
+/// Returns what an entry and the certificates of the case become. These are `shown`, with the tuples `steps`. The products of
+/// intersected nodes are taken from `work`.
+///
+/// # Errors
+///
+/// `TooLarge` if such a product is over the case's `most_nodes`, or all together are more than `work` allows. `Memory` if memory ran
+/// out.
+pub fn entry_fold<'a>(
     alloc: Global,
     case: &Case<'a>,
     entry: &Entry<'a>,

@@ -1,12 +1,18 @@
 -- A question that is asked of a guard has one answer, unless memory ran out.
-use Rattle.std.proofs.Common.{◌≡◌, ℕ, inl, inr, List, Bool, Ok, length, sym, ap, subst, ◌∙◌, arith, rules}
+use Rattle.std.proofs.Common.{◌≡◌, ℕ, inl, inr, List, Bool, Option, Some, None, Ok, length, refl, sym, ap, subst, ◌∙◌, arith, rules}
 use Rattle.spki_cert.specs.declared.entry.Entry.{Entry}
 use Rattle.spki_case.specs.Case.{Case, Verified}
+use Rattle.spki_decision.specs.declared.reduction.EntryFold.{EntryFold}
 use Rattle.spki_decision.specs.Asked.{asked}
+use Rattle.spki_decision.specs.Reduced.{SomeTooLarge}
 use Rattle.spki_decision.specs.Views.{with_entries}
-use Rattle.spki_decision.proofs.OneDecision.{decision_one, explained_one, explained_small, reduced_one, reduced_small}
+use Rattle.spki_decision.proofs.OneDecision.{decision_one, explained_one, explained_small, folds_small}
+use Rattle.spki_decision.proofs.OneExplanation.{one_failure}
+use Rattle.spki_decision.proofs.OneReduction.{one_answer}
 use Rattle.spki_service.specs.Held.{Held, AreEntries}
 use Rattle.spki_service.specs.Asking.{AskedOf}
+use Rattle.spki_service.specs.Folded.{AreReduced}
+use Rattle.spki_service.specs.declared.folding.Failure.{Failure}
 use Rattle.spki_service.specs.declared.question.Question.{Question}
 use Rattle.spki_service.specs.declared.question.AskFault.{AskFault}
 use Rattle.spki_service.proofs.OneAsking.{case-one}
@@ -16,8 +22,9 @@ use Rattle.spki_guard.specs.declared.question_answers.Query.{Query}
 use Rattle.spki_guard.specs.declared.question_answers.Query.TheVariants.{Decide, Explain, Reduce}
 use Rattle.spki_guard.specs.Held.{ReadsQuestion, IsUnreadFor, IsUnreadQuestion, WritesAsked, IsTooLargeFor, AnswersAsked, AnswersHeld, IsAnswerHeld, HasOtherCount, beside, marked}
 use Rattle.spki_guard.specs.HeldLines.{refused_question}
+use Rattle.spki_guard.specs.Reports.{ReportsReduced}
 use Rattle.spki_guard.specs.Run.{RefusesForMemory}
-use Rattle.spki_guard.proofs.OneLine.{decision_line, explanation_line, reduction_line}
+use Rattle.spki_guard.proofs.OneLine.{decision_line, explanation_line, reported_line}
 
 -- the same verdict and output
 abbrev Same : Verdict → Verdict → List ℕ → List ℕ → Type 0
@@ -61,13 +68,30 @@ module _ (a : AskedOf) (es : List Entry) (are : AreEntries a.texts es) (verified
   abbrev whole : Case
   whole = with_entries a.case es
 
+  reduced_one : (f g : Option Failure) (xs ys : List EntryFold) → AreReduced a verified f xs → AreReduced a verified g ys
+      → (f ≡ g) × (xs ≡ ys)
+  reduced_one (Some f) (Some g) xs ys (none, m) (empty, n) =
+      let same = one_failure whole.policy verified whole.items f.item g.item f.stop g.stop (m es are).fails (n es are).fails in
+      (λ i. Some (record { item = same.0 i; stop = same.1 i }), none ∙ sym empty)
+  reduced_one (Some f) None xs ys (none, m) (n, dated, end) = absurd ((m es are).none_shown (n es are).tuples (n es are).shown)
+  reduced_one None (Some g) xs ys (m, dated, end) (empty, n) = absurd ((n es are).none_shown (m es are).tuples (m es are).shown)
+  reduced_one None None xs ys (m, dated, end) (n, also, ends) = (refl, one_answer whole verified xs ys dated also (m es are) (n es are))
+
+  reduced_small : (f : Option Failure) (xs : List EntryFold) → AreReduced a verified f xs → SomeTooLarge whole verified → ⊥
+  reduced_small (Some f) xs (none, m) some = (m es are).none_shown some.tuples some.shown
+  reduced_small None xs (m, dated, end) some = folds_small whole verified xs (m es are) some
+
+  reduced_line : (f g : Option Failure) (xs ys : List EntryFold) (x y : Verdict) (output line : List ℕ) → AreReduced a verified f xs
+      → AreReduced a verified g ys → ReportsReduced f xs x output → ReportsReduced g ys y line → Same x y output line
+  reduced_line f g xs ys x y output line m n is other =
+      let (failures, folds) = reduced_one f g xs ys m n in reported_line g ys x y output line (rw (failures, folds) at is) other
+
   writes_one : (query : Query) (x y : Verdict) (output line : List ℕ) → WritesAsked query a verified x output
       → WritesAsked query a verified y line → Same x y output line
   writes_one Decide x y output line (d, at, is) (e, also, other) = search (rules, decision_one, whole, decision_line)
   writes_one Explain x y output line (d, at, is, short) (e, also, other, within) =
       explanation_line d e x y output line (explained_one whole verified (Ok d) (Ok e) (at es are) (also es are)) is other
-  writes_one Reduce x y output line (d, at, end, is, short) (e, also, ends, other, within) =
-      reduction_line d e x y output line (reduced_one whole verified (Ok d) (Ok e) (at es are) (also es are)) is other
+  writes_one Reduce x y output line (f, xs, m, is, short) (g, ys, n, other, within) = reduced_line f g xs ys x y output line m n is other
 
   writes_or_not : (query : Query) (x : Verdict) (output : List ℕ) → WritesAsked query a verified x output → ¬ IsTooLargeFor query a verified
   writes_or_not Decide x output w large = large
@@ -77,11 +101,9 @@ module _ (a : AskedOf) (es : List Entry) (are : AreEntries a.texts es) (verified
       (explained_one whole verified (Ok d) (Ok l.explanation) (at es are) (l.is es are)) is l.report in
       let long = l.long in
       omega (arith, short, long, ap length same.1)
-  writes_or_not Reduce x output (d, at, end, is, short) (inl large) =
-      let answer = at es are in reduced_small whole verified d answer.0 (large es are)
-  writes_or_not Reduce x output (d, at, end, is, short) (inr l) =
-      let same = reduction_line d l.reduction x l.verdict output l.lines
-      (reduced_one whole verified (Ok d) (Ok l.reduction) (at es are) (l.is es are)) is l.report in
+  writes_or_not Reduce x output (f, xs, m, is, short) (inl large) = reduced_small f xs m (large es are)
+  writes_or_not Reduce x output (f, xs, m, is, short) (inr l) =
+      let same = reduced_line f l.failure xs l.folds x l.verdict output l.lines m l.are is l.report in
       let long = l.long in
       omega (arith, short, long, ap length same.1)
 

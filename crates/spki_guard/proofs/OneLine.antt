@@ -1,5 +1,5 @@
 -- A text has one answer of a command, and is not refused where it has one.
-use Rattle.std.proofs.Common.{◌≡◌, ◌≢◌, ℕ, suc, ◌*◌, ◌<◌, ◌≤◌, inl, inr, List, [], ◌∷◌, ◌++◌, Result, Ok, refl, sym, ap, subst, ◌∙◌, arith, rules}
+use Rattle.std.proofs.Common.{◌≡◌, ◌≢◌, ℕ, suc, ◌*◌, ◌<◌, ◌≤◌, inl, inr, List, [], ◌∷◌, ◌++◌, Option, Some, None, Result, Ok, refl, sym, ap, subst, ◌∙◌, arith, rules}
 use Rattle.std.specs.Prelude.{codes}
 use Rattle.sexpr_core.specs.Value.{Value, canon}
 use Rattle.sexpr_text.specs.Printed.{adv}
@@ -39,7 +39,8 @@ use Rattle.spki_guard.specs.declared.answers.Verdict.{Verdict}
 use Rattle.spki_guard.specs.declared.intersection.IntersectFault.{IntersectFault}
 use Rattle.spki_guard.specs.declared.intersection.IntersectFault.TheVariants as intersect
 use Rattle.spki_guard.specs.Lines.{item_line, entry_line}
-use Rattle.spki_guard.specs.Reports.{IsFoldLine, AreFoldLines, ReportsFolds, IsReductionReport, ReportsReasons, IsExplanationReport}
+use Rattle.spki_service.specs.declared.folding.Failure.{Failure}
+use Rattle.spki_guard.specs.Reports.{IsFoldLine, AreFoldLines, ReportsFolds, IsReductionReport, ReportsReduced, ReportsReasons, IsExplanationReport}
 use Rattle.spki_guard.specs.Intersect.{intersect_value, Intersects, AreTooLarge, ValueNotMet, IsMetText, TextNotMet}
 use Rattle.spki_guard.specs.Answer.{IsLineOf, Decides, Reduces, Explains, WritesMeet, HasTooLarge, IsOnCase, AnswersValue, AnswersRead, RefusesValue, RefusesAnswer}
 
@@ -154,6 +155,11 @@ fold_lines n (fold ∷ folds) output line a b =
 folds_line : (folds : List EntryFold) (x y : Verdict) (output line : List ℕ) → ReportsFolds folds x output → ReportsFolds folds y line → Same x y output line
 folds_line [] x y output line a b = (a.0 ∙ sym b.0, a.1 ∙ sym b.1)
 folds_line (fold ∷ folds) x y output line a b = (a.0 ∙ sym b.0, fold_lines 1 (fold ∷ folds) output line a.1 b.1)
+
+pub reported_line : (failure : Option Failure) (folds : List EntryFold) (x y : Verdict) (output line : List ℕ)
+    → ReportsReduced failure folds x output → ReportsReduced failure folds y line → Same x y output line
+reported_line (Some failure) folds x y output line a b = (a.0 ∙ sym b.0, a.1 ∙ sym b.1)
+reported_line None folds x y output line a b = folds_line folds x y output line a b
 
 pub reduction_line : (r s : Reduction) (x y : Verdict) (output line : List ℕ) → IsSameReduction r s → IsReductionReport r x output
     → IsReductionReport s y line → Same x y output line

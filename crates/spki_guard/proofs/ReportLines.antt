@@ -44,14 +44,6 @@ lines_after n (f ∷ fs) fold lines line (first, rest, one, others, e) h =
       ap (λ s. s ++ line) e ∙ append_assoc first rest line,
     )
 
-pub lines_at : (folds : List EntryFold) (k : ℕ) (fold : EntryFold) (lines line : List ℕ) → k < length folds → fold ≡ get_or folds k fold
-    → AreFoldLines 1 (take k folds) lines → IsFoldLine (k + 1) fold line → AreFoldLines 1 (take (k + 1) folds) (lines ++ line)
-lines_at folds k fold lines line lt at h here =
-    let count : k + 1 ≡ 1 + length (take k folds) = omega (arith, length-take-le k folds (omega arith)) in
-    let front : take k folds ++ fold ∷ [] ≡ take (k + 1) folds = ap (λ u. take k folds ++ u ∷ []) at ∙ sym (take_more folds k fold lt) in
-    subst (λ fs. AreFoldLines 1 fs (lines ++ line)) front
-    (lines_after 1 (take k folds) fold lines line h (subst (λ m. IsFoldLine m fold line) count here))
-
 chains_reported : (folds : List EntryFold) (lines : List ℕ) → 0 < length folds → AreFoldLines 1 folds lines
     → ReportsFolds folds (verdict_of (some_done folds)) lines
 chains_reported [] lines some h = absurd (omega (arith, some))

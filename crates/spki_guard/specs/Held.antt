@@ -1,14 +1,15 @@
 -- What is answered to a question that is asked of a guard, where a service marks the signatures that it has verified (RFC 2693,
 -- section 6).
-use Rattle.std.specs.Prelude.{◌≡◌, ◌≢◌, ◌⊎◌, ◌<◌, ◌≤◌, ℕ, List, length, Bool, Some, Ok, Err}
+use Rattle.std.specs.Prelude.{◌≡◌, ◌≢◌, ◌⊎◌, ◌<◌, ◌≤◌, ℕ, List, length, Bool, Option, Some, Ok, Err}
 use Rattle.spki_case.specs.Case.{Case, Verified}
 use Rattle.spki_decision.specs.declared.decision.Decision.{Decision}
 use Rattle.spki_decision.specs.declared.explanation.Explanation.{Explanation}
-use Rattle.spki_decision.specs.declared.reduction.Reduction.{Reduction}
+use Rattle.spki_decision.specs.declared.reduction.EntryFold.{EntryFold}
 use Rattle.spki_decision.specs.declared.fault.GuardFault.TheVariants.{TooLarge}
 use Rattle.spki_decision.specs.Answered.{IsExplained, IsReduced}
-use Rattle.spki_decision.specs.Reduced.{EndAtDates}
 use Rattle.spki_decision.specs.Asked.{asked}
+use Rattle.spki_service.specs.declared.folding.Failure.{Failure}
+use Rattle.spki_service.specs.Folded.{AreReduced}
 use Rattle.spki_service.specs.Held.{Held}
 use Rattle.spki_service.specs.Asking.{AskedOf, OfCase, Decides, MarksAccept}
 use Rattle.spki_service.specs.Counted.{certificates_in, HasFewStrings, IsRefused}
@@ -23,7 +24,7 @@ use Rattle.spki_guard.specs.declared.question_answers.Query.TheVariants.{Decide,
 use Rattle.spki_guard.specs.Answer.{IsLineOf}
 use Rattle.spki_guard.specs.HeldLines.{refused_question}
 use Rattle.spki_guard.specs.Lines.{refused_large}
-use Rattle.spki_guard.specs.Reports.{IsExplanationReport, IsReductionReport}
+use Rattle.spki_guard.specs.Reports.{IsExplanationReport, ReportsReduced}
 use Rattle.spki_guard.specs.Run.{RefusesForMemory}
 
 -- ---- what is read
@@ -54,8 +55,8 @@ WritesAsked Explain a verified verdict output =
     (e : Explanation) × OfCase a (λ c. IsExplained c verified (Ok e)) × IsExplanationReport e verdict output
     × (length output ≤ a.answer)
 WritesAsked Reduce a verified verdict output =
-    (r : Reduction) × OfCase a (λ c. IsReduced c verified (Ok r)) × EndAtDates r × IsReductionReport r verdict output
-    × (length output ≤ a.answer)
+    (failure : Option Failure) × (folds : List EntryFold) × AreReduced a verified failure folds
+    × ReportsReduced failure folds verdict output × (length output ≤ a.answer)
 
 -- The lines of what is answered have more octets than the guard's limit.
 pub record ExplainsLong (a : AskedOf) (verified : Verified) : Type 0 where
@@ -67,12 +68,12 @@ pub record ExplainsLong (a : AskedOf) (verified : Verified) : Type 0 where
   pub long : a.answer < length lines
 
 pub record ReducesLong (a : AskedOf) (verified : Verified) : Type 0 where
-  pub reduction : Reduction
-  pub is : OfCase a (λ c. IsReduced c verified (Ok reduction))
-  pub end : EndAtDates reduction
+  pub failure : Option Failure
+  pub folds : List EntryFold
+  pub are : AreReduced a verified failure folds
   pub verdict : Verdict
   pub lines : List ℕ
-  pub report : IsReductionReport reduction verdict lines
+  pub report : ReportsReduced failure folds verdict lines
   pub long : a.answer < length lines
 
 -- Tags are too large for an answer, or its lines are; for a decision none are.

@@ -2,6 +2,7 @@
 pub mod Capped
 pub mod CappedLaws
 pub mod FoldLines
+pub mod Printing
 pub mod Pages
 pub mod PageLaws
 pub mod Replies

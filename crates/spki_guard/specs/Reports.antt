@@ -1,5 +1,5 @@
 -- What is written for a case's reduction and explanation.
-use Rattle.std.specs.Prelude.{◌≡◌, ℕ, suc, Bool, true, false, ◌||◌, List, [], ◌∷◌, ◌++◌}
+use Rattle.std.specs.Prelude.{◌≡◌, ℕ, suc, Bool, true, false, ◌||◌, List, [], ◌∷◌, ◌++◌, Option, Some, None}
 use Rattle.sexpr_core.specs.Value.{Value}
 use Rattle.sexpr_text.specs.Printed.{adv}
 use Rattle.spki_reduce.specs.Written.{IsWrittenFive}
@@ -11,6 +11,7 @@ use Rattle.spki_decision.specs.declared.explanation.Explanation.{Explanation}
 use Rattle.spki_decision.specs.declared.explanation.Explanation.TheVariants as explanation
 use Rattle.spki_decision.specs.declared.explanation.Reason.{Reason}
 use Rattle.spki_decision.specs.declared.explanation.Reason.TheVariants as reason
+use Rattle.spki_service.specs.declared.folding.Failure.{Failure}
 use Rattle.spki_guard.specs.declared.answers.Verdict.{Verdict}
 use Rattle.spki_guard.specs.declared.answers.Verdict.TheVariants.{Done, No}
 use Rattle.spki_guard.specs.Lines.{entry_line, stopped_line, reason_line, item_line, no_entries}
@@ -49,6 +50,11 @@ ReportsFolds (fold ∷ folds) verdict output =
 abbrev pub IsReductionReport : Reduction → Verdict → List ℕ → Type 0
 IsReductionReport (reduction.Evidence item stop) verdict output = (verdict ≡ No) × (output ≡ item_line item stop)
 IsReductionReport (reduction.Entries folds) verdict output = ReportsFolds folds.items verdict output
+
+-- the line of the certificate that does not stand, or those of what the entries become
+abbrev pub ReportsReduced : Option Failure → List EntryFold → Verdict → List ℕ → Type 0
+ReportsReduced (Some failure) folds verdict output = (verdict ≡ No) × (output ≡ item_line failure.item failure.stop)
+ReportsReduced None folds verdict output = ReportsFolds folds verdict output
 
 -- ---- explanations
 

@@ -4,6 +4,7 @@
 mod answers;
 mod capped_sink;
 mod entry_lines;
+mod fold_printer;
 mod guard_refusals;
 mod intersection;
 pub mod line_laws;
@@ -35,8 +36,8 @@ pub use spki_decision::{
     first_named, laws, reduce_case,
 };
 pub use spki_service::{
-    AclFault, AskFault, Asked, Guard, Limits, Moment, Opened, OwnedSigned, Part, Question,
-    RequestInput, SharedGuard, Signed, Texts,
+    AclFault, AskFault, Asked, Failure, FoldSink, Guard, Limits, Moment, Opened, OwnedSigned, Part,
+    Question, RequestInput, SharedGuard, Signed, Texts,
 };
 pub use spki_words::{Command, WordsFault, command_of};
 pub use statuses::Status;

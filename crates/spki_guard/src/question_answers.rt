@@ -8,10 +8,11 @@ ghost use Rattle.spki_guard.specs.Lines.{refused_memory};
 ghost use Rattle.spki_guard.specs.Run.{RefusesForMemory};
 
 use crate::answers::{Answer, Output, Refusal, Verdict, decision_line, out_of_memory, refuse};
+use crate::fold_printer::FoldPrinter;
 use crate::guard_refusals::{push_refused_list, push_refused_question};
-use crate::replies::{reduction_within, reply_of_explanation, whole_within};
+use crate::replies::{Reply, reply_of_explanation, whole_within};
 use spki_decision::GuardFault;
-use spki_service::{AclFault, AskFault, Asked, Guard, Question};
+use spki_service::{AclFault, AskFault, Asked, Failure, Guard, Question};
 use std::alloc::{AllocError, Global};
 
 /// What a question is asked for.
@@ -134,8 +135,12 @@ fn reduced(alloc: Global, read: &Asked, marks: &[bool]) -> Result<Answer, GuardF
     ensures written { IfOk result (λ a. WritesAsked Query.Reduce read.now (marked read.now.case marks.now) a.verdict (written_by a)) }
     ensures large { IsErrOf result GuardFault.TooLarge → IsTooLargeFor Query.Reduce read.now (marked read.now.case marks.now) }
 {
-    let reduction = read.reduce_by(alloc, marks)?;
-    reduction_within(alloc, reduction, read.most_answer())
+    let most = read.most_answer();
+    let mut printer = FoldPrinter::new(alloc, most);
+    match read.reduce_into(alloc, marks, &mut printer)? {
+        Some(Failure { item, stop }) => whole_within(alloc, &Reply::Item { item, stop }, most),
+        None => printer.end(alloc, most),
+    }
 }
 
 /// The answer to a question that is refused: the line of the fault. If memory runs out for the line, it is `refused

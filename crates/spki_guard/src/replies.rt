@@ -3,19 +3,18 @@ ghost use Rattle.std.specs.Prelude.{◌≡◌, [], ◌∷◌, ◌++◌, ◌+◌,
 ghost use Rattle.sexpr_text.specs.Printed.{adv};
 ghost use Rattle.spki_tag.specs.Tag.{tag_value};
 ghost use Rattle.spki_guard.specs.Answer.{written_by};
-ghost use Rattle.spki_guard.specs.Reports.{ReportsFolds, IsReductionReport, IsExplanationReport};
-ghost use Rattle.spki_guard.specs.Inner.Replies.{reply_verdict, printed, AreLongFolds, IsLongReport};
+ghost use Rattle.spki_guard.specs.Reports.{IsReductionReport, IsExplanationReport};
+ghost use Rattle.spki_guard.specs.Inner.Replies.{reply_verdict, printed};
 
 use crate::answers::{Answer, Output, Verdict};
 use crate::capped_sink::CappedSink;
 use crate::entry_lines::print_item;
 use crate::reports::{
-    FoldLine, fold_lines_of, make_and_print_folds, print_folds, print_reasons, some_done,
-    some_fold_done, some_grant, verdict_of,
+    FoldLine, fold_lines_of, print_folds, print_reasons, some_done, some_grant, verdict_of,
 };
 use crate::tag_printer::print_tag;
 use sexpr_text::{Counter, Sink, VectorSink};
-use spki_decision::{EntryFold, Explanation, GuardFault, Reason, Reduction, Stop};
+use spki_decision::{Explanation, GuardFault, Reason, Reduction, Stop};
 use spki_tag::Tag;
 use std::alloc::{AllocError, Global};
 
@@ -185,56 +184,6 @@ pub(crate) fn whole_within(alloc: Global, reply: &Reply, most: usize) -> Result<
     sink.end()?;
     Ok(Answer {
         verdict: reply.verdict(),
-        output: Output::Made(out),
-    })
-}
-
-/// The answer that prints a reduction, if it has at most `most` octets. What a line is printed from is made only when
-/// that line is printed.
-///
-/// # Errors
-///
-/// `TooLarge` if they are more. `Memory` if memory ran out.
-pub(crate) fn reduction_within(
-    alloc: Global,
-    reduction: Reduction,
-    most: usize,
-) -> Result<Answer, GuardFault>
-    ensures report { IfOk result (λ a. IsReductionReport reduction.entry a.verdict (written_by a)) }
-    ensures short { IfOk result (λ a. length (written_by a) ≤ most) }
-    ensures large { IsErrOf result GuardFault.TooLarge → IsLongReport reduction.entry most }
-{
-    match reduction {
-        Reduction::Evidence { item, stop } => whole_within(
-            alloc,
-            &Reply::Item { item, stop },
-            most,
-        ),
-        Reduction::Entries(folds) => {
-            if folds.is_empty() {
-                return whole_within(alloc, &Reply::NoEntries, most);
-            }
-            folds_within(alloc, &folds, most)
-        }
-    }
-}
-
-/// The answer that prints what each entry becomes, if it has at most `most` octets. There must be an entry. Err is
-/// `TooLarge` if it has more, or `Memory`.
-fn folds_within(alloc: Global, folds: &[EntryFold], most: usize) -> Result<Answer, GuardFault>
-    requires { 0 < length folds.now }
-    ensures report { IfOk result (λ a. ReportsFolds folds.now a.verdict (written_by a)) }
-    ensures short { IfOk result (λ a. length (written_by a) ≤ most) }
-    ensures large { IsErrOf result GuardFault.TooLarge → AreLongFolds folds.now most }
-{
-    let mut out = Vec::new(alloc);
-    let mut sink = CappedSink::new(&mut out, most);
-    let printed = make_and_print_folds(alloc, folds, &mut sink);
-    let ended = sink.end();
-    printed?;
-    ended?;
-    Ok(Answer {
-        verdict: verdict_of(some_fold_done(folds)),
         output: Output::Made(out),
     })
 }

@@ -1,7 +1,7 @@
 //! The lines of a case's reduction and explanation: one for each entry.
 ghost use Rattle.std.specs.Prelude.{◌≡◌, ℕ, List, [], ◌∷◌, IfOk, OnOk};
 ghost use Rattle.std.specs.List.{AllZip};
-ghost use Rattle.spki_guard.specs.Reports.{verdict_of, IsFoldLine, AreFoldLines, is_done, some_done, is_grant, some_grant, reason_lines};
+ghost use Rattle.spki_guard.specs.Reports.{verdict_of, IsFoldLine, is_done, is_grant, some_grant, reason_lines};
 ghost use Rattle.sexpr_text.specs.Printed.{adv};
 ghost use Rattle.spki_guard.specs.Lines.{entry_line};
 ghost use Rattle.spki_guard.specs.Inner.FoldLines.{value_of, is_done_line, some_done_line, fold_line, fold_lines, IsLineOfFold};
@@ -119,9 +119,8 @@ pub(crate) fn print_folds<S: Sink>(lines: &[FoldLine], sink: &mut S)
     }
 }
 
-/// Prints the line of an entry, and makes what it needs just before; `entry` is counted from 1. If the sink is full, it
-/// makes and prints no authorization. Err if memory ran out.
-fn make_and_print_fold<S: Sink>(
+/// Prints the line of an entry, and makes what it needs just before; `entry` is counted from 1. Err if memory ran out.
+pub(crate) fn make_and_print_fold<S: Sink>(
     alloc: Global,
     entry: usize,
     fold: &EntryFold,
@@ -131,10 +130,6 @@ fn make_and_print_fold<S: Sink>(
 {
     match fold {
         EntryFold::Done(five) => {
-            if sink.is_full() {
-                five.prove_writable();
-                return Ok(());
-            }
             let parts = five.write_parts(alloc)?;
             print_done(entry, five, &parts, sink);
         }
@@ -143,35 +138,18 @@ fn make_and_print_fold<S: Sink>(
     Ok(())
 }
 
-/// Prints a line for each entry, from entry 1. What a line needs is made before it is printed, and not kept. Err if
-/// memory ran out.
-pub(crate) fn make_and_print_folds<S: Sink>(
-    alloc: Global,
-    folds: &[EntryFold],
-    sink: &mut S,
-) -> Result<(), AllocError>
-    ensures { OnOk result ((lines : List ℕ) × AreFoldLines 1 folds.now lines × S.takes sink.old lines sink.new) }
+/// A fact for the prover: there is a line for what an entry becomes. `entry` is counted from 1. Does nothing.
+pub(crate) fn prove_line(entry: usize, fold: &EntryFold)
+    ensures { (line : List ℕ) × IsFoldLine entry fold.now line }
 {
-    for (place, fold) in folds.iter().enumerate() {
-        make_and_print_fold(alloc, place + 1, fold, sink)?;
+    match fold {
+        EntryFold::Done(five) => five.prove_writable(),
+        EntryFold::Stopped { .. } => {}
     }
-    Ok(())
-}
-
-/// Whether some entry becomes an authorization with all certificates. As `some_done`, before the lines are made.
-pub(crate) fn some_fold_done(folds: &[EntryFold]) -> bool
-    ensures { result ≡ some_done folds.now }
-{
-    for fold in folds {
-        if is_fold_done(fold) {
-            return true;
-        }
-    }
-    false
 }
 
 /// Whether the entry becomes an authorization, and no certificate stops it.
-fn is_fold_done(fold: &EntryFold) -> bool
+pub(crate) fn is_fold_done(fold: &EntryFold) -> bool
     ensures { result ≡ is_done fold.now }
 {
     match fold {

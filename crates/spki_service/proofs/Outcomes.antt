@@ -1,5 +1,5 @@
 -- What a verifier's answers make of a question that was examined.
-use Rattle.std.proofs.Common.{◌≡◌, ℕ, List, refl, sym, ◌∙◌, subst, Result, Ok, Err, IfOk, get_or, map, ap, rules}
+use Rattle.std.proofs.Common.{◌≡◌, ℕ, List, [], Option, Some, None, refl, sym, ◌∙◌, subst, Result, Ok, Err, IfOk, get_or, map, ap, rules}
 use Rattle.std.specs.declared.alloc.AllocError.{AllocError}
 use Rattle.std.specs.List.{AllByRecursion}
 use Rattle.spki_cert.specs.declared.entry.Entry.{Entry}
@@ -13,22 +13,25 @@ use Rattle.spki_decision.specs.declared.fault.GuardFault.{GuardFault}
 use Rattle.spki_decision.specs.declared.fault.GuardFault.TheVariants.{TooLarge, Memory}
 use Rattle.spki_decision.specs.declared.explanation.Explanation.{Explanation}
 use Rattle.spki_decision.specs.declared.explanation.Explanation.TheVariants as explanation
+use Rattle.spki_decision.specs.declared.reduction.EntryFold.{EntryFold}
 use Rattle.spki_decision.specs.declared.reduction.Reduction.{Reduction}
 use Rattle.spki_decision.specs.declared.reduction.Reduction.TheVariants as reduction
 use Rattle.spki_decision.specs.Standing.{FailsAt, AreShown}
 use Rattle.spki_decision.specs.LeftOut.{AreKept, IsKept, IsLeftOut, kept_case}
-use Rattle.spki_decision.specs.Reduced.{IsFailure}
+use Rattle.spki_decision.specs.Reduced.{IsFailure, SomeTooLarge}
 use Rattle.spki_decision.specs.Answered.{IsExplained, IsReduced}
 use Rattle.spki_decision.specs.Asked.{Signed, asked, every, IsAccepted, AgreeOn, RefusedAt}
 use Rattle.spki_decision.specs.declared.signed.Signed as examined
 use Rattle.spki_decision.specs.Views.{with_entries, signed_of}
 use Rattle.spki_decision.proofs.Answering.{not_accepted, agrees, refused_item}
-use Rattle.spki_decision.proofs.AskedWhole.{decision_by, explained_by, reduced_by}
+use Rattle.spki_decision.proofs.AskedWhole.{decision_by, explained_by, reduced_by, failure_by, folds_by, some_large_by}
 use Rattle.spki_decision.proofs.Entries.{decided}
 use Rattle.spki_decision.proofs.Evident.{none_shown, one_list}
 use Rattle.spki_decision.proofs.KeptEntries.{renumbered}
 use Rattle.spki_decision.proofs.Stopping.{failure}
-use Rattle.spki_service.specs.Asking.{AskedOf, Answers, Decides}
+use Rattle.spki_service.specs.declared.folding.Failure.{Failure}
+use Rattle.spki_service.specs.Asking.{AskedOf, Answers, OfCase, Decides}
+use Rattle.spki_service.specs.Folded.{AreReduced}
 use Rattle.spki_service.specs.Held.{AreEntries}
 use Rattle.spki_service.specs.Partly.{DecidesPartly}
 
@@ -55,6 +58,21 @@ module _ (a : AskedOf) (verified : Verified) where
     reduced_all (Err TooLarge) h = λ es are. reduced_by (with_entries a.case es) every verified agree (Err TooLarge) (h es are)
     reduced_all (Err Memory) h = tt
 
+    folds_all : (failure : Option Failure) (folds : List EntryFold) → AreReduced a every failure folds → AreReduced a verified failure folds
+    folds_all (Some f) folds (none, h) =
+        (none, λ es are. failure_by (with_entries a.case es) every verified agree f.item f.stop (h es are))
+    folds_all None folds (h, dated, end) =
+        (λ es are. folds_by (with_entries a.case es) every verified agree folds (h es are), dated, end)
+
+    pub folded_all : (takes : List EntryFold → Type 0) (r : Result (Option Failure) GuardFault)
+        → IfOk r (λ failure. (folds : List EntryFold) × takes folds × AreReduced a every failure folds)
+        → IfOk r (λ failure. (folds : List EntryFold) × takes folds × AreReduced a verified failure folds)
+    folded_all takes (Ok failure) (folds, taken, h) = (folds, taken, folds_all failure folds h)
+    folded_all takes (Err fault) h = tt
+
+    pub large_all : OfCase a (λ c. SomeTooLarge c every) → OfCase a (λ c. SomeTooLarge c verified)
+    large_all h = λ es are. some_large_by (with_entries a.case es) every verified agree (h es are)
+
   -- ---- one is refused
 
   module _ (place : ℕ) (r : RefusedAt verified (asked a.case) place) where
@@ -74,6 +92,9 @@ module _ (a : AskedOf) (verified : Verified) where
 
     pub reduced_none : (item : ℕ) → item ≡ r.refused.item → Answers (λ c x. IsReduced c verified x) a (Ok (reduction.Evidence item NotAccepted))
     reduced_none item same = λ es are. (failed item same (with_entries a.case es) refl refl, tt)
+
+    pub folds_none : (item : ℕ) → item ≡ r.refused.item → AreReduced a verified (Some (record { item = item; stop = NotAccepted })) []
+    folds_none item same = (refl, λ es are. failed item same (with_entries a.case es) refl refl)
 
 -- ---- the same question, as its fields are
 
@@ -96,8 +117,8 @@ module _ (a : AskedOf) where
     pub explained_failed : Answers (λ c x. IsExplained c every x) a (Ok (explanation.Evidence item stop))
     explained_failed = λ es are. failure (with_entries a.case es) every item stop fails
 
-    pub reduced_failed : Answers (λ c x. IsReduced c every x) a (Ok (reduction.Evidence item stop))
-    reduced_failed = λ es are. (failure (with_entries a.case es) every item stop fails, tt)
+    pub folds_failed : AreReduced a every (Some (record { item = item; stop = stop })) []
+    folds_failed = (refl, λ es are. failure (with_entries a.case es) every item stop fails)
 
   module _ (tuples : List Tuple) (shown : AreShown a.case.policy every a.case.items tuples) where
     is_kept : (es : List Entry) (kept : List (ℕ × Entry)) → AreKept (IsLeftOut (with_entries a.case es) tuples) 1 es kept

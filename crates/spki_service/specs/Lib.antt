@@ -15,3 +15,4 @@ pub mod Copies
 pub mod Counted
 pub mod KeptOf
 pub mod Opened
+pub mod Folded

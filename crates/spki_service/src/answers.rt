@@ -1,27 +1,30 @@
 //! The answers to a question.
 
-ghost use Rattle.std.specs.Prelude.{◌≡◌, List, map, IfOk};
+ghost use Rattle.std.specs.Prelude.{◌≡◌, List, map, IfOk, IsErrOf};
 ghost use Rattle.std.specs.Option.{option_copied};
 ghost use Rattle.spki_cert.specs.declared.entry.Entry.{Entry};
 ghost use Rattle.spki_reduce.specs.Chain.{tuples_of};
 ghost use Rattle.spki_case.specs.View.{model};
 ghost use Rattle.spki_decision.specs.Asked.{asked, every};
 ghost use Rattle.spki_decision.specs.Answered.{IsExplained, IsReduced};
-ghost use Rattle.spki_decision.specs.Reduced.{EndAtDates};
+ghost use Rattle.spki_decision.specs.declared.reduction.EntryFold.{EntryFold};
+ghost use Rattle.spki_decision.specs.Reduced.{EndAtDates, SomeTooLarge};
 ghost use Rattle.spki_decision.specs.LeftOut.{first_key};
 ghost use Rattle.spki_decision.specs.Views.{signed_of, with_entries};
 ghost use Rattle.spki_service.specs.Held.{AreEntries};
-ghost use Rattle.spki_service.specs.Asking.{Answers, Decides, MarksAccept};
+ghost use Rattle.spki_service.specs.Asking.{Answers, OfCase, Decides, MarksAccept};
+ghost use Rattle.spki_service.specs.Folded.{AreReduced};
 ghost use Rattle.spki_service.specs.Partly.{DecidesPartly};
 
 use crate::asked::Asked;
 use crate::entry_texts::{all_entries, entries_at};
+use crate::folding::{Failure, FoldSink, fold_texts};
 use crate::marks::first_unmarked;
 use spki_case::Verifier;
 use spki_cert::Key;
 use spki_decision::{
-    Decision, Evidence, Explanation, GuardFault, Reduction, Signed, Stop, entry_folds,
-    entry_reasons, first_granted, first_refused,
+    Decision, Evidence, Explanation, GuardFault, Reduction, Signed, Stop, entry_reasons,
+    first_granted, first_refused,
 };
 use spki_reduce::{Issuer, Step};
 use std::alloc::{AllocError, Global};
@@ -184,6 +187,33 @@ impl<'a> Asked<'a> {
         }
     }
 
+    /// Reduces the question as `reduce_by` does, and puts what each entry becomes into `sink` as soon as it is found. So no more
+    /// than one entry, and what it becomes, takes memory at a time. The result is the first certificate that fails a
+    /// test. None if all certificates stand; otherwise nothing is put.
+    ///
+    /// # Errors
+    ///
+    /// Those of `explain`. What was put before does not count.
+    pub fn reduce_into<S: FoldSink<'a>>(
+        &self,
+        alloc: Global,
+        verified: &[bool],
+        sink: &mut S,
+    ) -> Result<Option<Failure>, GuardFault>
+        ensures folds { IfOk result (λ failure. (folds : List EntryFold) × S.takes sink.old folds sink.new
+            × AreReduced self.now (MarksAccept (asked self.now.case) verified.now) failure folds) }
+        ensures too_large { IsErrOf result GuardFault.TooLarge →
+            OfCase self.now (λ c. SomeTooLarge c (MarksAccept (asked self.now.case) verified.now)) }
+    {
+        match first_unmarked(&self.examined.signed, verified) {
+            None => self.put_folds(alloc, sink),
+            Some(place) => Ok(Some(Failure {
+                item: self.examined.signed[place].item,
+                stop: Stop::NotAccepted,
+            })),
+        }
+    }
+
     /// The explanation if the verifier accepts every signature. Err is `TooLarge` or `Memory`, as for `explain`.
     fn explained(&self, alloc: Global) -> Result<Explanation, GuardFault>
         ensures { Answers (λ c answer. IsExplained c every answer) self.now result }
@@ -208,16 +238,33 @@ impl<'a> Asked<'a> {
         ensures reduced { Answers (λ c answer. IsReduced c every answer) self.now result }
         ensures end { IfOk result EndAtDates }
     {
+        let guard = self.guard;
+        let mut folds = Vec::with_capacity(alloc, guard.texts.len())?;
+        match self.put_folds(alloc, &mut folds)? {
+            Some(Failure { item, stop }) => Ok(Reduction::Evidence { item, stop }),
+            None => Ok(Reduction::Entries(folds)),
+        }
+    }
+
+    /// Does what `reduce_into` does if the verifier accepts every signature. Err is `TooLarge` or `Memory`.
+    fn put_folds<S: FoldSink<'a>>(
+        &self,
+        alloc: Global,
+        sink: &mut S,
+    ) -> Result<Option<Failure>, GuardFault>
+        ensures folds { IfOk result (λ failure. (folds : List EntryFold) × S.takes sink.old folds sink.new
+            × AreReduced self.now every failure folds) }
+        ensures too_large { IsErrOf result GuardFault.TooLarge → OfCase self.now (λ c. SomeTooLarge c every) }
+    {
         match &self.examined.evidence {
-            Evidence::Fails { item, stop } => Ok(Reduction::Evidence {
+            Evidence::Fails { item, stop } => Ok(Some(Failure {
                 item: *item,
                 stop: *stop,
-            }),
+            })),
             Evidence::Verified(steps) => {
                 let guard = self.guard;
-                let entries = all_entries(alloc, &guard.texts)?;
-                let folds = entry_folds(alloc, &entries, &self.case, steps)?;
-                Ok(Reduction::Entries(folds))
+                fold_texts(alloc, &guard.texts, &self.case, steps, sink)?;
+                Ok(None)
             }
         }
     }

@@ -6,6 +6,7 @@ mod asked;
 mod counts;
 mod date;
 mod entry_texts;
+mod folding;
 mod guard;
 mod index;
 pub mod laws;
@@ -25,6 +26,7 @@ mod texts;
 mod words;
 
 pub use asked::Asked;
+pub use folding::{Failure, FoldSink};
 pub use guard::Guard;
 pub use limits::Limits;
 pub use list_fault::AclFault;

@@ -7,7 +7,8 @@ use crate::texts::{at, behind, number, word_of};
 use crate::verifier::RowVerifier;
 use spki_cert::Policy;
 use spki_guard::{
-    Asked, Guard, Limits, Moment, Query, Question, RequestInput, Texts, answer_question,
+    Asked, Guard, GuardFault, Limits, Moment, Query, Question, Reduction, RequestInput, Texts,
+    answer_question,
 };
 use std::alloc::{AllocError, Global};
 
@@ -25,7 +26,8 @@ pub(crate) fn call(alloc: Global, name: &str, texts: &[Vec<u8>]) -> Option<Reply
         | "Asked::explain"
         | "Asked::explain_by"
         | "Asked::reduce"
-        | "Asked::reduce_by" => { Some(call_on(alloc, guard(alloc, texts), name, texts)) }
+        | "Asked::reduce_by"
+        | "Asked::reduce_into" => { Some(call_on(alloc, guard(alloc, texts), name, texts)) }
         _ => opened::call(alloc, name, texts),
     }
 }
@@ -220,6 +222,23 @@ fn with_marks(alloc: Global, name: &str, asked: &Asked, text: &[u8]) -> Reply {
     match name {
         "Asked::decide_by" => answer(alloc, asked.decide_by(alloc, &marks)),
         "Asked::explain_by" => answer(alloc, asked.explain_by(alloc, &marks)),
-        _ => answer(alloc, asked.reduce_by(alloc, &marks)),
+        "Asked::reduce_by" => answer(alloc, asked.reduce_by(alloc, &marks)),
+        _ => answer(alloc, reduction(alloc, asked, &marks)),
+    }
+}
+
+/// The reduction that is put into a vector.
+fn reduction<'a>(
+    alloc: Global,
+    asked: &Asked<'a>,
+    marks: &[bool],
+) -> Result<Reduction<'a>, GuardFault> {
+    let mut folds = Vec::new(alloc);
+    match asked.reduce_into(alloc, marks, &mut folds)? {
+        Some(failure) => Ok(Reduction::Evidence {
+            item: failure.item,
+            stop: failure.stop,
+        }),
+        None => Ok(Reduction::Entries(folds)),
     }
 }

@@ -11,7 +11,6 @@ use Rattle.spki_tag.specs.Tag.{tag_value}
 use Rattle.spki_case.specs.CaseForm.{IsCaseText}
 use Rattle.spki_case.specs.View.{model}
 use Rattle.spki_decision.specs.declared.reduction.EntryFold.{EntryFold}
-use Rattle.spki_decision.specs.declared.reduction.Reduction.{Reduction}
 use Rattle.spki_words.specs.declared.commands.Command.{Command}
 use Rattle.spki_guard.specs.declared.answers.Verdict.{Verdict}
 use Rattle.spki_guard.specs.declared.answers.Verdict.TheVariants as verdict
@@ -27,7 +26,7 @@ use Rattle.spki_guard.specs.declared.statuses.Status.TheVariants.{WriteFault}
 use Rattle.spki_guard.specs.declared.answers.Answer.{Answer}
 use Rattle.spki_guard.specs.Answer.{form_of, output_octets, written_by}
 use Rattle.spki_guard.specs.Lines.{item_line, no_entries}
-use Rattle.spki_guard.specs.Reports.{verdict_of, ReportsFolds, IsReductionReport, some_grant, reason_lines}
+use Rattle.spki_guard.specs.Reports.{verdict_of, ReportsFolds, some_grant, reason_lines}
 use Rattle.spki_guard.specs.Run.{RefusesLong, RefusesForMemory, IsWritten, IsCutOff}
 use Rattle.spki_guard.specs.Status.{answer_status}
 use Rattle.spki_guard.specs.Inner.FoldLines.{some_done_line, fold_lines}
@@ -57,12 +56,9 @@ printed (Reasons reasons) = reason_lines 1 reasons.items
 
 -- ---- answers within a number of octets
 
--- the lines of chains, or of a reduction, are more
+-- the lines of chains are more
 abbrev pub AreLongFolds : List EntryFold → ℕ → Type 0
 AreLongFolds folds most = (verdict : Verdict) × (lines : List ℕ) × ReportsFolds folds verdict lines × (most < length lines)
-
-abbrev pub IsLongReport : Reduction → ℕ → Type 0
-IsLongReport reduction most = (verdict : Verdict) × (lines : List ℕ) × IsReductionReport reduction verdict lines × (most < length lines)
 
 -- ---- sources
 

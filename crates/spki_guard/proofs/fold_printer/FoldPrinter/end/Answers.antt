@@ -1,0 +1,14 @@
+use Rattle.std.proofs.Common.{◌≡◌, ◌<◌, length, refl, arith, rules}
+use Rattle.spki_guard.specs.Reports.{verdict_of, some_done}
+use Rattle.spki_guard.proofs.FoldPrinting.{none_long}
+use Rattle.spki_guard.proofs.ReportLines.{reported_as}
+use Rattle.spki_guard.proofs.fold_printer.FoldPrinter.end.Goals as goal
+
+pub returns-then-self-eq0-clause-large : goal.returns-then-self-eq0-clause-large
+returns-then-self-eq0-clause-large c folds h e =
+    none_long c.args.most folds c.args.self h c.if-self-eq0.true (c.whole_within.ensures.large e)
+
+pub returns-then-self-clause-large : goal.returns-then-self-clause-large
+returns-then-self-clause-large c folds h e =
+    let some : 0 < length folds = search rules in
+    (verdict_of (some_done folds), h.lines, reported_as folds h.lines h.lines _ some h.are refl refl, h.long c.if-self.true)

@@ -1,0 +1,27 @@
+use Rattle.std.proofs.Common.{◌≡◌, ◌||◌, refl, rules}
+use Rattle.spki_guard.specs.Reports.{is_done}
+use Rattle.spki_guard.proofs.FoldPrinting.{printed, longer, still_long}
+use Rattle.spki_guard.proofs.fold_printer.FoldPrinterFoldSink.put.Goals.{then-self, else-self, in-Ok, in-Err-TooLarge}
+use Rattle.spki_guard.proofs.fold_printer.FoldPrinterFoldSink.put.Goals as goal
+
+pub returns-then-self-2 : goal.returns-then-self-2
+returns-then-self-2 c start folds taken numbered unused =
+    let done : c.if-self.self ≡ (c.args.self.now.some_done || is_done c.args.fold) =
+    elim c.if-self.branch [ then-self w ↦ search rules | else-self w ↦ search rules ] in
+    let (line, is) = c.prove_line.ensures in
+    still_long start.room folds c.args.fold c.args.entry numbered c.args.self.now _ (taken unused) line is refl done c.if-self-2.true
+    c.if-self-2.true
+
+pub returns : goal.returns
+returns c start folds taken numbered unused =
+    let done : c.if-self.self ≡ (c.args.self.now.some_done || is_done c.args.fold) =
+    elim c.if-self.branch [ then-self w ↦ search rules | else-self w ↦ search rules ] in
+    elim c.match-append_line.branch [
+      in-Ok w ↦
+      let (line, is, text, sum) = rw w.in-Ok.is at c.append_line.ensures.line in
+      rw w.self-is (printed start.room folds c.args.fold c.args.entry numbered c.args.self.now _ (taken unused) line is refl done c.if-self-2.false
+      c.if-self-2.false text sum)
+      | in-Err-TooLarge w ↦
+      let (line, is, less) = c.append_line.ensures.large (search rules) in
+      rw w.self-is (longer start.room folds c.args.fold c.args.entry numbered c.args.self.now _ (taken unused) line is refl done c.if-self-2.false refl less)
+    ]

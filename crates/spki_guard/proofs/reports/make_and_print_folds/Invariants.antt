@@ -1,7 +1,0 @@
--- The lines so far.
-use Rattle.std.proofs.Common.{ℕ, List, take}
-use Rattle.spki_guard.specs.Reports.{AreFoldLines}
-use Rattle.spki_guard.proofs.reports.make_and_print_folds.Given as goal
-
-abbrev pub invariant-loop-place : goal.invariant-loop-place
-invariant-loop-place g l = (lines : List ℕ) × AreFoldLines 1 (take l.place l.folds) lines × g.S.Sink.takes l.initial.sink lines l.sink

@@ -1,7 +1,0 @@
--- None so far.
-use Rattle.std.proofs.Common.{◌≡◌, drop}
-use Rattle.spki_guard.specs.Reports.{some_done}
-use Rattle.spki_guard.proofs.reports.some_fold_done.Given as goal
-
-abbrev pub invariant-loop-fold : goal.invariant-loop-fold
-invariant-loop-fold l = some_done (drop l.fold-index l.folds) ≡ some_done l.folds

@@ -1,0 +1,112 @@
+//! The lines of what a guard's entries become, printed one after another.
+ghost use Rattle.std.specs.Prelude.{◌≡◌, ◌++◌, ◌+◌, ◌<◌, ◌≤◌, false, ℕ, [], List, length, IfOk, OnOk, IsErrOf};
+ghost use Rattle.spki_decision.specs.declared.reduction.EntryFold.{EntryFold};
+ghost use Rattle.spki_guard.specs.Answer.{written_by};
+ghost use Rattle.spki_guard.specs.Reports.{IsFoldLine, ReportsFolds};
+ghost use Rattle.spki_guard.specs.Inner.Printing.{HasPrinted, PrintsFolds, IsUnused, room_of, nothing_printed};
+ghost use Rattle.spki_guard.specs.Inner.Replies.{AreLongFolds};
+
+use crate::answers::{Answer, Output};
+use crate::capped_sink::CappedSink;
+use crate::replies::{Reply, whole_within};
+use crate::reports::{is_fold_done, make_and_print_fold, prove_line, verdict_of};
+use spki_decision::{EntryFold, GuardFault};
+use spki_service::FoldSink;
+use std::alloc::{AllocError, Global};
+
+/// Prints a line for what each entry becomes. If the lines have more octets than it may keep, it prints no more of them.
+#[derive(Drop)]
+pub(crate) struct FoldPrinter {
+    lines: Vec<u8>,
+    room: usize,
+    is_long: bool,
+    some_done: bool,
+    count: usize,
+}
+
+impl FoldPrinter {
+    /// A printer that keeps at most `most` octets.
+    pub(crate) fn new(alloc: Global, most: usize) -> FoldPrinter
+        ensures unused { IsUnused result }
+        ensures room { room_of result ≡ most }
+    {
+        FoldPrinter {
+            lines: Vec::new(alloc),
+            room: most,
+            is_long: false,
+            some_done: false,
+            count: 0,
+        }
+    }
+
+    /// The answer with all lines, or `no entries` if nothing was put. `most` is the number of octets that it may have.
+    ///
+    /// # Errors
+    ///
+    /// `TooLarge` if it has more. `Memory` if memory ran out.
+    pub(crate) fn end(self, alloc: Global, most: usize) -> Result<Answer, GuardFault>
+        ensures report { (folds : List EntryFold) → HasPrinted most folds self
+            → IfOk result (λ a. ReportsFolds folds a.verdict (written_by a) × (length (written_by a) ≤ most)) }
+        ensures large { (folds : List EntryFold) → HasPrinted most folds self
+            → IsErrOf result GuardFault.TooLarge → AreLongFolds folds most }
+    {
+        if self.count == 0 {
+            return whole_within(alloc, &Reply::NoEntries, most);
+        }
+        if self.is_long {
+            return Err(GuardFault::TooLarge);
+        }
+        Ok(Answer {
+            verdict: verdict_of(self.some_done),
+            output: Output::Made(self.lines),
+        })
+    }
+}
+
+impl<'a> FoldSink<'a> for FoldPrinter {
+    ghost takes = { PrintsFolds };
+
+    /// Prints the line of the entry. Once the lines are too long, nothing is made or printed.
+    fn put(&mut self, alloc: Global, entry: usize, fold: EntryFold<'a>) -> Result<(), AllocError> {
+        self.count = entry;
+        self.some_done = self.some_done || is_fold_done(&fold);
+        if self.is_long {
+            prove_line(entry, &fold);
+            return Ok(());
+        }
+        match append_line(alloc, entry, &fold, &mut self.lines, self.room) {
+            Ok(room) => self.room = room,
+            Err(GuardFault::TooLarge) => self.is_long = true,
+            Err(GuardFault::Memory) => return Err(AllocError),
+        }
+        Ok(())
+    }
+
+    ghost nothing = { nothing_printed };
+}
+
+/// Appends the line of an entry, which is counted from 1, to `lines`, and returns how many octets there is room for then.
+/// `room` is how many there is room for before it.
+///
+/// # Errors
+///
+/// `TooLarge` if the line has more octets. `Memory` if memory ran out.
+fn append_line(
+    alloc: Global,
+    entry: usize,
+    fold: &EntryFold,
+    lines: &mut Vec<u8>,
+    room: usize,
+) -> Result<usize, GuardFault>
+    ensures line { IfOk result (λ left. (line : List ℕ) × IsFoldLine entry fold.now line
+        × (lines.new.items ≡ lines.old.items ++ line) × (length line + left ≡ room)) }
+    ensures large { IsErrOf result GuardFault.TooLarge → (line : List ℕ) × IsFoldLine entry fold.now line × (room < length line) }
+{
+    let before = lines.len();
+    let mut sink = CappedSink::new(lines, room);
+    let printed = make_and_print_fold(alloc, entry, fold, &mut sink);
+    let ended = sink.end();
+    printed?;
+    ended?;
+    Ok(room - (lines.len() - before))
+}

@@ -1,0 +1,40 @@
+use Rattle.std.proofs.Common.{[], ◌∙◌, sym, ap, subst, List, refl, rules}
+use Rattle.spki_cert.specs.declared.entry.Entry.{Entry}
+use Rattle.spki_reduce.specs.Chain.{tuples_of}
+use Rattle.spki_case.specs.View.{model}
+use Rattle.spki_decision.specs.Asked.{every}
+use Rattle.spki_decision.specs.Judged.{IsEvidence}
+use Rattle.spki_decision.specs.Reduced.{AreFolds}
+use Rattle.spki_decision.specs.Views.{with_entries}
+use Rattle.spki_decision.proofs.Stopping.{as_many}
+use Rattle.spki_service.specs.Asking.{AskedOf}
+use Rattle.spki_service.specs.Held.{AreEntries, octets_of_texts}
+use Rattle.spki_service.proofs.Outcomes.{folds_failed}
+use Rattle.spki_service.proofs.asked.Asked.put_folds.Goals as goal
+
+pub fold_texts-requires : goal.fold_texts-requires
+fold_texts-requires g c κs = search (rules, as_many)
+
+pub returns-in-Fails-clause-folds : goal.returns-in-Fails-clause-folds
+returns-in-Fails-clause-folds g c = search (rules, folds_failed)
+
+pub returns-in_ok-fold_texts-in-Verified-clause-folds : goal.returns-in_ok-fold_texts-in-Verified-clause-folds
+returns-in_ok-fold_texts-in-Verified-clause-folds g c =
+    let m = model c.self.inside.case in
+    let (folds, taken, all) = c.in_ok-fold_texts-in-Verified.ensures.folds in
+    let evident : IsEvidence m.policy every m.items c.self.inside.examined.evidence = c.self.invariant.1 in
+    let stands = rw c.in-Verified.is at evident in
+    let whole = rw c.deref-in-Verified.ensures.value at all in
+    let texts = ap octets_of_texts c.deref.ensures.value ∙ ap (λ h. h.texts) c.guard.view_is in
+    let inner : (es : List Entry) → AreEntries c.self.inside.guard.now.texts es → AreFolds (with_entries m es) every folds =
+    λ es are.
+    let there : AreEntries (octets_of_texts c.deref.result.now) es = subst (λ ts. AreEntries ts es) (sym texts) are in
+    record {
+      tuples = tuples_of c.in-Verified.steps.items;
+      shown = stands;
+      each = whole.each es there;
+      within_limit = whole.within_limit es there;
+      worked = whole.worked es there;
+    } in
+    let shown = subst (λ (a : AskedOf). (es : List Entry) → AreEntries a.texts es → AreFolds (with_entries a.case es) every folds) c.self.view_is inner in
+    (folds, taken, (shown, all.dated, all.end))

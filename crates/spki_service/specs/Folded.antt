@@ -1,0 +1,36 @@
+-- What the entries of canonical texts become, each with all certificates (RFC 2693, section 6.3).
+use Rattle.std.proofs.Common.{◌≡◌, ℕ, List, [], ◌++◌, Vec, Global, Option, Some, None, sym, append-nil}
+use Rattle.std.specs.List.{AllZip, AllByRecursion}
+use Rattle.spki_cert.specs.declared.entry.Entry.{Entry}
+use Rattle.spki_reduce.specs.Tuples.{Tuple}
+use Rattle.spki_case.specs.Case.{Case, Verified}
+use Rattle.spki_decision.specs.declared.reduction.EntryFold.{EntryFold}
+use Rattle.spki_decision.specs.Reduced.{IsEntryFold, IsDated, EndsAtDate, IsWithinWork, IsFailure, AreFolds}
+use Rattle.spki_decision.specs.Supported.{AllSmall}
+use Rattle.spki_decision.specs.Views.{with_entries}
+use Rattle.spki_service.specs.declared.folding.Failure.{Failure}
+use Rattle.spki_service.specs.Asking.{AskedOf, OfCase}
+use Rattle.spki_service.specs.Held.{AreEntries}
+
+-- This is what the entries of the texts become with the tuples of the case's certificates, in order. The limits of their windows are
+-- dates. No chain is too large at a step, and the work of all is within the case's limit.
+pub record AreFoldsOf (texts : List (List ℕ)) (c : Case) (tuples : List Tuple) (folds : List EntryFold) : Type 0 where
+  pub each : (es : List Entry) → AreEntries texts es → AllZip (IsEntryFold (with_entries c es) tuples) es folds
+  pub dated : AllByRecursion IsDated folds
+  pub end : AllByRecursion EndsAtDate folds
+  pub within_limit : (es : List Entry) → AreEntries texts es → AllSmall (with_entries c es) tuples
+  pub worked : (es : List Entry) → AreEntries texts es → IsWithinWork (with_entries c es) tuples
+
+-- A certificate of the question does not stand, and nothing is put. Or all stand, and this is what the guard's entries become.
+abbrev pub AreReduced : AskedOf → Verified → Option Failure → List EntryFold → Type 0
+AreReduced a verified (Some failure) folds = (folds ≡ []) × OfCase a (λ c. IsFailure c verified failure.item failure.stop)
+AreReduced a verified None folds =
+    OfCase a (λ c. AreFolds c verified folds) × AllByRecursion IsDated folds × AllByRecursion EndsAtDate folds
+
+-- ---- a vector that takes them
+
+abbrev pub TakesFolds : Vec EntryFold Global → List EntryFold → Vec EntryFold Global → Type 0
+TakesFolds old folds new = new.items ≡ old.items ++ folds
+
+pub no_folds : (v : Vec EntryFold Global) → TakesFolds v [] v
+no_folds v = sym (append-nil v.items)
