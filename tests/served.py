@@ -11,9 +11,10 @@ import time
 from collections.abc import Callable, Iterator
 
 import built
+import golang
 from support import TOP
 
-EXAMPLE, DAEMON = os.path.join(TOP, "examples", "nginx"), os.path.join(TOP, "spki-authd")
+EXAMPLE = os.path.join(TOP, "examples", "nginx")
 NEEDS = ("nginx", "go", "openssl", "curl", "import cryptography")
 # How long something may take that hangs. No test passes or fails by the clock.
 SECONDS = 600
@@ -26,13 +27,7 @@ def path_of_commands() -> str:
 
 def daemon_built(folder: str) -> str:
     """The daemon, built over the library that is tested."""
-    program = os.path.join(folder, "spki-authd")
-    given = {**os.environ, "CGO_LDFLAGS": f"-L{os.path.dirname(built.library())}", "CGO_CFLAGS": f"-I{os.path.join(TOP, 'crates', 'spki_c')}",
-             "GOFLAGS": "-mod=mod", "GOPROXY": "off"}
-    done = subprocess.run(["go", "build", "-o", program, "."], cwd=DAEMON, env=given, stdout=subprocess.PIPE, stderr=subprocess.STDOUT, text=True)
-    if done.returncode:
-        raise AssertionError(f"spki-authd was not built: {done.stdout}")
-    return program
+    return golang.build_daemon(built.library(), os.path.join(folder, "spki-authd"))
 
 
 def free_port() -> int:
