@@ -1,7 +1,6 @@
 -- The lines of entries' chains and reasons, one behind another.
-use Rattle.std.proofs.Common.{◌≡◌, ℕ, suc, ◌+◌, ◌<◌, ◌==◌, false, Vec, Global, List, [], ◌∷◌, ◌++◌, length, take, get_or, refl, sym, ap, subst, ◌∙◌, append_assoc, append-nil, arith, length-take-le}
+use Rattle.std.proofs.Common.{◌≡◌, ℕ, suc, ◌+◌, ◌<◌, ◌==◌, false, Vec, Global, List, [], ◌∷◌, ◌++◌, length, take, get_or, refl, sym, ap, subst, ◌∙◌, append_assoc, append-nil, arith}
 use Rattle.std.specs.Prelude.{codes}
-use Rattle.std.proofs.lemmas.List.{take_more}
 use Rattle.std.specs.List.{AllZip}
 use Rattle.sexpr_core.specs.Value.{Value, decimal}
 use Rattle.sexpr_text.specs.Printed.{adv}

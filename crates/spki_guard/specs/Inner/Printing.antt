@@ -1,5 +1,5 @@
 -- What a printer of folds has printed.
-use Rattle.std.proofs.Common.{◌≡◌, ℕ, ◌+◌, ◌<◌, List, [], length, Bool, true, false, true≢false, refl, sym, ◌∙◌, arith}
+use Rattle.std.proofs.Common.{◌≡◌, ℕ, ◌+◌, ◌<◌, List, [], length, true, false, true≢false, refl, sym, ◌∙◌, arith}
 use Rattle.spki_decision.specs.declared.reduction.EntryFold.{EntryFold}
 use Rattle.spki_guard.specs.declared.fold_printer.FoldPrinter.{FoldPrinter}
 use Rattle.spki_guard.specs.Reports.{AreFoldLines, some_done}

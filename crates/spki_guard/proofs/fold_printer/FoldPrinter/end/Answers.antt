@@ -1,4 +1,4 @@
-use Rattle.std.proofs.Common.{◌≡◌, ◌<◌, length, refl, arith, rules}
+use Rattle.std.proofs.Common.{◌<◌, length, refl, rules}
 use Rattle.spki_guard.specs.Reports.{verdict_of, some_done}
 use Rattle.spki_guard.proofs.FoldPrinting.{none_long}
 use Rattle.spki_guard.proofs.ReportLines.{reported_as}
