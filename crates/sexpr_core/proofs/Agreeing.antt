@@ -18,14 +18,7 @@ pub record Agree (text other : List ℕ) (k : ℕ) : Type 0 where
   pub long : length front ≡ k + 1
 
 pub agree : (text : List ℕ) (k : ℕ) (more : List ℕ) → k < length text → Agree text (take (k + 1) text ++ more) k
-agree text k more lt = record {
-  front = take (k + 1) text;
-  rest = drop (k + 1) text;
-  others = more;
-  text_is = sym (take-append-drop (k + 1) text);
-  other_is = refl;
-  long = length-take-le (k + 1) text (omega arith);
-}
+agree text k more lt = search (rules, take-append-drop (k + 1) text, length-take-le (k + 1) text (omega arith))
 
 -- the parts in front of an offset
 drop_front : (text front rest : List ℕ) (i : ℕ) → text ≡ front ++ rest → i ≤ length front → drop i text ≡ drop i front ++ rest
@@ -48,10 +41,8 @@ pub long_too : (text other : List ℕ) (k : ℕ) → Agree text other k → k < 
 long_too text other k a = omega (arith, ap length a.other_is, length-append a.front a.others, a.long)
 
 pub stands_too : (text other : List ℕ) (k i c : ℕ) → Agree text other k → i ≤ k → StandsAt text i c → StandsAt other i c
-stands_too text other k i c a le s = record {
-  spelled = spelled_too text other k i (i + 1) (c ∷ []) a (omega arith) (omega arith) s.spelled;
-  within = omega (arith, long_too text other k a);
-}
+stands_too text other k i c a le s =
+    search (rules, spelled_too text other k i (i + 1) (c ∷ []) a (omega arith) (omega arith) s.spelled, long_too text other k a)
 
 -- the same octet stands first
 pub record SameHead (xs ys : List ℕ) : Type 0 where
@@ -84,8 +75,7 @@ skips_too text other k at to a le s =
 
 -- the octets in front of an offset, where the whole is these and what follows there
 pub front_is : (text front : List ℕ) (k : ℕ) → text ≡ front ++ drop k text → k ≤ length text → take k text ≡ front
-front_is text front k e le =
-    ap (take k) e ∙ take_at front (drop k text) k (omega (arith, ap length e, length-append front (drop k text), length-drop k text))
+front_is text front k e le = search (rules, take_at, length-append, length-drop)
 
 -- ---- refusals of a part
 

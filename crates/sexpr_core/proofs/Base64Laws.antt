@@ -1,5 +1,5 @@
 -- Base64 in the standard alphabet: how long it is, and which octets it has.
-use Rattle.std.proofs.Common.{◌≡◌, ℕ, zero, suc, ◌+◌, ◌-◌, ◌*◌, ◌/◌, ◌%◌, ◌<◌, true, List, [], ◌∷◌, ◌++◌, length, get_or, replicate, refl, sym, ap, subst, ◌∙◌, arith, length-append, append-nil, Bool, ◌&&◌, Ok, rules}
+use Rattle.std.proofs.Common.{◌≡◌, ℕ, zero, suc, ◌+◌, ◌-◌, ◌*◌, ◌/◌, ◌%◌, ◌<◌, true, List, [], ◌∷◌, ◌++◌, length, get_or, replicate, refl, ap, subst, arith, length-append, append-nil, Bool, ◌&&◌, Ok, rules}
 use Rattle.std.proofs.lemmas.Bool.{cases_Bool, and_parts}
 use Rattle.std.proofs.lemmas.List.{length-replicate}
 use Rattle.std.specs.List.{AllByRecursion}
@@ -88,15 +88,11 @@ body_of (c ∷ cs) h = let p = visible_body c cs h in (p.0, body_of cs p.1)
 
 -- the body of a text in base64 has symbols and whitespace alone
 pub body_octets : (body octets : List ℕ) → IsBase64 (visible body) octets → AreBodyOctets body
-body_octets body octets b =
-    body_of body
-    (all_front (λ c. is_symbol c ≡ true) (visible body) (replicate b.missing 61)
-    (subst AreSymbols (sym b.encoded) (encoded_symbols octets b.are_octets)))
+body_octets body octets b = search (rules, body_of, all_front, encoded_symbols)
 
 pub whole_is : (symbols octets padded : List ℕ) (missing : ℕ) (b : IsBase64 symbols octets) → missing ≡ (4 - length symbols % 4) % 4
     → padded ≡ symbols ++ replicate missing 61 → padded ≡ encode_of standard octets
-whole_is symbols octets padded missing b m e =
-    e ∙ ap (λ k. symbols ++ replicate k 61) (m ∙ sym (missing_is symbols octets b)) ∙ b.encoded
+whole_is symbols octets padded missing b m e = search (rules, missing_is symbols octets b)
 
 pub no_failure : (input octets : List ℕ) (f : DecodeAllocError) (d : DecodeError) → decode_of standard input ≡ Ok octets → IsDecodeFailure standard input f → f ≡ Failed d → ⊥
 no_failure input octets f d e h is = let k = subst (IsDecodeFailure standard input) is h in cc

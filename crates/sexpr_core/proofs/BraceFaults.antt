@@ -53,11 +53,7 @@ brace_short text begin s e =
     )
 
 pub not_opened_bad : (text : List ℕ) (begin c : ℕ) → Skips text 0 begin → StandsAt text begin c → (c ≡ 123 → ⊥) → BraceFault text (Bad begin) → RefusesBraces text (Bad begin)
-not_opened_bad text begin c s o apart h =
-    let e = front_is text s.spaces begin s.spelled s.within in
-    let f = one_more text begin c s.spaces o e in
-    let v : is_whitespace c ≡ false = subst StartsVisible o.spelled s.ends in
-    search (rules, spaces_go, spaces_unbraced, other_first)
+not_opened_bad text begin c s o apart h = search (rules, front_is, one_more, spaces_go, spaces_unbraced, other_first)
 
 opened_to : (text : List ℕ) (begin n : ℕ) → Skips text 0 begin → StandsAt text begin 123 → (p : Passed is_body_octet text (begin + 1) n) → OpensBraces (take n text)
 opened_to text begin n s o p = search (rules, front_at)
@@ -65,8 +61,7 @@ opened_to text begin n s o p = search (rules, front_at)
 -- the body and the octet behind it
 stopped_at : (text : List ℕ) (begin k c : ℕ) (s : Skips text 0 begin) → StandsAt text begin 123 → (p : Passed is_body_octet text (begin + 1) k) → StandsAt text k c
     → take (k + 1) text ≡ s.spaces ++ 123 ∷ (p.body ++ c ∷ [])
-stopped_at text begin k c s o p d =
-    one_more text k c (s.spaces ++ 123 ∷ p.body) d (front_at text p.body begin k s o p.spelled p.within) ∙ append_assoc s.spaces (123 ∷ p.body) (c ∷ [])
+stopped_at text begin k c s o p d = search (rules, one_more, front_at, append_assoc)
 
 -- base64 of a body stands where its closing brace follows
 packed_there : (text other body : List ℕ) (begin : ℕ) (octets : List ℕ) (s : Skips text 0 begin) → IsBase64 (visible body) octets → other ≡ s.spaces ++ 123 ∷ (body ++ 125 ∷ [])
@@ -98,10 +93,8 @@ body_bad text begin k c s o p d f deep never =
 
 pub body_end : (text : List ℕ) (begin c : ℕ) (fault : FormFault) → Skips text 0 begin → StandsAt text begin c → c ≡ 123 → IsBodyEnd is_body_octet text (begin + 1) fault
     → RefusesPart (PackedAt (begin + 1) 125) text (begin + 1) fault → BraceFault text fault → ((v : Value) → IsBracedWithin text v → fault ≡ Memory) → RefusesBraces text fault
-body_end text begin c Short s o e h r b only = (
-  inr (subst OpensBraces (take_all (length text) text (omega arith)) (opened_to text begin (length text) s (subst (StandsAt text begin) e o) h)),
-  λ v w. let f : Short ≡ Memory = only v w in cc,
-)
+body_end text begin c Short s o e h r b only =
+    search (rules, take_all (length text) text (omega arith), opened_to text begin (length text) s (subst (StandsAt text begin) e o) h)
 body_end text begin c (Bad k) s o e h r b only =
     let opens = subst (StandsAt text begin) e o in
     let passed : Passed is_body_octet text (begin + 1) k = h.0 in

@@ -51,13 +51,11 @@ pub no_opening : (text : List ℕ) (begin : ℕ) (v : Value) → Skips text 0 be
 no_opening text begin v s e b = let p = opening text begin v s b in let q : 123 ∷ (b.body ++ 125 ∷ b.after) ≡ [] = sym p ∙ e in cc
 
 pub opens : (text : List ℕ) (begin c : ℕ) (v : Value) → Skips text 0 begin → StandsAt text begin c → Braced text v → c ≡ 123
-opens text begin c v s stands b =
-    let q : c ∷ drop (begin + 1) text ≡ 123 ∷ (b.body ++ 125 ∷ b.after) = sym stands.spelled ∙ opening text begin v s b in cc
+opens text begin c v s stands b = cc (sym stands.spelled ∙ opening text begin v s b)
 
 pub body_is : (text : List ℕ) (begin c : ℕ) (v : Value) → Skips text 0 begin → StandsAt text begin c → (b : Braced text v)
     → drop (begin + 1) text ≡ b.body ++ 125 ∷ b.after
-body_is text begin c v s stands b =
-    let q : c ∷ drop (begin + 1) text ≡ 123 ∷ (b.body ++ 125 ∷ b.after) = sym stands.spelled ∙ opening text begin v s b in cc
+body_is text begin c v s stands b = cc (sym stands.spelled ∙ opening text begin v s b)
 
 pub visible_le : (xs : List ℕ) → length (visible xs) ≤ length xs
 visible_le xs = search (rules, length-filter, count_by-le-length)

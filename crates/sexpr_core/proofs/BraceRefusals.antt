@@ -44,10 +44,7 @@ goes_before x y (inr o) = elim (two_cuts x y o.before (123 ∷ o.body) o.parts) 
 ]
 
 pub whole_goes : (text : List ℕ) (v : Value) → IsBracedWithin text v → BracesGoOn text
-whole_goes text v w = inl (record {
-  rest = [];
-  whole = subst IsShallowBraced (sym (append-nil text)) (record { value = v; braced = w.braced; shallow = w.shallow });
-})
+whole_goes text v w = search (rules, append-nil text)
 
 -- ---- braces that are closed
 
@@ -155,10 +152,7 @@ pub stops_trailing : (text : List ℕ) (at : ℕ) → RefusesBraces text (Traili
 stops_trailing text at r = record { begun = whole_goes (take at text) r.1.0 r.1.1; ended = r.2 }
 
 bad_deep : (text : List ℕ) (at : ℕ) → RefusesBraces text (Bad at) → BracesDeep text → ⊥
-bad_deep text at r d =
-    let c = closes text d in
-    let e : at ≡ c.place = at_close text at c (stops_bad text at r) in
-    r.3 (c.behind_is (at + 1) (omega (arith, e)))
+bad_deep text at r d = search (rules, closes text d, at_close text at (closes text d) (stops_bad text at r))
 
 trailing_deep : (text : List ℕ) (at : ℕ) → RefusesBraces text (Trailing at) → BracesDeep text → ⊥
 trailing_deep text at r d =

@@ -1,5 +1,5 @@
 -- Numbers in decimal: where they end, and that they are equal only for equal numbers.
-use Rattle.std.proofs.Common.{◌≡◌, ℕ, zero, suc, ◌+◌, ◌*◌, ◌/◌, ◌%◌, ◌<◌, ◌≤◌, List, [], ◌∷◌, ◌++◌, length, map, get_or, cond, false, ◌==◌, refl, sym, ◌∙◌, ap, subst, arith, rules}
+use Rattle.std.proofs.Common.{◌≡◌, ℕ, zero, suc, ◌+◌, ◌*◌, ◌<◌, ◌≤◌, List, [], ◌∷◌, ◌++◌, length, map, get_or, cond, false, ◌==◌, refl, sym, ◌∙◌, ap, subst, arith, rules}
 use Rattle.std.specs.List.{AllByRecursion}
 use Rattle.std.specs.Int.Digits.{digits_of, AllBelowBase}
 use Rattle.std.proofs.lemmas.List.{map-append, length-map}
@@ -35,8 +35,7 @@ decimal_some (suc k) h = decimal_suc k
 
 pub AreDigits-decimal : (n : ℕ) → AreDigits (decimal n)
 AreDigits-decimal zero = subst AreDigits (sym decimal_zero) ((omega arith, omega arith), tt)
-AreDigits-decimal (suc k) =
-    subst AreDigits (sym (decimal_suc k)) (AreDigits-map (digits_of 10 (suc k)) (all_below_base_digits_of 10 (suc k) (omega arith)))
+AreDigits-decimal (suc k) = search (rules, decimal_suc, AreDigits-map, all_below_base_digits_of)
 
 -- ---- the first digit
 
@@ -71,26 +70,19 @@ pub parts_agree :
     (xs ys x y : List ℕ) (c d : ℕ) → AreDigits xs → AreDigits ys → (IsDigit c → ⊥) → (IsDigit d → ⊥) →
     xs ++ c ∷ x ≡ ys ++ d ∷ y → SameParts xs ys x y c d
 parts_agree [] [] x y c d h k nc nd e = record { heads = refl; marks = cc; tails = cc }
-parts_agree [] (b ∷ ys) x y c d h k nc nd e = let q : b ≡ c = cc in absurd (nc (subst IsDigit q k.0))
-parts_agree (a ∷ xs) [] x y c d h k nc nd e = let q : a ≡ d = cc in absurd (nd (subst IsDigit q h.0))
 parts_agree (a ∷ xs) (b ∷ ys) x y c d h k nc nd e =
     let q : a ≡ b = cc in
     let e2 : xs ++ c ∷ x ≡ ys ++ d ∷ y = cc in
     let p : SameParts xs ys x y c d = parts_agree xs ys x y c d h.1 k.1 nc nd e2 in
     let hs : xs ≡ ys = p.heads in
     record { heads = cc; marks = p.marks; tails = p.tails }
+parts_agree xs ys x y c d h k nc nd e = absurd (search rules)
 
 -- ---- digits make a number
 
 pub decimal_digit : (d : ℕ) → d < 10 → decimal d ≡ (48 + d) ∷ []
 decimal_digit zero h = decimal_zero
-decimal_digit (suc k) h =
-    let q : suc k / 10 ≡ 0 = omega arith in
-    let r : suc k % 10 ≡ suc k = omega arith in
-    let e : digits_of 10 (suc k) ≡ suc k ∷ [] =
-    digits_of_step 10 (suc k) (omega arith) (omega arith)
-    ∙ ap (λ n. digits_of 10 n ++ (suc k % 10 ∷ [])) q ∙ ap (λ n. n ∷ []) r in
-    decimal_suc k ∙ ap (map digit_of) e
+decimal_digit (suc k) h = search (rules, decimal_suc k, digits_of_step 10 (suc k) (omega arith) (omega arith))
 
 pub decimal_more : (n d : ℕ) → 0 < n → d < 10 → decimal (n * 10 + d) ≡ decimal n ++ (48 + d) ∷ []
 decimal_more n d p low = search (rules, digits_of_step, decimal_some, map-append)
@@ -114,16 +106,14 @@ no_zero (d ∷ ds) more h e = let p : 48 + d ≡ 48 = cc in let q : 0 < d = h in
 
 -- a number above 0 has no leading zero
 pub decimal_leads : (n : ℕ) (more : List ℕ) → 0 < n → decimal n ≡ 48 ∷ more → ⊥
-decimal_leads n more p e =
-    no_zero (digits_of 10 n) more (first_digits_of 10 n (omega arith) p) (sym (decimal_some n p) ∙ e)
+decimal_leads n more p e = search (rules, no_zero, first_digits_of, decimal_some)
 
 pub decimal_same : (m n : ℕ) → decimal m ≡ decimal n → m ≡ n
 decimal_same zero zero e = refl
-decimal_same zero (suc n) e = absurd (decimal_leads (suc n) [] (omega arith) (sym e ∙ decimal_zero))
-decimal_same (suc m) zero e = absurd (decimal_leads (suc m) [] (omega arith) (e ∙ decimal_zero))
 decimal_same (suc m) (suc n) e =
     same_from_digits_of 10 (suc m) (suc n) (omega arith)
     (map_same (digits_of 10 (suc m)) (digits_of 10 (suc n)) (sym (decimal_suc m) ∙ e ∙ decimal_suc n))
+decimal_same m n e = absurd (search (rules, decimal_leads, decimal_zero))
 
 -- behind "0" stands no digit
 pub zero_ends : (n c : ℕ) (x y : List ℕ) → decimal 0 ++ c ∷ x ≡ decimal n ++ 58 ∷ y → c ≡ 58

@@ -26,8 +26,7 @@ same_given r v w h = same_from_decides r (is_same v w) (h.0, h.1) (same_decides 
 -- where a member differs, the lists do
 pub member_differs : {A : Type 0} (f : A → Value) (xs ys : List A) (i : ℕ) (d e : A) → i < length xs → length xs ≡ length ys
     → IsTrue false ↔ (f (get_or xs i d) ≡ f (get_or ys i e)) → IsTrue false ↔ (map f xs ≡ map f ys)
-member_differs f xs ys i d e lt same h =
-    (λ t. absurd cc, λ all. h.1 (sym (get_or-map f xs i d (f d) lt) ∙ ap (λ vs. get_or vs i (f d)) all ∙ get_or-map f ys i e (f d) (omega (arith, same))))
+member_differs f xs ys i d e lt same h = search (rules, get_or-map f xs i d (f d) lt, get_or-map f ys i e (f d) (omega (arith, same)))
 
 -- ---- trees
 

@@ -1,5 +1,5 @@
 -- What each step of the reader says of the text where it stops.
-use Rattle.std.proofs.Common.{◌≡◌, ℕ, suc, ◌+◌, ◌-◌, ◌<◌, ◌≤◌, List, [], ◌∷◌, ◌++◌, length, take, replicate, Some, None, refl, sym, ◌∙◌, ap, subst, arith, append_assoc, length-append, append-nil, add-one}
+use Rattle.std.proofs.Common.{◌≡◌, ℕ, suc, ◌+◌, ◌-◌, ◌<◌, ◌≤◌, List, [], ◌∷◌, ◌++◌, length, take, replicate, Some, None, refl, sym, ◌∙◌, ap, subst, arith, append_assoc, length-append, append-nil, add-one, rules}
 use Rattle.std.proofs.lemmas.List.{length-replicate}
 use Rattle.std.proofs.Math.Seq.{take-append-add, take-append_seam}
 use Rattle.sexpr_core.specs.declared.fault.FormFault.{FormFault}
@@ -23,11 +23,7 @@ length_ended at =
     Front-none IsLength (decimal 0 ++ 58 ∷ []) (some_append (decimal 0) (58 ∷ []) (omega arith)) (record { number = 0; is = refl })
 
 length_begins : (n x y : _) (c : ℕ) → c ∷ x ≡ decimal n ++ y → IsDigit c
-length_begins n x y c e =
-    let s = decimal_starts n in
-    let q : c ∷ x ≡ s.digit ∷ (s.rest ++ y) = e ∙ ap (λ t. t ++ y) s.is in
-    let d : s.digit ≡ c = cc in
-    subst IsDigit d s.low
+length_begins n x y c e = search (rules, decimal_starts n)
 
 pub length_first : (at c : ℕ) (ys : List ℕ) → (IsDigit c → ⊥) → FaultAt IsLength IsLength at (c ∷ ys) (Bad at)
 length_first at c ys h = FaultAt-first IsLength IsLength at c ys (length_ended at)
@@ -73,8 +69,7 @@ pub length_bad :
     (at n c : ℕ) (xs ys : List ℕ) → xs ≡ decimal n ++ c ∷ ys → (IsDigit c → ⊥) → (c ≡ 58 → ⊥) →
     FaultAt IsLength IsLength at xs (Bad (at + length (decimal n)))
 unfolding CannotFollow
-length_bad at n c xs ys e nd nc = length_stop at n c xs ys e
-    (λ m x y q. nc (parts_agree (decimal n) (decimal m) x y c 58 (AreDigits-decimal n) (AreDigits-decimal m) nd colon_no_digit q).marks)
+length_bad at n c xs ys e nd nc = search (rules, length_stop, parts_agree, AreDigits-decimal, colon_no_digit)
 
 pub length_zero :
     (at c : ℕ) (xs ys : List ℕ) → xs ≡ decimal 0 ++ c ∷ ys → (c ≡ 58 → ⊥) →
@@ -108,8 +103,7 @@ verbatim_short at n xs ys e h =
     }
 
 pub verbatim_none : (octets : List ℕ) → 0 < length (verbatim octets)
-verbatim_none octets =
-    subst (λ t. 0 < length t) (sym (verbatim_is octets)) (some_append (decimal (length octets)) (58 ∷ octets) (omega arith))
+verbatim_none octets = search (rules, verbatim_is, some_append)
 
 -- ---- behind a hint
 
@@ -123,8 +117,7 @@ closing_first at c ys h = FaultAt-first IsClosing IsClosing at c ys (closing_end
 pub closing_fault :
     (at : ℕ) (ys : List ℕ) (e : FormFault) → FaultAt IsVerbatim IsVerbatim (at + 1) ys e →
     FaultAt IsClosing IsClosing at (93 ∷ ys) e
-closing_fault at ys e h =
-    FaultAt-tail IsClosing IsVerbatim IsClosing IsVerbatim at (93 ∷ []) ys e Behind-closing Behind-closing h
+closing_fault at ys e h = search (rules, FaultAt-tail IsClosing IsVerbatim IsClosing IsVerbatim at (93 ∷ []) ys e Behind-closing Behind-closing h)
 
 -- ---- a hinted string behind its bracket
 
@@ -162,8 +155,7 @@ value_first room at c ys nd nb np = FaultAt-first IsCanon (IsCanonWithin room) a
 pub plain_fault :
     (room at c : ℕ) (ys : List ℕ) (e : FormFault) → IsDigit c → FaultAt IsVerbatim IsVerbatim at (c ∷ ys) e →
     FaultAt IsCanon (IsCanonWithin room) at (c ∷ ys) e
-plain_fault room at c ys e low h =
-    FaultAt-from IsCanon IsVerbatim (IsCanonWithin room) IsVerbatim at c ys e (From-digit c low) (From-digit_within room c low) h
+plain_fault room at c ys e low h = search (rules, FaultAt-from, From-digit, From-digit_within)
 
 pub bracket_fault :
     (room at : ℕ) (ys : List ℕ) (e : FormFault) → FaultAt IsHinted IsHinted (at + 1) ys e →

@@ -127,14 +127,8 @@ gathered_end text at i mark symbols body rest g ended other e =
 -- ---- the same in each text that goes on so far in the same way
 
 gathers_too : (text other : List ℕ) (k at i : ℕ) (symbols : List ℕ) → Agree text other k → i ≤ k + 1 → Gathers text at symbols i → Gathers other at symbols i
-gathers_too text other k at i symbols a le g = record {
-  body = g.body;
-  octets = g.octets;
-  spelled = spelled_too text other k at i g.body a (omega (arith, g.ordered)) le g.spelled;
-  kept = g.kept;
-  ordered = g.ordered;
-  within = omega (arith, long_too text other k a);
-}
+gathers_too text other k at i symbols a le g =
+    search (rules, spelled_too text other k at i g.body a (omega (arith, g.ordered)) le g.spelled, long_too text other k a)
 
 pub gathers_to_too : (text other : List ℕ) (k at mark to : ℕ) (symbols : List ℕ) → Agree text other k → to ≤ k + 1 → GathersTo text at mark symbols to
     → GathersTo other at mark symbols to
@@ -187,8 +181,5 @@ mark_stands text at mark to symbols g =
 pub unpacked_end : (text : List ℕ) (at mark to : ℕ) (symbols : List ℕ) (fault : FormFault) → GathersTo text at mark symbols to → is_body_octet mark ≡ false
     → IsFaultAt (to - 1) fault → IsBodyEnd is_body_octet text at fault
 unpacked_end text at mark to symbols Short g other h = absurd h
-unpacked_end text at mark to symbols (Bad k) g other h =
-    let m = mark_stands text at mark to symbols g in
-    let n : to - 1 + 1 ≡ to = omega (arith, g.goes_on) in
-    search rules
+unpacked_end text at mark to symbols (Bad k) g other h = search (rules, mark_stands text at mark to symbols g)
 unpacked_end text at mark to symbols _ g other h = h

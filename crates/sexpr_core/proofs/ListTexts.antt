@@ -18,10 +18,7 @@ canons-join (more v vs) ws = ap (λ t. canon v ++ t) (canons-join vs ws) ∙ sym
 
 pub depths-join : (room : ℕ) (vs ws : Values) → depths vs ≤ room → depths ws ≤ room → depths (join vs ws) ≤ room
 depths-join room none ws h k = k
-depths-join room (more v vs) ws h k =
-    let a : depths vs ≤ room = omega arith in
-    let b : depths (join vs ws) ≤ room = depths-join room vs ws a k in
-    omega arith
+depths-join room (more v vs) ws h k = let a : depths vs ≤ room = omega arith in omega (arith, depths-join room vs ws a k)
 
 depths_rest : (room : ℕ) (vs ws : Values) → depths (join vs ws) ≤ room → depths ws ≤ room
 depths_rest room none ws h = h
@@ -34,8 +31,7 @@ record Rest (vs ws : Values) : Type 0 where
 
 canons_rest : (vs ws : Values) (x y : List ℕ) → canons vs ++ x ≡ canons ws ++ 41 ∷ y → Rest vs ws
 canons_rest none ws x y e = record { rest = ws; is = refl }
-canons_rest (more v vs) none x y e =
-    absurd (canon_differs v (canons vs ++ x) y (sym (append_assoc (canon v) (canons vs) x) ∙ e))
+canons_rest (more v vs) none x y e = absurd (search (rules, canon_differs, append_assoc))
 canons_rest (more v vs) (more w ws) x y e =
     let q : canon v ++ (canons vs ++ x) ≡ canon w ++ (canons ws ++ 41 ∷ y) =
     sym (append_assoc (canon v) (canons vs) x) ∙ e ∙ append_assoc (canon w) (canons ws) (41 ∷ y) in
@@ -47,14 +43,12 @@ members_on : (vs ws : Values) (b : List ℕ) → b ≡ canons ws ++ 41 ∷ [] �
 members_on vs ws b is = search (rules, append_assoc, canons-join)
 
 members_rest : (vs ws : Values) (t x y : List ℕ) → t ≡ canons ws ++ 41 ∷ [] → canons vs ++ x ≡ t ++ y → Rest vs ws
-members_rest vs ws t x y is e =
-    canons_rest vs ws x y (e ∙ ap (λ s. s ++ y) is ∙ append_assoc (canons ws) (41 ∷ []) y)
+members_rest vs ws t x y is e = search (rules, canons_rest, append_assoc)
 
 members_whole :
     (vs ws rest : Values) (t : List ℕ) → t ≡ canons ws ++ 41 ∷ [] → ws ≡ join vs rest →
     t ≡ canons vs ++ (canons rest ++ 41 ∷ [])
-members_whole vs ws rest t is e =
-    is ∙ ap (λ k. canons k ++ 41 ∷ []) e ∙ sym (members_on vs rest (canons rest ++ 41 ∷ []) refl)
+members_whole vs ws rest t is e = search (rules, members_on)
 
 pub Behind-members : (vs : Values) → Behind IsMembers IsMembers (canons vs)
 Behind-members vs = record {
@@ -92,8 +86,7 @@ Behind-members_within room vs h = record {
 
 -- a list behind its opening parenthesis
 list_back : (v : Value) (t x y : List ℕ) → t ≡ canon v → 40 ∷ x ≡ t ++ y → (vs : Values) × (v ≡ list vs)
-list_back (string None a) t x y is e =
-    absurd (verbatim_differs a y x 40 no_open (ap (λ s. s ++ y) (sym is) ∙ sym e))
+list_back (string None a) t x y is e = absurd (search (rules, verbatim_differs, no_open))
 list_back (string (Some h) a) t x y is e = search rules
 list_back (list vs) t x y is e = (vs, refl)
 

@@ -1,5 +1,5 @@
 -- The octets of a tree, member by member.
-use Rattle.std.proofs.Common.{◌≡◌, ◌+◌, ◌<◌, ◌≤◌, ℕ, List, [], ◌∷◌, ◌++◌, length, map, take, get_or, Vec, Global, sym, ap, subst, ◌∙◌}
+use Rattle.std.proofs.Common.{◌≡◌, ◌+◌, ◌<◌, ◌≤◌, ℕ, List, [], ◌∷◌, ◌++◌, length, map, take, get_or, Vec, Global, sym, ap, subst, ◌∙◌, rules}
 use Rattle.std.proofs.lemmas.List.{map-append, take_more, take_all}
 use Rattle.sexpr_core.specs.declared.tree.Sexp.{Sexp}
 use Rattle.sexpr_core.specs.declared.tree.Sexp.TheVariants.{List as Branch}
@@ -20,5 +20,4 @@ more_octets f xs k d lt h g =
 
 pub list_octets : (tree : Sexp) (ms : Vec Sexp Global) (xs : List Sexp) (k : ℕ) → tree ≡ Branch ms → xs ≡ ms.items → length xs ≤ k
     → HaveOctets (values (map sexp_value (take k xs))) → HasOctets (sexp_value tree)
-list_octets tree ms xs k is same le h =
-    subst HasOctets (sym (ap sexp_value is ∙ sexp_list ms)) (subst (λ ys. HaveOctets (values (map sexp_value ys))) (take_all k xs le ∙ same) h)
+list_octets tree ms xs k is same le h = search (rules, sexp_list, take_all)

@@ -1,5 +1,5 @@
 -- Why a text has at most one refusal that speaks of its form, whichever form that is.
-use Rattle.std.proofs.Common.{◌≡◌, ℕ, ◌+◌, ◌<◌, ◌≤◌, inl, inr, List, ◌++◌, take, drop, refl, sym, ◌∙◌, ap, subst, arith, append_assoc}
+use Rattle.std.proofs.Common.{◌≡◌, ℕ, ◌+◌, ◌<◌, ◌≤◌, inl, inr, List, ◌++◌, take, drop, refl, sym, ap, subst, arith, append_assoc, rules}
 use Rattle.std.proofs.lemmas.List.{take-append-drop, take-take}
 use Rattle.std.proofs.lemmas.Bool.{cases_order}
 use Rattle.sexpr_core.specs.declared.fault.FormFault.{FormFault}
@@ -20,8 +20,7 @@ pub front_begins : (T : List ℕ → Type 0) (xs : List ℕ) → Front T xs → 
 front_begins T xs f = record { rest = f.rest; whole = f.whole }
 
 pub goes_less : (G : List ℕ → Type 0) → HasFronts G → (m n : ℕ) (xs : List ℕ) → m ≤ n → G (take n xs) → G (take m xs)
-goes_less G front m n xs h g =
-    front (take m xs) (drop m (take n xs)) (subst G (sym (take-append-drop m (take n xs)) ∙ ap (λ t. t ++ drop m (take n xs)) (take-take m n xs h)) g)
+goes_less G front m n xs h g = search (rules, take-append-drop m (take n xs), take-take m n xs h)
 
 pub goes_part : (G : List ℕ → Type 0) → HasFronts G → (n : ℕ) (xs : List ℕ) → G xs → G (take n xs)
 goes_part G front n xs g = front (take n xs) (drop n xs) (subst G (sym (take-append-drop n xs)) g)
@@ -38,11 +37,7 @@ module _ (W A : List ℕ → Type 0) (front : HasFronts W) (any : (x : List ℕ)
   stops_once i j a b h = a.ended (any (take (i + 1) text) (goes_less W front (i + 1) j text (omega arith) b.begun))
 
   pub at_one : (i j : ℕ) → StopsThere W A text i → StopsThere W A text j → i ≡ j
-  at_one i j a b = elim (cases_order i j) [
-    | inl e ↦ e
-    | inr (inl h) ↦ absurd (stops_once i j a b h)
-    | inr (inr h) ↦ absurd (stops_once j i b a h)
-  ]
+  at_one i j a b = search (rules, cases_order, stops_once)
 
   pub no_short : (at : ℕ) → StopsThere W A text at → W text → ⊥
   no_short at s g = s.ended (any (take (at + 1) text) (goes_part W front (at + 1) text g))

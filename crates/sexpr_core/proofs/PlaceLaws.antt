@@ -1,9 +1,9 @@
 -- What a record says of its node.
-use Rattle.std.proofs.Common.{◌≡◌, ℕ, ◌+◌, ◌≤◌, List, [], ◌∷◌, ◌++◌, length, Option, Some, None, sym, ap, subst, ◌∙◌, length-append, arith, inl, inr}
+use Rattle.std.proofs.Common.{◌≡◌, ℕ, ◌+◌, ◌≤◌, List, [], length, Option, Some, None, sym, ap, subst, ◌∙◌, length-append, arith, inl, inr, rules}
 use Rattle.sexpr_core.specs.declared.layout.Record.{Record}
 use Rattle.sexpr_core.specs.declared.layout.Shape.{Shape}
 use Rattle.sexpr_core.specs.declared.layout.Shape.TheVariants.{Plain, Hinted, List as Group}
-use Rattle.sexpr_core.specs.Value.{Value, string, list, canon, verbatim, size, plain}
+use Rattle.sexpr_core.specs.Value.{Value, string, list, canon, size, plain}
 use Rattle.sexpr_core.specs.Labels.{Label, label}
 use Rattle.sexpr_core.specs.Table.{record_of, shape_of, label_in, label_as}
 use Rattle.sexpr_core.specs.Places.{IsPlace, IsList}
@@ -29,8 +29,7 @@ end_is : (r : Record) (v : Value) → r ≡ record_of r.start v → r.end ≡ r.
 end_is r v e = ap (λ (q : Record). q.end) e
 
 pub ends_within : (text : List ℕ) (r : Record) (v : Value) → IsPlace text r v → r.end ≤ length text
-ends_within text r v p =
-    omega (arith, end_is r v p.record_is, p.begins, ap length p.parts, length-append p.before (canon v ++ p.after), length-append (canon v) p.after)
+ends_within text r v p = search (rules, end_is, length-append)
 
 pub size_is : (text : List ℕ) (r : Record) (v : Value) → IsPlace text r v → r.size ≡ size v
 size_is text r v p = ap (λ (q : Record). q.size) p.record_is
@@ -43,8 +42,7 @@ Ordered end (Group parts) = Unit {0}
 
 ordered_of : (at : ℕ) (v : Value) → Ordered (at + length (canon v)) (shape_of at v)
 ordered_of at (string None octets) = omega (arith, length-verbatim octets)
-ordered_of at (string (Some hint) octets) =
-    (omega arith, omega arith, omega (arith, length-append (verbatim hint) (93 ∷ verbatim octets), length-verbatim hint, length-verbatim octets))
+ordered_of at (string (Some hint) octets) = search (rules, length-append, length-verbatim)
 ordered_of at (list vs) = tt
 
 pub ordered : (text : List ℕ) (r : Record) (v : Value) → IsPlace text r v → Ordered r.end r.shape

@@ -1,5 +1,5 @@
 -- A text has at most one refusal that speaks of its form.
-use Rattle.std.proofs.Common.{◌≡◌, ◌≢◌, ℕ, ◌+◌, ◌<◌, ◌≤◌, List, [], ◌++◌, length, take, drop, refl, sym, ◌∙◌, ap, subst, arith, append-nil, append_assoc, length-drop, length-append}
+use Rattle.std.proofs.Common.{◌≡◌, ◌≢◌, ℕ, ◌+◌, ◌<◌, ◌≤◌, List, [], ◌++◌, length, take, drop, refl, sym, ◌∙◌, ap, subst, arith, append-nil, append_assoc, length-drop, length-append, rules}
 use Rattle.std.proofs.lemmas.List.{take-append-drop, length-take-le, take-take}
 use Rattle.sexpr_core.specs.declared.fault.FormFault.{FormFault}
 use Rattle.sexpr_core.specs.declared.fault.FormFault.TheVariants.{TooLong, TooDeep, Short, Bad, Trailing, Memory}
@@ -53,16 +53,12 @@ stops_bad : (text : List ℕ) (at : ℕ) → Refused text (Bad at) → StopsTher
 stops_bad text at r = record { begun = front_begins IsShallowText (take at text) r.1; ended = r.2 }
 
 stops_trailing : (text : List ℕ) (at : ℕ) → Refused text (Trailing at) → StopsThere (Begins IsShallowText) (Begins IsCanon) text at
-stops_trailing text at r = record {
-  begun = record { rest = []; whole = subst IsShallowText (sym (append-nil (take at text))) r.1 };
-  ended = ends_there text at r.0 r.1;
-}
+stops_trailing text at r = search (rules, append-nil (take at text), ends_there text at r.0 r.1)
 
 -- ---- one refusal
 
 not_deep : (text : List ℕ) (at : ℕ) → StopsThere (Begins IsShallowText) (Begins IsCanon) text at → Refused text TooDeep → ⊥
-not_deep text at s d =
-    no_deep (Begins IsShallowText) (Begins IsCanon) (begins_front IsShallowText) begins_any text (begins_front IsCanon) at d.0 s d.1 d.2
+not_deep text at s d = search (rules, no_deep, begins_front, begins_any)
 
 short_deep : (text : List ℕ) → Refused text Short → Refused text TooDeep → ⊥
 short_deep text a b = b.2 (goes_part (Begins IsShallowText) (begins_front IsShallowText) b.0 text (front_begins IsShallowText text a))
@@ -109,5 +105,4 @@ body_refused octets at Memory fault few r e = subst (RefusesBody octets at) (sym
 
 -- the canonical text of a shallow value isn't too deep
 pub shallow_text : (octets : List ℕ) (v : Value) → IsShallow v → octets ≡ canon v → Refused octets TooDeep → ⊥
-shallow_text octets v h same r =
-    r.2 (record { rest = drop r.0 octets; whole = record { value = v; fits = h; is = take-append-drop r.0 octets ∙ same } })
+shallow_text octets v h same r = search (rules, take-append-drop r.0 octets)

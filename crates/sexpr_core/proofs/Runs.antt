@@ -1,5 +1,5 @@
 -- Octets of one sort, and where they end.
-use Rattle.std.proofs.Common.{◌≡◌, ℕ, false, true, Bool, List, [], ◌∷◌, ◌++◌, length, refl, sym, ◌∙◌, ap, subst, arith}
+use Rattle.std.proofs.Common.{◌≡◌, ℕ, false, true, Bool, List, [], ◌∷◌, ◌++◌, length, refl, ◌∙◌, ap, arith, rules}
 use Rattle.std.specs.List.{AllByRecursion}
 
 pub head_is : (c d : ℕ) (x y : List ℕ) → c ∷ x ≡ d ∷ y → c ≡ d
@@ -36,18 +36,10 @@ fails_among p (x ∷ xs) c ys (z ∷ zs) f h e = fails_among p xs c ys zs f h.1 
 -- they end in one way
 pub one_front : (p : ℕ → Bool) (xs ys r s : List ℕ) → Passes p xs → Passes p ys → Stops p r → Stops p s → xs ++ r ≡ ys ++ s → (xs ≡ ys) × (r ≡ s)
 one_front p [] [] r s hx hy hr hs e = (refl, e)
-one_front p [] (y ∷ ys) r s hx hy hr hs e = absurd (not_both p y (subst (Stops p) e hr) hy.0)
-one_front p (x ∷ xs) [] r s hx hy hr hs e = absurd (not_both p x (subst (Stops p) (sym e) hs) hx.0)
-one_front p (x ∷ xs) (y ∷ ys) r s hx hy hr hs e =
-    let q = one_front p xs ys r s hx.1 hy.1 hr hs (tail_is x y (xs ++ r) (ys ++ s) e) in
-    let k : xs ≡ ys = q.0 in
-    (cc, q.1)
+one_front p (x ∷ xs) (y ∷ ys) r s hx hy hr hs e = search (rules, tail_is, one_front p xs ys r s hx.1 hy.1 hr hs (tail_is x y (xs ++ r) (ys ++ s) e))
+one_front p xs ys r s hx hy hr hs e = absurd (search (rules, not_both))
 
 pub same_length : (xs ys r s : List ℕ) → length xs ≡ length ys → xs ++ r ≡ ys ++ s → (xs ≡ ys) × (r ≡ s)
 same_length [] [] r s l e = (refl, e)
-same_length [] (y ∷ ys) r s l e = absurd (omega arith)
-same_length (x ∷ xs) [] r s l e = absurd (omega arith)
-same_length (x ∷ xs) (y ∷ ys) r s l e =
-    let q = same_length xs ys r s (omega arith) (tail_is x y (xs ++ r) (ys ++ s) e) in
-    let k : xs ≡ ys = q.0 in
-    (cc, q.1)
+same_length (x ∷ xs) (y ∷ ys) r s l e = search (rules, tail_is, same_length xs ys r s (omega arith) (tail_is x y (xs ++ r) (ys ++ s) e))
+same_length xs ys r s l e = absurd (search rules)

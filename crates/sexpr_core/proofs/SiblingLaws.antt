@@ -93,9 +93,7 @@ pub record IsListOf (v : Value) (n size : ℕ) : Type 0 where
 by_form : (v : Value) (n k : ℕ) (w : Value) → n < size v → node_at v n ≡ w → IsList w → k ≡ size w → IsListOf v n k
 by_form v n k (string hint octets) lt e is_list wide = absurd is_list
 by_form v n k (list vs) lt e is_list wide =
-    let a = list_siblings v n vs lt e in
-    let shown = siblings_are v (n + 1) (n + size (list vs)) (members vs) a in
-    search (rules, values-members)
+    search (rules, values-members, list_siblings v n vs lt e, siblings_are v (n + 1) (n + size (list vs)) (members vs) (list_siblings v n vs lt e))
 
 pub list_of : (v : Value) (n k : ℕ) → n < size v → IsList (node_at v n) → k ≡ size (node_at v n) → IsListOf v n k
 list_of v n k lt is_list wide = by_form v n k (node_at v n) lt refl is_list wide
@@ -123,8 +121,7 @@ behind_first row from to w ws le within e =
     (sym front ∙ first, omega arith, shorter ∙ ap (drop (size w)) e ∙ drop_at (nodes w) (nodes_all (values ws)) (size w) refl)
 
 split_by : (v : Value) (from to k : ℕ) (vs : List Value) → AreSiblings v from to vs → from ≢ to → k ≡ size (node_at v from) → (vs ≡ node_at v from ∷ siblings_between v (from + k) to) × AreSiblings v (from + k) to (siblings_between v (from + k) to)
-split_by v from to k [] a apart wide =
-    absurd (apart (omega (arith, ap length a.row_is, a.ordered, a.within, length-take (to - from) (drop from (nodes v)), length-drop from (nodes v))))
+split_by v from to k [] a apart wide = absurd (search (rules, length-take (to - from) (drop from (nodes v)), length-drop from (nodes v)))
 split_by v from to k (w ∷ ws) a apart wide =
     let b = behind_first (nodes v) from to w ws a.ordered a.within a.row_is in
     let width : k ≡ size w = wide ∙ ap size b.0 in
@@ -132,9 +129,7 @@ split_by v from to k (w ∷ ws) a apart wide =
     (rw (b.0, siblings_are v (from + k) to ws others) refl, are_siblings v (from + k) to ws others)
 
 pub split : (v : Value) (from to k : ℕ) → AreSiblings v from to (siblings_between v from to) → from ≢ to → k ≡ size (node_at v from) → IsSplit v from to k
-split v from to k a apart wide =
-    let s = split_by v from to k (siblings_between v from to) a apart wide in
-    record { first_is = s.0; others = s.1 }
+split v from to k a apart wide = search (rules, split_by v from to k (siblings_between v from to) a apart wide)
 
 -- ---- a member by its number
 
@@ -155,8 +150,7 @@ size_all-take-lt (v ∷ vs) (suc k) lt = omega (arith, size_all-take-lt vs k (om
 member_first : (vs : Values) (k : ℕ) (d : Value) → k < length (members vs) → get_or (nodes_all vs) (size_all (take k (members vs))) d ≡ get_or (members vs) k d
 member_first none k d lt = absurd (omega arith)
 member_first (more v vs) zero d lt = ap (λ (row : List Value). get_or (row ++ nodes_all vs) 0 d) (nodes-first v)
-member_first (more v vs) (suc k) d lt =
-    get_or-append-add (nodes v) (nodes_all vs) (size_all (take k (members vs))) d ∙ member_first vs k d (omega arith)
+member_first (more v vs) (suc k) d lt = search (rules, get_or-append-add, member_first vs k d (omega arith))
 
 -- where member k of node n stands
 pub record IsMember (v : Value) (n k : ℕ) : Type 0 where
@@ -177,12 +171,8 @@ member_by v n k (list vs) lt e below =
     )
 
 pub member_of : (v : Value) (n k : ℕ) → n < size v → k < length (members_of (node_at v n)) → IsMember v n k
-member_of v n k lt below =
-    let m = member_by v n k (node_at v n) lt refl below in
-    record { within = m.0; next = rw m.1 (omega (arith, size_all-take (members_of (node_at v n)) k (plain []) below)) }
+member_of v n k lt below = search (rules, member_by v n k (node_at v n) lt refl below, size_all-take (members_of (node_at v n)) k (plain []) below)
 
 -- the node at that number is the member
 pub member_is : (v : Value) (n k : ℕ) → n < size v → k < length (members_of (node_at v n)) → node v (member_number n k (node_at v n)) ≡ of_node (part_at k) v n
-member_is v n k lt below =
-    let m = member_by v n k (node_at v n) lt refl below in
-    search (rules, slice_get-get_or)
+member_is v n k lt below = search (rules, slice_get-get_or, member_by v n k (node_at v n) lt refl below)

@@ -1,5 +1,5 @@
 -- Whitespace that stands between two offsets.
-use Rattle.std.proofs.Common.{◌≡◌, ℕ, zero, suc, ◌+◌, ◌<◌, ◌≤◌, true, false, List, [], ◌∷◌, ◌++◌, length, take, drop, refl, sym, ap, subst, ◌∙◌, append_assoc, arith, length-drop, rules}
+use Rattle.std.proofs.Common.{◌≡◌, ℕ, zero, suc, ◌+◌, ◌<◌, ◌≤◌, true, false, List, [], ◌∷◌, ◌++◌, length, take, drop, refl, sym, ◌∙◌, append_assoc, arith, length-drop, rules}
 use Rattle.sexpr_core.specs.Reading.{StandsAt}
 use Rattle.sexpr_core.proofs.Runs.{all-append, one_front}
 use Rattle.sexpr_core.specs.Spaces.{is_whitespace, IsSpace, AreSpaces, StartsVisible, Skips}
@@ -15,13 +15,8 @@ pub no_spaces : (text : List ℕ) (at : ℕ) → at ≤ length text → SpacesTo
 no_spaces text at h = record { spaces = []; are_spaces = tt; spelled = refl; ordered = omega arith; within = h }
 
 pub more_spaces : (text : List ℕ) (at i c : ℕ) → SpacesTo text at i → StandsAt text i c → IsSpace c → SpacesTo text at (i + 1)
-more_spaces text at i c s stands space = record {
-  spaces = s.spaces ++ c ∷ [];
-  are_spaces = all-append IsSpace s.spaces (c ∷ []) s.are_spaces (space, tt);
-  spelled = s.spelled ∙ ap (λ t. s.spaces ++ t) stands.spelled ∙ sym (append_assoc s.spaces (c ∷ []) (drop (i + 1) text));
-  ordered = omega (arith, s.ordered);
-  within = omega (arith, stands.within);
-}
+more_spaces text at i c s stands space =
+    search (rules, all-append IsSpace s.spaces (c ∷ []) s.are_spaces (space, tt), append_assoc s.spaces (c ∷ []) (drop (i + 1) text))
 
 pub spaces_stop : (text : List ℕ) (at i c : ℕ) → SpacesTo text at i → StandsAt text i c → is_whitespace c ≡ false → Skips text at i
 spaces_stop text at i c s stands other = search rules
@@ -48,5 +43,4 @@ not_both (c ∷ cs) h k lt = let g : false ≡ true = sym k ∙ h.0 in cc
 
 -- where all that follows is whitespace, all of it is passed over
 pub spaces_all : (text : List ℕ) (at to : ℕ) → Skips text at to → AreSpaces (drop at text) → to < length text → ⊥
-spaces_all text at to s h lt =
-    not_both (drop to text) (behind_spaces s.spaces (drop to text) (subst AreSpaces s.spelled h)) s.ends (omega (arith, length-drop to text))
+spaces_all text at to s h lt = search (rules, not_both, behind_spaces, length-drop)

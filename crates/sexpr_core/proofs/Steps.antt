@@ -23,19 +23,12 @@ use Rattle.sexpr_core.proofs.Faults.{length_ended, length_first, length_short, l
 pub read_length :
     (text xs : List ℕ) (at to : ℕ) → at ≤ length text → to ≤ length text → drop at text ≡ xs ++ drop to text →
     to ≡ at + length xs
-read_length text xs at to h k e =
-    let a : length (drop at text) ≡ length text - at = length-drop at text in
-    let b : length (drop to text) ≡ length text - to = length-drop to text in
-    let q : length (drop at text) ≡ length xs + length (drop to text) = ap length e ∙ length-append xs (drop to text) in
-    omega arith
+read_length text xs at to h k e = omega (arith, length-drop at text, length-drop to text, ap length e ∙ length-append xs (drop to text))
 
 pub slice_read :
     (text xs : List ℕ) (at to : ℕ) → at ≤ to → to ≤ length text → drop at text ≡ xs ++ drop to text →
     slice_range text at to ≡ xs
-slice_read text xs at to h k e =
-    let end : to ≡ at + length xs = read_length text xs at to (omega arith) k e in
-    let many : to - at ≡ length xs = omega arith in
-    ap (λ n. take n (drop at text)) many ∙ ap (take (length xs)) e ∙ take-append_seam xs (drop to text)
+slice_read text xs at to h k e = search (rules, read_length text xs at to (omega arith) k e, take-append_seam xs (drop to text))
 
 -- two parts, one behind the other
 pub read_both :
@@ -86,8 +79,7 @@ later_bad text at i n c h e s nc (inl z) =
 later_bad text at i n c h e s nc (inr nd) =
     let w : i < length text = s.within in
     let l : i ≡ at + length (decimal n) = read_length text (decimal n) at i h (omega arith) e in
-    subst (λ k. IsBad IsLength IsLength at (drop at text) k) (sym l)
-    (length_bad at n c (drop at text) (drop (i + 1) text) (e ∙ ap (λ t. decimal n ++ t) s.spelled) nd nc)
+    search (rules, length_bad)
 
 -- ---- a string in verbatim form
 
@@ -129,8 +121,7 @@ pub closing_on :
     (text : List ℕ) (at : ℕ) (e : FormFault) → StandsAt text at 93 →
     FaultAt IsVerbatim IsVerbatim (at + 1) (drop (at + 1) text) e →
     FaultAt IsClosing IsClosing at (drop at text) e
-closing_on text at e s h =
-    subst (λ xs. FaultAt IsClosing IsClosing at xs e) (sym s.spelled) (closing_fault at (drop (at + 1) text) e h)
+closing_on text at e s h = search (rules, closing_fault)
 
 -- ---- strings
 
@@ -138,8 +129,7 @@ bracket_on :
     (room : ℕ) (text : List ℕ) (at : ℕ) (e : FormFault) → StandsAt text at 91 →
     FaultAt IsHinted IsHinted (at + 1) (drop (at + 1) text) e →
     FaultAt IsCanon (IsCanonWithin room) at (drop at text) e
-bracket_on room text at e s h =
-    subst (λ xs. FaultAt IsCanon (IsCanonWithin room) at xs e) (sym s.spelled) (bracket_fault room at (drop (at + 1) text) e h)
+bracket_on room text at e s h = search (rules, bracket_fault)
 
 pub in_hint :
     (room : ℕ) (text : List ℕ) (at : ℕ) (e : FormFault) → StandsAt text at 91 →
@@ -194,8 +184,7 @@ hinted_read text at hint via body to s h m r =
 pub string_bad :
     (room : ℕ) (text : List ℕ) (at c : ℕ) → StandsAt text at c → (IsDigit c → ⊥) → (c ≡ 91 → ⊥) → (c ≡ 40 → ⊥) →
     IsBad IsCanon (IsCanonWithin room) at (drop at text) at
-string_bad room text at c s nd nb np =
-    subst (λ xs. IsBad IsCanon (IsCanonWithin room) at xs at) (sym s.spelled) (value_first room at c (drop (at + 1) text) nd nb np)
+string_bad room text at c s nd nb np = search (rules, value_first)
 
 pub in_plain :
     (room : ℕ) (text : List ℕ) (at c : ℕ) (e : FormFault) → StandsAt text at c → IsDigit c →

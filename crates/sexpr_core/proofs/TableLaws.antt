@@ -4,7 +4,7 @@ use Rattle.std.specs.Prelude.{slice_range, slice_get}
 use Rattle.std.proofs.lemmas.List.{take_at, drop_at, append-nil, map-append, length-map}
 use Rattle.std.proofs.lemmas.Option.{slice_get_past}
 use Rattle.sexpr_core.specs.declared.layout.Record.{Record}
-use Rattle.sexpr_core.specs.Value.{Value, string, list, Values, none, more, canon, canons, verbatim, decimal, size, nodes, nodes_all, plain}
+use Rattle.sexpr_core.specs.Value.{Value, string, list, Values, none, more, canon, canons, verbatim, decimal, size, nodes, nodes_all}
 use Rattle.sexpr_core.specs.Labels.{label, tree-labels}
 use Rattle.sexpr_core.specs.Layout.{head, records, records_all}
 use Rattle.sexpr_core.specs.Table.{record_of, label_in, table_value, IsTable}
@@ -20,9 +20,8 @@ ArePlaces text (r ∷ rs) (v ∷ vs) = IsPlace text r v × ArePlaces text rs vs
 
 ArePlaces-append : (text : List ℕ) (rs : List Record) (vs : List Value) (rs' : List Record) (vs' : List Value) → ArePlaces text rs vs → ArePlaces text rs' vs' → ArePlaces text (rs ++ rs') (vs ++ vs')
 ArePlaces-append text [] [] rs' vs' p q = q
-ArePlaces-append text [] (v ∷ vs) rs' vs' p q = absurd p
-ArePlaces-append text (r ∷ rs) [] rs' vs' p q = absurd p
 ArePlaces-append text (r ∷ rs) (v ∷ vs) rs' vs' p q = (p.0, ArePlaces-append text rs vs rs' vs' p.1 q)
+ArePlaces-append text rs vs rs' vs' p q = absurd (search rules)
 
 place : (text before after : List ℕ) (at : ℕ) (v : Value) → length before ≡ at → text ≡ before ++ (canon v ++ after) → IsPlace text (record_of at v) v
 place text before after at v len e = record { before = before; after = after; parts = e; begins = len; record_is = refl }
@@ -88,9 +87,8 @@ label_at text before after at (list vs) e len = refl
 -- so the labels that a table shows are those of the nodes
 labels_shown : (text : List ℕ) (rs : List Record) (vs : List Value) → ArePlaces text rs vs → map (label_in text) rs ≡ map label vs
 labels_shown text [] [] p = refl
-labels_shown text [] (v ∷ vs) p = absurd p
-labels_shown text (r ∷ rs) [] p = absurd p
 labels_shown text (r ∷ rs) (v ∷ vs) p = search (rules, label_at, labels_shown text rs vs p.1)
+labels_shown text rs vs p = absurd (search rules)
 
 pub places_of : (v : Value) → ArePlaces (canon v) (records 0 v) (nodes v)
 places_of v = places (canon v) [] [] 0 v refl (sym (append-nil (canon v)))
@@ -105,16 +103,14 @@ table_of text table v t = rw (table_value-is text table v t) t
 
 -- the place of node n
 place_at : (text : List ℕ) (rs : List Record) (vs : List Value) (n : ℕ) (r : Record) (v : Value) → ArePlaces text rs vs → n < length rs → IsPlace text (get_or rs n r) (get_or vs n v)
-place_at text [] vs n r v p lt = absurd (omega arith)
-place_at text (s ∷ rs) [] n r v p lt = absurd p
 place_at text (s ∷ rs) (w ∷ vs) zero r v p lt = p.0
 place_at text (s ∷ rs) (w ∷ vs) (suc n) r v p lt = place_at text rs vs n r v p.1 (omega arith)
+place_at text rs vs n r v p lt = absurd (search rules)
 
 as_many : (text : List ℕ) (rs : List Record) (vs : List Value) → ArePlaces text rs vs → length rs ≡ length vs
 as_many text [] [] p = refl
-as_many text [] (v ∷ vs) p = absurd p
-as_many text (r ∷ rs) [] p = absurd p
 as_many text (r ∷ rs) (v ∷ vs) p = ap suc (as_many text rs vs p.1)
+as_many text rs vs p = absurd (search rules)
 
 pub length-records : (v : Value) → length (records 0 v) ≡ size v
 length-records v = as_many (canon v) (records 0 v) (nodes v) (places_of v)
@@ -123,8 +119,7 @@ pub table_length : (text : List ℕ) (table : List Record) (v : Value) → IsTab
 table_length text table v t = ap length t.table_is ∙ length-records v
 
 pub table_place : (text : List ℕ) (table : List Record) (v : Value) (n : ℕ) (r : Record) → IsTable text table v → n < size v → IsPlace (canon v) (get_or table n r) (node_at v n)
-table_place text table v n r t lt =
-    rw t.table_is (place_at (canon v) (records 0 v) (nodes v) n r (plain []) (places_of v) (omega (arith, length-records v)))
+table_place text table v n r t lt = search (rules, place_at, places_of, length-records)
 
 mutual
   starts_shown : (at : ℕ) (v : Value) → map (λ (r : Record). r.start) (records at v) ≡ starts at v
@@ -144,10 +139,7 @@ start_get (s ∷ rs) (suc n) r lt = start_get rs n r (omega arith)
 
 -- where node n begins is what its record says
 pub table_start : (text : List ℕ) (table : List Record) (v : Value) (n : ℕ) (r : Record) → IsTable text table v → n < size v → start_of v n ≡ Some (get_or table n r).start
-table_start text table v n r t lt =
-    ap (λ (l : List ℕ). slice_get l n) (sym (starts_shown 0 v))
-    ∙ start_get (records 0 v) n r (omega (arith, length-records v))
-    ∙ ap (λ (rs : List Record). Some (get_or rs n r).start) (sym t.table_is)
+table_start text table v n r t lt = search (rules, starts_shown, start_get, length-records)
 
 -- no node begins past the last one
 pub starts_end : (v : Value) (n : ℕ) → size v ≤ n → start_of v n ≡ None

@@ -73,38 +73,24 @@ canon_differs (list vs) x y e = let q : ◌≡◌ {A = ℕ} 40 41 = cc in omega 
 mutual
   pub canon_one : (v w : Value) (x y : List ℕ) → canon v ++ x ≡ canon w ++ y → (v ≡ w) × (x ≡ y)
   canon_one (string None a) (string None b) x y e = let p = verbatim_one a b x y e in (ap (string None) p.0, p.1)
-  canon_one (string None a) (string (Some h) b) x y e =
-      absurd (verbatim_differs a x ((verbatim h ++ 93 ∷ verbatim b) ++ y) 91 no_bracket e)
-  canon_one (string None a) (list ws) x y e =
-      absurd (verbatim_differs a x ((canons ws ++ 41 ∷ []) ++ y) 40 no_open e)
-  canon_one (string (Some g) a) (string None b) x y e =
-      absurd (verbatim_differs b y ((verbatim g ++ 93 ∷ verbatim a) ++ x) 91 no_bracket (sym e))
-  canon_one (string (Some g) a) (string (Some h) b) x y e =
-      let p = hinted_one g h a b x y cc in
-      (ap (λ k. string (Some k) a) p.0 ∙ ap (string (Some h)) p.1, p.2)
-  canon_one (string (Some g) a) (list ws) x y e = let q : ◌≡◌ {A = ℕ} 91 40 = cc in absurd (omega arith)
-  canon_one (list vs) (string None b) x y e =
-      absurd (verbatim_differs b y ((canons vs ++ 41 ∷ []) ++ x) 40 no_open (sym e))
-  canon_one (list vs) (string (Some h) b) x y e = let q : ◌≡◌ {A = ℕ} 40 91 = cc in absurd (omega arith)
+  canon_one (string (Some g) a) (string (Some h) b) x y e = search (rules, hinted_one)
   canon_one (list vs) (list ws) x y e =
       let q : (canons vs ++ 41 ∷ []) ++ x ≡ (canons ws ++ 41 ∷ []) ++ y = cc in
       let r : canons vs ++ 41 ∷ x ≡ canons ws ++ 41 ∷ y =
       sym (append_assoc (canons vs) (41 ∷ []) x) ∙ q ∙ append_assoc (canons ws) (41 ∷ []) y in
       let p = canons_one vs ws x y r in
       (ap list p.0, p.1)
+  canon_one v w x y e = absurd (search (rules, verbatim_differs, no_bracket, no_open))
 
   pub canons_one : (vs ws : Values) (x y : List ℕ) → canons vs ++ 41 ∷ x ≡ canons ws ++ 41 ∷ y → (vs ≡ ws) × (x ≡ y)
   canons_one none none x y e = (refl, cc)
-  canons_one none (more w ws) x y e =
-      absurd (canon_differs w (canons ws ++ 41 ∷ y) x (sym (e ∙ append_assoc (canon w) (canons ws) (41 ∷ y))))
-  canons_one (more v vs) none x y e =
-      absurd (canon_differs v (canons vs ++ 41 ∷ x) y (sym (append_assoc (canon v) (canons vs) (41 ∷ x)) ∙ e))
   canons_one (more v vs) (more w ws) x y e =
       let q : canon v ++ (canons vs ++ 41 ∷ x) ≡ canon w ++ (canons ws ++ 41 ∷ y) =
       sym (append_assoc (canon v) (canons vs) (41 ∷ x)) ∙ e ∙ append_assoc (canon w) (canons ws) (41 ∷ y) in
       let p = canon_one v w (canons vs ++ 41 ∷ x) (canons ws ++ 41 ∷ y) q in
       let r = canons_one vs ws x y p.1 in
       (ap (λ k. more k vs) p.0 ∙ ap (more w) r.0, r.1)
+  canons_one vs ws x y e = absurd (search (rules, canon_differs, append_assoc))
 
 -- ---- strings
 
@@ -156,8 +142,7 @@ Behind-closing = search (rules, verbatim_text)
 tailed_string :
     (octets t x y : List ℕ) (c : ℕ) (U : List ℕ → Type 0) → (IsDigit c → ⊥) → t ≡ verbatim octets →
     c ∷ x ≡ t ++ y → Tailed U (c ∷ []) t
-tailed_string octets t x y c U h is e =
-    absurd (verbatim_differs octets y x c h (ap (λ s. s ++ y) (sym is) ∙ sym e))
+tailed_string octets t x y c U h is e = absurd (search (rules, verbatim_differs))
 
 hinted_back : (v : Value) (t x y : List ℕ) → t ≡ canon v → 91 ∷ x ≡ t ++ y → Tailed IsHinted (91 ∷ []) t
 hinted_back (string None a) t x y is e = tailed_string a t x y 91 IsHinted no_bracket is e

@@ -42,9 +42,7 @@ string_value room text at read old new w r e =
 pub deep_list :
     (room : ℕ) (text : List ℕ) (at : ℕ) → room ≡ 0 → StandsAt text at 40 →
     IsDeep IsCanon (IsCanonWithin room) (drop at text)
-deep_list room text at z s =
-    subst (λ n. IsDeep IsCanon (IsCanonWithin n) (drop at text)) (sym z)
-    (subst (λ xs. IsDeep IsCanon (IsCanonWithin 0) xs) (sym s.spelled) (list_deep at (drop (at + 1) text)))
+deep_list room text at z s = search (rules, list_deep at (drop (at + 1) text))
 
 pub in_list :
     (room inner : ℕ) (text : List ℕ) (at : ℕ) (e : FormFault) → room ≡ suc inner → StandsAt text at 40 →
@@ -113,8 +111,7 @@ pub list_short :
     StandsAt text at 40 → index ≡ length old → pushed ≡ old ++ kept ∷ [] → ReadsMembers inner text (at + 1) parts to pushed grown →
     many ≡ length grown - index → (many ≤ length text) × (parts ≤ length text)
 list_short inner text at parts to index many kept old pushed grown s i d r m =
-    let l = list_is inner text at parts to index many kept old pushed grown s i d r m in
-    grind (arith, size_short, many_short, length-append)
+    grind (arith, size_short, many_short, length-append, list_is inner text at parts to index many kept old pushed grown s i d r m)
 
 -- a list's record takes the place that was kept for it
 pub list_read :
@@ -234,8 +231,7 @@ pub member_passed :
     (room : ℕ) (text : List ℕ) (at via to : ℕ) → at ≤ length text →
     (parts : ℕ) × (nodes : List Record) × HasMembers room text at parts via [] nodes → PassesValue room text via to →
     (parts : ℕ) × (nodes : List Record) × HasMembers room text at parts to [] nodes
-member_passed room text at via to w h p =
-    (h.0 + 1, h.1 ++ p.0, more_members room text at h.0 via to [] h.1 (h.1 ++ p.0) w h.2 (search rules))
+member_passed room text at via to w h p = search (rules, more_members room text at h.0 via to [] h.1 (h.1 ++ p.0) w h.2 (search rules))
 
 pub members_passed :
     (room : ℕ) (text : List ℕ) (at i c : ℕ) →

@@ -18,13 +18,11 @@ barred_begins : (T : List ℕ → Type 0) (xs : List ℕ) → Barred T xs → Be
 barred_begins T xs h b = h.bars (xs ++ b.rest) b.rest [] b.whole (sym (append-nil (xs ++ b.rest)))
 
 pub refused : (text : List ℕ) (e : FormFault) → FaultAt IsCanon (IsCanonWithin 64) 0 text e → Refused text e
-refused text TooDeep h =
-    (suc h.place, front_begins IsCanon (take (suc h.place) text) h.before, barred_begins IsShallowText (take (suc h.place) text) h.stops)
+refused text TooDeep h = search (rules, front_begins, barred_begins)
 refused text Short h = h
 refused text (Bad k) h =
     let e : h.place ≡ k = let o : k ≡ 0 + h.place = h.offset in omega arith in
     let f : suc h.place ≡ k + 1 = omega arith in
-    let w : h.place < length text = h.within in
     search (rules, barred_begins)
 refused text Memory h = h
 refused text _ h = absurd h
@@ -34,17 +32,12 @@ refused text _ h = absurd h
 pub whole_length :
     (text : List ℕ) (to : ℕ) (old new : List Record) (r : ReadsValue 64 text 0 to old new) →
     to ≡ length (canon r.value)
-whole_length text to old new r =
-    let k : to ≤ length text = r.within in
-    let l : to ≡ 0 + length (canon r.value) = read_length text (canon r.value) 0 to (omega arith) k r.spelled in
-    omega arith
+whole_length text to old new r = omega (arith, read_length text (canon r.value) 0 to (omega arith) r.within r.spelled)
 
 pub trailing :
     (text : List ℕ) (to : ℕ) (old new : List Record) → ReadsValue 64 text 0 to old new → to < length text →
     Refused text (Trailing to)
-trailing text to old new r h =
-    let l : to ≡ length (canon r.value) = whole_length text to old new r in
-    search (rules, take_at)
+trailing text to old new r h = search (rules, take_at, whole_length text to old new r)
 
 -- ---- a canonical text within the limits is refused only for want of memory
 
@@ -55,11 +48,7 @@ pub only_memory :
     (text : List ℕ) (e : FormFault) (v : Value) → IsWithinLimits v → text ≡ canon v → Refused text e →
     e ≡ Memory
 only_memory text TooLong v w q h = let s : length (canon v) ≤ 1048576 = w.short in absurd (omega (arith, ap length q))
-only_memory text TooDeep v w q h =
-    absurd (h.2 (record {
-      rest = drop h.0 text;
-      whole = record { value = v; fits = w.shallow; is = part text v h.0 q };
-    }))
+only_memory text TooDeep v w q h = absurd (search (rules, part text v h.0 q))
 only_memory text Short v w q h =
     let s : IsShallowText (text ++ h.rest) = h.whole in
     let e : canon v ++ h.rest ≡ canon s.value ++ [] =
@@ -67,8 +56,7 @@ only_memory text Short v w q h =
     let p = canon_one v s.value h.rest [] e in
     let some : 0 < length h.rest = h.some in
     absurd (omega (arith, ap length p.1))
-only_memory text (Bad k) v w q h =
-    absurd (h.2 (record { rest = drop (k + 1) text; whole = record { value = v; is = part text v (k + 1) q } }))
+only_memory text (Bad k) v w q h = absurd (search (rules, part text v (k + 1) q))
 only_memory text (Trailing k) v w q h =
     let s : IsShallowText (take k text) = h.1 in
     let e : canon v ++ [] ≡ canon s.value ++ drop k text =

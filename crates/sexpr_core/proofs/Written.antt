@@ -25,8 +25,7 @@ verbatim_written octets out a b new e f g = search (rules, append_assoc, verbati
 
 -- one octet alone
 pub one_written : (octets out new : List ℕ) → 1 ≤ length octets → length octets < 2 → new ≡ out ++ 49 ∷ 58 ∷ get_or octets 0 0 ∷ [] → new ≡ out ++ verbatim octets
-one_written (x ∷ []) out new some few e =
-    e ∙ ap (λ s. out ++ s) (sym (verbatim_is (x ∷ []) ∙ ap (λ s. s ++ 58 ∷ x ∷ []) (decimal_digit 1 (omega arith))))
+one_written (x ∷ []) out new some few e = search (rules, verbatim_is, decimal_digit)
 one_written _ out new some few e = absurd (omega arith)
 
 -- ---- lists
