@@ -1,5 +1,5 @@
 -- The fault that is named of an entry or of an access list, along the way of its reading.
-use Rattle.std.proofs.Common.{◌≡◌, ℕ, ◌+◌, List, [], ◌∷◌, ◌++◌, drop, length, Bool, true, false, Option, Some, None, refl, sym, ap, ◌∙◌, inl, inr, length-append, rules}
+use Rattle.std.proofs.Common.{◌≡◌, ℕ, ◌+◌, List, [], ◌∷◌, ◌++◌, drop, length, Bool, true, false, Option, Some, None, refl, ap, ◌∙◌, inl, inr, length-append, rules}
 use Rattle.std.specs.Prelude.{codes, not, ◌&&◌}
 use Rattle.sexpr_core.specs.Value.{Value, plain, group}
 use Rattle.sexpr_core.specs.Shapes.{IsNotHeaded}
@@ -36,8 +36,7 @@ relative-form : (v : Value) (rest : List Value) → v ≡ group (plain (codes "n
 relative-form v rest e = of-form (λ b vs. b && begins_named vs) (codes "name") v rest e
 
 pub subject-relative : (v : Value) (names : List (List ℕ)) → subject_fault v ≡ None → WhoOf v None names → entry_subject_fault v ≡ Some RelativeInEntry
-subject-relative v names e read =
-    subject-tested v true e (relative-form v (plains names) read.written ∙ ap (λ (ns : List (List ℕ)). begins_named (plains ns)) read.names_are)
+subject-relative v names e read = search (rules, subject-tested, relative-form)
 
 -- a principal is no name
 no-name : (v : Value) (p : Principal) → PrincipalOf v p → is_name v ≡ false
@@ -80,8 +79,7 @@ pub entry-looked : (v subject : Value) (rest fields : List Value) (found others 
     → rest ≡ subject ∷ fields → entry_subject_fault subject ≡ found → fields_fault entry_field_fault fields ≡ others
     → is_both_ways fields ≡ both → has (codes "tag") fields ≡ tag
     → entry_fault v ≡ parts_looked found others both tag
-entry-looked v subject rest fields found others both tag e f g h i j =
-    entry-parts v subject rest fields e f ∙ (λ k. parts_looked (g k) (h k) (i k) (j k))
+entry-looked v subject rest fields found others both tag e f g h i j = search (rules, entry-parts v subject rest fields e f)
 
 -- ---- the outer list
 
@@ -120,8 +118,7 @@ fault-parts fault item kind e f = λ i. Some (record { item = e i; kind = f i })
 pub items-fault : (fault_of : Value → Option CertFaultKind) (all before rest others : List Value) (v : Value) (fault : CertFault)
     → LeftItems fault_of all before rest → rest ≡ v ∷ others → fault_of v ≡ Some fault.kind → length before + 1 ≡ fault.item
     → first_fault (each_looked fault_of 1 all) ≡ Some fault
-items-fault fault_of all before rest others v fault left e f g =
-    items-found fault_of all before rest others v (Some fault.kind) left e f ∙ fault-parts fault (length before + 1) fault.kind g refl
+items-fault fault_of all before rest others v fault left e f g = search (rules, items-found, fault-parts)
 
 pub items-next : (fault_of : Value → Option CertFaultKind) (all before rest others : List Value) (v : Value)
     → LeftItems fault_of all before rest → rest ≡ v ∷ others → fault_of v ≡ None → LeftItems fault_of all (before ++ v ∷ []) others
@@ -142,7 +139,4 @@ acl-outer v kind e = ap (λ (x : Option CertFaultKind). first_fault (at_item 0 x
 
 pub acl-entries : (v : Value) (rest entries : List Value) (found : Option CertFault) → IsListed v rest → outer_fault v ≡ None → entries ≡ behind_version rest → entries_fault entries ≡ found
     → acl_fault v ≡ found
-acl-entries v rest entries found e f g h =
-    acl-parts v rest e
-    ∙ (λ i. first_fault (at_item 0 (f i) ∷ entries_fault (sym g i) ∷ []))
-    ∙ one-look (entries_fault entries) ∙ h
+acl-entries v rest entries found e f g h = search (rules, acl-parts v rest e, one-look (entries_fault entries))

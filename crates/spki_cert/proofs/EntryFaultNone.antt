@@ -148,8 +148,7 @@ module _ {A : Type 0} (fault_of : Value → Option CertFaultKind) (R : Value →
   each-faultless : (n : ℕ) (vs : List Value) (xs : List A) → AllZip R vs xs → first_fault (each_looked fault_of n vs) ≡ None
   each-faultless n [] xs zip = refl
   each-faultless n (v ∷ vs) [] zip = absurd zip
-  each-faultless n (v ∷ vs) (a ∷ xs) zip =
-      ap (λ (x : Option CertFaultKind). first_fault (at_item n x ∷ each_looked fault_of (n + 1) vs)) ((none v).1 (a, zip.0)) ∙ each-faultless (n + 1) vs xs zip.1
+  each-faultless n (v ∷ vs) (a ∷ xs) zip = search (rules, each-faultless (n + 1) vs xs zip.1)
 
   pub each-none : (n : ℕ) (vs : List Value) → (first_fault (each_looked fault_of n vs) ≡ None) ↔ ((xs : List A) × AllZip R vs xs)
   each-none n vs = (each-read n vs, λ some. each-faultless n vs some.0 some.1)
@@ -186,19 +185,8 @@ pub entries-refused : (vs : List Value) (fault : CertFault) → entries_fault vs
     → (v : Value) × IsRefusedAt EntryOf vs fault.item v × (entry_fault v ≡ Some fault.kind)
 unfolding entries_fault
 entries-refused vs fault e =
-    let first = each-first entry_fault EntryOf entry-none fault 1 vs e in (
-      first.1,
-      record {
-        front = first.0;
-        behind = first.2;
-        parts = first.3;
-        place = first.4;
-        before = first.5.0;
-        readings = first.5.1;
-        none = entry-refused first.1 fault.kind first.6;
-      },
-      first.6,
-    )
+    let first = each-first entry_fault EntryOf entry-none fault 1 vs e in
+    search (rules, entry-refused)
 
 -- ---- access lists
 
@@ -238,10 +226,9 @@ outer-faultless : (v : Value) (version entries : List Value) (es : List Entry) �
     → outer_fault v ≡ None
 unfolding outer_fault
 outer-faultless v [] [] es e is zip = search (rules, outer-form)
-outer-faultless v [] (x ∷ xs) [] e is zip = absurd zip
 outer-faultless v [] (x ∷ xs) (a ∷ es) e is zip = let other = entry-unversioned x a zip.0 in search (rules, outer-form)
 outer-faultless v (w ∷ []) entries es e is zip = let fine = version-faultless (plain (codes "0") ∷ []) refl in search (rules, outer-form)
-outer-faultless v (w ∷ x ∷ xs) entries es e is zip = absurd is
+outer-faultless v version entries es e is zip = absurd (search rules)
 
 acl-faultless : (v : Value) (es : List Entry) → AclOf v es → acl_fault v ≡ None
 unfolding entries_fault

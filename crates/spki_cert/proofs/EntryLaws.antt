@@ -37,10 +37,9 @@ entry-unversioned v e read = ap (is_headed (codes "version")) read.written
 
 pub entries-behind : (version entries : List Value) (es : List Entry) → IsVersion version → AllZip EntryOf entries es → behind_version (version ++ entries) ≡ entries
 entries-behind [] [] es is zip = refl
-entries-behind [] (x ∷ xs) [] is zip = absurd zip
 entries-behind [] (x ∷ xs) (e ∷ es) is zip = ap (λ (b : Bool). cond b xs (x ∷ xs)) (entry-unversioned x e zip.0)
 entries-behind (w ∷ []) entries es is zip = ap (λ (b : Bool). cond b entries (w ∷ entries)) (ap (is_headed (codes "version")) is)
-entries-behind (w ∷ x ∷ xs) entries es is zip = absurd is
+entries-behind version entries es is zip = absurd (search rules)
 
 -- ---- the outer list
 

@@ -1,7 +1,6 @@
 -- A value has no fault as a key, a hash or a date exactly where it is one.
-use Rattle.std.proofs.Common.{◌≡◌, ℕ, List, [], ◌∷◌, arith, Bool, true, false, Some, None, refl, sym, ◌∙◌, rules}
-use Rattle.std.specs.Prelude.{codes, ◌↔◌, ◌==◌, is_some, if◌then◌else◌}
-use Rattle.std.specs.Str.{bytes_eq}
+use Rattle.std.proofs.Common.{◌≡◌, ℕ, List, [], ◌∷◌, arith, true, None, refl, sym, ◌∙◌, rules}
+use Rattle.std.specs.Prelude.{codes, ◌↔◌, ◌==◌}
 use Rattle.std.proofs.lemmas.Slice.Eq.{bytes_eq-Decides}
 use Rattle.sexpr_core.specs.Value.{Value, plain, group, members}
 use Rattle.sexpr_core.specs.Value as sexpr
@@ -10,7 +9,6 @@ use Rattle.spki_tag.specs.Time.{is_date}
 use Rattle.spki_tag.specs.FirstFault.{unless}
 use Rattle.spki_cert.specs.declared.fault.CertFaultKind.TheVariants.{Shape, BadDate}
 use Rattle.spki_cert.specs.declared.hash.HashAlg.{HashAlg}
-use Rattle.spki_cert.specs.declared.hash.HashAlg.TheVariants.{Sha1, Sha256, Sha512}
 use Rattle.spki_cert.specs.Readings.{KeyOf, HashOf, DateOf, IsAlgorithm, AreUris, alg_name}
 use Rattle.spki_cert.specs.Fields.{is_headed}
 use Rattle.spki_cert.specs.FixedFaults.{is_plain, any_octets, begins_plain, key_fault, is_alg, alg_fault, are_uris, hash_fault, date_fault}
@@ -50,14 +48,7 @@ key-none v = (key-read v, λ key. key-faultless v key.0 key.1)
 -- ---- hashes
 
 named-read : (word : List ℕ) → is_alg word ≡ true → (alg : HashAlg) × (word ≡ alg_name alg)
-named-read word e = by (bytes_eq word (codes "sha1")) (bytes_eq word (codes "sha256")) (bytes_eq word (codes "sha512")) refl refl refl e
-  where
-    by : (a b d : Bool) → bytes_eq word (codes "sha1") ≡ a → bytes_eq word (codes "sha256") ≡ b → bytes_eq word (codes "sha512") ≡ d
-        → is_some (if a then Some Sha1 else (if b then Some Sha256 else (if d then Some Sha512 else None))) ≡ true → (alg : HashAlg) × (word ≡ alg_name alg)
-    by true b d f g h k = (Sha1, (bytes_eq-Decides word (codes "sha1")).0 f)
-    by false true d f g h k = (Sha256, (bytes_eq-Decides word (codes "sha256")).0 g)
-    by false false true f g h k = (Sha512, (bytes_eq-Decides word (codes "sha512")).0 h)
-    by false false false f g h k = absurd (cc)
+named-read word e = search (rules, bytes_eq-Decides)
 
 alg-read : (v : Value) → alg_fault v ≡ None → (alg : HashAlg) × (v ≡ plain (alg_name alg))
 unfolding alg_fault

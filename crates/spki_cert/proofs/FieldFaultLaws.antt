@@ -1,7 +1,6 @@
 -- The fault that is named of a field, and of fields one after the other, along the way of their reading.
 use Rattle.std.proofs.Common.{◌≡◌, ◌≢◌, ℕ, List, [], ◌∷◌, ◌++◌, Bool, true, false, Option, Some, None, refl, sym, ap, ◌∙◌, inl, inr, rules}
 use Rattle.std.specs.Prelude.{codes, not, is_some, if◌then◌else◌, ◌||◌, ◌&&◌}
-use Rattle.std.specs.Str.{bytes_eq}
 use Rattle.std.specs.List.{AllByRecursion}
 use Rattle.std.proofs.lemmas.Slice.Eq.{bytes_eq-Decides}
 use Rattle.sexpr_core.specs.Value.{Value, plain, group, members}
@@ -45,12 +44,7 @@ some_are (vs ∷ more) = true
 
 pub has-contents : (word : List ℕ) (vs : List Value) → has word vs ≡ some_are (contents word vs)
 has-contents word [] = refl
-has-contents word (v ∷ vs) = by (is_headed word v) refl (has-contents word vs)
-  where
-    by : (b : Bool) → is_headed word v ≡ b → has word vs ≡ some_are (contents word vs) → has word (v ∷ vs) ≡ some_are (contents word (v ∷ vs))
-    by true e less = has-more word v vs true e ∙ ap some_are (sym (ap (λ (x : Bool). if x then behind_head v ∷ contents word vs else contents word vs) e))
-    by false e less =
-        has-more word v vs false e ∙ less ∙ ap some_are (sym (ap (λ (x : Bool). if x then behind_head v ∷ contents word vs else contents word vs) e))
+has-contents word (v ∷ vs) = search (rules, has-more, has-contents word vs)
 
 pub has-given : {A : Type 0} (word : List ℕ) (R : List Value → A → Type 0) (vs : List Value) (o : Option A) → Given word R vs o → has word vs ≡ is_some o
 has-given word R vs None given = has-contents word vs ∙ ap some_are given
@@ -62,11 +56,7 @@ again-headed word before v rest e = ap (λ (w : Value). has_head before (head_of
 -- a head that no limit has isn't among limits
 no-online : (vs : List Value) → AllByRecursion IsLimitField vs → has (codes "online") vs ≡ false
 no-online [] all = refl
-no-online (v ∷ vs) all = has-more (codes "online") v vs false (other all.0) ∙ no-online vs all.1
-  where
-    other : IsLimitField v → is_headed (codes "online") v ≡ false
-    other (word, rest, date, inl is, e, sole) = ap (is_headed (codes "online")) e ∙ ap (λ (w : List ℕ). bytes_eq w (codes "online")) is
-    other (word, rest, date, inr is, e, sole) = ap (is_headed (codes "online")) e ∙ ap (λ (w : List ℕ). bytes_eq w (codes "online")) is
+no-online (v ∷ vs) all = search (rules, has-more, no-online vs all.1)
 
 -- ---- limits
 
@@ -109,11 +99,7 @@ field-new fault_of before v found e f = ap (λ (b : Bool). first_fault (unless (
 
 -- a field that has no form is so, met again or not
 pub field-misfit : (fault_of : Value → Option CertFaultKind) (before : List Value) (v : Value) → fault_of v ≡ Some Shape → first_fault (field_looked fault_of before v) ≡ Some Shape
-field-misfit fault_of before v e = by (is_again before v)
-  where
-    by : (b : Bool) → first_fault (unless (not b) Shape ∷ fault_of v ∷ []) ≡ Some Shape
-    by true = refl
-    by false = one-look (fault_of v) ∙ e
+field-misfit fault_of before v e = search (rules, one-look)
 
 -- a limit that stands among these already, and one that doesn't
 pub again-limit : (word : List ℕ) (R : List Value → List ℕ → Type 0) (before : List Value) (v : Value) (rest : List Value) (o : Option (List ℕ)) (b : Bool)
@@ -136,9 +122,7 @@ left-all fault_of all = refl
 pub left-fault : (fault_of : Value → Option CertFaultKind) (all before rest others : List Value) (v : Value) (kind : CertFaultKind)
     → Left fault_of all before rest → rest ≡ v ∷ others → first_fault (field_looked fault_of before v) ≡ Some kind → fields_fault fault_of all ≡ Some kind
 left-fault fault_of all before rest others v kind left e f =
-    left ∙ ap (λ (vs : List Value). first_fault (fields_looked fault_of before vs)) e
-    ∙ first-of (field_looked fault_of before v) (fields_looked fault_of (before ++ v ∷ []) others)
-    ∙ ap (λ (x : Option CertFaultKind). first_fault (x ∷ fields_looked fault_of (before ++ v ∷ []) others)) f
+    search (rules, first-of (field_looked fault_of before v) (fields_looked fault_of (before ++ v ∷ []) others))
 
 pub left-next : (fault_of : Value → Option CertFaultKind) (all before rest others : List Value) (v : Value)
     → Left fault_of all before rest → rest ≡ v ∷ others → first_fault (field_looked fault_of before v) ≡ None → Left fault_of all (before ++ v ∷ []) others
@@ -151,9 +135,8 @@ left-none fault_of all before rest left e = left ∙ ap (λ (vs : List Value). f
 
 pub tag-named : (fault : TagFault) (kind : CertFaultKind) (v : Value) → IsTagKind fault kind → IsNamed fault (tag_fault v) → kind ≢ Memory → kind_of_tag v ≡ Some kind
 unfolding IsNamed
-tag-named fault kind v (inl is) named known = absurd (known is.1)
-tag-named fault kind v (inr is) (inl lack) known = absurd (is.0 lack)
 tag-named fault kind v (inr is) (inr found) known = ap as_tag found ∙ ap (λ (k : CertFaultKind). Some k) (sym is.1)
+tag-named fault kind v is named known = search rules
 
 pub tag-faultless : (v : Value) → tag_fault v ≡ None → kind_of_tag v ≡ None
 tag-faultless v e = ap as_tag e
@@ -204,8 +187,7 @@ cert_looked issuer subject version unread rest found =
 
 pub cert-issuer_field : (v : Value) (rest : List Value) → v ≡ group (plain (codes "issuer") ∷ rest) → cert_field_fault v ≡ sole_fault Shape issuer_fault rest
 unfolding cert_field_fault
-cert-issuer_field v rest e =
-    of-form (λ b vs. cert_looked b (is_headed (codes "subject") v) (is_headed (codes "version") v) (is_unread v) vs (entry_field_fault v)) (codes "issuer") v rest e
+cert-issuer_field v rest e = search (rules, of-form)
 
 pub cert-subject_field : (v : Value) (rest : List Value) → v ≡ group (plain (codes "subject") ∷ rest) → cert_field_fault v ≡ sole_fault Shape subject_fault rest
 unfolding cert_field_fault
@@ -224,8 +206,7 @@ unread-none : (word : List ℕ) (rest : List Value) → is_headed (codes "issuer
     → is_headed (codes "subject") (group (plain word ∷ rest)) ≡ false → is_headed (codes "version") (group (plain word ∷ rest)) ≡ false
     → is_unread (group (plain word ∷ rest)) ≡ true → cert_field_fault (group (plain word ∷ rest)) ≡ None
 unfolding cert_field_fault
-unread-none word rest p q r s =
-    let v : Value = group (plain word ∷ rest) in λ i. cert_looked (p i) (q i) (r i) (s i) (behind_head v) (entry_field_fault v)
+unread-none word rest p q r s = search rules
 
 pub cert-unread : (v : Value) → IsUnread v → cert_field_fault v ≡ None
 cert-unread v (display xs e) = unread-word (codes "display") v xs e (unread-none (codes "display") xs refl refl refl refl)
@@ -254,8 +235,7 @@ not-unread v other = by (is_headed (codes "display") v) (is_headed (codes "issue
 
 pub cert-common : (v : Value) (found : Option CertFaultKind) → IsNotHeaded v (codes "issuer") → IsNotHeaded v (codes "subject") → IsNotHeaded v (codes "version") → (IsUnread v → ⊥)
     → entry_field_fault v ≡ found → cert_field_fault v ≡ found
-cert-common v found p q r other e =
-    cert-else v (not-headed (codes "issuer") v p) (not-headed (codes "subject") v q) (not-headed (codes "version") v r) (not-unread v other) ∙ e
+cert-common v found p q r other e = search (rules, cert-else, not-headed, not-unread)
 
 -- ---- what has no head is no field
 
@@ -310,11 +290,7 @@ both-known fields k known = search (rules, has-given)
 both-given : (limits : Window) (valid : Option Window) → IsBothWays limits valid → (is_some valid && (is_some limits.not_before || is_some limits.not_after)) ≡ true
 both-given limits None both = absurd both
 both-given limits (Some w) (inl e) = ap (λ (b : Bool). b || is_some limits.not_after) e
-both-given limits (Some w) (inr e) = by (is_some limits.not_before) e
-  where
-    by : (b : Bool) → is_some limits.not_after ≡ true → (b || is_some limits.not_after) ≡ true
-    by true e = refl
-    by false e = e
+both-given limits (Some w) (inr e) = search rules
 
 one-given : (limits : Window) (valid : Option Window) (w : Window) → IsOneWay limits valid w → (is_some valid && (is_some limits.not_before || is_some limits.not_after)) ≡ false
 one-given limits None w one = refl

@@ -8,9 +8,6 @@ use Rattle.sexpr_core.specs.Value.{Value, plain, group}
 use Rattle.sexpr_core.specs.Value as sexpr
 use Rattle.spki_tag.specs.Tag as tags
 use Rattle.spki_tag.specs.Read.{ReadsAs}
-use Rattle.spki_tag.specs.Normal.{normal}
-use Rattle.spki_tag.specs.declared.fault.TagFault.{TagFault}
-use Rattle.spki_tag.specs.FaultOf.{tag_fault}
 use Rattle.spki_tag.specs.FirstFault.{first_fault, unless}
 use Rattle.spki_tag.proofs.Faultless.{tag_none_exactly}
 use Rattle.spki_tag.proofs.NormalOf.{normal-of}
@@ -24,7 +21,7 @@ use Rattle.spki_cert.specs.Fields.{is_headed, behind_head, contents, Sole, Given
 use Rattle.spki_cert.specs.Places.{sole_fault, unless_none}
 use Rattle.spki_cert.specs.FixedFaults.{date_fault}
 use Rattle.spki_cert.specs.SubjectFaults.{subject_fault, issuer_fault}
-use Rattle.spki_cert.specs.FieldFaults.{is_again, fields_looked, fields_fault, version_fault, limit_fault, time_fault, as_tag, kind_of_tag, entry_field_fault, is_unread, cert_field_fault}
+use Rattle.spki_cert.specs.FieldFaults.{is_again, fields_looked, fields_fault, version_fault, limit_fault, time_fault, kind_of_tag, entry_field_fault, is_unread, cert_field_fault}
 use Rattle.spki_cert.specs.declared.fields.Place.{Place}
 use Rattle.spki_cert.specs.declared.fields.Place.TheVariants as places
 use Rattle.spki_cert.specs.Inner.Gathering.{is_word_among, fault_in, IsFieldOf}
@@ -66,8 +63,7 @@ dates-faultless rest date read = sole-faultless Shape date_fault DateOf (λ v d 
 pub limit-by : (v : Value) (online : Bool) → is_headed (codes "not-before") v ≡ false → is_headed (codes "not-after") v ≡ false → is_headed (codes "online") v ≡ online
     → limit_fault v ≡ (if online then Some Online else Some Shape)
 unfolding limit_fault
-limit-by v online e f g =
-    λ i. if e i then sole_fault Shape date_fault (behind_head v) else (if f i then sole_fault Shape date_fault (behind_head v) else (if g i then Some Online else Some Shape))
+limit-by v online e f g = search rules
 
 limit-read : (v : Value) → limit_fault v ≡ None → IsLimitField v
 limit-read v e = by (is_headed (codes "not-before") v) (is_headed (codes "not-after") v) (is_headed (codes "online") v) refl refl refl
@@ -144,11 +140,7 @@ module _ {A : Type 0} (word : List ℕ) (R : List Value → A → Type 0) (IsOne
 
   contents-read : (vs : List Value) → AllByRecursion IsOne vs → AllByRecursion (Reads R) (contents word vs)
   contents-read [] all = tt
-  contents-read (v ∷ vs) all = by (contents-read vs all.1) (is_headed word v) refl
-    where
-      by : AllByRecursion (Reads R) (contents word vs) → (b : Bool) → is_headed word v ≡ b → AllByRecursion (Reads R) (contents word (v ∷ vs))
-      by more true h = subst (AllByRecursion (Reads R)) (sym (contents-headed word v vs h)) (headed-reads v all.0 h, more)
-      by more false h = subst (AllByRecursion (Reads R)) (sym (contents-other word v vs h)) more
+  contents-read (v ∷ vs) all = search (rules, contents-headed, headed-reads, contents-other, contents-read vs all.1)
 
   pub given-read : (vs : List Value) → AreFields IsOne vs → (o : Option A) × Given word R vs o
   given-read vs read = by (contents word vs) refl (contents-read vs read.each) (read.once word)
@@ -187,13 +179,7 @@ time-faultless v (valid limits w e read) = faults.time-valid v limits e ∙ (lim
 -- ---- tags
 
 tag-read : (v : Value) → kind_of_tag v ≡ None → (t : tags.Tag) × ReadsAs v t
-tag-read v e = by (tag_fault v) refl
-  where
-    by : (found : Option TagFault) → tag_fault v ≡ found → (t : tags.Tag) × ReadsAs v t
-    by None f =
-        let w = (tag_none_exactly v).0 f in
-        (normal w.0, record { w = w.0; written = w.1; spelled = w.2; few = w.3; value = refl; normal = normal-of w.0 w.1 })
-    by (Some fault) f = absurd (let g = sym (ap as_tag f) ∙ e in cc)
+tag-read v e = search (rules, tag_none_exactly, normal-of)
 
 tag-found : (v : Value) (t : tags.Tag) → ReadsAs v t → kind_of_tag v ≡ None
 tag-found v t read = faults.tag-faultless v ((tag_none_exactly v).1 (read.w, read.written, read.spelled, read.few))
@@ -220,19 +206,12 @@ entry_field-read v e = by (is_headed (codes "tag") v) (is_headed (codes "propaga
 
 -- a value whose head is among some words has no other head
 among-else : (words : List (List ℕ)) (v : Value) (word : List ℕ) → is_word_among words word ≡ false → HeadAmong words v → is_headed word v ≡ false
-among-else words v word other among = by (is_headed word v) refl
-  where
-    by : (b : Bool) → is_headed word v ≡ b → b ≡ false
-    by true h = let form = is-headed word v h in absurd (other-word words v word form.0 form.1 other among)
-    by false h = refl
+among-else words v word other among = search (rules, is-headed, other-word)
 
 entry_field-faultless : (v : Value) → IsField v → entry_field_fault v ≡ None
 entry_field-faultless v (propagate e) = entry-propagate v [] e
 entry_field-faultless v (tag rest t e read) = entry-tag_field v rest e ∙ sole-faultless Shape kind_of_tag ReadsAs tag-found rest t read
-entry_field-faultless v (time f) =
-    let among = time-head v f in
-    entry-else v (among-else time_words v (codes "tag") refl among) (among-else time_words v (codes "propagate") refl among) (among-else time_words v (codes "comment") refl among)
-    ∙ time-faultless v f
+entry_field-faultless v (time f) = search (rules, time-head, entry-else, among-else, time_words, time-faultless)
 entry_field-faultless v (comment xs e) = entry-comment v xs e
 
 entry_field-none : (v : Value) → (entry_field_fault v ≡ None) ↔ IsField v
@@ -279,8 +258,7 @@ cert_field-faultless v (common f) =
     (λ i. among-else field_words v (codes "display") refl among i || among-else field_words v (codes "issuer-info") refl among i
     || among-else field_words v (codes "subject-info") refl among i)
     ∙ entry_field-faultless v f
-cert_field-faultless v (version e) =
-    cert-version_field v (plain (codes "0") ∷ []) e ∙ version-faultless (plain (codes "0") ∷ []) refl
+cert_field-faultless v (version e) = search (rules, cert-version_field v (plain (codes "0") ∷ []) e, version-faultless (plain (codes "0") ∷ []) refl)
 cert_field-faultless v (issuer rest i e read) =
     cert-issuer_field v rest e
     ∙ sole-faultless Shape issuer_fault (λ w (j : Principal × Option (List ℕ)). IssuerOf w j.0 j.1) (λ w j this. (issuer-none w).1 (j.0, j.1, this)) rest i read

@@ -1,5 +1,5 @@
 -- Which fields there are, by their heads.
-use Rattle.std.proofs.Common.{◌≡◌, ℕ, inl, inr, true, false, List, [], ◌∷◌, Option, refl, ap, subst, ◌∙◌, rules}
+use Rattle.std.proofs.Common.{◌≡◌, ℕ, true, false, List, [], ◌∷◌, Option, refl, subst, rules}
 use Rattle.std.specs.Prelude.{codes}
 use Rattle.sexpr_core.specs.Value.{Value, plain, group}
 use Rattle.spki_tag.specs.Tag as tags
@@ -7,9 +7,9 @@ use Rattle.spki_tag.specs.Read.{ReadsAs}
 use Rattle.spki_cert.specs.declared.principal.Principal.{Principal}
 use Rattle.spki_cert.specs.declared.window.Window.{Window}
 use Rattle.spki_cert.specs.Readings.{DateOf}
-use Rattle.spki_cert.specs.Fields.{Sole, IsLimitField, ValidOf, IsTimeField, limit, valid, IsField, propagate, tag, time, comment, IssuerIn, WhoIn, IsUnread, display, issuer_info, subject_info, IsCertField, common, version, issuer, subject, unread}
+use Rattle.spki_cert.specs.Fields.{Sole, IsLimitField, ValidOf, IsTimeField, limit, valid, IsField, propagate, tag, time, comment, IssuerIn, WhoIn, IsUnread, IsCertField, common, version, issuer, subject, unread}
 use Rattle.spki_cert.specs.Inner.Gathering.{is_word_among}
-use Rattle.spki_cert.proofs.Groups.{same_others, headed-by, head-same}
+use Rattle.spki_cert.proofs.Groups.{same_others, apart, headed-by, head-same}
 use Rattle.spki_cert.proofs.ValidLaws.{first-limit, last-limit}
 
 -- ---- heads
@@ -32,44 +32,32 @@ abbrev unread_words : List (List ℕ)
 unread_words = codes "display" ∷ codes "issuer-info" ∷ codes "subject-info" ∷ []
 
 pub time-head : (v : Value) → IsTimeField v → HeadAmong time_words v
-time-head v (limit (word, rest, date, inl is, written, read)) = (codes "not-before", rest, written ∙ ap (λ (w : List ℕ). group (plain w ∷ rest)) is, refl)
-time-head v (limit (word, rest, date, inr is, written, read)) = (codes "not-after", rest, written ∙ ap (λ (w : List ℕ). group (plain w ∷ rest)) is, refl)
-time-head v (valid limits w written read) = (codes "valid", limits, written, refl)
+time-head v f = search rules
 
 time-head_field : (v : Value) → IsTimeField v → HeadAmong field_words v
-time-head_field v (limit (word, rest, date, inl is, written, read)) = (codes "not-before", rest, written ∙ ap (λ (w : List ℕ). group (plain w ∷ rest)) is, refl)
-time-head_field v (limit (word, rest, date, inr is, written, read)) = (codes "not-after", rest, written ∙ ap (λ (w : List ℕ). group (plain w ∷ rest)) is, refl)
-time-head_field v (valid limits w written read) = (codes "valid", limits, written, refl)
+time-head_field v f = search rules
 
 pub field-head : (v : Value) → IsField v → HeadAmong field_words v
-field-head v (propagate written) = (codes "propagate", [], written, refl)
-field-head v (tag rest t written read) = (codes "tag", rest, written, refl)
-field-head v (time f) = time-head_field v f
-field-head v (comment xs written) = (codes "comment", xs, written, refl)
+field-head v f = search (rules, time-head_field)
 
 unread-head : (v : Value) → IsUnread v → HeadAmong unread_words v
-unread-head v (display xs written) = (codes "display", xs, written, refl)
-unread-head v (issuer_info xs written) = (codes "issuer-info", xs, written, refl)
-unread-head v (subject_info xs written) = (codes "subject-info", xs, written, refl)
+unread-head v u = search rules
 
 -- ---- validity
 
 pub time-first : (v : Value) (rest : List Value) → v ≡ group (plain (codes "not-before") ∷ rest) → IsTimeField v → (date : List ℕ) × Sole DateOf rest date
 time-first v rest e (limit l) = first-limit v rest e l
-time-first v rest e (valid limits w written read) =
-    absurd (other-word (codes "valid" ∷ []) v (codes "not-before") rest e refl (codes "valid", limits, written, refl))
+time-first v rest e (valid limits w written read) = absurd (apart (codes "not-before") v _ _ e written refl refl)
 
 pub time-last : (v : Value) (rest : List Value) → v ≡ group (plain (codes "not-after") ∷ rest) → IsTimeField v → (date : List ℕ) × Sole DateOf rest date
 time-last v rest e (limit l) = last-limit v rest e l
-time-last v rest e (valid limits w written read) =
-    absurd (other-word (codes "valid" ∷ []) v (codes "not-after") rest e refl (codes "valid", limits, written, refl))
+time-last v rest e (valid limits w written read) = absurd (apart (codes "not-after") v _ _ e written refl refl)
 
 abbrev limit_words : List (List ℕ)
 limit_words = codes "not-before" ∷ codes "not-after" ∷ []
 
 limit-head : (v : Value) → IsLimitField v → HeadAmong limit_words v
-limit-head v (word, rest, date, inl is, written, read) = (codes "not-before", rest, written ∙ ap (λ (w : List ℕ). group (plain w ∷ rest)) is, refl)
-limit-head v (word, rest, date, inr is, written, read) = (codes "not-after", rest, written ∙ ap (λ (w : List ℕ). group (plain w ∷ rest)) is, refl)
+limit-head v l = search rules
 
 pub time-valid : (v : Value) (rest : List Value) → v ≡ group (plain (codes "valid") ∷ rest) → IsTimeField v → (w : Window) × ValidOf rest w
 time-valid v rest e (limit l) = absurd (other-word limit_words v (codes "valid") rest e refl (limit-head v l))

@@ -1,5 +1,5 @@
 -- The fault that is named of a key, a hash or a date, along the way of its reading.
-use Rattle.std.proofs.Common.{◌≡◌, ◌≢◌, ℕ, List, [], ◌∷◌, ◌++◌, length, drop, arith, Bool, true, false, Option, Some, None, refl, sym, ap, ◌∙◌, rules}
+use Rattle.std.proofs.Common.{◌≡◌, ◌≢◌, ℕ, List, [], ◌∷◌, length, drop, arith, Bool, true, false, Option, Some, None, refl, sym, ap, ◌∙◌, rules}
 use Rattle.std.specs.Prelude.{codes, is_some, if◌then◌else◌, ◌==◌}
 use Rattle.std.specs.Str.{bytes_eq}
 use Rattle.std.proofs.lemmas.Slice.Eq.{bytes_eq-Decides}
@@ -119,10 +119,7 @@ pub hash-digest : (v word digest : Value) (rest more others : List Value) (alg :
     → IsHashed v rest → rest ≡ word ∷ more → word ≡ plain (alg_name alg) → more ≡ digest ∷ others
     → digest_fault alg digest ≡ found → are_uris others ≡ uris → hash_fault v ≡ first_fault (found ∷ unless uris Shape ∷ [])
 unfolding hash_fault
-hash-digest v word digest rest more others alg found uris e f g h i j =
-    let looked : hash_fault v ≡ first_fault (digest_looked (Some alg) digest ++ unless (are_uris others) Shape ∷ []) =
-    search (rules, hash-form, alg-known, named-alg) in
-    looked ∙ first-of (digest_looked (Some alg) digest) (unless (are_uris others) Shape ∷ []) ∙ (λ k. first_fault (i k ∷ unless (j k) Shape ∷ []))
+hash-digest v word digest rest more others alg found uris e f g h i j = search (rules, hash-form, alg-known, named-alg, first-of)
 
 pub uris-are : (vs : List Value) → AreUris vs → are_uris vs ≡ true
 uris-are [] are = refl
@@ -140,5 +137,4 @@ pub sized-eq : (m n : ℕ) → m ≡ n → (m == n) ≡ true
 sized-eq m n e = grind (arith, e)
 
 pub digest-sized : (alg : HashAlg) (v : Value) (octets : List ℕ) → v ≡ plain octets → length octets ≡ digest_len alg → digest_fault alg v ≡ None
-digest-sized alg v octets e f =
-    ap (digest_fault alg) e ∙ ap (λ (b : Bool). first_fault (None ∷ unless b DigestLength ∷ [])) (sized-eq (length octets) (digest_len alg) f)
+digest-sized alg v octets e f = search (rules, sized-eq (length octets) (digest_len alg) f)

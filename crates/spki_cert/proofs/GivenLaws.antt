@@ -1,5 +1,5 @@
 -- What fields say, one field after the other.
-use Rattle.std.proofs.Common.{◌≡◌, ℕ, ◌+◌, ◌≤◌, Bool, true, false, cond, List, [], ◌∷◌, ◌++◌, length, Option, Some, None, refl, ap, subst, ◌∙◌, arith, append-nil, length-append, rules}
+use Rattle.std.proofs.Common.{◌≡◌, ℕ, ◌+◌, ◌≤◌, Bool, true, false, cond, List, [], ◌∷◌, ◌++◌, length, Option, Some, None, refl, ap, ◌∙◌, arith, append-nil, length-append, rules}
 use Rattle.std.specs.List.{AllByRecursion}
 use Rattle.sexpr_core.specs.Value.{Value, plain, group}
 use Rattle.spki_cert.specs.Fields.{is_headed, behind_head, contents, AreOnce, Given}
@@ -33,14 +33,11 @@ contents-other word v vs e = ap (λ (b : Bool). cond b (behind_head v ∷ conten
 
 -- a field with another head adds nothing
 pub contents-kept : (word : List ℕ) (xs : List Value) (v : Value) → is_headed word v ≡ false → contents word (xs ++ v ∷ []) ≡ contents word xs
-contents-kept word xs v e =
-    contents-append word xs (v ∷ []) ∙ ap (λ (ys : List (List Value)). contents word xs ++ ys) (contents-other word v [] e)
-    ∙ append-nil (contents word xs)
+contents-kept word xs v e = search (rules, contents-append word xs (v ∷ []), contents-other word v [] e, append-nil (contents word xs))
 
 -- the first field with a head
 pub contents-first : (word : List ℕ) (xs : List Value) (v : Value) → is_headed word v ≡ true → contents word xs ≡ [] → contents word (xs ++ v ∷ []) ≡ behind_head v ∷ []
-contents-first word xs v e none =
-    contents-append word xs (v ∷ []) ∙ (λ i. none i ++ contents-headed word v [] e i)
+contents-first word xs v e none = search (rules, contents-append word xs (v ∷ []))
 
 -- ---- each at most once
 
@@ -59,17 +56,12 @@ once-before word xs v ys once e =
     no-length (contents word xs) (omega arith)
 
 pub once-push : (xs : List Value) (v : Value) → AreOnce xs → ((word : List ℕ) → is_headed word v ≡ true → contents word xs ≡ []) → AreOnce (xs ++ v ∷ [])
-once-push xs v once first word = by (is_headed word v) refl
-  where
-    by : (b : Bool) → is_headed word v ≡ b → length (contents word (xs ++ v ∷ [])) ≤ 1
-    by true e = (let long : length (contents word (xs ++ v ∷ [])) ≡ 1 = ap length (contents-first word xs v e (first word e)) in omega arith)
-    by false e = (let long : length (contents word (xs ++ v ∷ [])) ≡ length (contents word xs) = ap length (contents-kept word xs v e) in let most = once word in omega arith)
+once-push xs v once first word = search (rules, contents-first, contents-kept)
 
 -- one more field, with a head that none of them has
 pub once-new : (xs : List Value) (v : Value) (head : List ℕ) (rest : List Value) → v ≡ group (plain head ∷ rest) → AreOnce xs → contents head xs ≡ []
     → AreOnce (xs ++ v ∷ [])
-once-new xs v head rest e once fresh =
-    once-push xs v once (λ word f. subst (λ (w : List ℕ). contents w xs ≡ []) (head-same v head word rest e f) fresh)
+once-new xs v head rest e once fresh = search (rules, once-push, head-same)
 
 -- ---- what is given
 

@@ -1,5 +1,5 @@
 -- Lists that are the same have the same members, and those with two heads are not the same.
-use Rattle.std.proofs.Common.{◌≡◌, ℕ, List, [], ◌∷◌, ◌++◌, drop, refl, sym, ap, ◌∙◌, append_assoc, Bool, true, false, None}
+use Rattle.std.proofs.Common.{◌≡◌, ℕ, List, [], ◌∷◌, ◌++◌, refl, sym, ap, ◌∙◌, append_assoc, Bool, true, false, None, rules}
 use Rattle.std.specs.Str.{bytes_eq}
 use Rattle.sexpr_core.specs.Shapes.{IsNotHeaded}
 use Rattle.std.proofs.lemmas.Slice.Eq.{bytes_eq-Decides}
@@ -17,18 +17,15 @@ group-injective vs ws e = sym (members-values vs) ∙ ap members_in e ∙ member
 
 -- what stands behind the head and the next member
 pub same_rest : (v : Value) (word : List ℕ) (s t : Value) (vs ws : List Value) → v ≡ group (plain word ∷ s ∷ vs) → v ≡ group (plain word ∷ t ∷ ws) → vs ≡ ws
-same_rest v word s t vs ws e f =
-    ap (λ (xs : List Value). drop 2 xs) (group-injective (plain word ∷ s ∷ vs) (plain word ∷ t ∷ ws) (sym e ∙ f))
+same_rest v word s t vs ws e f = search (rules, group-injective (plain word ∷ s ∷ vs) (plain word ∷ t ∷ ws) (sym e ∙ f))
 
 -- the next member
 pub same_second : (v : Value) (word : List ℕ) (s t : Value) (vs ws : List Value) → v ≡ group (plain word ∷ s ∷ vs) → v ≡ group (plain word ∷ t ∷ ws) → s ≡ t
-same_second v word s t vs ws e f =
-    (let g : plain word ∷ s ∷ vs ≡ plain word ∷ t ∷ ws = group-injective (plain word ∷ s ∷ vs) (plain word ∷ t ∷ ws) (sym e ∙ f) in cc)
+same_second v word s t vs ws e f = search (rules, group-injective (plain word ∷ s ∷ vs) (plain word ∷ t ∷ ws) (sym e ∙ f))
 
 -- what stands behind the head
 pub same_others : (v : Value) (word : List ℕ) (vs ws : List Value) → v ≡ group (plain word ∷ vs) → v ≡ group (plain word ∷ ws) → vs ≡ ws
-same_others v word vs ws e f =
-    ap (λ (xs : List Value). drop 1 xs) (group-injective (plain word ∷ vs) (plain word ∷ ws) (sym e ∙ f))
+same_others v word vs ws e f = search (rules, group-injective (plain word ∷ vs) (plain word ∷ ws) (sym e ∙ f))
 
 -- no value has this head and another one
 pub apart : (word : List ℕ) (v u w : Value) → v ≡ u → v ≡ w → is_headed word u ≡ true → is_headed word w ≡ false → ⊥
@@ -71,6 +68,5 @@ not-headed word v other = refl
 
 -- a value with one head hasn't another
 pub other-head : (word other : List ℕ) (v : Value) → bytes_eq word other ≡ false → is_headed word v ≡ true → is_headed other v ≡ false
-other-head word other (sexpr.list (sexpr.more (sexpr.string None head) others)) e f =
-    ap (λ (w : List ℕ). bytes_eq w other) ((bytes_eq-Decides head word).0 f) ∙ e
+other-head word other (sexpr.list (sexpr.more (sexpr.string None head) others)) e f = search (rules, bytes_eq-Decides head word)
 other-head word other v e f = refl

@@ -1,10 +1,9 @@
 -- A value has no fault as a signature, an operation or a certificate exactly where it is one.
-use Rattle.std.proofs.Common.{◌≡◌, ℕ, ◌⊎◌, inl, inr, List, [], ◌∷◌, Bool, true, false, Option, Some, None, refl, sym, ap, ◌∙◌, rules}
+use Rattle.std.proofs.Common.{◌≡◌, ℕ, ◌⊎◌, inl, inr, List, [], ◌∷◌, Bool, true, false, Option, Some, None, refl, sym, ◌∙◌, rules}
 use Rattle.std.specs.Prelude.{codes, ◌↔◌, not, is_some}
 use Rattle.std.proofs.lemmas.Slice.Eq.{bytes_eq-Decides}
 use Rattle.std.proofs.lemmas.Bool.{not-true}
 use Rattle.sexpr_core.specs.Value.{Value, plain, group, canon}
-use Rattle.sexpr_core.specs.Value as sexpr
 use Rattle.spki_tag.specs.Tag as tags
 use Rattle.spki_tag.specs.Read.{ReadsAs}
 use Rattle.spki_tag.specs.FirstFault.{unless}
@@ -60,9 +59,7 @@ signature-read v e =
 
 pub signature-faultless : (v : Value) (s : Signature) → SignatureOf v s → signature_fault v ≡ None
 unfolding signature_fault
-signature-faultless v s read =
-    let hash = (hash-none read.digest).1 (s.alg, s.digest, read.digest_is) in let who = (principal-none read.signer).1 (s.signer, read.signer_is) in
-    search (rules, triple-form signature-looks)
+signature-faultless v s read = search (rules, hash-none, principal-none, triple-form, signature-looks)
 
 pub signature-none : (v : Value) → (signature_fault v ≡ None) ↔ SomeSignature v
 signature-none v = (signature-read v, λ some. signature-faultless v some.0 some.1)
@@ -73,23 +70,16 @@ abbrev SomeDo : Value → Type 0
 SomeDo v = (alg : HashAlg) × DoHashOf v alg
 
 pub hash-word : (v : Value) → is_plain is_hash_word v ≡ true → v ≡ plain (codes "hash")
-hash-word (sexpr.string None octets) e = ap plain ((bytes_eq-Decides octets (codes "hash")).0 e)
-hash-word v e = absurd (cc)
+hash-word v e = search (rules, bytes_eq-Decides)
 
 do-of : (v : Value) (rest : List Value) → v ≡ group (plain (codes "do") ∷ rest) → do_fault v ≡ None → SomeDo v
-do-of v [] e f = absurd (let g = sym (do-form v [] e) ∙ f in cc)
-do-of v (operation ∷ []) e f = absurd (let g = (none-found (unless (is_plain is_hash_word operation) UnknownOp) _ (sym (do-form v (operation ∷ []) e) ∙ f)).1 in cc)
 do-of v (operation ∷ word ∷ []) e f =
     let first = none-found (unless (is_plain is_hash_word operation) UnknownOp) _ (sym (do-form v (operation ∷ word ∷ []) e) ∙ f) in
     let second = none-found (alg_fault word) _ first.1 in
     let hash = hash-word operation (unless-none (is_plain is_hash_word operation) UnknownOp first.0) in
     let alg = (alg-none word).0 second.0 in
     (alg.0, e ∙ (λ i. group (plain (codes "do") ∷ hash i ∷ alg.1 i ∷ [])))
-do-of v (operation ∷ word ∷ other ∷ more) e f =
-    absurd (
-    let g = (none-found (unless (is_plain is_hash_word operation) UnknownOp) _ (sym (do-form v (operation ∷ word ∷ other ∷ more) e) ∙ f)).1 in
-    let h = (none-found (alg_fault word) _ g).1 in cc
-    )
+do-of v rest e f = absurd (search (rules, do-form v rest e, none-found))
 
 pub do-read : (v : Value) → do_fault v ≡ None → SomeDo v
 unfolding do_fault

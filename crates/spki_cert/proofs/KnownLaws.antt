@@ -1,5 +1,5 @@
 -- What is known of fields that were read one after the other.
-use Rattle.std.proofs.Common.{◌≡◌, ℕ, ◌||◌, Bool, true, false, List, [], ◌∷◌, ◌++◌, Some, None, refl, sym, ap, ◌∙◌, rules}
+use Rattle.std.proofs.Common.{◌≡◌, ℕ, true, false, List, [], ◌∷◌, ◌++◌, Some, None, refl, sym, ap, ◌∙◌, rules}
 use Rattle.std.specs.List.{list_any}
 use Rattle.std.proofs.lemmas.List.Folds.{list_any-append}
 use Rattle.sexpr_core.specs.Value.{Value, plain, group}
@@ -16,19 +16,11 @@ use Rattle.spki_cert.proofs.GivenLaws.{contents-headed, contents-other, given-ke
 
 pub none-headed : (word : List ℕ) (xs : List Value) → list_any (is_headed word) xs ≡ false → contents word xs ≡ []
 none-headed word [] e = refl
-none-headed word (x ∷ xs) e = by (none-headed word xs) (is_headed word x) refl
-  where
-    by : (list_any (is_headed word) xs ≡ false → contents word xs ≡ []) → (b : Bool) → is_headed word x ≡ b → contents word (x ∷ xs) ≡ []
-    by below true h = absurd (let f : (true || list_any (is_headed word) xs) ≡ false = ap (λ (b : Bool). b || list_any (is_headed word) xs) (sym h) ∙ e in cc)
-    by below false h = contents-other word x xs h ∙ below (ap (λ (b : Bool). b || list_any (is_headed word) xs) (sym h) ∙ e)
+none-headed word (x ∷ xs) e = search (rules, contents-other, none-headed word xs)
 
 pub headed-none : (word : List ℕ) (xs : List Value) → contents word xs ≡ [] → list_any (is_headed word) xs ≡ false
 headed-none word [] e = refl
-headed-none word (x ∷ xs) e = by (headed-none word xs) (is_headed word x) refl
-  where
-    by : (contents word xs ≡ [] → list_any (is_headed word) xs ≡ false) → (b : Bool) → is_headed word x ≡ b → list_any (is_headed word) (x ∷ xs) ≡ false
-    by below true h = absurd (let f = sym (contents-headed word x xs h) ∙ e in cc)
-    by below false h = ap (λ (b : Bool). b || list_any (is_headed word) xs) h ∙ below (sym (contents-other word x xs h) ∙ e)
+headed-none word (x ∷ xs) e = search (rules, contents-headed, contents-other, headed-none word xs)
 
 -- the head of a new field wasn't met
 pub new-first : (xs : List Value) (heads : List (List ℕ)) (k : Known) (v : Value) (head : List ℕ) → AreRead xs heads k → IsNew v heads head
@@ -61,10 +53,7 @@ gather-more xs v k s known says fresh = search (rules, filled, given-kept, heade
 -- ---- all fields
 
 pub read-none : AreRead [] [] (record { issuer = None; subject = None; tag = None; limits = record { not_before = None; not_after = None }; valid = None })
-read-none = record {
-  heads_are = (λ word. refl);
-  known = record { issuer_is = refl; subject_is = refl; tag_is = refl; limits_are = (refl, refl); valid_is = refl };
-}
+read-none = search rules
 
 pub read-more : (xs : List Value) (heads : List (List ℕ)) (k : Known) (v : Value) (head : List ℕ) (s : Said)
     → AreRead xs heads k → IsNew v heads head → Says v s → AreRead (xs ++ v ∷ []) (heads ++ head ∷ []) (gather k s)

@@ -1,5 +1,5 @@
 -- What is looked at in a value whose form is known.
-use Rattle.std.proofs.Common.{◌≡◌, ℕ, List, [], ◌∷◌, ◌++◌, Bool, true, false, Option, Some, None, Result, Ok, Err, refl, sym, subst, ap, ◌∙◌}
+use Rattle.std.proofs.Common.{◌≡◌, ℕ, List, [], ◌∷◌, ◌++◌, Bool, true, false, Option, Some, None, Result, Ok, Err, refl, sym, subst, ap, ◌∙◌, rules}
 use Rattle.std.specs.Prelude.{IfErr}
 use Rattle.std.specs.Result.{IsErrAnd}
 use Rattle.sexpr_core.specs.Value.{Value, plain, group}
@@ -61,9 +61,8 @@ sole-one other fault_of vs more v e f g = sole-found other fault_of vs more v No
 
 pub sole-read : {A : Type 0} (other : A) (fault_of : Value → Option A) (vs : List Value) → sole_fault other fault_of vs ≡ None
     → (v : Value) × (vs ≡ v ∷ []) × (fault_of v ≡ None)
-sole-read other fault_of [] e = absurd (cc)
 sole-read other fault_of (v ∷ []) e = (v, refl, (none-found (fault_of v) (None ∷ []) e).0)
-sole-read other fault_of (v ∷ w ∷ vs) e = absurd (let f = (none-found (fault_of v) (Some other ∷ []) e).1 in cc)
+sole-read other fault_of vs e = absurd (search (rules, none-found))
 
 -- ---- errors that are passed on
 

@@ -19,7 +19,7 @@ use Rattle.spki_cert.specs.declared.certificate.SeqItem.{SeqItem}
 use Rattle.spki_cert.specs.declared.certificate.SeqItem.TheVariants as items
 use Rattle.spki_cert.specs.Readings.{KeyOf, HashOf, DateOf, alg_name}
 use Rattle.spki_cert.specs.Subjects.{PrincipalOf, plains, NameOf, IsWho, SubjectOf, IssuedTo, IssuerOf}
-use Rattle.spki_cert.specs.Fields.{Sole, Given, LimitsAre, ValidOf, WindowOf, directly, in_valid, TagOf, propagates, IssuerIn}
+use Rattle.spki_cert.specs.Fields.{Sole, Given, LimitsAre, WindowOf, directly, in_valid, TagOf, propagates, IssuerIn}
 use Rattle.spki_cert.specs.Entries.{EntryOf, AclOf}
 use Rattle.spki_cert.specs.EntryFaults.{behind_version}
 use Rattle.spki_cert.specs.Certificates.{IssuedFor, AuthCertOf, NameCertOf, SignatureOf, DoHashOf}
@@ -55,9 +55,8 @@ date-one v s t read other = plain-one s t (sym read.written ∙ other.written)
 
 principal-one : (v : Value) (p q : Principal) → PrincipalOf v p → PrincipalOf v q → p ≡ q
 principal-one v (Key k) (Key l) read other = ap Key (key-one v k l read other)
-principal-one v (Key k) (Hash b e) read other = absurd (apart (codes "hash") v _ _ other.written read.written refl refl)
-principal-one v (Hash a d) (Key l) read other = absurd (apart (codes "hash") v _ _ read.written other.written refl refl)
 principal-one v (Hash a d) (Hash b e) read other = (let same = hash-one v a b d e read other in λ i. Hash (same.0 i) (same.1 i))
+principal-one v p q read other = absurd (search (rules, apart))
 
 names-one : (ns ms : List (List ℕ)) → plains ns ≡ plains ms → ns ≡ ms
 names-one [] [] e = refl
@@ -109,22 +108,16 @@ given-one word R one fields a b (rest, e, read) (behind, f, other) = search rule
 maybe-one : {A : Type 0} (word : List ℕ) (R : List Value → A → Type 0) → ((vs : List Value) (a b : A) → R vs a → R vs b → a ≡ b)
     → (fields : List Value) (o p : Option A) → Given word R fields o → Given word R fields p → o ≡ p
 maybe-one word R one fields None None read other = refl
-maybe-one word R one fields None (Some b) read other = absurd (given-else word R fields b other read)
-maybe-one word R one fields (Some a) None read other = absurd (given-else word R fields a read other)
 maybe-one word R one fields (Some a) (Some b) read other = ap Some (given-one word R one fields a b read other)
+maybe-one word R one fields o p read other = absurd (search (rules, given-else))
 
 limits-one : (fields : List Value) (v w : Window) → LimitsAre fields v → LimitsAre fields w → v ≡ w
-limits-one fields v w read other =
-    let one = maybe-one (codes "not-before") (Sole DateOf) (sole-one DateOf date-one) fields v.not_before w.not_before read.0 other.0 in
-    let two = maybe-one (codes "not-after") (Sole DateOf) (sole-one DateOf date-one) fields v.not_after w.not_after read.1 other.1 in
-    λ i. record { not_before = one i; not_after = two i }
+limits-one fields v w read other = search (rules, maybe-one, sole-one, date-one)
 
 window-one : (fields : List Value) (v w : Window) → WindowOf fields v → WindowOf fields w → v ≡ w
 window-one fields v w (directly none limits) (directly no_valid others) = limits-one fields v w limits others
-window-one fields v w (directly none limits) (in_valid given first last) = absurd (given-else (codes "valid") ValidOf fields w given none)
-window-one fields v w (in_valid given first last) (directly none limits) = absurd (given-else (codes "valid") ValidOf fields v given none)
-window-one fields v w (in_valid given first last) (in_valid other no_first no_last) =
-    given-one (codes "valid") ValidOf (λ vs a b read also. limits-one vs a b read.limits_are also.limits_are) fields v w given other
+window-one fields v w (in_valid given first last) (in_valid other no_first no_last) = search (rules, given-one, limits-one)
+window-one fields v w read other = search (rules, given-else)
 
 tag-one : (fields : List Value) (t u : tags.Tag) → TagOf fields t → TagOf fields u → t ≡ u
 tag-one fields t u read other = given-one (codes "tag") (Sole ReadsAs) (sole-one ReadsAs reading-one) fields t u read other
@@ -145,11 +138,9 @@ entry-one v e f read other =
 items-one : {A : Type 0} (R : Value → A → Type 0) → ((v : Value) (a b : A) → R v a → R v b → a ≡ b)
     → (vs : List Value) (xs ys : List A) → AllZip R vs xs → AllZip R vs ys → xs ≡ ys
 items-one R one [] [] [] read other = refl
-items-one R one [] (a ∷ xs) ys read other = absurd read
-items-one R one (v ∷ vs) [] ys read other = absurd read
 items-one R one (v ∷ vs) (a ∷ xs) (b ∷ ys) read other =
     λ i. one v a b read.0 other.0 i ∷ items-one R one vs xs ys read.1 other.1 i
-items-one R one vs xs ys read other = absurd other
+items-one R one vs xs ys read other = absurd (search rules)
 
 pub acl-one : (v : Value) (es fs : List Entry) → AclOf v es → AclOf v fs → es ≡ fs
 acl-one v es fs read other =
@@ -164,17 +155,14 @@ acl-one v es fs read other =
 
 issuer-one : (v : Value) (i j : Principal × Option (List ℕ)) → IssuerOf v i.0 i.1 → IssuerOf v j.0 j.1 → i ≡ j
 issuer-one v (p, None) (q, None) read other = λ i. (principal-one v p q read other i, None)
-issuer-one v (p, None) (q, Some m) read other = absurd (name-is_no_principal v (other.owner ∷ plain m ∷ []) other.written p read)
-issuer-one v (p, Some n) (q, None) read other = absurd (name-is_no_principal v (read.owner ∷ plain n ∷ []) read.written q other)
 issuer-one v (p, Some n) (q, Some m) read other = search (rules, name-one)
+issuer-one v i j read other = absurd (search (rules, name-is_no_principal))
 
 issued_by-one : (fields : List Value) (i j : Principal × Option (List ℕ)) → Given (codes "issuer") IssuerIn fields (Some i) → Given (codes "issuer") IssuerIn fields (Some j) → i ≡ j
-issued_by-one fields i j read other =
-    given-one (codes "issuer") IssuerIn (sole-one (λ (v : Value) (k : Principal × Option (List ℕ)). IssuerOf v k.0 k.1) issuer-one) fields i j read other
+issued_by-one fields i j read other = search (rules, given-one, sole-one, issuer-one)
 
 issued_for-one : (fields : List Value) (p : Principal) (s t : Subject) → IssuedFor fields p s → IssuedFor fields p t → s ≡ t
-issued_for-one fields p s t read other =
-    given-one (codes "subject") (Sole (IssuedTo p)) (sole-one (IssuedTo p) (issued-one p)) fields s t read other
+issued_for-one fields p s t read other = search (rules, given-one, sole-one, issued-one)
 
 parts-one : (fields : List Value) (p q : CertParts) → PartsOf fields p → PartsOf fields q → p ≡ q
 parts-one fields p q read other =

@@ -28,8 +28,7 @@ pub upto-self : (s : List ℕ) → upto s s ≡ true
 upto-self s = ap is_le (tied_itself nat_list_cmp_total s)
 
 pub upto-then : (s t u : List ℕ) → upto s t ≡ true → upto t u ≡ true → upto s u ≡ true
-upto-then s t u h k =
-    gt_or_le (slice_cmp nat_cmp s u) (goes_on nat_list_cmp_total s t u (le_or_gt (slice_cmp nat_cmp s t) h) (le_or_gt (slice_cmp nat_cmp t u) k))
+upto-then s t u h k = search (rules, gt_or_le, goes_on, nat_list_cmp_total, le_or_gt)
 
 pub upto-turned : (s t : List ℕ) → upto s t ≡ false → upto t s ≡ true
 upto-turned s t h = ap is_le (nat_list_cmp_total.antisymm t s) ∙ turned (slice_cmp nat_cmp s t) h
@@ -88,15 +87,7 @@ moment-between (Some s) None d e h = (s, d, upto-self s, refl)
 moment-between (Some s) (Some r) d e h = (s, d, upto-self s, h)
 
 pub none-apart : (v w : Window) → in_order (inner v w).not_before (inner v w).not_after ≡ false → AreApart v w
-none-apart v w h t a = by (within t w) refl
-  where
-    by : (b : Bool) → within t w ≡ b → b ≡ false
-    by true e =
-        let m : within t (inner v w) ≡ true = within-inner v w t ∙ (λ i. a i && e i) in
-        let p = and_parts (is_from (inner v w).not_before t) (is_until (inner v w).not_after t) m in
-        let o = in_order-around (inner v w).not_before (inner v w).not_after t p.0 p.1 in
-        absurd (let x : true ≡ false = sym o ∙ h in cc)
-    by false e = refl
+none-apart v w h t a = search (rules, within-inner, and_parts, in_order-around)
 
 pub some-overlaps : (v w : Window) → IsLimit (inner v w).not_before → IsLimit (inner v w).not_after → in_order (inner v w).not_before (inner v w).not_after ≡ true → Overlap v w
 some-overlaps v w d e h =

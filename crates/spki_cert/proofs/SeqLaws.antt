@@ -1,5 +1,5 @@
 -- Sequences that were read item by item.
-use Rattle.std.proofs.Common.{◌≡◌, ℕ, Bool, true, false, cond, List, [], ◌∷◌, ◌++◌, Option, Some, None, refl, sym, ap, subst, ◌∙◌, rules}
+use Rattle.std.proofs.Common.{◌≡◌, ℕ, Bool, true, false, cond, List, [], ◌∷◌, ◌++◌, Option, Some, None, refl, ap, ◌∙◌, rules}
 use Rattle.std.specs.Prelude.{codes, is_some}
 use Rattle.sexpr_core.specs.Value.{Value}
 use Rattle.spki_cert.specs.Fields.{is_headed}
@@ -26,8 +26,7 @@ behind-signature : (w : Bool) (v : Value) → is_headed (codes "signature") v �
 behind-signature w v e = search (rules, other-head)
 
 behind-other : (w : Bool) (v : Value) → is_headed (codes "cert") v ≡ false → is_headed (codes "signature") v ≡ false → waits_behind w v ≡ w
-behind-other w v e f =
-    ap (λ (b : Bool). cond b true (cond (is_headed (codes "signature") v) false w)) e ∙ ap (λ (b : Bool). cond b false w) f
+behind-other w v e f = search rules
 
 pub waits-is : (seen : List Value) (o : Option ℕ) → Waits seen o → waits_after false seen ≡ is_some o
 waits-is seen None waits = waits
@@ -44,13 +43,7 @@ waits-other seen v None waits e f = after-one seen v ∙ behind-other (waits_aft
 waits-other seen v (Some k) waits e f = after-one seen v ∙ behind-other (waits_after false seen) v e f ∙ waits
 
 pub waits-more : (seen : List Value) (v : Value) (o : Option ℕ) (number : ℕ) → Waits seen o → Waits (seen ++ v ∷ []) (waiting v o number)
-waits-more seen v o number waits = by (is_headed (codes "cert") v) (is_headed (codes "signature") v) refl refl
-  where
-    by : (b d : Bool) → is_headed (codes "cert") v ≡ b → is_headed (codes "signature") v ≡ d → Waits (seen ++ v ∷ []) (cond b (Some number) (cond d None o))
-    by true d is f = after-one seen v ∙ behind-cert (waits_after false seen) v is
-    by false true f is = after-one seen v ∙ behind-signature (waits_after false seen) v is
-    by false false f g = waits-other seen v o waits f g
+waits-more seen v o number waits = search (rules, after-one, behind-cert, behind-signature, waits-other)
 
 pub place-more : (seen : List Value) (v : Value) (o : Option ℕ) → Waits seen o → AreInPlace false seen → IsInPlace (is_some o) v → AreInPlace false (seen ++ v ∷ [])
-place-more seen v o waits in_place place =
-    place-append false seen (v ∷ []) in_place (subst (λ (w : Bool). IsInPlace w v) (sym (waits-is seen o waits)) place, tt)
+place-more seen v o waits in_place place = search (rules, place-append, waits-is)

@@ -67,8 +67,7 @@ pub cert-looked : (v : Value) (rest : List Value) (found : Option CertFaultKind)
     → is_tagged_right rest ≡ b
     → cert_fault v ≡ first_fault (found ∷ unless b Shape ∷ [])
 unfolding parts_fault
-cert-looked v rest found b e f g =
-    cert-form v rest e ∙ first-of (parts_looked rest) (unless (is_tagged_right rest) Shape ∷ []) ∙ (λ i. first_fault (f i ∷ unless (g i) Shape ∷ []))
+cert-looked v rest found b e f g = search (rules, cert-form v rest e, first-of (parts_looked rest) (unless (is_tagged_right rest) Shape ∷ []))
 
 issuer-named : (v : Value) (p : Principal) (name : Option (List ℕ)) → IssuerOf v p name → is_headed (codes "name") v ≡ is_some name
 issuer-named v p None read = principal-else (codes "name") v p read refl refl
@@ -96,8 +95,7 @@ item-cert v rest e = ap (λ (b : Bool). item_looked b (is_headed (codes "signatu
 
 pub item-signature : (v : Value) (rest : List Value) → v ≡ group (plain (codes "signature") ∷ rest) → item_fault v ≡ signature_fault v
 unfolding item_fault
-item-signature v rest e =
-    λ i. item_looked (headed-else (codes "signature") (codes "cert") v rest e refl i) (headed-by v (codes "signature") rest e i) (is_headed (codes "do") v) v
+item-signature v rest e = search (rules, headed-else, headed-by)
 
 pub item-do : (v : Value) (rest : List Value) → v ≡ group (plain (codes "do") ∷ rest) → item_fault v ≡ do_fault v
 unfolding item_fault

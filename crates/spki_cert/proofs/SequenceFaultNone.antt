@@ -1,5 +1,5 @@
 -- A value has no fault as an item or as a sequence exactly where it is one.
-use Rattle.std.proofs.Common.{◌≡◌, ℕ, ◌+◌, ◌⊎◌, inl, inr, List, [], ◌∷◌, Bool, true, false, ◌||◌, Option, Some, None, refl, sym, ap, subst, ◌∙◌}
+use Rattle.std.proofs.Common.{◌≡◌, ℕ, ◌+◌, ◌⊎◌, inl, inr, List, [], ◌∷◌, Bool, true, false, ◌||◌, Option, Some, None, refl, sym, ap, subst, ◌∙◌, rules}
 use Rattle.std.specs.Prelude.{codes, ◌↔◌, is_some, if◌then◌else◌}
 use Rattle.std.specs.List.{AllZip}
 use Rattle.sexpr_core.specs.Value.{Value, plain}
@@ -80,8 +80,7 @@ unsigned-read false false fault e = absurd (cc)
 unsigned-found : (signature operation : Bool) (fault : CertFault) → (operation ≡ true) ⊎ (signature ≡ true) → unsigned signature operation fault ≡ None
 unsigned-found true operation fault e = refl
 unsigned-found false true fault e = refl
-unsigned-found false false fault (inl e) = absurd (cc)
-unsigned-found false false fault (inr e) = absurd (cc)
+unsigned-found signature operation fault one = absurd (search rules)
 
 place-read : (waits : Option ℕ) (n : ℕ) (v : Value) → place_fault waits n v ≡ None → IsInPlace (is_some waits) v
 place-read None n v e = stray-read (is_headed (codes "signature") v) (record { item = n; kind = StraySignature }) e
@@ -92,11 +91,7 @@ place-found None n v place = ap (λ (b : Bool). stray b (record { item = n; kind
 place-found (Some k) n v place = unsigned-found (is_headed (codes "signature") v) (is_headed (codes "do") v) (record { item = k; kind = UnsignedCert }) place
 
 waits-same : (v : Value) (waits : Option ℕ) (n : ℕ) → is_some (waiting v waits n) ≡ waits_behind (is_some waits) v
-waits-same v waits n = by (is_headed (codes "cert") v) (is_headed (codes "signature") v)
-  where
-    by : (a b : Bool) → is_some (if a then Some n else (if b then None else waits)) ≡ (if a then true else (if b then false else is_some waits))
-    by false true = refl
-    by a b = refl
+waits-same v waits n = search rules
 
 abbrev SomeItems : Bool → List Value → Type 0
 SomeItems waits vs = (is : List SeqItem) × AllZip ItemOf vs is × AreInPlace waits vs × (waits_after waits vs ≡ false)
@@ -113,11 +108,10 @@ items-read waits n (v ∷ vs) e =
 
 items-found : (waits : Option ℕ) (n : ℕ) (vs : List Value) → SomeItems (is_some waits) vs → first_fault (items_looked waits n vs) ≡ None
 items-found None n [] some = refl
-items-found (Some k) n [] some = absurd (let f = some.3 in cc)
-items-found waits n (v ∷ vs) ([], zip, places, after) = absurd zip
 items-found waits n (v ∷ vs) (x ∷ xs, zip, places, after) =
     (λ i. first_fault (place-found waits n v places.0 i ∷ at_item n (item-faultless v x zip.0 i) ∷ items_looked (waiting v waits n) (n + 1) vs))
     ∙ items-found (waiting v waits n) (n + 1) vs (subst (λ (b : Bool). SomeItems b vs) (sym (waits-same v waits n)) (xs, zip.1, places.1, after))
+items-found waits n vs some = absurd (search rules)
 
 -- ---- sequences
 

@@ -68,8 +68,7 @@ subject-threshold v rest e = search (rules, headed-by)
 
 pub subject-keyholder : (v : Value) (rest : List Value) → IsNotHeaded v (codes "k-of-n") → v ≡ group (plain (codes "keyholder") ∷ rest) → subject_fault v ≡ Some Keyholder
 unfolding subject_fault
-subject-keyholder v rest other e =
-    λ i. subject_looked (not-headed (codes "k-of-n") v other i) (headed-by v (codes "keyholder") rest e i) (if is_headed (codes "name") v then names_fault (behind_head v) else principal_fault v)
+subject-keyholder v rest other e = search (rules, not-headed, headed-by)
 
 pub subject-principal : (v : Value) (found : Option CertFaultKind) → IsNotHeaded v (codes "k-of-n") → IsNotHeaded v (codes "keyholder") → IsNotHeaded v (codes "name")
     → principal_fault v ≡ found → subject_fault v ≡ found

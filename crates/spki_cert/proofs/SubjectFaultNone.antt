@@ -12,7 +12,7 @@ use Rattle.spki_cert.specs.declared.principal.Principal.TheVariants.{Key, Hash}
 use Rattle.spki_cert.specs.declared.entry.Subject.{Subject}
 use Rattle.spki_cert.specs.Subjects.{PrincipalOf, WhoOf, SubjectOf, IssuerOf, plains}
 use Rattle.spki_cert.specs.Fields.{is_headed, behind_head}
-use Rattle.spki_cert.specs.FixedFaults.{any_octets, key_fault, hash_fault}
+use Rattle.spki_cert.specs.FixedFaults.{key_fault, hash_fault}
 use Rattle.spki_cert.specs.SubjectFaults.{principal_fault, is_name, are_names, names_fault, subject_fault, is_relative, entry_subject_fault, issuer_name_fault, issuer_fault}
 use Rattle.spki_cert.specs.Inner.Gathering.{NamesWho}
 use Rattle.spki_cert.proofs.Groups.{behind-group}
@@ -86,9 +86,7 @@ names-read (v ∷ vs) e = by (is_name v) refl
 names-faultless : (vs : List Value) (p : Option Principal) (names : List (List ℕ)) → NamesWho vs p names → names_fault vs ≡ None
 unfolding names_fault
 names-faultless vs None names read = let all = plains-all read.1 in search rules
-names-faultless vs (Some p) names read =
-    let all = plains-all read.2 in let fine = principal-faultless read.0 p read.3 in let no_name = no-plain any_octets read.0
-    (principal-no_string read.0 p read.3) in search rules
+names-faultless vs (Some p) names read = search (rules, plains-all, principal-faultless, no-plain, principal-no_string)
 
 -- ---- subjects
 
@@ -169,8 +167,6 @@ name-read (sexpr.string None octets) e = (octets, refl)
 name-read v e = absurd (cc)
 
 issuer-named : (v : Value) (rest : List Value) → v ≡ group (plain (codes "name") ∷ rest) → issuer_name_fault rest ≡ None → SomeIssuer v
-issuer-named v [] e f = absurd (cc)
-issuer-named v (owner ∷ []) e f = absurd (let g = (none-found (principal_fault owner) _ f).1 in cc)
 issuer-named v (owner ∷ name ∷ []) e f =
     let looks = none-found (principal_fault owner) _ f in
     let named = none-found (unless (is_name name) Shape) _ looks.1 in
@@ -187,7 +183,7 @@ issuer-named v (owner ∷ name ∷ []) e f =
         written = e ∙ ap (λ (w : Value). group (plain (codes "name") ∷ owner ∷ w ∷ [])) word.1;
       },
     )
-issuer-named v (owner ∷ name ∷ other ∷ more) e f = search (rules, none-found)
+issuer-named v rest e f = search (rules, none-found)
 
 issuer-read : (v : Value) → issuer_fault v ≡ None → SomeIssuer v
 issuer-read v e = by (is_headed (codes "name") v) refl

@@ -1,5 +1,5 @@
 -- What is no principal, no subject and no issuer.
-use Rattle.std.proofs.Common.{◌≡◌, ℕ, List, [], ◌∷◌, ◌++◌, Option, Some, None, inl, inr, ap, sym, ◌∙◌, refl}
+use Rattle.std.proofs.Common.{◌≡◌, ℕ, List, [], ◌∷◌, ◌++◌, Option, Some, None, inl, inr, ap, refl, rules}
 use Rattle.std.specs.Prelude.{codes}
 use Rattle.sexpr_core.specs.Value.{Value, plain, group}
 use Rattle.sexpr_core.specs.Shapes.{IsNotHeaded}
@@ -26,30 +26,25 @@ name-is_no_principal v rest e (Hash alg digest) read = apart (codes "name") v _ 
 
 -- a string is no principal
 pub string-is_no_principal : (octets : List ℕ) → IsNoPrincipal (plain octets)
-string-is_no_principal octets (Key key) read = let f = read.written in absurd cc
-string-is_no_principal octets (Hash alg digest) read = let f = read.written in absurd cc
+string-is_no_principal octets p read = absurd (search rules)
 
 -- ---- subjects
 
 pub name-names_who : (v : Value) (rest : List Value) → v ≡ group (plain (codes "name") ∷ rest) → (p : Option Principal) (names : List (List ℕ)) → WhoOf v p names → NamesWho rest p names
 name-names_who v rest e None names read = (read.first, read.others, read.names_are, same_others v (codes "name") rest (plains names) e read.written)
 name-names_who v rest e (Some principal) names (inl read) = absurd (name-is_no_principal v rest e principal read.0)
-name-names_who v rest e (Some principal) names (inr read) =
-    (read.owner, read.first, read.others, read.owner_is, read.names_are, same_others v (codes "name") rest (read.owner ∷ plains names) e read.written)
+name-names_who v rest e (Some principal) names (inr read) = search (rules, same_others)
 
 pub name-who : (v : Value) (rest : List Value) → v ≡ group (plain (codes "name") ∷ rest) → (p : Option Principal) (names : List (List ℕ)) → NamesWho rest p names → WhoOf v p names
-name-who v rest e None names read =
-    record { first = read.0; others = read.1; names_are = read.2; written = e ∙ ap (λ (vs : List Value). group (plain (codes "name") ∷ vs)) read.3 }
-name-who v rest e (Some principal) names read =
-    inr (record { owner = read.0; owner_is = read.3; first = read.1; others = read.2; names_are = read.4; written = e ∙ ap (λ (vs : List Value). group (plain (codes "name") ∷ vs)) read.5 })
+name-who v rest e None names read = search rules
+name-who v rest e (Some principal) names read = search rules
 
 -- ---- what was read behind a principal
 
 pub principal-names : (vs : List Value) (owner : Value) (rest : List Value) (p : Principal) (all behind : List (List ℕ))
     → vs ≡ owner ∷ rest → PrincipalOf owner p → (rest ≡ [] → ⊥) → all ≡ [] ++ behind → rest ≡ plains behind → NamesWho vs (Some p) all
 principal-names vs owner rest p all [] e read some f g = absurd (some g)
-principal-names vs owner rest p all (first ∷ others) e read some f g =
-    (owner, first, others, read, f, e ∙ ap (λ (ws : List Value). owner ∷ ws) (g ∙ ap plains (sym f)))
+principal-names vs owner rest p all (first ∷ others) e read some f g = search rules
 
 -- ---- names in a row
 

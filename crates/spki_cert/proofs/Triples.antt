@@ -42,22 +42,8 @@ module _ {word : List ℕ} {fault_of first_of second_of : LooksAt} (triple : IsT
   triple-form v rest e = triple.looked v ∙ of-form (triple_looked first_of second_of) word v rest e
 
   three-of : (v : Value) (rest : List Value) → v ≡ group (plain word ∷ rest) → triple_looked first_of second_of true rest ≡ None → AreThree word first_of second_of v
-  three-of v [] e f = absurd (cc)
-  three-of v (first ∷ []) e f = absurd (let g = (none-found (first_of first) _ f).1 in cc)
-  three-of v (first ∷ second ∷ []) e f =
-      absurd (
-      let g = (none-found (first_of first) _ f).1 in
-      let h = (none-found (second_of second) _ g).1 in cc
-      )
-  three-of v (first ∷ second ∷ third ∷ []) e f =
-      let a = none-found (first_of first) _ f in
-      let b = none-found (second_of second) _ a.1 in
-      record { first = first; second = second; third = third; written = e; first_is = a.0; second_is = b.0 }
-  three-of v (first ∷ second ∷ third ∷ other ∷ more) e f =
-      absurd (
-      let g = (none-found (first_of first) _ f).1 in
-      let h = (none-found (second_of second) _ g).1 in cc
-      )
+  three-of v (first ∷ second ∷ third ∷ []) e f = search (rules, none-found)
+  three-of v rest e f = absurd (search (rules, none-found))
 
   pub triple-read : (v : Value) → fault_of v ≡ None → AreThree word first_of second_of v
   triple-read v e = search (rules, none-found, is-headed, unless-none, three-of, triple-form)

@@ -16,14 +16,12 @@ use Rattle.spki_cert.proofs.GivenLaws.{each-push, once-new, given-kept, given-fi
 pub first-limit : (v : Value) (rest : List Value) → v ≡ group (plain (codes "not-before") ∷ rest) → IsLimitField v → (date : List ℕ) × Sole DateOf rest date
 first-limit v rest e (word, behind, date, inl is, written, read) =
     (date, subst (λ (vs : List Value). Sole DateOf vs date) (same_others v (codes "not-before") behind rest (written ∙ ap (λ (w : List ℕ). group (plain w ∷ behind)) is) e) read)
-first-limit v rest e (word, behind, date, inr is, written, read) =
-    absurd (apart (codes "not-before") v _ _ e (written ∙ ap (λ (w : List ℕ). group (plain w ∷ behind)) is) refl refl)
+first-limit v rest e (word, behind, date, inr is, written, read) = absurd (search (rules, apart))
 
 pub last-limit : (v : Value) (rest : List Value) → v ≡ group (plain (codes "not-after") ∷ rest) → IsLimitField v → (date : List ℕ) × Sole DateOf rest date
 last-limit v rest e (word, behind, date, inr is, written, read) =
     (date, subst (λ (vs : List Value). Sole DateOf vs date) (same_others v (codes "not-after") behind rest (written ∙ ap (λ (w : List ℕ). group (plain w ∷ behind)) is) e) read)
-last-limit v rest e (word, behind, date, inl is, written, read) =
-    absurd (apart (codes "not-after") v _ _ e (written ∙ ap (λ (w : List ℕ). group (plain w ∷ behind)) is) refl refl)
+last-limit v rest e (word, behind, date, inl is, written, read) = absurd (search (rules, apart))
 
 -- ---- several limits
 
