@@ -71,13 +71,7 @@ hint_part room inside x s b =
 pub body_part : (room : ℕ) (as_token : Bool) (hint inside hint_text behind_hint behind x : List ℕ) → AreSpaces inside → Simple as_token hint_text hint
     → AreSpaces behind_hint → AreSpaces behind → Begins IsStringPart x
     → Begins (IsValuePart room) (91 ∷ (inside ++ (hint_text ++ (behind_hint ++ 93 ∷ (behind ++ x)))))
-body_part room as_token hint inside hint_text behind_hint behind x s m t u b =
-    let w : IsStringPart (x ++ b.rest) = b.whole in
-    record {
-      rest = b.rest;
-      whole = subst (IsValuePart room) (simp append_assoc refl)
-          (hinted_value room w.ends_token as_token hint w.octets inside hint_text behind_hint behind (x ++ b.rest) s m t u w.meant);
-    }
+body_part room as_token hint inside hint_text behind_hint behind x s m t u b = search (rules, append_assoc, hinted_value)
 
 pub list_part : (room less : ℕ) (x : List ℕ) → suc less ≤ room → Begins (IsMembersPart less) x → Begins (IsValuePart room) (40 ∷ x)
 list_part room less x le b =
@@ -155,21 +149,7 @@ first_part room ends first v (c ∷ cs) y m deep apart b =
 pub hinted_unclosed : (as_token : Bool) (hint inside hint_text behind_hint behind x : List ℕ) → AreSpaces inside → Simple as_token hint_text hint
     → AreSpaces behind_hint → AreSpaces behind → IsUnclosedString x
     → IsUnclosedHinted (91 ∷ (inside ++ (hint_text ++ (behind_hint ++ 93 ∷ (behind ++ x)))))
-hinted_unclosed as_token hint inside hint_text behind_hint behind x s m t u k = record {
-  as_token = as_token;
-  hint = hint;
-  inside = inside;
-  hint_text = hint_text;
-  behind_hint = behind_hint;
-  behind = behind;
-  last = x;
-  spelled = refl;
-  spaces_inside = s;
-  hint_meant = m;
-  spaces_behind_hint = t;
-  spaces_behind = u;
-  unclosed = k;
-}
+hinted_unclosed as_token hint inside hint_text behind_hint behind x s m t u k = search rules
 
 list_unclosed : (room less : ℕ) (x : List ℕ) → suc less ≤ room → AreUnclosedMembers less x → IsUnclosedValue room (40 ∷ x)
 list_unclosed room less x le u =
@@ -179,8 +159,7 @@ list_unclosed room less x le u =
 
 spaces_open : (U : List ℕ → Type 0) (vs : Values) (s x : List ℕ) → AreSpaces s → UnclosedMembers U vs x → UnclosedMembers U vs (s ++ x)
 spaces_open U none s x h u = (s ++ u.0, u.1, ap (λ t. s ++ t) u.2 ∙ sym (append_assoc s u.0 u.1), spaces_members s u.0 none h u.3, u.4)
-spaces_open U (more v vs) s x h u =
-    (s ++ u.0, u.1, u.2, u.3, ap (λ t. s ++ t) u.4 ∙ sym (append_assoc s u.0 (u.2 ++ u.3)), spaces_members s u.0 none h u.5, u.6, u.7, u.8)
+spaces_open U (more v vs) s x h u = search (rules, append_assoc s u.0 (u.2 ++ u.3), spaces_members s u.0 none h u.5)
 
 first_unclosed : (room : ℕ) (ends : Bool) (first : List ℕ) (v : Value) (x y : List ℕ) → SpellsAs ends first v → depth v ≤ room → IsApart ends (x ++ y)
     → AreUnclosedMembers room x → AreUnclosedMembers room (first ++ x)

@@ -1,7 +1,7 @@
 -- What is written of a value as it is read.
 use Rattle.std.proofs.Common.{◌≡◌, ℕ, suc, ◌+◌, ◌≤◌, ◌==◌, false, cond, List, [], ◌∷◌, ◌++◌, length, map, None, refl, sym, ap, subst, ◌∙◌, append_assoc, append-nil, arith, length-append, rules}
 use Rattle.std.proofs.lemmas.Bool.Decides.{nat_tests}
-use Rattle.sexpr_core.specs.Value.{Value, Values, string, list, values, canon, canons, IsWithinLimits}
+use Rattle.sexpr_core.specs.Value.{Value, Values, string, values, canon, canons, IsWithinLimits}
 use Rattle.sexpr_core.specs.Reading.{StandsAt}
 use Rattle.sexpr_core.specs.Spaces.{Skips}
 use Rattle.sexpr_text.specs.declared.converter.Form.{Form}
@@ -127,12 +127,5 @@ pub list_converted : (room less : ℕ) (text : List ℕ) (at to : ℕ) (form : F
     → opened ≡ old ++ 40 ∷ []
     → (vs : Values) × ReadsMembers less text (at + 1) vs to × (new ≡ opened ++ (written_all form 0 vs ++ 41 ∷ []))
     → IsConverted room text at form old new to
-list_converted room less text at to form old opened new stands le e p = (
-  list p.0,
-  list_read room less text at to p.0 stands le p.1,
-  p.2 ∙ ap (λ t. t ++ (written_all form 0 p.0 ++ 41 ∷ [])) e ∙ append_assoc old (40 ∷ []) (written_all form 0 p.0 ++ 41 ∷ []) ∙ ap (λ t. old ++ t) (whole form),
-)
-  where
-    whole : (f : Form) → 40 ∷ (written_all f 0 p.0 ++ 41 ∷ []) ≡ written f (list p.0)
-    whole Canonical = refl
-    whole Advanced = refl
+list_converted room less text at to form old opened new stands le e p =
+    search (rules, list_read room less text at to p.0 stands le p.1, append_assoc old (40 ∷ []) (written_all form 0 p.0 ++ 41 ∷ []))

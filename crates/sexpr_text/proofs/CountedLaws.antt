@@ -1,7 +1,7 @@
 -- A string with or without its length in front, as the reader meets it.
 use Rattle.std.proofs.Common.{◌≡◌, ◌≢◌, ℕ, zero, suc, ◌+◌, ◌≤◌, min, Bool, true, false, ◌⊎◌, inl, inr, List, [], ◌∷◌, ◌++◌, length, drop, refl, sym, ap, subst, ◌∙◌, append_assoc, length-append, length-drop, arith, rules}
 use Rattle.std.proofs.lemmas.Bool.Decides.{nat_tests}
-use Rattle.sexpr_core.specs.Value.{decimal, verbatim}
+use Rattle.sexpr_core.specs.Value.{decimal}
 use Rattle.sexpr_core.specs.Reading.{StandsAt}
 use Rattle.sexpr_core.proofs.Decimal.{IsDigit, AreDigits, AreDigits-decimal, decimal_zero, decimal_leads, decimal_same, decimal_starts}
 use Rattle.sexpr_core.proofs.Texts.{verbatim_is}
@@ -32,8 +32,7 @@ zero_once (suc n) d x y e =
     absurd (decimal_leads (suc n) s.rest (omega arith) (s.is ∙ ap (λ m. m ∷ s.rest) k))
 
 pub count_once : (w n d : ℕ) (x y : List ℕ) → (w ≡ 0) ⊎ Stops is_digit x → (IsDigit d → ⊥) → decimal w ++ x ≡ decimal n ++ d ∷ y → (w ≡ n) × (x ≡ d ∷ y)
-count_once w n d x y (inl z) other e =
-    let p = zero_once n d x y (ap (λ k. decimal k ++ x) (sym z) ∙ e) in (z ∙ p.0, p.1)
+count_once w n d x y (inl z) other e = search (rules, zero_once)
 count_once w n d x y (inr stops) other e =
     let p = one_front is_digit (decimal w) (decimal n) x (d ∷ y) (digits_pass (decimal w) (AreDigits-decimal w)) (digits_pass (decimal n) (AreDigits-decimal n)) stops (other_digit d other) e in
     (decimal_same w n p.0, p.1)
@@ -111,21 +110,7 @@ verbatim_fits text at first number to c a rest opens low r ends next n s =
 pub verbatim_string : (text : List ℕ) (at number to c end : ℕ) (octets : List ℕ) → ReadsCount text at number to → StandsAt text to c → c ≡ 58
     → ReadsOctets text (to + 1) number octets end → ReadsString text at octets end
 verbatim_string text at number to c end octets r next n o =
-    let w : r.written ≡ length octets = omega (arith, r.capped, o.few, o.counted) in
-    record {
-      stands = record {
-        ends_token = false;
-        spelling = verbatim octets;
-        spelled = r.spelled ∙ ap (λ k. decimal k ++ drop to text) w
-            ∙ ap (λ t. decimal (length octets) ++ t) (next.spelled ∙ ap (λ k. k ∷ drop (to + 1) text) n ∙ ap (λ t. 58 ∷ t) o.spelled)
-            ∙ sym (append_assoc (decimal (length octets)) (58 ∷ octets) (drop end text))
-            ∙ ap (λ t. t ++ drop end text) (sym (verbatim_is octets));
-        meant = inl refl;
-        apart = tt;
-      };
-      forward = omega (arith, r.forward, o.ordered);
-      within = o.within;
-    }
+    search (rules, append_assoc (decimal (length octets)) (58 ∷ octets) (drop end text), verbatim_is octets)
 
 pub octets_few : (text s a : List ℕ) (at to : ℕ) → IsMarked s a → drop at text ≡ s ++ drop to text → length a ≤ length text
 octets_few text s a at to m e = omega (arith, marked_few s a m, ap length e, length-append s (drop to text), length-drop at text)
@@ -170,30 +155,20 @@ pub marked_string : (text : List ℕ) (at end : ℕ) (octets : List ℕ) → Rea
 marked_string text at end octets m = search rules
 
 pub quoted_string : (text : List ℕ) (at end : ℕ) (octets : List ℕ) → Reads IsQuoted text at octets end → ReadsString text at octets end
-quoted_string text at end octets r =
-    marked_string text at end octets (record { spelling = r.spelling; spelled = r.spelled; meant = inl r.meant; forward = r.forward; within = r.within })
+quoted_string text at end octets r = search (rules, marked_string)
 
 pub nothing_stands : (text : List ℕ) (at : ℕ) (a rest : List ℕ) → StringAt text at a rest → drop at text ≡ [] → ⊥
 nothing_stands text at a rest s e = search (rules, simple_first)
 
 behind_none : (c d : ℕ) (cs ds t a rest : List ℕ) → (IsDigit c → ⊥) → IsBehind ds d t a → c ∷ cs ≡ ds ++ d ∷ (t ++ rest)
     → (s : List ℕ) × IsMarked s a × (c ∷ cs ≡ s ++ rest)
-behind_none c d cs ds t a rest other (inl b) e =
-    let n = decimal_starts (length a) in
-    let q : c ∷ cs ≡ n.digit ∷ (n.rest ++ d ∷ (t ++ rest)) = e ∙ ap (λ k. k ++ d ∷ (t ++ rest)) (b.1 ∙ n.is) in
-    let g : n.digit ≡ c = cc in
-    absurd (other (subst IsDigit g n.low))
+behind_none c d cs ds t a rest other (inl b) e = search (rules, decimal_starts (length a))
 behind_none c d cs ds t a rest other (inr (m, inl n, k)) e = (d ∷ t, k, e ∙ ap (λ u. u ++ d ∷ (t ++ rest)) n)
-behind_none c d cs ds t a rest other (inr (m, inr i, k)) e =
-    let n = decimal_starts (length a) in
-    let q : c ∷ cs ≡ n.digit ∷ (n.rest ++ d ∷ (t ++ rest)) = e ∙ ap (λ u. u ++ d ∷ (t ++ rest)) (i ∙ n.is) in
-    let g : n.digit ≡ c = cc in
-    absurd (other (subst IsDigit g n.low))
+behind_none c d cs ds t a rest other (inr (m, inr i, k)) e = search (rules, decimal_starts (length a))
 
 token_begins : (c : ℕ) (cs a rest : List ℕ) → IsToken a → is_token_octet c ≡ false → c ∷ cs ≡ a ++ rest → ⊥
 token_begins c cs [] rest h n e = absurd h
-token_begins c cs (x ∷ xs) rest h n e =
-    let q : c ≡ x = cc in let f : false ≡ true = sym n ∙ ap is_token_octet q ∙ h.1.0 in cc
+token_begins c cs (x ∷ xs) rest h n e = let q : c ≡ x = cc in cc (sym n ∙ ap is_token_octet q ∙ h.1.0)
 
 no_token_begins : (ends : Bool) (c : ℕ) (cs s a rest : List ℕ) → Simple ends s a → is_token_octet c ≡ false → c ∷ cs ≡ s ++ rest → Simple false s a
 no_token_begins true c cs s a rest h n e = absurd (token_begins c cs a rest h.1 n (e ∙ ap (λ t. t ++ rest) h.0))

@@ -51,8 +51,7 @@ letter_sorted : (e : ℕ) → e ≢ 120 → e ≢ 13 → e ≢ 10 → (48 ≤ e 
 letter_sorted e x r n o = grind (arith, nat_tests)
 
 escape_sorted : (e c : ℕ) → escape_value e ≡ Some c → escape_sort e ≡ 1
-escape_sorted e c h =
-    letter_sorted e (no_escape e c 120 h refl) (no_escape e c 13 h refl) (no_escape e c 10 h refl) (no_octal_escape e c h)
+escape_sorted e c h = search (rules, letter_sorted, no_escape, no_octal_escape)
 
 raw_sorted : (c : ℕ) (cs : List ℕ) → c ≢ 92 → text_sort (c ∷ cs) ≡ 0
 raw_sorted c cs h = let f : (c == 92) ≡ false = grind (arith, nat_tests) in rw f refl
@@ -109,8 +108,7 @@ pub record Left (x rest before all : List ℕ) : Type 0 where
 pub left_pieces : (ps qs : List Piece) (x rest : List ℕ) → ArePieces ps x → ArePieces qs (34 ∷ rest) → pieces_text ps ++ x ≡ pieces_text qs ++ 34 ∷ rest
     → Left x rest (pieces_octets ps) (pieces_octets qs)
 left_pieces [] qs x rest hp hq e = record { pieces = qs; spelled = e; right = hq; meant = refl }
-left_pieces (p ∷ ps) [] x rest hp hq e =
-    absurd (no_quote p (pieces_text ps ++ x) rest hp.0 (sym (append_assoc (piece_text p) (pieces_text ps) x) ∙ e))
+left_pieces (p ∷ ps) [] x rest hp hq e = absurd (search (rules, no_quote, append_assoc))
 left_pieces (p ∷ ps) (q ∷ qs) x rest hp hq e =
     let o = one_piece p q (pieces_text ps ++ x) (pieces_text qs ++ 34 ∷ rest) hp.0 hq.0
     (sym (append_assoc (piece_text p) (pieces_text ps) x) ∙ e ∙ append_assoc (piece_text q) (pieces_text qs) (34 ∷ rest)) in
@@ -120,8 +118,7 @@ left_pieces (p ∷ ps) (q ∷ qs) x rest hp hq e =
 -- at a quote no piece stands
 pub none_left : (ps : List Piece) (r rest : List ℕ) → ArePieces ps (34 ∷ rest) → 34 ∷ r ≡ pieces_text ps ++ 34 ∷ rest → (pieces_octets ps ≡ []) × (r ≡ rest)
 none_left [] r rest h e = (refl, cc)
-none_left (p ∷ ps) r rest h e =
-    absurd (no_quote p (pieces_text ps ++ 34 ∷ rest) r h.0 (sym (append_assoc (piece_text p) (pieces_text ps) (34 ∷ rest)) ∙ sym e))
+none_left (p ∷ ps) r rest h e = absurd (search (rules, no_quote, append_assoc))
 
 starts_followed : (d : ℕ) (t rest : List ℕ) → StartsOther d (t ++ 34 ∷ []) → StartsOther d (t ++ 34 ∷ rest)
 starts_followed d [] rest h = h

@@ -1,5 +1,5 @@
 -- A hexadecimal body, octet by octet.
-use Rattle.std.proofs.Common.{◌≡◌, ℕ, ◌+◌, ◌≤◌, true, Ok, Err, ◌⊎◌, inl, inr, List, [], ◌∷◌, ◌++◌, length, drop, refl, sym, ap, subst, ◌∙◌, append_assoc, arith}
+use Rattle.std.proofs.Common.{◌≡◌, ℕ, ◌+◌, ◌≤◌, true, Ok, Err, ◌⊎◌, inl, inr, List, [], ◌∷◌, ◌++◌, length, drop, refl, sym, ap, subst, ◌∙◌, append_assoc, arith, rules}
 use Rattle.hex.specs.declared.error.FromHexError.{FromHexError}
 use Rattle.hex.specs.declared.error.FromHexError.TheVariants.{OutOfMemory}
 use Rattle.hex.specs.Hex.{decode_of}
@@ -63,8 +63,7 @@ kept_end text at i kept body rest k ended all e =
 pub same_digits : (text : List ℕ) (at i : ℕ) (kept body rest : List ℕ) → Keeps text at kept i → StandsAt text i 35
     → Passes is_hexadecimal_octet body → drop at text ≡ body ++ 35 ∷ rest → kept ≡ visible body
 same_digits text at i kept body rest k closes all e =
-    let s = kept_stops text at i kept body rest k (subst (Stops is_hexadecimal_octet) (sym closes.spelled) refl) all e in
-    k.rest_is ∙ ap visible s.0
+    search (rules, kept_stops text at i kept body rest k (subst (Stops is_hexadecimal_octet) (sym closes.spelled) refl) all e)
 
 pub digits_refused : (text : List ℕ) (at i : ℕ) (kept s a rest : List ℕ) (error : FromHexError) (fault : FormFault) → StandsAt text at 35
     → Keeps text (at + 1) kept i → StandsAt text i 35 → IsHexadecimal s a → drop at text ≡ s ++ rest

@@ -219,11 +219,7 @@ uncounted_goes part (inr u) = inr (record { count = []; number = 0; marked = par
 
 cut_uncounted : (c : ℕ) (cs digits : List ℕ) (n mark : ℕ) (tail : List ℕ) → (IsDigit c → ⊥) → IsCount digits n → c ∷ cs ≡ digits ++ mark ∷ tail → c ∷ cs ≡ mark ∷ tail
 cut_uncounted c cs digits n mark tail other (inl k) e = e ∙ ap (λ t. t ++ mark ∷ tail) k
-cut_uncounted c cs digits n mark tail other (inr k) e =
-    let s = decimal_starts n in
-    let q : c ∷ cs ≡ s.digit ∷ (s.rest ++ mark ∷ tail) = e ∙ ap (λ t. t ++ mark ∷ tail) (k ∙ s.is) in
-    let g : s.digit ≡ c = cc in
-    absurd (other (subst IsDigit g s.low))
+cut_uncounted c cs digits n mark tail other (inr k) e = search (rules, decimal_starts n)
 
 pub uncounted_end : (text : List ℕ) (at c : ℕ) (fault : FormFault) → StandsAt text at c → (IsDigit c → ⊥) → IsPartEnd GoesMarked IsUnclosed text at fault
     → IsPartEnd GoesString IsUnclosedString text at fault

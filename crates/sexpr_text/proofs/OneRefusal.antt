@@ -1,19 +1,16 @@
 -- A text in advanced form has at most one refusal that speaks of its form.
-use Rattle.std.proofs.Common.{◌≡◌, ℕ, inl, List, [], take, sym, subst, append-nil}
+use Rattle.std.proofs.Common.{◌≡◌, ℕ, List, take, append-nil, rules}
 use Rattle.sexpr_core.specs.declared.fault.FormFault.{FormFault}
 use Rattle.sexpr_core.specs.declared.fault.FormFault.TheVariants.{TooDeep, Bad, Trailing}
 use Rattle.sexpr_core.specs.Value.{Value}
 use Rattle.sexpr_core.specs.Refusal.{IsOfForm}
 use Rattle.sexpr_text.specs.Spelling.{IsSpelledWithin}
-use Rattle.sexpr_text.specs.Refusal.{IsSpellingWithin, GoesOn, GoesOnWithin, RefusesSpelling}
+use Rattle.sexpr_text.specs.Refusal.{GoesOn, GoesOnWithin, RefusesSpelling}
 use Rattle.sexpr_core.proofs.OneFault.{goes_part, StopsThere, no_deep, AreApart, one_fault, no_fault}
 use Rattle.sexpr_text.proofs.Unfinished.{goes_front, goes_on_front, goes_anyhow}
 
 spelled_goes : (text : List ℕ) (v : Value) → IsSpelledWithin text v → GoesOnWithin 64 text
-spelled_goes text v w = inl (record {
-  rest = [];
-  whole = subst (IsSpellingWithin 64) (sym (append-nil text)) (record { value = v; spelled = w.spelling; fits = w.shallow });
-})
+spelled_goes text v w = search (rules, append-nil text)
 
 -- ---- the place at which nothing goes on
 

@@ -20,8 +20,7 @@ decimal_first n cs = let s = decimal_starts n in (s.digit, s.rest ++ cs, ap (λ 
 pub string_first : (count : List ℕ) (n mark : ℕ) (tail s : List ℕ) → IsCount count n → is_mark mark ≡ true → s ≡ count ++ mark ∷ tail
     → (c : ℕ) × (cs : List ℕ) × (s ≡ c ∷ cs) × (IsDigit c ⊎ (is_mark c ≡ true))
 string_first count n mark tail s (inl k) m e = (mark, tail, e ∙ ap (λ t. t ++ mark ∷ tail) k, inr m)
-string_first count n mark tail s (inr k) m e =
-    let f = decimal_first n (mark ∷ tail) in (f.0, f.1, e ∙ ap (λ t. t ++ mark ∷ tail) k ∙ f.2, inl f.3)
+string_first count n mark tail s (inr k) m e = search (rules, decimal_first n (mark ∷ tail))
 
 -- a string that is no token begins with a digit or an opening mark
 pub cut_first : (s a : List ℕ) → Simple false s a → (c : ℕ) × (cs : List ℕ) × (s ≡ c ∷ cs) × (IsDigit c ⊎ (is_mark c ≡ true))
@@ -72,10 +71,8 @@ cut s a (inr h) = search (rules, marked_first, count_digits, mark_no_digit)
 
 one_behind : (c d : ℕ) (ds es x a r y b q : List ℕ) → IsBehind ds c x a → IsBehind es d y b → ds ≡ es → c ≡ d → x ++ r ≡ y ++ q → (a ≡ b) × (r ≡ q)
 one_behind c d ds es x a r y b q (inl h) (inl k) e f g = search (rules, decimal_same, same_length)
-one_behind c d ds es x a r y b q (inl h) (inr k) e f g =
-    let t : is_mark 58 ≡ true = ap is_mark (sym h.0 ∙ f) ∙ k.0 in absurd cc
-one_behind c d ds es x a r y b q (inr h) (inl k) e f g =
-    let t : is_mark 58 ≡ true = ap is_mark (sym k.0 ∙ sym f) ∙ h.0 in absurd cc
+one_behind c d ds es x a r y b q (inl h) (inr k) e f g = search (rules, ap is_mark (sym h.0 ∙ f) ∙ k.0)
+one_behind c d ds es x a r y b q (inr h) (inl k) e f g = search (rules, ap is_mark (sym k.0 ∙ sym f) ∙ h.0)
 one_behind c d ds es x a r y b q (inr h) (inr k) e f g = one_marked (c ∷ x) r a (d ∷ y) q b h.2 k.2 cc
 
 one_cut : (s r a t q b : List ℕ) → Cut s a → Cut t b → s ++ r ≡ t ++ q → (a ≡ b) × (r ≡ q)
@@ -101,11 +98,7 @@ token_other c h k (inr m) = grind (arith, nat_tests)
 
 -- where a token begins, no other string does
 pub no_token : (c : ℕ) (cs t q b : List ℕ) → is_digit c ≡ false → is_token_octet c ≡ true → Simple false t b → c ∷ cs ≡ t ++ q → ⊥
-no_token c cs t q b h k l e =
-    let f = cut_first t b l in
-    let g : c ∷ cs ≡ f.0 ∷ (f.1 ++ q) = e ∙ ap (λ u. u ++ q) f.2 in
-    let i : f.0 ≡ c = cc in
-    token_other c h k (subst (λ n. IsDigit n ⊎ (is_mark n ≡ true)) i f.3)
+no_token c cs t q b h k l e = search (rules, cut_first t b l)
 
 token_apart : (a r t q b : List ℕ) → IsToken a → Simple false t b → a ++ r ≡ t ++ q → ⊥
 token_apart [] r t q b h l e = absurd h

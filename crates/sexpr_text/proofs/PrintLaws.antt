@@ -112,5 +112,4 @@ quoted_escaped c e = rw (sym e) refl
 
 pub hinted_whole : (atom : Atom) (hint : Vec ℕ Global) (hinted body : List ℕ) → atom.hint ≡ Some hint → hinted ≡ hint.items → body ≡ atom.body.items
     → (91 ∷ (printed_string hinted ++ 93 ∷ [])) ++ printed_string body ≡ adv (atom_value atom)
-hinted_whole atom hint hinted body is h b =
-    ap (λ s. 91 ∷ s) (append_assoc (printed_string hinted) (93 ∷ []) (printed_string body)) ∙ rw (h, b, is) refl
+hinted_whole atom hint hinted body is h b = search (rules, append_assoc (printed_string hinted) (93 ∷ []) (printed_string body))

@@ -21,8 +21,7 @@ pub second_octet : (text : List ℕ) (at a b : ℕ) (rest : List ℕ) → Stands
 second_octet text at a b rest h e = let k : a ∷ drop (at + 1) text ≡ b ∷ rest = sym h.spelled ∙ e in cc
 
 pub third_octet : (text : List ℕ) (at a b : ℕ) (rest : List ℕ) → StandsAt text (at + 1) a → drop (at + 1) text ≡ b ∷ rest → drop (at + 2) text ≡ rest
-third_octet text at a b rest h e =
-    let n : at + 1 + 1 ≡ at + 2 = omega arith in ap (λ i. drop i text) (sym n) ∙ second_octet text (at + 1) a b rest h e
+third_octet text at a b rest h e = search (rules, second_octet text (at + 1) a b rest h e)
 
 pub octal_behind : (text : List ℕ) (at a : ℕ) (xs : List ℕ) → StandsAt text at a → 92 ∷ drop at text ≡ xs → 92 ∷ a ∷ drop (at + 1) text ≡ xs
 octal_behind text at a xs h e = ap (λ t. 92 ∷ t) (sym h.spelled) ∙ e

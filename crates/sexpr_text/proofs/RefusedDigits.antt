@@ -1,5 +1,5 @@
 -- A hexadecimal string that is refused at an octet is refused so in each text that goes on up to it in the same way.
-use Rattle.std.proofs.Common.{◌≡◌, ℕ, ◌+◌, ◌≤◌, Err, ◌⊎◌, List, refl, sym, subst, arith}
+use Rattle.std.proofs.Common.{◌≡◌, ℕ, ◌+◌, ◌≤◌, Err, ◌⊎◌, List, refl, sym, subst, arith, rules}
 use Rattle.hex.specs.declared.error.FromHexError.{FromHexError}
 use Rattle.hex.specs.declared.error.FromHexError.TheVariants.{OutOfMemory}
 use Rattle.hex.specs.Hex.{decode_of}
@@ -16,14 +16,8 @@ use Rattle.sexpr_text.proofs.Marked.{behind_opening, hexadecimal_octets}
 use Rattle.sexpr_text.proofs.HexadecimalLaws.{kept_refused, digits_refused}
 
 keeps_too : (text other : List ℕ) (n at i : ℕ) (kept : List ℕ) → Agree text other n → i ≤ n + 1 → Keeps text at kept i → Keeps other at kept i
-keeps_too text other n at i kept a le k = record {
-  body = k.body;
-  octets = k.octets;
-  spelled = spelled_too text other n at i k.body a (omega (arith, k.ordered)) le k.spelled;
-  rest_is = k.rest_is;
-  ordered = k.ordered;
-  within = omega (arith, long_too text other n a);
-}
+keeps_too text other n at i kept a le k =
+    search (rules, spelled_too text other n at i k.body a (omega (arith, k.ordered)) le k.spelled, long_too text other n a)
 
 octet_stops : (text : List ℕ) (at i c : ℕ) (kept : List ℕ) → Keeps text at kept i → StandsAt text i c → (c ≡ 35 → ⊥) → IsNoHexadecimalOctet c i (Bad i)
     → StopsAt (DigitsStand at) text at i
@@ -36,8 +30,7 @@ octet_stops text at i c kept k stands apart is = stops_here (DigitsStand at) tex
 pub octet_refused : (text : List ℕ) (at i c : ℕ) (kept : List ℕ) (fault : FormFault) → Keeps text at kept i → StandsAt text i c → (c ≡ 35 → ⊥)
     → IsNoHexadecimalOctet c i fault → RefusesPart (DigitsStand at) text at fault
 octet_refused text at i c kept Short k stands apart is = tt
-octet_refused text at i c kept (Bad n) k stands apart is =
-    subst (λ m. StopsAt (DigitsStand at) text at m) (sym is.0) (octet_stops text at i c kept k stands apart (refl, is.1))
+octet_refused text at i c kept (Bad n) k stands apart is = search (rules, octet_stops text at i c kept k stands apart (refl, is.1))
 octet_refused text at i c kept Memory k stands apart is = tt
 octet_refused text at i c kept _ k stands apart is = is
 

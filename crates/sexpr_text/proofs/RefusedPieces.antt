@@ -72,8 +72,7 @@ letter_stops text at c stands r n x o none = stops_here (PieceStands (92 ∷ [])
 
 pub letter_refused : (text : List ℕ) (at c : ℕ) (fault : FormFault) → StandsAt text at c → c ≢ 13 → c ≢ 10 → c ≢ 120 → (48 ≤ c → c < 52 → ⊥) → IsNoLetter c at fault
     → RefusesPart (PieceStands (92 ∷ []) at) text at fault
-letter_refused text at c (Bad k) stands r n x o h =
-    subst (λ m. StopsAt (PieceStands (92 ∷ []) at) text at m) (sym h.0) (letter_stops text at c stands r n x o h.1)
+letter_refused text at c (Bad k) stands r n x o h = search (rules, letter_stops text at c stands r n x o h.1)
 letter_refused text at c Short stands r n x o h = tt
 letter_refused text at c _ stands r n x o h = h
 

@@ -1,5 +1,5 @@
 -- A string that is refused at an octet is refused so in each text that goes on up to it in the same way.
-use Rattle.std.proofs.Common.{◌≡◌, ◌≢◌, ℕ, ◌+◌, ◌-◌, ◌≤◌, true, false, ◌⊎◌, inl, inr, List, ◌∷◌, ◌++◌, length, drop, sym, ap, subst, ◌∙◌, arith}
+use Rattle.std.proofs.Common.{◌≡◌, ◌≢◌, ℕ, ◌+◌, ◌-◌, ◌≤◌, true, false, ◌⊎◌, inl, inr, List, ◌∷◌, ◌++◌, length, drop, sym, ap, ◌∙◌, arith, rules}
 use Rattle.std.proofs.lemmas.Bool.Decides.{nat_tests}
 use Rattle.sexpr_core.specs.declared.fault.FormFault.{FormFault}
 use Rattle.sexpr_core.specs.declared.fault.FormFault.TheVariants.{Bad}
@@ -29,28 +29,16 @@ short_refused T text at _ h = h
 -- ---- what was read of a text was read of the other
 
 pub marked_too : (text other : List ℕ) (n at to : ℕ) (octets : List ℕ) → Agree text other n → to ≤ n + 1 → Reads IsMarked text at octets to → Reads IsMarked other at octets to
-marked_too text other n at to octets a le r = record {
-  spelling = r.spelling;
-  spelled = spelled_too text other n at to r.spelling a (omega (arith, r.forward)) le r.spelled;
-  meant = r.meant;
-  forward = r.forward;
-  within = omega (arith, long_too text other n a);
-}
+marked_too text other n at to octets a le r =
+    search (rules, spelled_too text other n at to r.spelling a (omega (arith, r.forward)) le r.spelled, long_too text other n a)
 
 pub count_too : (text other : List ℕ) (n at number to : ℕ) → Agree text other n → to ≤ n + 1 → ReadsCount text at number to → ReadsCount other at number to
-count_too text other n at number to a le r = record {
-  written = r.written;
-  capped = r.capped;
-  spelled = spelled_too text other n at to (decimal r.written) a (omega (arith, r.forward)) le r.spelled;
-  forward = r.forward;
-  within = omega (arith, long_too text other n a);
-}
+count_too text other n at number to a le r =
+    search (rules, spelled_too text other n at to (decimal r.written) a (omega (arith, r.forward)) le r.spelled, long_too text other n a)
 
 pub ends_too : (text other : List ℕ) (n number to : ℕ) → Agree text other n → to ≤ n → (number ≡ 0) ⊎ Stops is_digit (drop to text) → (number ≡ 0) ⊎ Stops is_digit (drop to other)
 ends_too text other n number to a le (inl z) = inl z
-ends_too text other n number to a le (inr s) =
-    let h = same_head text other n to a le in
-    inr (subst (Stops is_digit) (sym h.second_is) (subst (Stops is_digit) h.first_is s))
+ends_too text other n number to a le (inr s) = search (rules, same_head text other n to a le)
 
 -- ---- between marks
 

@@ -35,8 +35,7 @@ begun_later G H text front at i to le e on b = search (rules, append_assoc)
 
 front_later : (G H : List ℕ → Type 0) (text front : List ℕ) (at i : ℕ) (fault : FormFault) → at ≤ i → drop at text ≡ front ++ drop i text
     → ((part y : List ℕ) → drop i text ≡ part ++ y → G part → H (front ++ part)) → IsFrontEnd G text i fault → IsFrontEnd H text at fault
-front_later G H text front at i Short le e on h =
-    begun_later G H text front at i (length text) le e (λ part q g. on part (drop (length text) text) q g) h
+front_later G H text front at i Short le e on h = search (rules, begun_later)
 front_later G H text front at i (Bad k) le e on h = begun_later G H text front at i k le e (λ part q g. on part (drop k text) q g) h
 front_later G H text front at i _ le e on h = h
 
@@ -50,8 +49,7 @@ end_later G H U V text front at i _ le e on stops h = h
 pub part_later : (G H U V : List ℕ → Type 0) (text front : List ℕ) (at i : ℕ) (fault : FormFault) → at ≤ i → drop at text ≡ front ++ drop i text
     → ((part : List ℕ) → G part → H (front ++ part)) → ((other : List ℕ) (n : ℕ) → Agree text other n → i ≤ n → V (drop at other) → U (drop i other))
     → IsPartEnd G U text i fault → IsPartEnd H V text at fault
-part_later G H U V text front at i fault le e on step h =
-    end_later G H U V text front at i fault le e on (λ k is s. stops_later (From V at) (From U i) text at i k le step s) h
+part_later G H U V text front at i fault le e on step h = search (rules, end_later, stops_later)
 
 -- ---- escapes
 
@@ -170,9 +168,7 @@ piece_open ps x (c ∷ cs) y h e g =
 
 pub quoted_short : (text : List ℕ) (at i : ℕ) (octets : List ℕ) → StandsAt text at 34 → ReadsPieces text (at + 1) octets i → drop i text ≡ []
     → Begun OpensQuoted text at (length text)
-quoted_short text at i octets opens r e =
-    let n : i ≡ length text = end_is text i e r.within in
-    search (rules, append-nil, pieces_open)
+quoted_short text at i octets opens r e = search (rules, append-nil, pieces_open, end_is text i e r.within)
 
 pub quoted_end : (text : List ℕ) (at i : ℕ) (octets : List ℕ) (fault : FormFault) → StandsAt text at 34 → ReadsPieces text (at + 1) octets i
     → IsFrontEnd (GoesPiece []) text i fault → IsFrontEnd OpensQuoted text at fault
@@ -197,15 +193,12 @@ other_marks m n x y e f = f (head_is m n x y e)
 -- which of the three isn't closed is seen in its opening mark
 pub quoted_is : (x : List ℕ) → IsUnclosed (34 ∷ x) → OpensQuoted (34 ∷ x)
 quoted_is x (inl h) = h
-quoted_is x (inr (inl h)) = absurd (other_marks 34 35 x h.body h.spelled (λ e. omega (arith, e)))
-quoted_is x (inr (inr h)) = absurd (other_marks 34 124 x h.body h.spelled (λ e. omega (arith, e)))
+quoted_is x u = search (rules, other_marks)
 
 pub digits_are : (x : List ℕ) → IsUnclosed (35 ∷ x) → AllByRecursion (λ d. is_hexadecimal_octet d ≡ true) x
-digits_are x (inl h) = absurd (other_marks 35 34 x h.body h.spelled (λ e. omega (arith, e)))
 digits_are x (inr (inl h)) = subst (AllByRecursion (λ d. is_hexadecimal_octet d ≡ true)) (sym (tail_is 35 35 x h.body h.spelled)) h.digits
-digits_are x (inr (inr h)) = absurd (other_marks 35 124 x h.body h.spelled (λ e. omega (arith, e)))
+digits_are x u = search (rules, other_marks)
 
 pub symbols_are : (x : List ℕ) → IsUnclosed (124 ∷ x) → AllByRecursion (λ d. is_body_octet d ≡ true) x
-symbols_are x (inl h) = absurd (other_marks 124 34 x h.body h.spelled (λ e. omega (arith, e)))
-symbols_are x (inr (inl h)) = absurd (other_marks 124 35 x h.body h.spelled (λ e. omega (arith, e)))
 symbols_are x (inr (inr h)) = subst (AllByRecursion (λ d. is_body_octet d ≡ true)) (sym (tail_is 124 124 x h.body h.spelled)) h.symbols
+symbols_are x u = search (rules, other_marks)

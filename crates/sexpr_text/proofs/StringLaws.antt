@@ -71,13 +71,11 @@ pieces_octets-append [] qs = refl
 pieces_octets-append (p ∷ ps) qs = ap (λ t. piece_octets p ++ t) (pieces_octets-append ps qs) ∙ sym (append_assoc (piece_octets p) (pieces_octets ps) (pieces_octets qs))
 
 pub last_text : (ps : List Piece) (p : Piece) (rest : List ℕ) → pieces_text (ps ++ p ∷ []) ++ rest ≡ pieces_text ps ++ (piece_text p ++ rest)
-last_text ps p rest =
-    ap (λ t. t ++ rest) (pieces_text-append ps (p ∷ []) ∙ ap (λ t. pieces_text ps ++ t) (append-nil (piece_text p))) ∙ append_assoc (pieces_text ps) (piece_text p) rest
+last_text ps p rest = search (rules, pieces_text-append ps (p ∷ []), append-nil (piece_text p), append_assoc (pieces_text ps) (piece_text p) rest)
 
 pub are_more : (ps : List Piece) (p : Piece) (x rest : List ℕ) → ArePieces ps x → x ≡ piece_text p ++ rest → IsPiece p rest → ArePieces (ps ++ p ∷ []) rest
 are_more [] p x rest h e right = (right, tt)
-are_more (q ∷ qs) p x rest h e right =
-    (subst (IsPiece q) (ap (λ t. pieces_text qs ++ t) e ∙ sym (last_text qs p rest)) h.0, are_more qs p x rest h.1 e right)
+are_more (q ∷ qs) p x rest h e right = search (rules, last_text qs p rest, are_more qs p x rest h.1 e right)
 
 starts_same : (d : ℕ) (t rest : List ℕ) → StartsOther d (t ++ 34 ∷ rest) → StartsOther d (t ++ 34 ∷ [])
 starts_same d [] rest h = h

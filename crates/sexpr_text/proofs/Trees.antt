@@ -35,12 +35,8 @@ no_value room text at v rest e h = search (rules, value_first)
 -- a value that begins with neither an opening parenthesis nor an opening bracket is a string without hint
 pub string_at : (room : ℕ) (text : List ℕ) (at c : ℕ) (v : Value) (rest : List ℕ) → StandsAt text at c → (c ≡ 40 → ⊥) → (c ≡ 91 → ⊥) → ValueAt room text at v rest
     → (octets : List ℕ) × StringAt text at octets rest
-string_at room text at c (string None octets) rest stands group hinted h =
-    (octets, record { ends_token = h.ends_token; spelling = h.spelling; spelled = h.spelled; meant = h.meant; apart = h.apart })
-string_at room text at c (string (Some hint) octets) rest stands group hinted h =
-    absurd (hinted (octet_is text at c 91 _ stands (h.spelled ∙ hinted_text h.ends_token h.spelling hint octets rest h.meant)))
-string_at room text at c (list vs) rest stands group hinted h =
-    absurd (group (octet_is text at c 40 _ stands (h.spelled ∙ list_text h.spelling h.meant.0 rest h.meant.2)))
+string_at room text at c (string None octets) rest stands group hinted h = search rules
+string_at room text at c v rest stands group hinted h = absurd (search (rules, octet_is, hinted_text, list_text))
 
 -- what was read is the value that stands there
 pub same_value : (room most : ℕ) (text : List ℕ) (at to : ℕ) (v w : Value) (rest : List ℕ) → ReadsValue room text at v to → ValueAt most text at w rest
@@ -52,8 +48,7 @@ same_value room most text at to v w rest r h = search (rules, one_spelling)
 -- behind an opening parenthesis stand the members of a list
 pub inside_list : (room less : ℕ) (text : List ℕ) (at : ℕ) (v : Value) (rest : List ℕ) → StandsAt text at 40 → room ≤ suc less → ValueAt room text at v rest
     → (vs : Values) × (0 < room) × MembersAt less text (at + 1) vs rest
-inside_list room less text at (string None octets) rest stands le h =
-    absurd (simple_differs h.ends_token h.spelling octets rest (drop (at + 1) text) 40 h.meant refl (sym h.spelled ∙ stands.spelled))
+inside_list room less text at (string None octets) rest stands le h = absurd (search (rules, simple_differs))
 inside_list room less text at (string (Some hint) octets) rest stands le h = search (rules, octet_is, hinted_text)
 inside_list room less text at (list vs) rest stands le h = search (rules, list_text)
 
@@ -74,8 +69,7 @@ list_read room less text at to vs stands le r = record {
 
 pub tree_read : (room less : ℕ) (text : List ℕ) (at to : ℕ) (ms : Vec Sexp Global) → StandsAt text at 40 → suc less ≤ room
     → ReadsMembers less text (at + 1) (values (map sexp_value ms.items)) to → ReadsValue room text at (sexp_value (Branch ms)) to
-tree_read room less text at to ms stands le r =
-    subst (λ v. ReadsValue room text at v to) (sym (sexp_list ms)) (list_read room less text at to (values (map sexp_value ms.items)) stands le r)
+tree_read room less text at to ms stands le r = search (rules, sexp_list, list_read)
 
 -- ---- members
 
@@ -96,8 +90,7 @@ members_before room text at to vs rest s h = grind (arith, append_assoc, spaces_
 
 members_behind : (room : ℕ) (text : List ℕ) (at to : ℕ) (vs : Values) (rest : List ℕ) → Skips text at to → MembersAt room text at vs rest → MembersAt room text to vs rest
 members_behind room text at to none rest s h =
-    let p = one_end s.spaces h.inside (drop to text) (41 ∷ rest) s.are_spaces h.meant s.ends refl (sym s.spelled ∙ h.spelled) in
-    record { inside = []; spelled = p.1; meant = tt; fits = h.fits }
+    search (rules, one_end s.spaces h.inside (drop to text) (41 ∷ rest) s.are_spaces h.meant s.ends refl (sym s.spelled ∙ h.spelled))
 members_behind room text at to (more v vs) rest s h =
     let m = h.meant in
     let p = one_end s.spaces m.0 (drop to text) (m.2 ++ (m.3 ++ 41 ∷ rest)) s.are_spaces m.5 s.ends (value_visible m.1 m.2 _ v m.6)
@@ -203,16 +196,14 @@ past_value room most text at to v r visible u = value_gone u.items u.unclosed u.
 -- a value and the whitespace behind it
 value_text : (room : ℕ) (text : List ℕ) (at to next : ℕ) (v : Value) → (r : ReadsValue room text at v to) → (s : Skips text to next)
     → drop at text ≡ (r.stands.spelling ++ s.spaces) ++ drop next text
-value_text room text at to next v r s =
-    r.stands.spelled ∙ ap (λ t. r.stands.spelling ++ t) s.spelled ∙ sym (append_assoc r.stands.spelling s.spaces (drop next text))
+value_text room text at to next v r s = search (rules, append_assoc r.stands.spelling s.spaces (drop next text))
 
 value_onward : (room most : ℕ) (text : List ℕ) (at to next : ℕ) (v : Value) (x y : List ℕ) → (r : ReadsValue room text at v to) → (s : Skips text to next) → room ≤ most
     → drop next text ≡ x ++ y → GoesMembers most x → GoesMembers most ((r.stands.spelling ++ s.spaces) ++ x)
 value_onward room most text at to next v x y r s le e g = grind (arith, append_assoc, goes_first, goes_spaces)
 
 pub visible_too : (text other : List ℕ) (n i : ℕ) → Agree text other n → i ≤ n → StartsVisible (drop i text) → StartsVisible (drop i other)
-visible_too text other n i a le v =
-    let h = same_head text other n i a le in subst StartsVisible (sym h.second_is) (subst StartsVisible h.first_is v)
+visible_too text other n i a le v = search (rules, same_head text other n i a le)
 
 pub no_members : (room : ℕ) (text : List ℕ) (at i : ℕ) → Skips text at i → HasMembers room text at i none
 no_members room text at i s = record {
@@ -268,12 +259,7 @@ more_members f xs new x room text at i c to next h stands other r e s =
     }
 
 pub members_end : (room : ℕ) (text : List ℕ) (at i c : ℕ) (vs : Values) → HasMembers room text at i vs → StandsAt text i c → c ≡ 41 → ReadsMembers room text at vs (i + 1)
-members_end room text at i c vs h stands e = record {
-  stands = subst (λ us. MembersAt room text at us (drop (i + 1) text)) (join-none vs)
-      (h.sound none (drop (i + 1) text) (record { inside = []; spelled = stands.spelled ∙ ap (λ k. k ∷ drop (i + 1) text) e; meant = tt; fits = omega arith }));
-  forward = omega (arith, h.ordered);
-  within = omega (arith, stands.within);
-}
+members_end room text at i c vs h stands e = search (rules, join-none vs)
 
 pub member_at : (room : ℕ) (text : List ℕ) (at i c : ℕ) (vs ws : Values) (rest : List ℕ) → HasMembers room text at i vs → StandsAt text i c → (c ≡ 41 → ⊥)
     → MembersAt room text at ws rest → FilledAt room text i rest

@@ -39,8 +39,7 @@ ends_later : (room less : ℕ) (G H U V W X : ℕ → List ℕ → Type 0) (text
     → ((k : ℕ) → fault ≡ Bad k → i ≤ k → StopsAt (From (Anywhere U) i) text i k → StopsAt (From (Anywhere V) at) text at k)
     → IsValueEnd less G X U text i fault → IsValueEnd room H W V text at fault
 ends_later room less G H U V W X text front at i TooDeep le e on deep stops any h = search (rules, begun_later)
-ends_later room less G H U V W X text front at i Short le e on deep stops any h =
-    begun_later (G less) (H room) text front at i (length text) le e (λ part q g. on part (drop (length text) text) q g) h
+ends_later room less G H U V W X text front at i Short le e on deep stops any h = search (rules, begun_later)
 ends_later room less G H U V W X text front at i (Bad k) le e on deep stops any h = search (rules, begun_later)
 ends_later room less G H U V W X text front at i _ le e on deep stops any h = h
 
@@ -49,9 +48,7 @@ ends_later room less G H U V W X text front at i _ le e on deep stops any h = h
 -- what isn't closed and begins with neither parenthesis nor bracket is a string without hint
 string_open : (text : List ℕ) (at c : ℕ) → StandsAt text at c → (c ≡ 40 → ⊥) → (c ≡ 91 → ⊥) → (lists : List Values) → UnclosedValue lists (drop at text) → IsUnclosedString (drop at text)
 string_open text at c s group hinted [] (inl u) = u
-string_open text at c s group hinted [] (inr (inl u)) = absurd (hinted (head_is c 91 (drop (at + 1) text) _ (sym s.spelled ∙ u.spelled)))
-string_open text at c s group hinted [] (inr (inr u)) = absurd (hinted (head_is c 91 (drop (at + 1) text) _ (sym s.spelled ∙ u.spelled)))
-string_open text at c s group hinted (vs ∷ inner) u = absurd (group (head_is c 40 (drop (at + 1) text) u.0 (sym s.spelled ∙ u.1)))
+string_open text at c s group hinted lists u = search (rules, head_is)
 
 pub none_value : (room : ℕ) → GoesValue room []
 none_value room = goes_string room [] none_string

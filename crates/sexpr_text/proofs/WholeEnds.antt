@@ -31,8 +31,7 @@ use Rattle.sexpr_text.proofs.UnclosedLaws.{unclosed_value, unclosed_value_visibl
 -- ---- what goes on
 
 text_is : (text : List ℕ) (begin to : ℕ) (s : Skips text 0 begin) (part : List ℕ) → drop begin text ≡ part ++ drop to text → to ≤ length text → take to text ≡ s.spaces ++ part
-text_is text begin to s part e le =
-    front_is text (s.spaces ++ part) to (s.spelled ∙ ap (λ t. s.spaces ++ t) e ∙ sym (append_assoc s.spaces part (drop to text))) le
+text_is text begin to s part e le = search (rules, front_is, append_assoc)
 
 goes_whole : (room : ℕ) (text : List ℕ) (begin to : ℕ) → Skips text 0 begin → Begun (GoesValue room) text begin to → GoesOnWithin room (take to text)
 goes_whole room text begin to s b = subst (GoesOnWithin room) (sym (text_is text begin to s b.part b.spelled b.within)) (goes s.spaces b.part s.are_spaces b.goes)
@@ -156,10 +155,8 @@ value_refused text begin TooDeep s h b only whole = (
     | inr u ↦ unclosed_stops (IsUnclosedValue 64) 64 text begin b.place s (λ x k. k) b.none_open u
   ],
 )
-value_refused text begin Short s h b only whole = (
-  subst (GoesOnWithin 64) (take_all (length text) text (omega arith)) (goes_whole 64 text begin (length text) s b),
-  λ v w. let e : Short ≡ Memory = whole v w in cc,
-)
+value_refused text begin Short s h b only whole =
+    search (rules, take_all (length text) text (omega arith), goes_whole 64 text begin (length text) s b)
 value_refused text begin (Bad k) s h b only whole =
     let c = stands_there text k h.within in (
       h.within,

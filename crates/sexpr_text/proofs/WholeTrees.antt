@@ -27,8 +27,7 @@ pub record HintedAt (text : List ℕ) (at : ℕ) (rest : List ℕ) : Type 0 wher
   pub spelled : drop at text ≡ 91 ∷ (meant.inside ++ (meant.hint_text ++ (meant.behind_hint ++ 93 ∷ (meant.behind ++ (meant.octets_text ++ rest)))))
 
 pub hinted_at : (room : ℕ) (text : List ℕ) (at : ℕ) (v : Value) (rest : List ℕ) → StandsAt text at 91 → ValueAt room text at v rest → HintedAt text at rest
-hinted_at room text at (string None octets) rest stands h =
-    absurd (simple_differs h.ends_token h.spelling octets rest (drop (at + 1) text) 91 h.meant refl (sym h.spelled ∙ stands.spelled))
+hinted_at room text at (string None octets) rest stands h = absurd (search (rules, simple_differs))
 hinted_at room text at (string (Some hint) octets) rest stands h = record {
   ends_token = h.ends_token;
   spelling = h.spelling;
@@ -108,9 +107,7 @@ pub spelled_at : (text : List ℕ) (begin : ℕ) (v : Value) → Skips text 0 be
 spelled_at text begin v s m = search (rules, one_end, value_visible, spaces_apart)
 
 pub whole_at : (text : List ℕ) (begin : ℕ) (v : Value) → Skips text 0 begin → (w : IsSpelledWithin text v) → ValueAt 64 text begin v w.spelling.after
-whole_at text begin v s w =
-    let h = spelled_at text begin v s w.spelling in
-    record { ends_token = h.ends_token; spelling = h.spelling; spelled = h.spelled; meant = h.meant; apart = h.apart; fits = w.shallow }
+whole_at text begin v s w = search (rules, spelled_at text begin v s w.spelling)
 
 -- the octets up to an offset, where a value and whitespace stand
 pub front_read : (text : List ℕ) (begin to k : ℕ) (v : Value) → length text ≤ 1048576 → Skips text 0 begin → ReadsValue 64 text begin v to → Skips text to k
