@@ -56,7 +56,7 @@ MOST = {"10,000 keys, no certificate": 1.5, "10,000 keys, three certificates": 1
         "three caveats, opened before": 0.05, "by the digests": 5.0, "Rust": 1.02, "Python, µs more": 12.0,
         "memory of an opened question by its octets": 70.0,
         "opening a question of 1 MiB, ms": 500.0, "a decision, ms": 100.0, "a decision, MiB": 16.0, "a decision by default, ms": 100.0,
-        "an explanation or a reduction, ms": 200.0, "an explanation or a reduction, MiB": 16.0, "a reduction of short entries, MiB": 28.0,
+        "an explanation or a reduction, ms": 200.0, "an explanation or a reduction, MiB": 16.0,
         "waits of 1,000 decisions": 1.0}
 LEAST = {"threads": 3.5}
 # What the library's statuses say.
@@ -307,14 +307,11 @@ def key_of_lists(entries, lists):
     return case([entry(issuer)] * entries, [(certificate(issuer, subject), issuer)], asks=subject)
 
 
-def short_entries(driver):
-    """The MiB of the reduction that takes most of all known: a list of 1 MiB with as many entries as can be. What each becomes is kept until all
-    are judged."""
+def short_entries():
+    """A list of 1 MiB with as many entries as can be."""
     asker = group(string("public-key"), group(string("a")))
     listed = group(string("entry"), asker, group(string("tag"), string("a")))
-    text = case([listed] * ((MOST_OCTETS - len(group(string("acl")))) // len(listed)), [], asks=asker)
-    *_, mebibytes = driver.run("widest", "reduce", driver.question("short", text))
-    yield "a reduction of short entries, MiB", mebibytes
+    return case([listed] * ((MOST_OCTETS - len(group(string("acl")))) // len(listed)), [], asks=asker)
 
 
 def lists_in_lists(entries, depth):
@@ -358,7 +355,7 @@ def widest(driver):
     texts += [(f"large tags: {what}", text) for what, text in large_tags()]
     texts += [("a string 1,000 times, 60 entries", equal_strings(60, 1_000)), ("a string 9,801 times", equal_strings(1, 99, 99)),
               ("10 lists in one another, 9,500 entries", lists_in_lists(9_500, 10)),
-              ("a key of 4,000 lists, 12,300 entries", key_of_lists(12_300, 4_000))]
+              ("a key of 4,000 lists, 12,300 entries", key_of_lists(12_300, 4_000)), ("the shortest entries", short_entries())]
     met = [one_question(driver, what, text) for what, text in texts]
     yield "a decision, ms", max(each["decide"][0] for each in met)
     yield "a decision, MiB", max(each["decide"][1] for each in met)
@@ -459,7 +456,7 @@ def main():
     library = os.path.abspath(sys.argv[1] if len(sys.argv) > 1 else LIBRARY)
     with tempfile.TemporaryDirectory() as room:
         driver = Driver(room, library)
-        parts = (by_instructions, through_python, opening_of_widest, by_default, widest, short_entries, threads)
+        parts = (by_instructions, through_python, opening_of_widest, by_default, widest, threads)
         met = [each for part in parts for each in part(driver)]
     if not all([is_kept(*each) for each in met]):
         sys.exit(1)

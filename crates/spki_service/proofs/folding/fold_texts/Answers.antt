@@ -25,8 +25,8 @@ loop-place-preserved g c =
       folds ++ c.in_ok-fold.fold ∷ [],
       c.in_ok-put.ensures c.args.sink.now folds taken (omega (arith, numbered)),
       folded c.args.texts.now (model c.args.case.now) (tuples_of c.args.steps.now) c.loop-place.place c.index-texts-place.result
-      c.loop-place-test.true c.in_ok-entry.entry (λ f is. c.in_ok-entry.ensures f (rw same is)) (left_of c.loop-place.work) folds before
-      c.in_ok-fold.fold (left_of c.entry_fold.new.work) told.worked.0 told.exact told.dated told.end told.within_limit told.worked.1 told.worked.2,
+          c.loop-place-test.true c.in_ok-entry.entry (λ f is. c.in_ok-entry.ensures f (rw same is)) (left_of c.loop-place.work) folds before
+          c.in_ok-fold.fold (left_of c.entry_fold.new.work) told.worked.0 told.exact told.dated told.end told.within_limit told.worked.1 told.worked.2,
     )
 
 pub returns-clause-folds : goal.returns-clause-folds

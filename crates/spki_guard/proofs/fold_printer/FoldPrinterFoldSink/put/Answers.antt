@@ -17,11 +17,11 @@ returns c start folds taken numbered unused =
     let done : c.if-self.self ≡ (c.args.self.now.some_done || is_done c.args.fold) =
     elim c.if-self.branch [ then-self w ↦ search rules | else-self w ↦ search rules ] in
     elim c.match-append_line.branch [
-      in-Ok w ↦
-      let (line, is, text, sum) = rw w.in-Ok.is at c.append_line.ensures.line in
-      rw w.self-is (printed start.room folds c.args.fold c.args.entry numbered c.args.self.now _ (taken unused) line is refl done c.if-self-2.false
-      c.if-self-2.false text sum)
+      | in-Ok w ↦
+          let (line, is, text, sum) = rw w.in-Ok.is at c.append_line.ensures.line in
+          rw w.self-is (printed start.room folds c.args.fold c.args.entry numbered c.args.self.now _ (taken unused) line is refl done c.if-self-2.false
+          c.if-self-2.false text sum)
       | in-Err-TooLarge w ↦
-      let (line, is, less) = c.append_line.ensures.large (search rules) in
-      rw w.self-is (longer start.room folds c.args.fold c.args.entry numbered c.args.self.now _ (taken unused) line is refl done c.if-self-2.false refl less)
+          let (line, is, less) = c.append_line.ensures.large (search rules) in
+          rw w.self-is (longer start.room folds c.args.fold c.args.entry numbered c.args.self.now _ (taken unused) line is refl done c.if-self-2.false refl less)
     ]
