@@ -14,6 +14,7 @@
  * service answer CASE CALLS     CALLS decisions of a case, each from its text */
 #define _GNU_SOURCE
 #include "question.h"
+#include <malloc.h>
 #include <pthread.h>
 #include <stdatomic.h>
 #include <stdbool.h>
@@ -86,9 +87,10 @@ static long memory(const char *name)
     return found;
 }
 
-/* Lets the kernel count the most memory anew. */
+/* Gives back what is free, so that it counts when it is taken again, and lets the kernel count the most memory anew. */
 static void forget_peak(void)
 {
+    malloc_trim(0);
     FILE *file = fopen("/proc/self/clear_refs", "w");
     if (file) {
         fputs("5", file);

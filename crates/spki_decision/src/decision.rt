@@ -2,7 +2,6 @@
 
 ghost use Rattle.std.specs.Prelude.{IfOk, IsErrOf};
 ghost use Rattle.spki_case.specs.View.{model};
-ghost use Rattle.spki_decision.specs.Views.{with_entries};
 ghost use Rattle.spki_reduce.specs.Tuples.{five};
 ghost use Rattle.spki_reduce.specs.Chain.{tuples_of, TooLargeAt};
 ghost use Rattle.spki_reduce.specs.Views.{entry_tuple};
@@ -19,7 +18,7 @@ use crate::sizes::Sizes;
 use spki_case::{Case, Verifier};
 use spki_cert::Entry;
 use spki_reduce::{ReduceFault, Step, Work};
-use std::alloc::{AllocError, Global};
+use std::alloc::Global;
 
 /// The answer of a case's access list.
 #[derive(Clone, Copy, Debug, PartialEq, Eq)]
@@ -49,30 +48,6 @@ pub fn decide<V: Verifier>(alloc: Global, case: &Case, verifier: &V) -> Result<D
         Evidence::Fails { .. } => Ok(Decision::No),
         Evidence::Verified(steps) => first_within_limit(alloc, case, &steps),
     }
-}
-
-/// Returns the first entry of an access list, from 1, that grants the request of a case together with the certificates
-/// whose tuples are `steps`. `No` if there is none. The case's own access list is not examined. No intersection is
-/// formed, and the case's limit of nodes does not matter. This takes time in proportion to the steps and the entries.
-///
-/// # Errors
-///
-/// `AllocError` if memory ran out.
-pub fn first_granted<'a>(
-    alloc: Global,
-    acl: &[Entry<'a>],
-    case: &Case<'a>,
-    steps: &[Step<'a>],
-) -> Result<Decision, AllocError>
-    ensures { IfOk result (Names (with_entries (model case.now) acl.now) (tuples_of steps.now)) }
-{
-    let membership = Membership::of(alloc, case, steps)?;
-    for (place, entry) in acl.iter().enumerate() {
-        if membership.grants(entry, case) {
-            return Ok(Decision::Yes(place + 1));
-        }
-    }
-    Ok(Decision::No)
 }
 
 /// The first entry, from 1, of a case's access list that grants the request with certificates whose tuples are `steps`.

@@ -87,12 +87,9 @@ pub fn explain<V: Verifier>(
 }
 
 /// Returns for each entry of an access list why it and the certificates of the case grant the request or do not.
-/// `steps` are the tuples of all certificates, in order. The case's own access list is not examined.
-///
-/// # Errors
-///
-/// Those of `explain`.
-pub fn entry_reasons<'a>(
+/// `steps` are the tuples of all certificates, in order. The case's own access list is not examined. Err is `TooLarge` or `Memory`,
+/// as for `explain`.
+fn entry_reasons<'a>(
     alloc: Global,
     acl: &[Entry<'a>],
     case: &Case<'a>,
@@ -116,9 +113,13 @@ pub fn entry_reasons<'a>(
     Ok(reasons)
 }
 
-/// Returns why an entry and the certificates `shown` of the case, with the tuples `steps`, grant the request or do not.
-/// The products of intersected nodes are taken from `work`. Err is `TooLarge` or `Memory`.
-fn entry_reason<'a>(
+/// Returns why an entry and the certificates of the case grant the request or do not. These are `shown`, with the tuples
+/// `steps`. The products of intersected nodes are taken from `work`.
+///
+/// # Errors
+///
+/// Those of `entry_fold`.
+pub fn entry_reason<'a>(
     alloc: Global,
     case: &Case<'a>,
     entry: &Entry<'a>,

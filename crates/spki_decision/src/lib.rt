@@ -19,11 +19,12 @@ mod signed;
 mod sizes;
 
 pub use certificates::{Certificate, ShownCert, certificates_of};
-pub use decision::{Decision, decide, first_granted};
+pub use decision::{Decision, decide};
 pub use evidence::{Evidence, Stop, first_refused, judge};
 pub use examination::{Examined, examine};
-pub use explanation::{Explanation, Reason, entry_reasons, explain};
+pub use explanation::{Explanation, Reason, entry_reason, explain};
 pub use fault::GuardFault;
+pub use membership::Membership;
 pub use named_key::{first_named, keys_of};
 pub use reduction::{EntryFold, Reduction, entry_fold, reduce_case};
 pub use signed::Signed;

@@ -21,7 +21,7 @@ use std::alloc::{AllocError, Global};
 
 /// What certificates require of an entry, so that both grant what a case asks.
 #[derive(Drop)]
-pub(crate) struct Membership<'a> {
+pub struct Membership<'a> {
     /// The subject that the entry must have. None if no entry is granted with these certificates.
     pub(crate) required: Option<RequiredSubject<'a>>,
 }
@@ -32,7 +32,7 @@ impl<'a> Membership<'a> {
     /// # Errors
     ///
     /// `AllocError` if memory ran out.
-    pub(crate) fn of(
+    pub fn of(
         alloc: Global,
         case: &Case<'a>,
         steps: &[Step<'a>],
@@ -48,7 +48,7 @@ impl<'a> Membership<'a> {
     }
 
     /// Whether an entry and the certificates grant what this case asks, in time in proportion to the entry. Allocates nothing.
-    pub(crate) fn grants(&self, entry: &Entry, case: &Case) -> bool
+    pub fn grants(&self, entry: &Entry, case: &Case) -> bool
         ensures { (tuples : List Tuple) → IsMembership (model case.now) tuples self.now
             → IsTrue result ↔ Supported (model case.now) tuples entry.now }
     {

@@ -1,7 +1,6 @@
 -- What the entries that are found decide.
-use Rattle.std.proofs.Common.{◌≡◌, ℕ, ◌-◌, ◌<◌, Bool, true, false, List, Option, Some, None, map, length, get_or, slice_get, sym, ap, ◌∙◌, subst, arith, rules}
-use Rattle.std.proofs.lemmas.List.{length-map}
-use Rattle.std.proofs.lemmas.Option.{slice_get_within, slice_get-get_or}
+use Rattle.std.proofs.Common.{◌≡◌, ℕ, ◌-◌, Bool, true, false, List, Option, Some, None, Result, Ok, Err, IfOk, map, length, slice_get, sym, ◌∙◌, subst, arith}
+use Rattle.std.specs.declared.alloc.AllocError.{AllocError}
 use Rattle.spki_cert.specs.declared.entry.Entry.{Entry}
 use Rattle.spki_cert.specs.declared.principal.Policy.{Policy}
 use Rattle.spki_reduce.specs.Tuples.{Tuple}
@@ -11,8 +10,8 @@ use Rattle.spki_decision.specs.declared.decision.Decision.TheVariants.{Yes, No}
 use Rattle.spki_decision.specs.Supported.{Names}
 use Rattle.spki_decision.specs.Views.{with_entries}
 use Rattle.spki_decision.specs.LeftOut.{AreKept, IsOf, IsLeftOut, first_key, second}
-use Rattle.spki_service.specs.Kept.{kept_from, first, numbers_from}
-use Rattle.spki_service.specs.Partly.{is_of, DecidesKept, DecidesPartly}
+use Rattle.spki_service.specs.Kept.{kept_from, numbers_from}
+use Rattle.spki_service.specs.Partly.{is_of, DecidesKept, DecidesPartly, IsNumbered, NamesPicked}
 use Rattle.spki_service.specs.Picked.{ArePicked, AreNumbers}
 use Rattle.spki_service.proofs.KeptEntries.{are_kept, kept_weaker, numbered}
 use Rattle.spki_service.proofs.Picking.{picked_kept, numbers_within}
@@ -36,26 +35,23 @@ module _ (c : Case) (es : List Entry) (tuples : List Tuple) where
     partly : (d : Decision) → DecidesKept (with_entries c es) tuples (kept_from 1 test es) d → DecidesPartly (with_entries c es) tuples d
     partly d h = (kept_from 1 test es, found_kept, h)
 
-    pub no_partly : Names (with_entries c picked) tuples No → DecidesPartly (with_entries c es) tuples No
-    no_partly named = partly No (No, subst (λ (xs : List Entry). Names (with_entries c xs) tuples No) picked_are named, tt)
-
-    long : length picked ≡ length numbers
-    long = ap length picked_are ∙ length-map (kept_from 1 test es) second ∙ sym (length-map (kept_from 1 test es) first) ∙ sym (ap length numbers_are)
-
-    pub place_within : (n : ℕ) → Names (with_entries c picked) tuples (Yes n) → n - 1 < length numbers
-    place_within n named = search (rules, slice_get_within, numbered, long)
-
-    pub yes_partly : (n d : ℕ) → Names (with_entries c picked) tuples (Yes n)
-        → DecidesPartly (with_entries c es) tuples (Yes (get_or numbers (n - 1) d))
-    yes_partly n d named =
-        let there : slice_get numbers (n - 1) ≡ Some (get_or numbers (n - 1) d) = slice_get-get_or numbers (n - 1) d (place_within n named) in
-        let at = numbered test es (n - 1) (get_or numbers (n - 1) d)
-        (subst (λ (xs : List ℕ). slice_get xs (n - 1) ≡ Some (get_or numbers (n - 1) d)) numbers_are there) in
-        partly (Yes (get_or numbers (n - 1) d)) (
+    named_partly : (part d : Decision) → Names (with_entries c picked) tuples part → IsNumbered numbers part d
+        → DecidesPartly (with_entries c es) tuples d
+    named_partly (Yes n) (Yes d) named at =
+        let here = numbered test es (n - 1) d (subst (λ (xs : List ℕ). slice_get xs (n - 1) ≡ Some d) numbers_are at) in
+        partly (Yes d) (
           Yes n,
           subst (λ (xs : List Entry). Names (with_entries c xs) tuples (Yes n)) picked_are named,
-          (n - 1, at.1, omega (arith, named.numbered), at.4),
+          (n - 1, here.1, omega (arith, named.numbered), here.4),
         )
+    named_partly (Yes n) No named at = absurd at
+    named_partly No (Yes d) named at = absurd at
+    named_partly No No named at = partly No (No, subst (λ (xs : List Entry). Names (with_entries c xs) tuples No) picked_are named, tt)
+
+    pub partly_by : (r : Result Decision AllocError) → IfOk r (NamesPicked (with_entries c picked) tuples numbers)
+        → IfOk r (DecidesPartly (with_entries c es) tuples)
+    partly_by (Ok d) (part, named, at) = named_partly part d named at
+    partly_by (Err fault) h = tt
 
 -- ---- what is found
 

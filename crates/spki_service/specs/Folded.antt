@@ -1,4 +1,4 @@
--- What the entries of canonical texts become, each with all certificates (RFC 2693, section 6.3).
+-- What is said of the entries of canonical texts, each with all certificates (RFC 2693, section 6.3).
 use Rattle.std.proofs.Common.{◌≡◌, ℕ, List, [], ◌++◌, Vec, Global, Option, Some, None, sym, append-nil}
 use Rattle.std.specs.List.{AllZip, AllByRecursion}
 use Rattle.spki_cert.specs.declared.entry.Entry.{Entry}
@@ -12,14 +12,20 @@ use Rattle.spki_service.specs.declared.folding.Failure.{Failure}
 use Rattle.spki_service.specs.Asking.{AskedOf, OfCase}
 use Rattle.spki_service.specs.Held.{AreEntries}
 
--- This is what the entries of the texts become with the tuples of the case's certificates, in order. The limits of their windows are
--- dates. No chain is too large at a step, and the work of all is within the case's limit.
-pub record AreFoldsOf (texts : List (List ℕ)) (c : Case) (tuples : List Tuple) (folds : List EntryFold) : Type 0 where
-  pub each : (es : List Entry) → AreEntries texts es → AllZip (IsEntryFold (with_entries c es) tuples) es folds
-  pub dated : AllByRecursion IsDated folds
-  pub end : AllByRecursion EndsAtDate folds
+-- These answers are said of the entries of the texts, in order, each with the tuples of the case's certificates. No chain is too large at
+-- a step, and the work of all is within the case's limit.
+pub record AreAnswersOf {A : Type 0} (IsOne : Case → List Tuple → Entry → A → Type 0) (texts : List (List ℕ)) (c : Case) (tuples : List Tuple)
+    (answers : List A) : Type 0 where
+  pub each : (es : List Entry) → AreEntries texts es → AllZip (IsOne (with_entries c es) tuples) es answers
   pub within_limit : (es : List Entry) → AreEntries texts es → AllSmall (with_entries c es) tuples
   pub worked : (es : List Entry) → AreEntries texts es → IsWithinWork (with_entries c es) tuples
+
+-- what the entries become; the limits of their windows are dates
+abbrev pub AreFoldsOf : List (List ℕ) → Case → List Tuple → List EntryFold → Type 0
+AreFoldsOf texts c tuples folds =
+    AreAnswersOf IsEntryFold texts c tuples folds × AllByRecursion IsDated folds × AllByRecursion EndsAtDate folds
+
+-- ---- reductions
 
 -- A certificate of the question does not stand, and nothing is put. Or all stand, and this is what the guard's entries become.
 abbrev pub AreReduced : AskedOf → Verified → Option Failure → List EntryFold → Type 0

@@ -17,14 +17,14 @@ ghost use Rattle.spki_service.specs.Folded.{AreReduced};
 ghost use Rattle.spki_service.specs.Partly.{DecidesPartly};
 
 use crate::asked::Asked;
-use crate::entry_texts::{all_entries, entries_at};
 use crate::folding::{Failure, FoldSink, fold_texts};
+use crate::granting::first_granted;
 use crate::marks::first_unmarked;
+use crate::reasons::text_reasons;
 use spki_case::Verifier;
 use spki_cert::Key;
 use spki_decision::{
-    Decision, Evidence, Explanation, GuardFault, Reduction, Signed, Stop, entry_reasons,
-    first_granted, first_refused,
+    Decision, Evidence, Explanation, GuardFault, Reduction, Signed, Stop, first_refused,
 };
 use spki_reduce::{Issuer, Step};
 use std::alloc::{AllocError, Global};
@@ -93,11 +93,7 @@ impl<'a> Asked<'a> {
     {
         let guard = self.guard;
         let numbers = guard.numbers_of(alloc, first_key(&self.case.key, steps))?;
-        let entries = entries_at(alloc, &guard.texts, &numbers)?;
-        match first_granted(alloc, &entries, &self.case, steps)? {
-            Decision::No => Ok(Decision::No),
-            Decision::Yes(place) => Ok(Decision::Yes(numbers[place - 1])),
-        }
+        first_granted(alloc, &guard.texts, &numbers, &self.case, steps)
     }
 
     /// Explains the question, as `spki_decision::explain` explains the case of the question's parts and the guard's
@@ -226,8 +222,7 @@ impl<'a> Asked<'a> {
             }),
             Evidence::Verified(steps) => {
                 let guard = self.guard;
-                let entries = all_entries(alloc, &guard.texts)?;
-                let reasons = entry_reasons(alloc, &entries, &self.case, steps)?;
+                let reasons = text_reasons(alloc, &guard.texts, &self.case, steps)?;
                 Ok(Explanation::Entries(reasons))
             }
         }

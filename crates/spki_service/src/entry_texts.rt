@@ -1,11 +1,10 @@
-//! The canonical texts of an access list's entries, and reading the entries from them.
+//! The canonical texts of an access list's entries, and reading an entry from its text.
 
 ghost use Rattle.std.specs.Prelude.{◌≡◌, ◌<◌, ◌∷◌, ◌++◌, [], ℕ, List, codes, length, map, drop, ◌+◌, slice_get, Some, IfOk};
 ghost use Rattle.sexpr_core.specs.Value.{Value, canon, group, plain};
 ghost use Rattle.spki_cert.specs.declared.entry.Entry.{Entry};
 ghost use Rattle.spki_cert.specs.Entries.{IsVersion};
-ghost use Rattle.spki_service.specs.Held.{IsEntryText, AreEntries, octets_of_texts};
-ghost use Rattle.spki_service.specs.Picked.{AreNumbers, ArePicked};
+ghost use Rattle.spki_service.specs.Held.{IsEntryText, octets_of_texts};
 
 use sexpr_core::Doc;
 use sexpr_core::syntax::{Members, Node};
@@ -70,43 +69,4 @@ pub(crate) fn entry_in<'a>(alloc: Global, text: &'a [u8]) -> Result<Entry<'a>, A
         Ok(entry) => Ok(entry),
         Err(_) => Err(AllocError),
     }
-}
-
-/// Reads the entries with these numbers, counted from 1. `texts` are the canonical texts of all entries.
-///
-/// # Errors
-///
-/// `AllocError` if memory ran out.
-pub(crate) fn entries_at<'a>(
-    alloc: Global,
-    texts: &'a [Vec<u8>],
-    numbers: &[usize],
-) -> Result<Vec<Entry<'a>>, AllocError>
-    requires { AreNumbers (length texts.now) numbers.now }
-    ensures { (es : List Entry) → AreEntries (octets_of_texts texts.entry.now) es
-        → IfOk result (λ picked. ArePicked es numbers.now picked.items) }
-{
-    let mut picked = Vec::new(alloc);
-    for number in numbers {
-        picked.push(entry_in(alloc, &texts[*number - 1])?)?;
-    }
-    Ok(picked)
-}
-
-/// Reads all entries from their canonical texts, in order.
-///
-/// # Errors
-///
-/// `AllocError` if memory ran out.
-pub(crate) fn all_entries<'a>(
-    alloc: Global,
-    texts: &'a [Vec<u8>],
-) -> Result<Vec<Entry<'a>>, AllocError>
-    ensures { (es : List Entry) → AreEntries (octets_of_texts texts.entry.now) es → IfOk result (λ all. all.items ≡ es) }
-{
-    let mut all = Vec::new(alloc);
-    for text in texts {
-        all.push(entry_in(alloc, text)?)?;
-    }
-    Ok(all)
 }

@@ -1,37 +1,43 @@
-use Rattle.std.proofs.Common.{◌++◌, [], ◌∷◌, ◌∙◌, ap, arith, rules}
+use Rattle.std.proofs.Common.{◌++◌, [], ◌∷◌, ◌∙◌, ap, refl, arith, rules}
 use Rattle.spki_reduce.specs.Chain.{tuples_of}
 use Rattle.spki_reduce.specs.Work.{left_of}
 use Rattle.spki_case.specs.View.{model}
-use Rattle.spki_service.proofs.TextFolds.{none_folded, folded, too_large, all_folded}
+use Rattle.spki_decision.specs.Reduced.{IsEntryFold, IsDated, EndsAtDate}
+use Rattle.spki_decision.proofs.Stopping.{all_pushed}
+use Rattle.spki_service.proofs.TextAnswers.{none_answered, one_more, too_large, all_answered}
 use Rattle.spki_service.proofs.folding.fold_texts.Goals as goal
 
 pub loop-place-init : goal.loop-place-init
-loop-place-init g c = ([], search rules, none_folded c.args.texts.now (model c.args.case.now) (tuples_of c.args.steps.now) _ c.new-work.ensures)
+loop-place-init g c = ([], search rules, none_answered IsEntryFold c.args.texts.now (model c.args.case.now) (tuples_of c.args.steps.now) _ c.new-work.ensures, tt, tt)
 
 pub returns-in_err-fold-clause-too_large : goal.returns-in_err-fold-clause-too_large
 returns-in_err-fold-clause-too_large g c es are h =
-    let (folds, taken, before) = c.loop-place.invariant in
+    let (folds, taken, before, dated, end) = c.loop-place.invariant in
     let same = c.deref-in-loop-place.ensures.value ∙ ap (λ v. v.items) c.index-texts-place.is in
-    too_large c.args.texts.now (model c.args.case.now) (tuples_of c.args.steps.now) c.loop-place.place c.index-texts-place.result
+    too_large IsEntryFold c.args.texts.now (model c.args.case.now) (tuples_of c.args.steps.now) c.loop-place.place c.index-texts-place.result
     c.loop-place-test.true c.in_ok-entry.entry (λ f is. c.in_ok-entry.ensures f (rw same is)) (left_of c.loop-place.work) folds before es are
     (search rules)
 
 pub loop-place-preserved : goal.loop-place-preserved
 loop-place-preserved g c =
-    let (folds, taken, before) = c.loop-place.invariant in
+    let (folds, taken, before, dated, end) = c.loop-place.invariant in
     let same = c.deref-in-loop-place.ensures.value ∙ ap (λ v. v.items) c.index-texts-place.is in
     let told = c.in_ok-fold.ensures in
     let numbered = before.count in (
       folds ++ c.in_ok-fold.fold ∷ [],
       c.in_ok-put.ensures c.args.sink.now folds taken (omega (arith, numbered)),
-      folded c.args.texts.now (model c.args.case.now) (tuples_of c.args.steps.now) c.loop-place.place c.index-texts-place.result
+      one_more IsEntryFold c.args.texts.now (model c.args.case.now) (tuples_of c.args.steps.now) c.loop-place.place c.index-texts-place.result
           c.loop-place-test.true c.in_ok-entry.entry (λ f is. c.in_ok-entry.ensures f (rw same is)) (left_of c.loop-place.work) folds before
-          c.in_ok-fold.fold (left_of c.entry_fold.new.work) told.worked.0 told.exact told.dated told.end told.within_limit told.worked.1 told.worked.2,
+          c.in_ok-fold.fold (left_of c.entry_fold.new.work) told.worked.0 told.exact told.within_limit told.worked.1 told.worked.2,
+      all_pushed IsDated folds _ c.in_ok-fold.fold dated told.dated refl,
+      all_pushed EndsAtDate folds _ c.in_ok-fold.fold end told.end refl,
     )
 
 pub returns-clause-folds : goal.returns-clause-folds
 returns-clause-folds g c =
-    let (folds, taken, all) = c.loop-place.invariant in
+    let (folds, taken, all, dated, end) = c.loop-place.invariant in
     let low = c.loop-place-test.false in
     let high = c.loop-place.auto.place-end in
-    (folds, taken, all_folded c.args.texts.now (model c.args.case.now) (tuples_of c.args.steps.now) c.loop-place.place (left_of c.loop-place.work) folds (omega (arith, low, high)) all)
+    let each = all_answered IsEntryFold c.args.texts.now (model c.args.case.now) (tuples_of c.args.steps.now) c.loop-place.place
+    (left_of c.loop-place.work) folds (omega (arith, low, high)) all in
+    (folds, taken, (each, dated, end))

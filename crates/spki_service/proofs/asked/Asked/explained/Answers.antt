@@ -13,8 +13,8 @@ use Rattle.spki_decision.proofs.Reasons.{are_reasons}
 use Rattle.spki_service.proofs.Outcomes.{explained_failed}
 use Rattle.spki_service.proofs.asked.Asked.explained.Goals as goal
 
-pub entry_reasons-requires : goal.entry_reasons-requires
-entry_reasons-requires c = search (rules, as_many)
+pub text_reasons-requires : goal.text_reasons-requires
+text_reasons-requires c = search (rules, as_many)
 
 pub returns-in-Fails : goal.returns-in-Fails
 returns-in-Fails c = search (rules, explained_failed)
@@ -25,13 +25,11 @@ returns-in_ok-reasons-in-Verified c =
     let tuples = tuples_of c.in-Verified.steps.items in
     let evident : IsEvidence m.policy every m.items c.self.inside.examined.evidence = c.self.invariant.1 in
     let stands = rw c.in-Verified.is at evident in
+    let all = rw c.deref-in-Verified.ensures.value at c.in_ok-reasons-in-Verified.ensures.reasons in
     let texts = ap octets_of_texts c.deref.ensures.value ∙ ap (λ h. h.texts) c.guard.view_is in
     let inner : (es : List Entry) → AreEntries c.self.inside.guard.now.texts es → AreReasons (with_entries m es) every c.in_ok-reasons-in-Verified.reasons.items =
     λ es are.
     let there : AreEntries (octets_of_texts c.deref.result.now) es = subst (λ (ts : List (List ℕ)). AreEntries ts es) (sym texts) are in
-    let all = c.deref-in-Verified.ensures.value ∙ c.in_ok-entries-in-Verified.ensures es there in
-    let each = rw (c.deref-in-Verified-2.ensures.value, all) at c.in_ok-reasons-in-Verified.ensures.each in
-    let small = rw (c.deref-in-Verified-2.ensures.value, all) at c.in_ok-reasons-in-Verified.ensures.within_limit in
-    let worked = rw (c.deref-in-Verified-2.ensures.value, all) at c.in_ok-reasons-in-Verified.ensures.worked in
-    are_reasons (with_entries m es) every tuples c.in_ok-reasons-in-Verified.reasons.items c.prove_well_formed.ensures stands each small worked in
+    are_reasons (with_entries m es) every tuples c.in_ok-reasons-in-Verified.reasons.items c.prove_well_formed.ensures stands (all.each es there)
+    (all.within_limit es there) (all.worked es there) in
     subst (λ (a : AskedOf). (es : List Entry) → AreEntries a.texts es → AreReasons (with_entries a.case es) every c.in_ok-reasons-in-Verified.reasons.items) c.self.view_is inner

@@ -21,7 +21,7 @@ returns-in-Fails-clause-folds g c = search (rules, folds_failed)
 pub returns-in_ok-fold_texts-in-Verified-clause-folds : goal.returns-in_ok-fold_texts-in-Verified-clause-folds
 returns-in_ok-fold_texts-in-Verified-clause-folds g c =
     let m = model c.self.inside.case in
-    let (folds, taken, all) = c.in_ok-fold_texts-in-Verified.ensures.folds in
+    let (folds, taken, (all, dated, end)) = c.in_ok-fold_texts-in-Verified.ensures.folds in
     let evident : IsEvidence m.policy every m.items c.self.inside.examined.evidence = c.self.invariant.1 in
     let stands = rw c.in-Verified.is at evident in
     let whole = rw c.deref-in-Verified.ensures.value at all in
@@ -37,4 +37,4 @@ returns-in_ok-fold_texts-in-Verified-clause-folds g c =
       worked = whole.worked es there;
     } in
     let shown = subst (λ (a : AskedOf). (es : List Entry) → AreEntries a.texts es → AreFolds (with_entries a.case es) every folds) c.self.view_is inner in
-    (folds, taken, (shown, all.dated, all.end))
+    (folds, taken, (shown, dated, end))

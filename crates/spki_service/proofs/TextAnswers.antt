@@ -1,6 +1,6 @@
--- What the entries of texts become, one text after another.
+-- What is said of the entries of texts, one text after another.
 use Rattle.std.proofs.Common.{◌≡◌, ◌⊎◌, ℕ, ◌+◌, ◌<◌, List, [], ◌∷◌, ◌++◌, Vec, Global, Option, Some, length, take, get_or, slice_get, refl, sym, ap, ◌∙◌, subst, arith}
-use Rattle.std.specs.List.{AllZip, AllByRecursion}
+use Rattle.std.specs.List.{AllZip}
 use Rattle.std.proofs.Math.Seq.{take-length}
 use Rattle.std.proofs.lemmas.List.{length-append}
 use Rattle.std.proofs.lemmas.Option.{slice_get_within, slice_get-get_or}
@@ -11,35 +11,30 @@ use Rattle.spki_reduce.specs.Chain.{TooLargeAt}
 use Rattle.spki_reduce.specs.Work.{IsWork, Takes, IsOverworked}
 use Rattle.spki_reduce.proofs.Working.{none_taken, taken, within}
 use Rattle.spki_case.specs.Case.{Case}
-use Rattle.spki_decision.specs.declared.reduction.EntryFold.{EntryFold}
-use Rattle.spki_decision.specs.Reduced.{IsEntryFold, IsDated, EndsAtDate, IsEntryWork, HasLargeTags, HasMuchWork}
+use Rattle.spki_decision.specs.Reduced.{IsEntryWork, HasLargeTags, HasMuchWork}
 use Rattle.spki_decision.specs.Supported.{SmallBefore}
 use Rattle.spki_decision.specs.Views.{with_entries}
 use Rattle.spki_decision.proofs.Entries.{small_yet}
 use Rattle.spki_decision.proofs.EntryWork.{work_more}
-use Rattle.spki_decision.proofs.Stopping.{all_pushed, answered, too_large_here}
-use Rattle.spki_service.specs.Folded.{AreFoldsOf}
+use Rattle.spki_decision.proofs.Stopping.{answered, too_large_here}
+use Rattle.spki_service.specs.Folded.{AreAnswersOf}
 use Rattle.spki_service.specs.Held.{IsEntryText, AreEntries, octets_of_texts}
 use Rattle.spki_service.proofs.EntryTexts.{entry_there, as_many}
 
-module _ (texts : List (Vec ℕ Global)) (c : Case) (tuples : List Tuple) where
-  -- so many texts are read, and this is what their entries become; so much work may still be done
-  pub record FoldedTo (place : ℕ) (left : Option ℕ) (folds : List EntryFold) : Type 0 where
-    pub count : length folds ≡ place
-    pub each : (es : List Entry) → AreEntries (octets_of_texts texts) es → AllZip (IsEntryFold (with_entries c es) tuples) (take place es) folds
-    pub dated : AllByRecursion IsDated folds
-    pub end : AllByRecursion EndsAtDate folds
+module _ {A : Type 0} (IsOne : Case → List Tuple → Entry → A → Type 0) (texts : List (Vec ℕ Global)) (c : Case) (tuples : List Tuple) where
+  -- so many texts are read, and these are the answers for their entries; so much work may still be done
+  pub record AnsweredTo (place : ℕ) (left : Option ℕ) (answers : List A) : Type 0 where
+    pub count : length answers ≡ place
+    pub each : (es : List Entry) → AreEntries (octets_of_texts texts) es → AllZip (IsOne (with_entries c es) tuples) (take place es) answers
     pub small : (es : List Entry) → AreEntries (octets_of_texts texts) es → SmallBefore (with_entries c es) tuples place
     pub work : ℕ
     pub worked : (es : List Entry) → AreEntries (octets_of_texts texts) es → IsEntryWork (with_entries c es) tuples place work
     pub takes : Takes c.most_work left work
 
-  pub none_folded : (left : Option ℕ) → left ≡ c.most_work → FoldedTo 0 left []
-  none_folded left same = record {
+  pub none_answered : (left : Option ℕ) → left ≡ c.most_work → AnsweredTo 0 left []
+  none_answered left same = record {
     count = refl;
     each = λ es are. tt;
-    dated = tt;
-    end = tt;
     small = λ es are k e below. absurd (omega (arith, below));
     work = 0;
     worked = λ es are. refl;
@@ -50,7 +45,7 @@ module _ (texts : List (Vec ℕ Global)) (c : Case) (tuples : List Tuple) where
 
   module _ (place : ℕ) (d : Vec ℕ Global) (below : place < length texts) (e : Entry)
       (found : (f : Entry) → IsEntryText (get_or texts place d).items f → e ≡ f)
-      (old : Option ℕ) (folds : List EntryFold) (before : FoldedTo place old folds) where
+      (old : Option ℕ) (answers : List A) (before : AnsweredTo place old answers) where
     module _ (es : List Entry) (are : AreEntries (octets_of_texts texts) es) where
       stands : slice_get es place ≡ Some e
       stands = let there = entry_there texts es place d are below in there.1 ∙ ap Some (sym (found there.0 there.2))
@@ -65,15 +60,13 @@ module _ (texts : List (Vec ℕ Global)) (c : Case) (tuples : List Tuple) where
           → HasLargeTags (with_entries c es) tuples ⊎ HasMuchWork (with_entries c es) tuples
       too_large h = too_large_here (with_entries c es) es place e refl within_es read tuples old before.work (before.worked es are) before.takes h
 
-    pub folded : (fold : EntryFold) (new : Option ℕ) (n : ℕ) → ((es : List Entry) → IsEntryFold (with_entries c es) tuples e fold)
-        → IsDated fold → EndsAtDate fold → ¬ TooLargeAt c.most_nodes c.policy (five (entry_tuple e)) tuples
-        → IsWork c.policy (five (entry_tuple e)) tuples n → Takes old new n → FoldedTo (place + 1) new (folds ++ fold ∷ [])
-    folded fold new n exact dated end small work takes = record {
-      count = omega (arith, length-append folds (fold ∷ []), before.count);
-      each = λ es are. answered (with_entries c es) es place e refl (within_es es are) (read es are) (IsEntryFold (with_entries c es) tuples)
-          folds (folds ++ fold ∷ []) fold (before.each es are) (exact es) refl;
-      dated = all_pushed IsDated folds (folds ++ fold ∷ []) fold before.dated dated refl;
-      end = all_pushed EndsAtDate folds (folds ++ fold ∷ []) fold before.end end refl;
+    pub one_more : (answer : A) (new : Option ℕ) (n : ℕ) → ((es : List Entry) → IsOne (with_entries c es) tuples e answer)
+        → ¬ TooLargeAt c.most_nodes c.policy (five (entry_tuple e)) tuples
+        → IsWork c.policy (five (entry_tuple e)) tuples n → Takes old new n → AnsweredTo (place + 1) new (answers ++ answer ∷ [])
+    one_more answer new n exact small work takes = record {
+      count = omega (arith, length-append answers (answer ∷ []), before.count);
+      each = λ es are. answered (with_entries c es) es place e refl (within_es es are) (read es are) (IsOne (with_entries c es) tuples)
+          answers (answers ++ answer ∷ []) answer (before.each es are) (exact es) refl;
       small = λ es are. small_yet (with_entries c es) tuples place e (stands es are) small (before.small es are);
       work = before.work + n;
       worked = λ es are. work_more (with_entries c es) tuples place e before.work n (stands es are) (before.worked es are) work;
@@ -82,13 +75,11 @@ module _ (texts : List (Vec ℕ Global)) (c : Case) (tuples : List Tuple) where
 
   -- ---- all texts
 
-  pub all_folded : (place : ℕ) (left : Option ℕ) (folds : List EntryFold) → place ≡ length texts → FoldedTo place left folds
-      → AreFoldsOf (octets_of_texts texts) c tuples folds
-  all_folded place left folds whole h = record {
-    each = λ es are. subst (λ xs. AllZip (IsEntryFold (with_entries c es) tuples) xs folds)
+  pub all_answered : (place : ℕ) (left : Option ℕ) (answers : List A) → place ≡ length texts → AnsweredTo place left answers
+      → AreAnswersOf IsOne (octets_of_texts texts) c tuples answers
+  all_answered place left answers whole h = record {
+    each = λ es are. subst (λ xs. AllZip (IsOne (with_entries c es) tuples) xs answers)
         (ap (λ n. take n es) (whole ∙ as_many texts es are) ∙ take-length es) (h.each es are);
-    dated = h.dated;
-    end = h.end;
     within_limit = λ es are k e below there. let many = as_many texts es are in h.small es are k e (omega (arith, whole, many, below)) there;
     worked = λ es are. record {
       work = h.work;

@@ -1,0 +1,14 @@
+-- No entry that is picked so far supports what is asked.
+use Rattle.std.proofs.Common.{List}
+use Rattle.spki_cert.specs.declared.entry.Entry.{Entry}
+use Rattle.spki_reduce.specs.Chain.{tuples_of}
+use Rattle.spki_case.specs.View.{model}
+use Rattle.spki_decision.specs.Supported.{NoneBefore}
+use Rattle.spki_decision.specs.Views.{with_entries}
+use Rattle.spki_service.specs.Held.{AreEntries, octets_of_texts}
+use Rattle.spki_service.specs.Picked.{ArePicked}
+use Rattle.spki_service.proofs.granting.first_granted.Given as goal
+
+abbrev pub invariant-loop-number : goal.invariant-loop-number
+invariant-loop-number l = (es picked : List Entry) → AreEntries (octets_of_texts l.texts) es → ArePicked es l.numbers picked
+    → NoneBefore (with_entries (model l.case) picked) (tuples_of l.steps) l.number-index

@@ -1,0 +1,44 @@
+//! Which entry of an access list grants a request, one after another (RFC 2693, section 6.3).
+
+ghost use Rattle.std.specs.Prelude.{List, length, IfOk};
+ghost use Rattle.spki_cert.specs.declared.entry.Entry.{Entry};
+ghost use Rattle.spki_reduce.specs.Chain.{tuples_of};
+ghost use Rattle.spki_case.specs.View.{model};
+ghost use Rattle.spki_decision.specs.Views.{with_entries};
+ghost use Rattle.spki_service.specs.Held.{AreEntries, octets_of_texts};
+ghost use Rattle.spki_service.specs.Partly.{NamesPicked};
+ghost use Rattle.spki_service.specs.Picked.{AreNumbers, ArePicked};
+
+use crate::entry_texts::entry_in;
+use spki_case::Case;
+use spki_decision::{Decision, Membership};
+use spki_reduce::Step;
+use std::alloc::{AllocError, Global};
+
+/// Returns the first of the entries with these numbers, counted from 1, that grants what the case asks together with the
+/// certificates whose tuples are `steps`, and names it by its number. `No` if there is none. `texts` are the canonical texts of
+/// all entries. An entry is read just before it is tested, and nothing is kept of it. No intersection is formed.
+///
+/// # Errors
+///
+/// `AllocError` if memory ran out.
+pub(crate) fn first_granted<'a>(
+    alloc: Global,
+    texts: &'a [Vec<u8>],
+    numbers: &[usize],
+    case: &Case<'a>,
+    steps: &[Step<'a>],
+) -> Result<Decision, AllocError>
+    requires { AreNumbers (length texts.now) numbers.now }
+    ensures { (es picked : List Entry) → AreEntries (octets_of_texts texts.entry.now) es → ArePicked es numbers.now picked
+        → IfOk result (NamesPicked (with_entries (model case.now) picked) (tuples_of steps.now) numbers.now) }
+{
+    let membership = Membership::of(alloc, case, steps)?;
+    for number in numbers {
+        let entry = entry_in(alloc, &texts[*number - 1])?;
+        if membership.grants(&entry, case) {
+            return Ok(Decision::Yes(*number));
+        }
+    }
+    Ok(Decision::No)
+}
