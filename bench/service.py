@@ -307,11 +307,16 @@ def key_of_lists(entries, lists):
     return case([entry(issuer)] * entries, [(certificate(issuer, subject), issuer)], asks=subject)
 
 
-def short_entries():
-    """A list of 1 MiB with as many entries as can be."""
+def full_list(tag):
+    """A list of 1 MiB with as many entries for a tag as can be, all for the shortest key."""
     asker = group(string("public-key"), group(string("a")))
-    listed = group(string("entry"), asker, group(string("tag"), string("a")))
+    listed = group(string("entry"), asker, group(string("tag"), tag))
     return case([listed] * ((MOST_OCTETS - len(group(string("acl")))) // len(listed)), [], asks=asker)
+
+
+def lists_of_strings(members):
+    """No tags take more time to read, or more memory, for each octet."""
+    return f"entries for lists of {members} strings", full_list(group(*[string("a")] * members))
 
 
 def lists_in_lists(entries, depth):
@@ -355,7 +360,8 @@ def widest(driver):
     texts += [(f"large tags: {what}", text) for what, text in large_tags()]
     texts += [("a string 1,000 times, 60 entries", equal_strings(60, 1_000)), ("a string 9,801 times", equal_strings(1, 99, 99)),
               ("10 lists in one another, 9,500 entries", lists_in_lists(9_500, 10)),
-              ("a key of 4,000 lists, 12,300 entries", key_of_lists(12_300, 4_000)), ("the shortest entries", short_entries())]
+              ("a key of 4,000 lists, 12,300 entries", key_of_lists(12_300, 4_000)), ("the shortest entries", full_list(string("a")))]
+    texts += map(lists_of_strings, (20, 100, 600))
     met = [one_question(driver, what, text) for what, text in texts]
     yield "a decision, ms", max(each["decide"][0] for each in met)
     yield "a decision, MiB", max(each["decide"][1] for each in met)
