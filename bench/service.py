@@ -56,7 +56,7 @@ MOST = {"10,000 keys, no certificate": 1.5, "10,000 keys, three certificates": 1
         "three caveats, opened before": 0.05, "by the digests": 5.0, "Rust": 1.02, "Python, µs more": 12.0,
         "memory of an opened question by its octets": 70.0,
         "opening a question of 1 MiB, ms": 500.0, "a decision, ms": 100.0, "a decision, MiB": 16.0, "a decision by default, ms": 100.0,
-        "an explanation or a reduction, ms": 200.0, "an explanation or a reduction, MiB": 16.0,
+        "an explanation or a reduction, ms": 200.0, "an explanation or a reduction, MiB": 16.0, "a reduction for a key of 1 MiB, MiB": 70.0,
         "waits of 1,000 decisions": 1.0}
 LEAST = {"threads": 3.5}
 # What the library's statuses say.
@@ -307,6 +307,13 @@ def key_of_lists(entries, lists):
     return case([entry(issuer)] * entries, [(certificate(issuer, subject), issuer)], asks=subject)
 
 
+def key_of_parts(driver):
+    """The MiB of the reduction that takes most of all known: of one entry, for a key of 520,000 empty strings. Its tree is made to print it."""
+    owner = group(string("public-key"), group(string("test"), *[string("")] * 520_000))
+    *_, mebibytes = driver.run("widest", "reduce", driver.question("parts", case([entry(owner)], [], asks=keys_of(0)[0])))
+    yield "a reduction for a key of 1 MiB, MiB", mebibytes
+
+
 def full_list(tag):
     """A list of 1 MiB with as many entries for a tag as can be, all for the shortest key."""
     asker = group(string("public-key"), group(string("a")))
@@ -462,7 +469,7 @@ def main():
     library = os.path.abspath(sys.argv[1] if len(sys.argv) > 1 else LIBRARY)
     with tempfile.TemporaryDirectory() as room:
         driver = Driver(room, library)
-        parts = (by_instructions, through_python, opening_of_widest, by_default, widest, threads)
+        parts = (by_instructions, through_python, opening_of_widest, by_default, widest, key_of_parts, threads)
         met = [each for part in parts for each in part(driver)]
     if not all([is_kept(*each) for each in met]):
         sys.exit(1)
