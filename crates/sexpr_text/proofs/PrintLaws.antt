@@ -22,12 +22,9 @@ quoted_body-append : (xs ys : List ℕ) → quoted_body (xs ++ ys) ≡ quoted_bo
 quoted_body-append [] ys = refl
 quoted_body-append (c ∷ cs) ys = quoted_cons c cs ys (quoted_body-append cs ys)
 
-pub quoted_more : (xs : List ℕ) (k d : ℕ) (out mid new : List ℕ) → k < length xs → mid ≡ out ++ quoted_body (take k xs)
-    → new ≡ mid ++ quoted_body (get_or xs k d ∷ []) → new ≡ out ++ quoted_body (take (k + 1) xs)
-quoted_more xs k d out mid new lt e f =
-    let whole : quoted_body (take (k + 1) xs) ≡ quoted_body (take k xs) ++ quoted_body (get_or xs k d ∷ []) =
-    ap quoted_body (take_more xs k d lt) ∙ quoted_body-append (take k xs) (get_or xs k d ∷ []) in
-    f ∙ ap (λ s. s ++ quoted_body (get_or xs k d ∷ [])) e ∙ append_assoc out (quoted_body (take k xs)) (quoted_body (get_or xs k d ∷ [])) ∙ ap (λ s. out ++ s) (sym whole)
+pub quoted_one : (xs : List ℕ) (k d : ℕ) → k < length xs
+    → quoted_body (take k xs) ++ quoted_body (get_or xs k d ∷ []) ≡ quoted_body (take (k + 1) xs)
+quoted_one xs k d lt = sym (ap quoted_body (take_more xs k d lt) ∙ quoted_body-append (take k xs) (get_or xs k d ∷ []))
 
 pub printed_token : (octets : List ℕ) → is_token octets ≡ true → printed_string octets ≡ octets
 unfolding printed_string
@@ -55,30 +52,21 @@ pub adv_all-append : (n : ℕ) (vs ws : List Value) → adv_all n (values (vs ++
 adv_all-append n [] ws = let e : n ≡ n + 0 = omega arith in ap (λ m. adv_all m (values ws)) e
 adv_all-append n (v ∷ vs) ws = search (rules, append_assoc, adv_all-append (suc n) vs ws)
 
-pub member_printed : {A : Type 0} (f : A → Value) (xs : List A) (k : ℕ) (d : A) (out mid spaced new : List ℕ) → k < length xs
-    → mid ≡ out ++ adv_all 0 (values (map f (take k xs))) → spaced ≡ mid ++ gap k → new ≡ spaced ++ adv (f (get_or xs k d))
-    → new ≡ out ++ adv_all 0 (values (map f (take (k + 1) xs)))
-member_printed f xs k d out mid spaced new lt e g h =
+pub member_behind : {A : Type 0} (f : A → Value) (xs : List A) (k : ℕ) (d : A) → k < length xs
+    → (adv_all 0 (values (map f (take k xs))) ++ gap k) ++ adv (f (get_or xs k d)) ≡ adv_all 0 (values (map f (take (k + 1) xs)))
+member_behind f xs k d lt =
     let before = map f (take k xs) in
     let v = f (get_or xs k d) in
     let split : map f (take (k + 1) xs) ≡ before ++ v ∷ [] = ap (map f) (take_more xs k d lt) ∙ map-append f (take k xs) (get_or xs k d ∷ []) in
     let count : 0 + length before ≡ k = omega (arith, length-map (take k xs) f, length-take-le k xs (omega arith)) in
-    let whole : adv_all 0 (values (map f (take (k + 1) xs))) ≡ adv_all 0 (values before) ++ (gap k ++ adv v) =
-    ap (λ vs. adv_all 0 (values vs)) split ∙ adv_all-append 0 before (v ∷ []) ∙ ap (λ m. adv_all 0 (values before) ++ (gap m ++ (adv v ++ []))) count
-    ∙ ap (λ s. adv_all 0 (values before) ++ (gap k ++ s)) (append-nil (adv v)) in
-    h ∙ ap (λ s. s ++ adv v) (g ∙ ap (λ s. s ++ gap k) e) ∙ append_assoc (out ++ adv_all 0 (values before)) (gap k) (adv v)
-    ∙ append_assoc out (adv_all 0 (values before)) (gap k ++ adv v) ∙ ap (λ s. out ++ s) (sym whole)
+    sym (ap (λ vs. adv_all 0 (values vs)) split ∙ adv_all-append 0 before (v ∷ []) ∙ ap (λ m. adv_all 0 (values before) ++ (gap m ++ (adv v ++ []))) count
+    ∙ ap (λ s. adv_all 0 (values before) ++ (gap k ++ s)) (append-nil (adv v)) ∙ sym (append_assoc (adv_all 0 (values before)) (gap k) (adv v)))
 
-pub list_printed : (tree : Sexp) (ms : Vec Sexp Global) (xs : List Sexp) (k : ℕ) (out opened all new : List ℕ) → tree ≡ Branch ms → xs ≡ ms.items
-    → length xs ≤ k → opened ≡ out ++ 40 ∷ [] → all ≡ opened ++ adv_all 0 (values (map sexp_value (take k xs))) → new ≡ all ++ 41 ∷ []
-    → new ≡ out ++ adv (sexp_value tree)
-list_printed tree ms xs k out opened all new is same le e f g = search (rules, take_all, sexp_list, append_assoc)
+pub list_between : (tree : Sexp) (ms : Vec Sexp Global) (xs : List Sexp) (k : ℕ) → tree ≡ Branch ms → xs ≡ ms.items → length xs ≤ k
+    → ((40 ∷ []) ++ adv_all 0 (values (map sexp_value (take k xs)))) ++ 41 ∷ [] ≡ adv (sexp_value tree)
+list_between tree ms xs k is same le = search (rules, take_all, sexp_list)
 
 -- ---- pieces
-
-pub quoted_one : (xs : List ℕ) (k d : ℕ) → k < length xs
-    → quoted_body (take k xs) ++ quoted_body (get_or xs k d ∷ []) ≡ quoted_body (take (k + 1) xs)
-quoted_one xs k d lt = quoted_more xs k d [] _ _ lt refl refl
 
 pub quoted_between : (xs : List ℕ) (k : ℕ) → length xs ≤ k
     → ((34 ∷ []) ++ quoted_body (take k xs)) ++ 34 ∷ [] ≡ 34 ∷ (quoted_body xs ++ 34 ∷ [])
@@ -95,14 +83,6 @@ packed_one n rest piece behind packed whole triple front back long e =
 pub packed_between : (packed last whole : List ℕ) → packed ++ last ≡ whole
     → (((124 ∷ []) ++ packed) ++ last) ++ 124 ∷ [] ≡ 124 ∷ (whole ++ 124 ∷ [])
 packed_between packed last whole e = ap (λ s. 124 ∷ (s ++ 124 ∷ [])) e
-
-pub member_behind : {A : Type 0} (f : A → Value) (xs : List A) (k : ℕ) (d : A) → k < length xs
-    → (adv_all 0 (values (map f (take k xs))) ++ gap k) ++ adv (f (get_or xs k d)) ≡ adv_all 0 (values (map f (take (k + 1) xs)))
-member_behind f xs k d lt = member_printed f xs k d [] _ _ _ lt refl refl refl
-
-pub list_between : (tree : Sexp) (ms : Vec Sexp Global) (xs : List Sexp) (k : ℕ) → tree ≡ Branch ms → xs ≡ ms.items → length xs ≤ k
-    → ((40 ∷ []) ++ adv_all 0 (values (map sexp_value (take k xs)))) ++ 41 ∷ [] ≡ adv (sexp_value tree)
-list_between tree ms xs k is same le = list_printed tree ms xs k [] _ _ _ is same le refl refl refl
 
 pub quoted_plain : (c : ℕ) → false ≡ (c == 34 || c == 92) → c ∷ [] ≡ quoted_body (c ∷ [])
 quoted_plain c e = rw (sym e) refl

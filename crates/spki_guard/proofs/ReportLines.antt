@@ -3,8 +3,11 @@ use Rattle.std.proofs.Common.{◌≡◌, ℕ, suc, ◌+◌, ◌<◌, ◌==◌, f
 use Rattle.std.specs.Prelude.{codes}
 use Rattle.std.specs.List.{AllZip}
 use Rattle.sexpr_core.specs.Value.{Value, decimal}
-use Rattle.sexpr_text.specs.Printed.{adv}
+use Rattle.spki_reduce.specs.declared.tuple.Five.{Five}
+use Rattle.spki_reduce.specs.declared.writer.WrittenParts.{WrittenParts}
+use Rattle.spki_reduce.specs.Written.{IsWrittenPrincipal, IsWrittenFive}
 use Rattle.spki_decision.specs.declared.reduction.EntryFold.{EntryFold}
+use Rattle.spki_decision.specs.declared.reduction.EntryFold.TheVariants as folded
 use Rattle.spki_decision.specs.declared.reduction.Reduction.{Reduction}
 use Rattle.spki_decision.specs.declared.reduction.Reduction.TheVariants as reduction
 use Rattle.spki_decision.specs.declared.explanation.Reason.{Reason}
@@ -12,12 +15,19 @@ use Rattle.spki_guard.specs.declared.answers.Verdict.{Verdict}
 use Rattle.spki_guard.specs.declared.reports.FoldLine.{FoldLine}
 use Rattle.spki_guard.specs.Lines.{entry_line, reason_line}
 use Rattle.spki_guard.specs.Reports.{verdict_of, IsFoldLine, AreFoldLines, ReportsFolds, IsReductionReport, some_done, reason_lines}
-use Rattle.spki_guard.specs.Inner.FoldLines.{fold_line, fold_lines, some_done_line, IsLineOfFold}
+use Rattle.spki_guard.specs.Inner.FoldLines.{value_of, IsPrincipalText, five_text, fold_line, fold_lines, some_done_line, IsLineOfFold}
+use Rattle.spki_guard.proofs.PrintedFives.{text_whole}
 use Rattle.spki_guard.proofs.EntryLines.{line_behind, line_at, entry_whole}
 
-pub fold_whole : (n : ℕ) (v : Value)
-    → ((codes "entry " ++ (decimal n ++ 32 ∷ [])) ++ adv v) ++ 10 ∷ [] ≡ entry_line n (adv v ∷ [])
-fold_whole n v = append_assoc (codes "entry " ++ (decimal n ++ 32 ∷ [])) (adv v) (10 ∷ []) ∙ entry_whole n (adv v) []
+pub fold_whole : (n : ℕ) (text : List ℕ)
+    → ((codes "entry " ++ (decimal n ++ 32 ∷ [])) ++ text) ++ 10 ∷ [] ≡ entry_line n (text ∷ [])
+fold_whole n text = append_assoc (codes "entry " ++ (decimal n ++ 32 ∷ [])) text (10 ∷ []) ∙ entry_whole n text []
+
+pub done_line : (f : Five) (parts : WrittenParts) (principal : List ℕ)
+    → ((owner : Value) → IsWrittenPrincipal f.subject.principal owner → IsWrittenFive f (value_of parts owner f))
+    → IsPrincipalText f.subject.principal principal → (n : ℕ) → IsFoldLine n (folded.Done f) (entry_line n (five_text parts principal f ∷ []))
+done_line f parts principal written (owner, is, e) n =
+    (value_of parts owner f, written owner is, ap (λ text. entry_line n (text ∷ [])) (text_whole parts f principal owner e))
 
 pub fold_behind : (xs : List FoldLine) (k : ℕ) (x : FoldLine) → k < length xs → x ≡ get_or xs k x
     → fold_lines 1 (take k xs) ++ fold_line (k + 1) x ≡ fold_lines 1 (take (k + 1) xs)

@@ -4,11 +4,11 @@ ghost use Rattle.std.specs.List.{AllZip};
 ghost use Rattle.spki_guard.specs.Reports.{verdict_of, IsFoldLine, is_done, is_grant, some_grant, reason_lines};
 ghost use Rattle.sexpr_text.specs.Printed.{adv};
 ghost use Rattle.spki_guard.specs.Lines.{entry_line};
-ghost use Rattle.spki_guard.specs.Inner.FoldLines.{value_of, is_done_line, some_done_line, fold_line, fold_lines, IsLineOfFold};
+ghost use Rattle.spki_guard.specs.Inner.FoldLines.{five_text, is_done_line, some_done_line, fold_line, fold_lines, IsLineOfFold};
 
 use crate::answers::Verdict;
 use crate::entry_lines::{print_entry, print_reason, print_stopped};
-use crate::printer::print_five;
+use crate::printer::{principal_text, print_five};
 use sexpr_text::Sink;
 use spki_decision::{EntryFold, Reason};
 use spki_reduce::{Cause, Five, WrittenParts};
@@ -21,8 +21,10 @@ pub(crate) enum FoldLine<'a> {
     Done {
         /// The authorization.
         five: Five<'a>,
-        /// What is written of it, except its tag and its names.
+        /// What is written of it, except its subject and its tag.
         parts: WrittenParts,
+        /// The text of its subject's principal.
+        principal: Vec<u8>,
     },
     /// A certificate does not join what the entry and the certificates before it became.
     Stopped {
@@ -41,14 +43,19 @@ pub(crate) fn verdict_of(yes: bool) -> Verdict
 }
 
 /// Makes what the line of an entry is printed from: the result of its fold and, of an authorization, all but its tag
-/// and its names. Err if memory ran out.
+/// and the names of its subject. Err if memory ran out.
 fn fold_line_of<'a>(alloc: Global, fold: EntryFold<'a>) -> Result<FoldLine<'a>, AllocError>
     ensures { IfOk result (IsLineOfFold fold.entry) }
 {
     match fold {
         EntryFold::Done(five) => {
             let parts = five.write_parts(alloc)?;
-            Ok(FoldLine::Done { five, parts })
+            let principal = principal_text(alloc, &five.subject.principal)?;
+            Ok(FoldLine::Done {
+                five,
+                parts,
+                principal,
+            })
         }
         EntryFold::Stopped { item, cause } => Ok(FoldLine::Stopped { item, cause }),
     }
@@ -90,13 +97,18 @@ fn is_done(line: &FoldLine) -> bool
     }
 }
 
-/// Prints `entry N (five ..)` and a line feed; `entry` is counted from 1. `parts` are those of the authorization, as
-/// `write_parts` made them.
-fn print_done<S: Sink>(entry: usize, five: &Five, parts: &WrittenParts, sink: &mut S)
-    ensures { S.takes sink.old (entry_line entry (adv (value_of parts.now five.now) ∷ [])) sink.new }
+/// Prints `entry N (five ..)` and a line feed; `entry` is counted from 1. `parts` and `principal` are as in `print_five`.
+fn print_done<S: Sink>(
+    entry: usize,
+    five: &Five,
+    parts: &WrittenParts,
+    principal: &[u8],
+    sink: &mut S,
+)
+    ensures { S.takes sink.old (entry_line entry (five_text parts.now principal.now five.now ∷ [])) sink.new }
 {
     print_entry(entry, sink);
-    print_five(five, parts, sink);
+    print_five(five, parts, principal, sink);
     sink.put_octet(b'\n');
 }
 
@@ -105,7 +117,11 @@ fn print_fold<S: Sink>(entry: usize, line: &FoldLine, sink: &mut S)
     ensures { S.takes sink.old (fold_line entry line.now) sink.new }
 {
     match line {
-        FoldLine::Done { five, parts } => print_done(entry, five, parts, sink),
+        FoldLine::Done {
+            five,
+            parts,
+            principal,
+        } => print_done(entry, five, parts, principal, sink),
         FoldLine::Stopped { item, cause } => print_stopped(entry, *item, *cause, sink),
     }
 }
@@ -131,7 +147,8 @@ pub(crate) fn make_and_print_fold<S: Sink>(
     match fold {
         EntryFold::Done(five) => {
             let parts = five.write_parts(alloc)?;
-            print_done(entry, five, &parts, sink);
+            let principal = principal_text(alloc, &five.subject.principal)?;
+            print_done(entry, five, &parts, &principal, sink);
         }
         EntryFold::Stopped { item, cause } => print_stopped(entry, *item, *cause, sink),
     }

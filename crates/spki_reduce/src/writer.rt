@@ -12,13 +12,11 @@ use sexpr_core::{Sexp, decode};
 use spki_cert::{Date, HashAlg, Key, Names, Principal, Window};
 use std::alloc::{AllocError, Global};
 
-/// The members of a written authorization, except its head, its tag and the names of its subject.
+/// The members of a written authorization, except its head, its subject and its tag.
 #[derive(Drop)]
 pub struct WrittenParts {
     /// Those before the subject: the issuer.
     pub before_subject: Vec<Sexp>,
-    /// The principal of the subject.
-    pub principal: Sexp,
     /// Those between the subject and the tag: the delegation.
     pub before_tag: Vec<Sexp>,
     /// Those after the tag: the window.
@@ -46,12 +44,12 @@ impl<'a> Five<'a> {
     {
         let WrittenParts {
             before_subject,
-            principal,
             before_tag,
             behind_tag,
         } = self.write_parts(alloc)?;
         let mut members = begun(alloc, b"five")?;
         push_all(&mut members, before_subject)?;
+        let principal = write_principal(alloc, &self.subject.principal)?;
         let subject = with_names(alloc, principal, &self.subject.names)?;
         push_headed(alloc, &mut members, b"subject", subject)?;
         push_all(&mut members, before_tag)?;
@@ -60,28 +58,26 @@ impl<'a> Five<'a> {
         Ok(Sexp::list(members))
     }
 
-    /// Writes all parts of the authorization that `write` writes, except the tag and the names of the subject. Only
-    /// these may be large.
+    /// Writes all parts of the authorization that `write` writes, except the subject and the tag. These may be large, with
+    /// hundreds of thousands of nodes, and can be printed without a tree.
     ///
     /// # Errors
     ///
     /// `AllocError` if memory ran out.
     pub fn write_parts(&self, alloc: Global) -> Result<WrittenParts, AllocError>
-        ensures { IfOk result (λ parts. IsWrittenFive self.now
+        ensures { IfOk result (λ parts. (owner : Value) → IsWrittenPrincipal self.now.subject.principal owner → IsWrittenFive self.now
             (five_value ((map sexp_value parts.before_subject.items
-            ++ headed (codes "subject") (named (sexp_value parts.principal) self.now.subject.names ∷ []) ∷ [])
+            ++ headed (codes "subject") (named owner self.now.subject.names ∷ []) ∷ [])
             ++ map sexp_value parts.before_tag.items) self.now.tag (map sexp_value parts.behind_tag.items))) }
     {
         let mut before_subject = Vec::new(alloc);
         push_issuer(alloc, &mut before_subject, &self.issuer)?;
-        let principal = write_principal(alloc, &self.subject.principal)?;
         let mut before_tag = Vec::new(alloc);
         push_delegation(alloc, &mut before_tag, self.propagate)?;
         let mut behind_tag = Vec::new(alloc);
         push_window(alloc, &mut behind_tag, &self.window)?;
         Ok(WrittenParts {
             before_subject,
-            principal,
             before_tag,
             behind_tag,
         })

@@ -1,7 +1,6 @@
+use Rattle.std.proofs.Common.{refl}
 use Rattle.sexpr_text.proofs.SinkLaws.{in_three}
-use Rattle.spki_guard.proofs.PrintedFives.{subject_whole}
 use Rattle.spki_guard.proofs.printer.print_subject.Goals as goal
 
 pub returns : goal.returns
-returns g c =
-    in_three g.S.Sink.takes g.met.S.Sink.both _ c.put.ensures c.print_named.ensures c.put_octet.ensures (subject_whole _)
+returns g c = in_three g.S.Sink.takes g.met.S.Sink.both _ c.put.ensures c.print_named.ensures c.put_octet.ensures refl

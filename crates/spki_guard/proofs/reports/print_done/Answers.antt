@@ -1,9 +1,7 @@
 use Rattle.sexpr_text.proofs.SinkLaws.{in_three}
-use Rattle.spki_guard.specs.Inner.FoldLines.{value_of}
 use Rattle.spki_guard.proofs.ReportLines.{fold_whole}
 use Rattle.spki_guard.proofs.reports.print_done.Goals as goal
 
 pub returns : goal.returns
 returns g c =
-    in_three g.S.Sink.takes g.met.S.Sink.both _ c.print_entry.ensures c.print_five.ensures c.put_octet.ensures
-    (fold_whole c.args.entry (value_of c.args.parts.now c.args.five.now))
+    in_three g.S.Sink.takes g.met.S.Sink.both _ c.print_entry.ensures c.print_five.ensures c.put_octet.ensures (fold_whole c.args.entry _)

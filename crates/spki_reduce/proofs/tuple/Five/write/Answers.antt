@@ -11,7 +11,7 @@ pub returns : goal.returns
 returns c =
     let five = c.args.self.now in
     let parts = c.in_ok-before_subject.field-0 in
-    let subject = headed (codes "subject") (named (sexp_value parts.principal) five.subject.names ∷ []) in
+    let subject = headed (codes "subject") (named (sexp_value c.in_ok-principal.principal) five.subject.names ∷ []) in
     let tag = headed (codes "tag") (tag_value five.tag ∷ []) in
     let members =
     five_members (plain (codes "five")) subject tag (map sexp_value parts.before_subject.items) (map sexp_value parts.before_tag.items)
@@ -22,4 +22,4 @@ returns c =
     (c.in_ok-push_headed-2.ensures
     ∙ ap (λ (v : Value). map sexp_value c.push_all-2.new.members.items ++ headed (codes "tag") (v ∷ []) ∷ []) c.in_ok-write.ensures)
     c.in_ok-push_all-3.ensures in
-    subst (IsWrittenFive five) (sym (c.list.ensures ∙ ap group members)) c.in_ok-before_subject.ensures
+    subst (IsWrittenFive five) (sym (c.list.ensures ∙ ap group members)) (c.in_ok-before_subject.ensures _ c.in_ok-principal.ensures)
