@@ -266,6 +266,9 @@ def explained():
         0, "entry 1 (five (subject (public-key (test a))) (tag (ftp host)))\n"), (0, "entry 1 grants\n")
     yield "shorter request", case(f"(entry {a} (tag (ftp host)))", asks=a), (
         0, "entry 1 (five (subject (public-key (test a))) (tag (ftp host)))\n"), (1, "entry 1 TagLacks\n")
+    packed = base64.b64encode(hashlib.sha256(canonical(a)).digest()).decode()
+    yield "entry for a hash", case(f"(entry {digest(a)[:-1]} (uri http://keys.example/a)) (tag (*)))", asks=a), (
+        0, f"entry 1 (five (subject (hash sha256 |{packed}|)) (tag (*)))\n"), (0, "entry 1 grants\n")
     yield "delegation", case(all_of_it, *first, b), (0, f"entry 1 {B_MAY_ALL}\n"), (0, "entry 1 grants\n")
     stopped = 1, "entry 1 item 3 NoDelegation\n"
     yield "delegation: one too many", case(all_of_it, *shown((c1, a), (c2, b)), c), stopped, stopped
