@@ -53,22 +53,7 @@ both : (v w : Value) (vs ws : List Value) → v ∷ vs ≡ w ∷ ws → (v ≡ w
 both v w vs ws e = (cc, cc)
 
 pub parts-one : (p q : Parts) → case_value p ≡ case_value q → SameParts p q
-parts-one p q e =
-    let acl = both _ _ _ _ (behind_head (codes "case") (part_values p) (part_values q) e) in
-    let rows = both _ _ _ _ acl.1 in
-    let sequence = both _ _ _ _ rows.1 in
-    let key = both _ _ _ _ sequence.1 in
-    let request = both _ _ _ _ key.1 in
-    let at = both _ _ _ _ request.1 in
-    record {
-      acl = acl.0;
-      rows = behind_head (codes "accepted") p.rows q.rows rows.0;
-      sequence = sequence.0;
-      key = only (codes "key") p.key q.key key.0;
-      request = only (codes "request") p.request q.request request.0;
-      at = only (codes "at") p.at q.at at.0;
-      policy = policy-one p.policy q.policy at.1;
-    }
+parts-one p q e = search (rules, both, behind_head, codes, part_values, only, policy-one)
 
 request-one : (v : Value) (g h : Request) → RequestOf v g → RequestOf v h → g ≡ h
 request-one v g h read other = request_only h g (read.written ∙ sym other.written)

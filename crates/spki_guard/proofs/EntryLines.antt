@@ -25,16 +25,13 @@ module _ {A : Type 0} (one : ℕ → A → List ℕ) (all : ℕ → List A → L
       ∙ sym (append_assoc (one n y) (all (suc n) ys) (one (suc n + length ys) x))
       ∙ ap (λ s. s ++ one (suc n + length ys) x) (sym (more n y ys)) ∙ ap (λ m. all n (y ∷ ys) ++ one m x) e
 
-  pub line_behind : (xs : List A) (k : ℕ) (x : A) → k < length xs → x ≡ get_or xs k x
-      → all 1 (take k xs) ++ one (k + 1) x ≡ all 1 (take (k + 1) xs)
-  line_behind xs k x lt at =
-      let count : 1 + length (take k xs) ≡ k + 1 = omega (arith, length-take-le k xs (omega arith)) in
-      ap (λ m. all 1 (take k xs) ++ one m x) (sym count) ∙ sym (lines_append 1 (take k xs) x)
-      ∙ ap (all 1) (ap (λ u. take k xs ++ u ∷ []) at ∙ sym (take_more xs k x lt))
-
-  -- the same, with any value for what no list has
   pub line_at : (xs : List A) (k : ℕ) (d : A) → k < length xs → all 1 (take k xs) ++ one (k + 1) (get_or xs k d) ≡ all 1 (take (k + 1) xs)
   line_at xs k d lt =
       let count : 1 + length (take k xs) ≡ k + 1 = omega (arith, length-take-le k xs (omega arith)) in
       ap (λ m. all 1 (take k xs) ++ one m (get_or xs k d)) (sym count) ∙ sym (lines_append 1 (take k xs) (get_or xs k d))
       ∙ ap (all 1) (sym (take_more xs k d lt))
+
+  -- the same of a value that is there
+  pub line_behind : (xs : List A) (k : ℕ) (x : A) → k < length xs → x ≡ get_or xs k x
+      → all 1 (take k xs) ++ one (k + 1) x ≡ all 1 (take (k + 1) xs)
+  line_behind xs k x lt at = ap (λ u. all 1 (take k xs) ++ one (k + 1) u) at ∙ line_at xs k x lt
