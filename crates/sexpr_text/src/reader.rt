@@ -97,8 +97,8 @@ fn read_tree(alloc: Global, text: &[u8], at: usize, room: usize) -> Result<ReadT
     }
 }
 
-/// Reads the list whose opening parenthesis is at `at`. At most `room` lists may be open at once, this one included.
-/// Err is the first fault.
+/// Reads the list whose opening parenthesis is at `at`. Returns its tree and the offset after it. At most `room` lists may
+/// be open at once, this one included. Err is the first fault.
 #[cycle(reading)]
 fn read_list(alloc: Global, text: &[u8], at: usize, room: usize) -> Result<ReadTree, FormFault>
     requires short { length text.now ≤ 1048576 }

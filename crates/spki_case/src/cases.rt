@@ -25,8 +25,8 @@ pub enum CaseFault {
     /// The text is no canonical form within the limits.
     #[error("form: {0}")]
     Form(FormFault),
-    /// The value does not have the outer structure of a case. This is the number of its members, their heads, and the one
-    /// member after `key`, `request` and `at`.
+    /// The value does not have the outer structure of a case. This is the number of its members, their heads, the one
+    /// member after `key`, `request` and `at`, and the word `strict` after `policy`.
     #[error("not built as a case")]
     Shape,
     /// The fault of the access list. Its item is the number of the entry, from 1.

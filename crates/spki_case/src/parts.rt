@@ -91,7 +91,8 @@ pub(crate) fn parts_of<'d, 'a>(node: &Node<'d, 'a>) -> Option<Parts<'d, 'a>>
     parts_in(node.headed(b"case")?)
 }
 
-/// The parts of a case in the members after its head. None if they do not have the outer structure of a case.
+/// The parts of a case in the members after its head. None if they are not `(acl ..) (accepted ..) (sequence ..) (key K)
+/// (request G) (at DATE)` in this order, with `(policy strict)` or nothing behind. K, G and DATE are any values here.
 fn parts_in<'d, 'a>(members: Members<'d, 'a>) -> Option<Parts<'d, 'a>>
     ensures { MatchOption result ((p : spec.Parts) → members.entry ≢ part_values p)
         (λ p. (parts : spec.Parts) × ArePartsOf members.entry p parts) }

@@ -116,7 +116,8 @@ fn as_signature<'s, 'a>(item: &'s SeqItem<'a>) -> Option<&'s Signature<'a>>
     }
 }
 
-/// The signature of a certificate, which `items` follow: the first that is no operation. None if it is something else.
+/// The signature of the certificate that `items` follow: the first of them that is no `(do ..)`. None if that item is no
+/// signature, or if there is no such item.
 fn signature_in<'s, 'a>(items: &'s [SeqItem<'a>]) -> Option<&'s Signature<'a>>
     ensures { option_copied result ≡ signature_in items.entry.now }
 {

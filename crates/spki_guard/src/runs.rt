@@ -127,8 +127,9 @@ fn send_source<W: Write>(
     }
 }
 
-/// Writes a reply, and returns its status, or `WriteFault`. Its octets are counted first, since the largest number of
-/// calls of the writer depends on them.
+/// Writes a reply, and returns its status. `WriteFault` if the writer failed. The reply's octets are counted first, since
+/// the largest number of calls of the writer depends on them. If that number is over the greatest `u64`, `refused Memory`
+/// is written instead.
 fn send_reply<W: Write>(writer: &mut Metered<W>, reply: &Reply) -> Status
     requires { asks_of writer.old ≡ 0 }
     ensures { Sends W.contents (λ verdict output. ((verdict ≡ reply_verdict reply.now) × (output ≡ printed reply.now))

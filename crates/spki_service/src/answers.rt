@@ -189,7 +189,7 @@ impl<'a> Asked<'a> {
     ///
     /// # Errors
     ///
-    /// Those of `explain`. What was put before does not count.
+    /// Those of `explain`. After an error, `sink` may have taken what some of the entries become.
     pub fn reduce_into<S: FoldSink<'a>>(
         &self,
         alloc: Global,
