@@ -29,7 +29,7 @@ use Rattle.spki_decision.proofs.Entries.{decided}
 use Rattle.spki_decision.proofs.Evident.{none_shown, one_list}
 use Rattle.spki_decision.proofs.KeptEntries.{renumbered}
 use Rattle.spki_decision.proofs.Stopping.{failure}
-use Rattle.spki_service.specs.declared.folding.Failure.{Failure}
+use Rattle.spki_service.specs.declared.fold_sink.Failure.{Failure}
 use Rattle.spki_service.specs.Asking.{AskedOf, Answers, OfCase, Decides}
 use Rattle.spki_service.specs.Folded.{AreReduced}
 use Rattle.spki_service.specs.Held.{AreEntries}

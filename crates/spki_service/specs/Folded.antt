@@ -8,7 +8,7 @@ use Rattle.spki_decision.specs.declared.reduction.EntryFold.{EntryFold}
 use Rattle.spki_decision.specs.Reduced.{IsEntryFold, IsDated, EndsAtDate, IsWithinWork, IsFailure, AreFolds}
 use Rattle.spki_decision.specs.Supported.{AllSmall}
 use Rattle.spki_decision.specs.Views.{with_entries}
-use Rattle.spki_service.specs.declared.folding.Failure.{Failure}
+use Rattle.spki_service.specs.declared.fold_sink.Failure.{Failure}
 use Rattle.spki_service.specs.Asking.{AskedOf, OfCase}
 use Rattle.spki_service.specs.Held.{AreEntries}
 

@@ -17,8 +17,8 @@ ghost use Rattle.spki_service.specs.Folded.{AreReduced};
 ghost use Rattle.spki_service.specs.Partly.{DecidesPartly};
 
 use crate::asked::Asked;
-use crate::folding::{Failure, FoldSink, fold_texts};
-use crate::granting::first_granted;
+use crate::fold_sink::{Failure, FoldSink, fold_texts};
+use crate::granted_entry::first_granted;
 use crate::marks::first_unmarked;
 use crate::reasons::text_reasons;
 use spki_case::Verifier;

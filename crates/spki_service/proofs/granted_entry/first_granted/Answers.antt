@@ -7,7 +7,7 @@ use Rattle.spki_decision.specs.declared.decision.Decision.TheVariants.{Yes, No}
 use Rattle.spki_decision.specs.Views.{with_entries}
 use Rattle.spki_decision.proofs.Entries.{not_yet, found}
 use Rattle.spki_service.proofs.EntryTexts.{picked_there}
-use Rattle.spki_service.proofs.granting.first_granted.Goals as goal
+use Rattle.spki_service.proofs.granted_entry.first_granted.Goals as goal
 
 pub returns-then-grants : goal.returns-then-grants
 returns-then-grants c es picked are picks =

@@ -5,7 +5,7 @@ use Rattle.spki_case.specs.View.{model}
 use Rattle.spki_decision.specs.Reduced.{IsEntryFold, IsDated, EndsAtDate}
 use Rattle.spki_decision.proofs.Stopping.{all_pushed}
 use Rattle.spki_service.proofs.TextAnswers.{none_answered, one_more, too_large, all_answered}
-use Rattle.spki_service.proofs.folding.fold_texts.Goals as goal
+use Rattle.spki_service.proofs.fold_sink.fold_texts.Goals as goal
 
 pub loop-place-init : goal.loop-place-init
 loop-place-init g c = ([], search rules, none_answered IsEntryFold c.args.texts.now (model c.args.case.now) (tuples_of c.args.steps.now) _ c.new-work.ensures, tt, tt)

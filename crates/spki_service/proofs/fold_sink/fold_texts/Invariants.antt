@@ -7,7 +7,7 @@ use Rattle.spki_case.specs.View.{model}
 use Rattle.spki_decision.specs.declared.reduction.EntryFold.{EntryFold}
 use Rattle.spki_decision.specs.Reduced.{IsEntryFold, IsDated, EndsAtDate}
 use Rattle.spki_service.proofs.TextAnswers.{AnsweredTo}
-use Rattle.spki_service.proofs.folding.fold_texts.Given as goal
+use Rattle.spki_service.proofs.fold_sink.fold_texts.Given as goal
 
 abbrev pub invariant-loop-place : goal.invariant-loop-place
 invariant-loop-place g l = (folds : List EntryFold) × g.S.FoldSink.takes l.initial.sink folds l.sink

@@ -7,7 +7,7 @@ use Rattle.spki_decision.specs.Supported.{NoneBefore}
 use Rattle.spki_decision.specs.Views.{with_entries}
 use Rattle.spki_service.specs.Held.{AreEntries, octets_of_texts}
 use Rattle.spki_service.specs.Picked.{ArePicked}
-use Rattle.spki_service.proofs.granting.first_granted.Given as goal
+use Rattle.spki_service.proofs.granted_entry.first_granted.Given as goal
 
 abbrev pub invariant-loop-number : goal.invariant-loop-number
 invariant-loop-number l = (es picked : List Entry) → AreEntries (octets_of_texts l.texts) es → ArePicked es l.numbers picked
