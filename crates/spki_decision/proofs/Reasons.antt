@@ -1,5 +1,5 @@
 -- What the reasons of entries say of what is granted, and of decisions.
-use Rattle.std.proofs.Common.{◌≡◌, ◌↔◌, ◌⊎◌, inl, inr, ℕ, suc, ◌<◌, List, Option, Some, None, IsNone, slice_get, refl, ap, ◌∙◌, arith, rules}
+use Rattle.std.proofs.Common.{◌≡◌, ◌↔◌, ◌⊎◌, inl, inr, ℕ, suc, ◌<◌, List, [], ◌∷◌, Option, Some, None, IsNone, slice_get, refl, ap, ◌∙◌, arith, rules}
 use Rattle.std.specs.List.{AllZip}
 use Rattle.std.specs.Option.{IsSomeAnd}
 use Rattle.std.proofs.lemmas.Slice.Zip.{AllZip-left, AllZip-right}
@@ -9,8 +9,11 @@ use Rattle.spki_reduce.specs.declared.fold.Cause.{Cause}
 use Rattle.spki_reduce.specs.declared.last_tests.Denial.{Denial}
 use Rattle.spki_reduce.specs.declared.last_tests.Denial.TheVariants as denial
 use Rattle.spki_reduce.specs.declared.tuple.Five.{Five}
-use Rattle.spki_reduce.specs.Tuples.{FiveTuple, Tuple, five}
-use Rattle.spki_reduce.specs.Views.{entry_tuple}
+use Rattle.spki_reduce.specs.Tuples.{FiveTuple, Tuple, five, four, own}
+use Rattle.spki_reduce.specs.Views.{entry_tuple, issuer_of}
+use Rattle.spki_reduce.specs.Derivation.{Tree, leaf, join, Derives, extended}
+use Rattle.spki_reduce.specs.Rules.{Joins}
+use Rattle.spki_cert.specs.declared.principal.Policy.{Policy}
 use Rattle.spki_reduce.specs.Supports.{Grants as Allows}
 use Rattle.spki_reduce.specs.Restrictions.{in_each, within_each}
 use Rattle.spki_reduce.specs.Chain.{FoldsTo, HasMet}
@@ -28,7 +31,10 @@ use Rattle.spki_decision.specs.declared.explanation.Reason.TheVariants.{Grants, 
 use Rattle.spki_decision.specs.declared.evidence.Stop.{Stop}
 use Rattle.spki_decision.specs.Standing.{AreShown}
 use Rattle.spki_decision.specs.Supported.{Supported, AllSmall}
-use Rattle.spki_decision.specs.Reduced.{IsWithinWork, IsFailure, StopsAtItem}
+use Rattle.spki_decision.specs.declared.reduction.EntryFold.{EntryFold}
+use Rattle.spki_decision.specs.Reduced.{IsWithinWork, IsFailure, StopsAtItem, IsEntryFold, AreFolds}
+use Rattle.spki_decision.specs.Taken.{IsReasonFor}
+use Rattle.spki_decision.specs.Views.{with_entries}
 use Rattle.spki_decision.specs.Granted.{Granted}
 use Rattle.spki_decision.specs.Decision.{IsDecision}
 use Rattle.spki_decision.specs.Explained.{LacksFirst, IsReason, reason_of, AreReasons, IsExplanation, IsFirstGrant, Agrees}
@@ -78,6 +84,28 @@ module _ (c : Case) (tuples : List Tuple) (e : Entry) where
   only_grants r is (inr (inr h)) s =
       absurd (unsupported c.policy (five (entry_tuple e)) tuples h.3.step h.1 h.3.stops s.tree c.key c.request c.moment s.leaves_are is s.supports)
 
+-- ---- the issuer of a chain's authorization
+
+abbrev IsOwned : Tuple → Type 0
+IsOwned (five t) = t.issuer ≡ own
+IsOwned (four t) = ⊥
+
+joined_owned : (policy : Policy) (left right root : Tuple) → Joins policy left right root → IsOwned left → IsOwned root
+joined_owned policy (five left) (five right) (five root) h is = ap (λ (t : FiveTuple). t.issuer) h.result_is ∙ is
+joined_owned policy (five left) (four right) (five root) h is = ap (λ (t : FiveTuple). t.issuer) h.result_is ∙ is
+joined_owned policy (four left) right root h is = absurd is
+joined_owned policy left right root h is = absurd h
+
+chain_owned : (policy : Policy) (tree : Tree) (others : List Tuple) → ((root : Tuple) → Derives policy tree root → IsOwned root)
+    → (root : Tuple) → Derives policy (extended tree others) root → IsOwned root
+chain_owned policy tree [] owned root h = owned root h
+chain_owned policy tree (other ∷ others) owned root h =
+    chain_owned policy (join tree (leaf other)) others (λ r d. joined_owned policy d.0 d.1 r d.4 (owned d.0 d.2)) root h
+
+pub is_own : (c : Case) (tuples : List Tuple) (e : Entry) (f : Five) → FoldsTo c.policy (five (entry_tuple e)) tuples f → issuer_of f.issuer ≡ own
+is_own c tuples e f folds = folds.reduced.issuer
+    ∙ chain_owned c.policy (leaf (five (entry_tuple e))) tuples (λ root is. rw is refl) (five folds.root) folds.derived
+
 -- ---- all entries
 
 some_and : {A : Type 0} (o : Option A) (P : A → Type 0) → IsSomeAnd o P → (x : A) × (o ≡ Some x) × P x
@@ -100,10 +128,26 @@ module _ (c : Case) (verified : Verified) (tuples : List Tuple) (shown : AreShow
       let s = supported c verified tuples shown (suc place) g in
       at.1 ∙ ap Some (only_grants c tuples g.entry at.0 is (parted c tuples g.entry at.0 at.2) s)
 
-pub are_reasons : (c : Case) (verified : Verified) (tuples : List Tuple) (reasons : List Reason) → IsRequest c.request
+are_reasons : (c : Case) (verified : Verified) (tuples : List Tuple) (reasons : List Reason) → IsRequest c.request
     → AreShown c.policy verified c.items tuples → AllZip (IsReason c tuples) c.entries reasons → AllSmall c tuples
     → IsWithinWork c tuples → AreReasons c verified reasons
 are_reasons c verified tuples reasons is shown each small worked = search (rules, has_granted, grants_it)
+
+each_reason : (c : Case) (es : List Entry) (tuples : List Tuple) (entries : List Entry) (folds : List EntryFold) (reasons : List Reason)
+    → AllZip (IsEntryFold (with_entries c es) tuples) entries folds → AllZip (IsReasonFor c) folds reasons
+    → AllZip (IsReason (with_entries c es) tuples) entries reasons
+each_reason c es tuples [] [] [] h k = tt
+each_reason c es tuples (e ∷ entries) (fold ∷ folds) (reason ∷ reasons) h k =
+    (k.0 es tuples e h.0, each_reason c es tuples entries folds reasons h.1 k.1)
+each_reason c es tuples [] [] (reason ∷ reasons) h k = absurd k
+each_reason c es tuples (e ∷ entries) (fold ∷ folds) [] h k = absurd k
+each_reason c es tuples entries folds reasons h k = absurd h
+
+-- the reasons for what the entries become
+pub reasons_for : (c : Case) (es : List Entry) (verified : Verified) (folds : List EntryFold) (reasons : List Reason) → IsRequest c.request
+    → AreFolds (with_entries c es) verified folds → AllZip (IsReasonFor c) folds reasons → AreReasons (with_entries c es) verified reasons
+reasons_for c es verified folds reasons is h k =
+    are_reasons (with_entries c es) verified h.tuples reasons is h.shown (each_reason c es h.tuples es folds reasons h.each k) h.within_limit h.worked
 
 -- ---- decisions
 

@@ -1,9 +1,10 @@
 -- Where chains stop, what fails, and the answers of one entry more.
-use Rattle.std.proofs.Common.{◌≡◌, ◌⊎◌, inl, inr, Option, ℕ, ◌-◌, ◌<◌, List, [], ◌∷◌, Some, map, length, get_or, take, ◌+◌, ◌++◌, slice_get, sym, ap, ◌∙◌, arith, rules}
+use Rattle.std.proofs.Common.{◌≡◌, ◌⊎◌, inl, inr, Option, ℕ, ◌-◌, ◌<◌, List, [], ◌∷◌, Some, map, length, get_or, take, ◌+◌, ◌++◌, slice_get, refl, sym, ap, ◌∙◌, subst, arith, rules}
 use Rattle.std.specs.Prelude.{Vec}
 use Rattle.std.specs.declared.alloc.Global.{Global}
 use Rattle.std.specs.List.{AllZip, AllByRecursion}
-use Rattle.std.proofs.lemmas.List.{length-map, take_more}
+use Rattle.std.proofs.Math.Seq.{take-length}
+use Rattle.std.proofs.lemmas.List.{length-map, length-append, take_more}
 use Rattle.std.proofs.lemmas.Option.{slice_get_within, slice_get-get_or}
 use Rattle.std.proofs.lemmas.Slice.Zip.{AllZip-long, all_zipped_more}
 use Rattle.spki_cert.specs.declared.principal.Policy.{Policy}
@@ -16,7 +17,7 @@ use Rattle.spki_reduce.specs.Views.{entry_tuple}
 use Rattle.spki_reduce.specs.Chain.{tuples_of, StopsAt, TooLargeAt, Excludes}
 use Rattle.spki_reduce.specs.Work.{IsWork, Takes, IsOverworked}
 use Rattle.spki_reduce.proofs.Chains.{too_large}
-use Rattle.spki_reduce.proofs.Working.{taken as taken_both}
+use Rattle.spki_reduce.proofs.Working.{none_taken, taken, within}
 use Rattle.spki_case.specs.Case.{Case, Verified}
 use Rattle.spki_case.specs.Sequence.{certificates}
 use Rattle.spki_decision.specs.declared.certificates.ShownCert.{ShownCert}
@@ -25,7 +26,8 @@ use Rattle.spki_decision.specs.declared.evidence.Evidence.TheVariants as evidenc
 use Rattle.spki_decision.specs.declared.evidence.Stop.{Stop}
 use Rattle.spki_decision.specs.Judged.{IsEvidence}
 use Rattle.spki_decision.specs.Standing.{AreShown, FailsAt}
-use Rattle.spki_decision.specs.Reduced.{IsFailure, StopsAtItem, HasLargeTags, HasMuchWork, IsEntryWork}
+use Rattle.spki_decision.specs.declared.reduction.EntryFold.{EntryFold}
+use Rattle.spki_decision.specs.Reduced.{IsFailure, StopsAtItem, HasLargeTags, HasMuchWork, IsEntryWork, IsEntryFold, IsDated, EndsAtDate, AreFoldsOf, AreFolds}
 use Rattle.spki_decision.specs.Supported.{SmallBefore}
 use Rattle.spki_decision.specs.Views.{shown_of}
 use Rattle.spki_decision.proofs.Chains.{stands_here}
@@ -77,6 +79,11 @@ pub failure : (c : Case) (verified : Verified) (item : ℕ) (stop : Stop) → Fa
 failure c verified item stop h =
     record { fails = h; none_shown = λ tuples shown. none_shown c.policy verified c.items item stop tuples h shown }
 
+pub are_folds : (c : Case) (verified : Verified) (tuples : List Tuple) (folds : List EntryFold) → AreShown c.policy verified c.items tuples
+    → AreFoldsOf c tuples folds → AreFolds c verified folds
+are_folds c verified tuples folds shown h =
+    record { tuples = tuples; shown = shown; each = h.each; within_limit = h.within_limit; worked = h.worked }
+
 -- ---- the entries one by one
 
 push_of : {A : Type 0} (P : A → Type 0) (xs : List A) (x : A) → AllByRecursion P xs → P x → AllByRecursion P (xs ++ x ∷ [])
@@ -87,33 +94,73 @@ pub all_pushed : {A : Type 0} (P : A → Type 0) (so_far more : List A) (x : A) 
     → more ≡ so_far ++ x ∷ [] → AllByRecursion P more
 all_pushed P so_far more x h k grown = rw grown (push_of P so_far x h k)
 
-module _ (c : Case) (items : List Entry) (place : ℕ) (e : Entry) (same : items ≡ c.entries)
-    (below : place < length items) (read : e ≡ get_or items place e) where
-  pub answered : {A : Type 0} (R : Entry → A → Type 0) (so_far more : List A) (answer : A)
-      → AllZip R (take place c.entries) so_far → R e answer → more ≡ so_far ++ answer ∷ []
-      → AllZip R (take (place + 1) c.entries) more
-  answered R so_far more answer h k grown = search (rules, take_more, all_zipped_more)
+pub stands : (c : Case) (items : List Entry) (place : ℕ) (e : Entry) → items ≡ c.entries → place < length items → e ≡ get_or items place e
+    → slice_get c.entries place ≡ Some e
+stands c items place e same below read = rw same at (slice_get-get_or items place e below ∙ ap Some (sym read))
 
-  pub stands : slice_get c.entries place ≡ Some e
-  stands = rw same at (slice_get-get_or items place e below ∙ ap Some (sym read))
+-- so many entries are folded, and the limits of their windows are dates
+pub record ArePut (place : ℕ) (folds : List EntryFold) : Type 0 where
+  pub count : length folds ≡ place
+  pub dated : AllByRecursion IsDated folds
+  pub end : AllByRecursion EndsAtDate folds
 
-  pub small_here : (tuples : List Tuple) → ¬ TooLargeAt c.most_nodes c.policy (five (entry_tuple e)) tuples → SmallBefore c tuples place
-      → SmallBefore c tuples (place + 1)
-  small_here tuples small before = small_yet c tuples place e stands small before
+pub one_put : (place : ℕ) (folds : List EntryFold) (fold : EntryFold) → ArePut place folds → IsDated fold → EndsAtDate fold
+    → ArePut (place + 1) (folds ++ fold ∷ [])
+one_put place folds fold before dated end = record {
+  count = omega (arith, length-append folds (fold ∷ []), before.count);
+  dated = push_of IsDated folds fold before.dated dated;
+  end = push_of EndsAtDate folds fold before.end end;
+}
 
-  large_here : (tuples : List Tuple) → TooLargeAt c.most_nodes c.policy (five (entry_tuple e)) tuples → HasLargeTags c tuples
-  large_here tuples h = search (rules, stands, too_large)
+module _ (c : Case) (tuples : List Tuple) where
+  -- This is what so many entries become. None of their chains is too large at a step, and so much work may still be done.
+  pub record FoldedTo (place : ℕ) (left : Option ℕ) (folds : List EntryFold) : Type 0 where
+    pub each : AllZip (IsEntryFold c tuples) (take place c.entries) folds
+    pub within_limit : SmallBefore c tuples place
+    pub work : ℕ
+    pub worked : IsEntryWork c tuples place work
+    pub takes : Takes c.most_work left work
 
-  pub too_large_here : (tuples : List Tuple) (left : Option ℕ) (before : ℕ) → IsEntryWork c tuples place before
-      → Takes c.most_work left before
-      → TooLargeAt c.most_nodes c.policy (five (entry_tuple e)) tuples ⊎ IsOverworked left c.policy (five (entry_tuple e)) tuples
-      → HasLargeTags c tuples ⊎ HasMuchWork c tuples
-  too_large_here tuples left before work taken (inl h) = inl (large_here tuples h)
-  too_large_here tuples left before work taken (inr h) = inr (too_much c tuples place e before left stands work taken h)
+  pub none_folded : (left : Option ℕ) → left ≡ c.most_work → FoldedTo 0 left []
+  none_folded left same = record {
+    each = tt;
+    within_limit = λ k e below. absurd (omega (arith, below));
+    work = 0;
+    worked = refl;
+    takes = none_taken c.most_work left same;
+  }
 
-  -- what the entries up to this one take
-  pub work_here : (tuples : List Tuple) (left new : Option ℕ) (before n : ℕ) → IsEntryWork c tuples place before
-      → Takes c.most_work left before → IsWork c.policy (five (entry_tuple e)) tuples n → Takes left new n
-      → (m : ℕ) × IsEntryWork c tuples (place + 1) m × Takes c.most_work new m
-  work_here tuples left new before n work taken here more =
-      (before + n, work_more c tuples place e before n stands work here, taken_both c.most_work left new before n taken more)
+  pub all_folded : (place : ℕ) (left : Option ℕ) (folds : List EntryFold) → place ≡ length c.entries → FoldedTo place left folds
+      → AreFoldsOf c tuples folds
+  all_folded place left folds whole h = record {
+    each = subst (λ xs. AllZip (IsEntryFold c tuples) xs folds) (ap (λ n. take n c.entries) whole ∙ take-length c.entries) h.each;
+    within_limit = λ k e below there. h.within_limit k e (omega (arith, whole, below)) there;
+    worked = record {
+      work = h.work;
+      is = subst (λ n. IsEntryWork c tuples n h.work) whole h.worked;
+      within = within c.most_work left h.work h.takes;
+    };
+  }
+
+  module _ (place : ℕ) (e : Entry) (here : slice_get c.entries place ≡ Some e) (old : Option ℕ) (folds : List EntryFold)
+      (before : FoldedTo place old folds) where
+    pub too_large_here : TooLargeAt c.most_nodes c.policy (five (entry_tuple e)) tuples ⊎ IsOverworked old c.policy (five (entry_tuple e)) tuples
+        → HasLargeTags c tuples ⊎ HasMuchWork c tuples
+    too_large_here (inl h) = inl (search (rules, too_large))
+    too_large_here (inr h) = inr (too_much c tuples place e before.work old here before.worked before.takes h)
+
+    pub one_folded : (fold : EntryFold) (new : Option ℕ) (n : ℕ) → IsEntryFold c tuples e fold
+        → ¬ TooLargeAt c.most_nodes c.policy (five (entry_tuple e)) tuples → IsWork c.policy (five (entry_tuple e)) tuples n → Takes old new n
+        → FoldedTo (place + 1) new (folds ++ fold ∷ [])
+    one_folded fold new n exact small work takes =
+        let below = slice_get_within c.entries place e here in
+        let same : Some (get_or c.entries place e) ≡ Some e = sym (slice_get-get_or c.entries place e below) ∙ here in
+        let read : get_or c.entries place e ≡ e = cc in
+        record {
+          each = rw (take_more c.entries place e below ∙ ap (λ x. take place c.entries ++ x ∷ []) read)
+              (all_zipped_more (IsEntryFold c tuples) (take place c.entries) folds e fold before.each exact);
+          within_limit = small_yet c tuples place e here small before.within_limit;
+          work = before.work + n;
+          worked = work_more c tuples place e before.work n here before.worked work;
+          takes = taken c.most_work old new before.work n before.takes takes;
+        }

@@ -13,6 +13,7 @@ pub mod Membership
 pub mod Sizes
 pub mod Reduced
 pub mod Explained
+pub mod Taken
 pub mod Answered
 pub mod LeftOut
 pub mod Asked

@@ -78,6 +78,13 @@ pub record HasMuchWork (c : Case) (tuples : List Tuple) : Type 0 where
 
 -- ---- reductions
 
+-- For each entry, in order, this is what it becomes with the tuples of certificates. No chain is too large at a step, and the work of all is
+-- within the limit.
+pub record AreFoldsOf (c : Case) (tuples : List Tuple) (folds : List EntryFold) : Type 0 where
+  pub each : AllZip (IsEntryFold c tuples) c.entries folds
+  pub within_limit : AllSmall c tuples
+  pub worked : IsWithinWork c tuples
+
 -- Every certificate stands, and for each entry, in order, this is what it becomes with them. No chain is too large at a
 -- step, and the work of all is within the limit.
 pub record AreFolds (c : Case) (verified : Verified) (folds : List EntryFold) : Type 0 where

@@ -1,27 +1,18 @@
 //! Why the entries of a case grant the request or do not (RFC 2693, section 6.3).
 
-ghost use Rattle.std.specs.Prelude.{◌≡◌, List, map, length, IfOk, OnOk, IsErrOf, ◌⊎◌, ℕ};
-ghost use Rattle.std.specs.List.{AllZip};
+ghost use Rattle.std.specs.Prelude.{◌≡◌, IfOk, IsErrOf};
 ghost use Rattle.spki_case.specs.View.{model};
-ghost use Rattle.spki_decision.specs.Views.{shown_of, with_entries};
-ghost use Rattle.spki_case.specs.Sequence.{certificates};
-ghost use Rattle.spki_cert.specs.declared.entry.Entry.{Entry};
-ghost use Rattle.spki_reduce.specs.Tuples.{five};
-ghost use Rattle.spki_reduce.specs.Chain.{tuples_of, TooLargeAt};
-ghost use Rattle.spki_reduce.specs.Work.{left_of, Takes, IsWork, IsOverworked};
-ghost use Rattle.spki_reduce.specs.Views.{entry_tuple};
-ghost use Rattle.spki_decision.specs.Supported.{AllSmall};
-ghost use Rattle.spki_decision.specs.Reduced.{IsWithinWork, HasLargeTags, HasMuchWork, SomeTooLarge};
-ghost use Rattle.spki_decision.specs.Explained.{IsReason, IsExplanation, reason_of};
+ghost use Rattle.spki_decision.specs.Reduced.{SomeTooLarge};
+ghost use Rattle.spki_decision.specs.Explained.{IsExplanation, reason_of};
+ghost use Rattle.spki_decision.specs.Taken.{TakesReasons, IsReasonFor, no_reasons};
 
-use crate::certificates::{ShownCert, certificates_of};
 use crate::evidence::{Evidence, Stop, judge};
 use crate::fault::GuardFault;
-use crate::reduction::{EntryFold, entry_fold};
+use crate::fold_sink::FoldSink;
+use crate::reduction::{EntryFold, put_folds};
 use spki_case::{Case, Verifier};
-use spki_cert::Entry;
-use spki_reduce::{Cause, Denial, Step, Work};
-use std::alloc::Global;
+use spki_reduce::{Cause, Denial};
+use std::alloc::{AllocError, Global};
 
 /// Why an entry and all certificates grant the request or do not.
 #[derive(Clone, Copy, Debug, PartialEq, Eq)]
@@ -80,69 +71,49 @@ pub fn explain<V: Verifier>(
     match judge(alloc, &case.sequence, case.policy, verifier)? {
         Evidence::Fails { item, stop } => Ok(Explanation::Evidence { item, stop }),
         Evidence::Verified(steps) => {
-            let reasons = entry_reasons(alloc, &case.acl, case, &steps)?;
-            Ok(Explanation::Entries(reasons))
+            let reasons = Vec::new(alloc);
+            let mut sink = ReasonSink { case, reasons };
+            put_folds(alloc, &case.acl, case, &steps, &mut sink)?;
+            Ok(Explanation::Entries(sink.reasons))
         }
     }
 }
 
-/// Returns for each entry of an access list why it and the certificates of the case grant the request or do not.
-/// `steps` are the tuples of all certificates, in order. The case's own access list is not examined. Err is `TooLarge` or `Memory`,
-/// as for `explain`.
-fn entry_reasons<'a>(
-    alloc: Global,
-    acl: &[Entry<'a>],
-    case: &Case<'a>,
-    steps: &[Step<'a>],
-) -> Result<Vec<Reason>, GuardFault>
-    requires { length steps.now ≡ length (certificates case.now.sequence.items) }
-    ensures each { IfOk result (λ reasons.
-        AllZip (IsReason (with_entries (model case.now) acl.now) (tuples_of steps.now)) acl.now reasons.items) }
-    ensures too_large { IsErrOf result GuardFault.TooLarge →
-        HasLargeTags (with_entries (model case.now) acl.now) (tuples_of steps.now)
-        ⊎ HasMuchWork (with_entries (model case.now) acl.now) (tuples_of steps.now) }
-    ensures within_limit { OnOk result (AllSmall (with_entries (model case.now) acl.now) (tuples_of steps.now)) }
-    ensures worked { OnOk result (IsWithinWork (with_entries (model case.now) acl.now) (tuples_of steps.now)) }
-{
-    let shown = certificates_of(alloc, &case.sequence)?;
-    let mut work = Work::new(case.most_work);
-    let mut reasons = Vec::new(alloc);
-    for entry in acl {
-        reasons.push(entry_reason(alloc, case, entry, &shown, steps, &mut work)?)?;
-    }
-    Ok(reasons)
+/// Keeps why each entry grants the case's request or does not, and nothing else of what it becomes.
+#[derive(Drop)]
+pub struct ReasonSink<'c, 'a> {
+    /// The case that is explained.
+    pub case: &'c Case<'a>,
+    /// The reasons of the entries so far, in their order.
+    pub reasons: Vec<Reason>,
 }
 
-/// Returns why an entry and the certificates of the case grant the request or do not. These are `shown`, with the tuples
-/// `steps`. The products of intersected nodes are taken from `work`.
-///
-/// # Errors
-///
-/// Those of `entry_fold`.
-pub fn entry_reason<'a>(
-    alloc: Global,
-    case: &Case<'a>,
-    entry: &Entry<'a>,
-    shown: &[ShownCert<'_, 'a>],
-    steps: &[Step<'a>],
-    work: &mut Work,
-) -> Result<Reason, GuardFault>
-    requires whole { map shown_of shown.now ≡ certificates case.now.sequence.items }
-    requires as_many { length steps.now ≡ length (certificates case.now.sequence.items) }
-    ensures exact { (es : List Entry) →
-        IfOk result (IsReason (with_entries (model case.now) es) (tuples_of steps.now) entry.now) }
-    ensures too_large { IsErrOf result GuardFault.TooLarge →
-        TooLargeAt case.now.most_nodes case.now.policy (five (entry_tuple entry.now)) (tuples_of steps.now)
-        ⊎ IsOverworked (left_of work.old) case.now.policy (five (entry_tuple entry.now)) (tuples_of steps.now) }
-    ensures worked { OnOk result ((n : ℕ) × IsWork case.now.policy (five (entry_tuple entry.now)) (tuples_of steps.now) n
-        × Takes (left_of work.old) (left_of work.new) n) }
-    ensures within_limit { IfOk result (λ reason. ¬ TooLargeAt case.now.most_nodes case.now.policy (five (entry_tuple entry.now)) (tuples_of steps.now)) }
+impl<'c, 'a> FoldSink<'a> for ReasonSink<'c, 'a> {
+    ghost takes = { TakesReasons };
+
+    /// Appends the entry's reason.
+    fn put(
+        &mut self,
+        _alloc: Global,
+        _entry: usize,
+        fold: EntryFold<'a>,
+    ) -> Result<(), AllocError> {
+        self.reasons.push(fold_reason(self.case, fold))?;
+        Ok(())
+    }
+
+    ghost nothing = { no_reasons };
+}
+
+/// Why an entry that becomes this with all certificates grants the case's request or does not.
+fn fold_reason(case: &Case, fold: EntryFold) -> Reason
+    ensures { IsReasonFor (model case.now) fold.entry result }
 {
-    match entry_fold(alloc, case, entry, shown, steps, work)? {
-        EntryFold::Stopped { item, cause } => Ok(Reason::Stopped { item, cause }),
+    match fold {
+        EntryFold::Stopped { item, cause } => Reason::Stopped { item, cause },
         EntryFold::Done(five) => {
             let denial = five.first_denial(&case.key, &case.request, &case.moment, case.policy);
-            Ok(reason_of(denial))
+            reason_of(denial)
         }
     }
 }

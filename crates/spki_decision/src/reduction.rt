@@ -1,7 +1,7 @@
 //! What the entries of a case become (RFC 2693, section 6.3).
 
 ghost use Rattle.std.specs.Prelude.{◌≡◌, List, map, length, IfOk, OnOk, IsErrOf, ◌⊎◌, ℕ};
-ghost use Rattle.std.specs.List.{AllZip, AllByRecursion};
+ghost use Rattle.std.specs.List.{AllByRecursion};
 ghost use Rattle.spki_case.specs.View.{model};
 ghost use Rattle.spki_decision.specs.Views.{shown_of, with_entries};
 ghost use Rattle.spki_case.specs.Sequence.{certificates};
@@ -10,13 +10,14 @@ ghost use Rattle.spki_reduce.specs.Tuples.{five};
 ghost use Rattle.spki_reduce.specs.Chain.{tuples_of, TooLargeAt};
 ghost use Rattle.spki_reduce.specs.Work.{left_of, Takes, IsWork, IsOverworked};
 ghost use Rattle.spki_reduce.specs.Views.{entry_tuple};
-ghost use Rattle.spki_decision.specs.Supported.{AllSmall};
-ghost use Rattle.spki_decision.specs.Reduced.{IsEntryFold, IsOwn, IsReduction, IsDated, EndsAtDate, AreDated, EndAtDates, IsWithinWork, HasLargeTags, HasMuchWork, SomeTooLarge};
+ghost use Rattle.spki_decision.specs.declared.reduction.EntryFold.{EntryFold};
+ghost use Rattle.spki_decision.specs.Reduced.{IsEntryFold, IsOwn, IsReduction, IsDated, EndsAtDate, AreDated, EndAtDates, AreFoldsOf, HasLargeTags, HasMuchWork, SomeTooLarge};
 
 use crate::certificates::{ShownCert, certificates_of};
 use crate::entry_chain::fold_entry;
 use crate::evidence::{Evidence, Stop, judge};
 use crate::fault::GuardFault;
+use crate::fold_sink::FoldSink;
 use spki_case::{Case, Verifier};
 use spki_cert::Entry;
 use spki_reduce::{Cause, Five, Fold, Step, Work};
@@ -73,38 +74,37 @@ pub fn reduce_case<'a, V: Verifier>(
     match judge(alloc, &case.sequence, case.policy, verifier)? {
         Evidence::Fails { item, stop } => Ok(Reduction::Evidence { item, stop }),
         Evidence::Verified(steps) => {
-            let folds = entry_folds(alloc, &case.acl, case, &steps)?;
+            let mut folds = Vec::new(alloc);
+            put_folds(alloc, &case.acl, case, &steps, &mut folds)?;
             Ok(Reduction::Entries(folds))
         }
     }
 }
 
-/// Returns for each entry of an access list what it and the certificates of the case become. `steps` are the tuples of
+/// Puts into `sink` what each entry of an access list and the certificates of the case become. `steps` are the tuples of
 /// all certificates, in order. The case's own access list is not examined. Err is `TooLarge` or `Memory`, as for `reduce_case`.
-fn entry_folds<'a>(
+pub(crate) fn put_folds<'a, S: FoldSink<'a>>(
     alloc: Global,
     acl: &[Entry<'a>],
     case: &Case<'a>,
     steps: &[Step<'a>],
-) -> Result<Vec<EntryFold<'a>>, GuardFault>
+    sink: &mut S,
+) -> Result<(), GuardFault>
     requires { length steps.now ≡ length (certificates case.now.sequence.items) }
-    ensures each { IfOk result (λ folds.
-        AllZip (IsEntryFold (with_entries (model case.now) acl.now) (tuples_of steps.now)) acl.now folds.items) }
-    ensures dated { IfOk result (λ folds. AllByRecursion IsDated folds.items) }
-    ensures end { IfOk result (λ folds. AllByRecursion EndsAtDate folds.items) }
+    ensures folds { OnOk result ((folds : List EntryFold) × S.takes sink.old folds sink.new
+        × AreFoldsOf (with_entries (model case.now) acl.now) (tuples_of steps.now) folds
+        × AllByRecursion IsDated folds × AllByRecursion EndsAtDate folds) }
     ensures too_large { IsErrOf result GuardFault.TooLarge →
         HasLargeTags (with_entries (model case.now) acl.now) (tuples_of steps.now)
         ⊎ HasMuchWork (with_entries (model case.now) acl.now) (tuples_of steps.now) }
-    ensures within_limit { OnOk result (AllSmall (with_entries (model case.now) acl.now) (tuples_of steps.now)) }
-    ensures worked { OnOk result (IsWithinWork (with_entries (model case.now) acl.now) (tuples_of steps.now)) }
 {
     let shown = certificates_of(alloc, &case.sequence)?;
     let mut work = Work::new(case.most_work);
-    let mut folds = Vec::new(alloc);
-    for entry in acl {
-        folds.push(entry_fold(alloc, case, entry, &shown, steps, &mut work)?)?;
+    for (place, entry) in acl.iter().enumerate() {
+        let fold = entry_fold(alloc, case, entry, &shown, steps, &mut work)?;
+        sink.put(alloc, place + 1, fold)?;
     }
-    Ok(folds)
+    Ok(())
 }
 
 /// Returns what an entry and the certificates of the case become. These are `shown`, with the tuples `steps`. The products of

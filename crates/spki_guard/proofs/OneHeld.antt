@@ -12,7 +12,7 @@ use Rattle.spki_decision.proofs.OneReduction.{one_answer}
 use Rattle.spki_service.specs.Held.{Held, AreEntries}
 use Rattle.spki_service.specs.Asking.{AskedOf}
 use Rattle.spki_service.specs.Folded.{AreReduced}
-use Rattle.spki_service.specs.declared.fold_sink.Failure.{Failure}
+use Rattle.spki_service.specs.declared.failure.Failure.{Failure}
 use Rattle.spki_service.specs.declared.question.Question.{Question}
 use Rattle.spki_service.specs.declared.question.AskFault.{AskFault}
 use Rattle.spki_service.proofs.OneAsking.{case-one}

@@ -39,7 +39,7 @@ use Rattle.spki_guard.specs.declared.answers.Verdict.{Verdict}
 use Rattle.spki_guard.specs.declared.intersection.IntersectFault.{IntersectFault}
 use Rattle.spki_guard.specs.declared.intersection.IntersectFault.TheVariants as intersect
 use Rattle.spki_guard.specs.Lines.{item_line, entry_line}
-use Rattle.spki_service.specs.declared.fold_sink.Failure.{Failure}
+use Rattle.spki_service.specs.declared.failure.Failure.{Failure}
 use Rattle.spki_guard.specs.Reports.{IsFoldLine, AreFoldLines, ReportsFolds, IsReductionReport, ReportsReduced, ReportsReasons, IsExplanationReport}
 use Rattle.spki_guard.specs.Intersect.{intersect_value, Intersects, AreTooLarge, ValueNotMet, IsMetText, TextNotMet}
 use Rattle.spki_guard.specs.Answer.{IsLineOf, Decides, Reduces, Explains, WritesMeet, HasTooLarge, IsOnCase, AnswersValue, AnswersRead, RefusesValue, RefusesAnswer}

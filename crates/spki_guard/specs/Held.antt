@@ -8,7 +8,7 @@ use Rattle.spki_decision.specs.declared.reduction.EntryFold.{EntryFold}
 use Rattle.spki_decision.specs.declared.fault.GuardFault.TheVariants.{TooLarge}
 use Rattle.spki_decision.specs.Answered.{IsExplained, IsReduced}
 use Rattle.spki_decision.specs.Asked.{asked}
-use Rattle.spki_service.specs.declared.fold_sink.Failure.{Failure}
+use Rattle.spki_service.specs.declared.failure.Failure.{Failure}
 use Rattle.spki_service.specs.Folded.{AreReduced}
 use Rattle.spki_service.specs.Held.{Held}
 use Rattle.spki_service.specs.Asking.{AskedOf, OfCase, Decides, MarksAccept}

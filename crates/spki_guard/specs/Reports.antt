@@ -11,7 +11,7 @@ use Rattle.spki_decision.specs.declared.explanation.Explanation.{Explanation}
 use Rattle.spki_decision.specs.declared.explanation.Explanation.TheVariants as explanation
 use Rattle.spki_decision.specs.declared.explanation.Reason.{Reason}
 use Rattle.spki_decision.specs.declared.explanation.Reason.TheVariants as reason
-use Rattle.spki_service.specs.declared.fold_sink.Failure.{Failure}
+use Rattle.spki_service.specs.declared.failure.Failure.{Failure}
 use Rattle.spki_guard.specs.declared.answers.Verdict.{Verdict}
 use Rattle.spki_guard.specs.declared.answers.Verdict.TheVariants.{Done, No}
 use Rattle.spki_guard.specs.Lines.{entry_line, stopped_line, reason_line, item_line, no_entries}

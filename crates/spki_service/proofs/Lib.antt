@@ -19,4 +19,4 @@ pub mod OneList
 pub mod OneAnswer
 pub mod MarkedAlike
 pub mod Copying
-pub mod TextAnswers
+pub mod TextFolds

@@ -29,7 +29,7 @@ use Rattle.spki_decision.proofs.Entries.{decided}
 use Rattle.spki_decision.proofs.Evident.{none_shown, one_list}
 use Rattle.spki_decision.proofs.KeptEntries.{renumbered}
 use Rattle.spki_decision.proofs.Stopping.{failure}
-use Rattle.spki_service.specs.declared.fold_sink.Failure.{Failure}
+use Rattle.spki_service.specs.declared.failure.Failure.{Failure}
 use Rattle.spki_service.specs.Asking.{AskedOf, Answers, OfCase, Decides}
 use Rattle.spki_service.specs.Folded.{AreReduced}
 use Rattle.spki_service.specs.Held.{AreEntries}
@@ -113,9 +113,6 @@ module _ (a : AskedOf) where
   module _ (item : ℕ) (stop : Stop) (fails : FailsAt a.case.policy every a.case.items item stop) where
     pub decided_failed : Decides every a No
     decided_failed = λ es are n g. none_shown a.case.policy every a.case.items item stop g.tuples fails g.shown
-
-    pub explained_failed : Answers (λ c x. IsExplained c every x) a (Ok (explanation.Evidence item stop))
-    explained_failed = λ es are. failure (with_entries a.case es) every item stop fails
 
     pub folds_failed : AreReduced a every (Some (record { item = item; stop = stop })) []
     folds_failed = (refl, λ es are. failure (with_entries a.case es) every item stop fails)

@@ -17,14 +17,15 @@ ghost use Rattle.spki_service.specs.Folded.{AreReduced};
 ghost use Rattle.spki_service.specs.Partly.{DecidesPartly};
 
 use crate::asked::Asked;
-use crate::fold_sink::{Failure, FoldSink, fold_texts};
+use crate::failure::Failure;
 use crate::granted_entry::first_granted;
 use crate::marks::first_unmarked;
-use crate::reasons::text_reasons;
+use crate::text_folds::fold_texts;
 use spki_case::Verifier;
 use spki_cert::Key;
 use spki_decision::{
-    Decision, Evidence, Explanation, GuardFault, Reduction, Signed, Stop, first_refused,
+    Decision, Evidence, Explanation, FoldSink, GuardFault, ReasonSink, Reduction, Signed, Stop,
+    first_refused,
 };
 use spki_reduce::{Issuer, Step};
 use std::alloc::{AllocError, Global};
@@ -215,16 +216,14 @@ impl<'a> Asked<'a> {
         ensures { Answers (λ c answer. IsExplained c every answer) self.now result }
     {
         self.case.request.prove_well_formed();
-        match &self.examined.evidence {
-            Evidence::Fails { item, stop } => Ok(Explanation::Evidence {
-                item: *item,
-                stop: *stop,
-            }),
-            Evidence::Verified(steps) => {
-                let guard = self.guard;
-                let reasons = text_reasons(alloc, &guard.texts, &self.case, steps)?;
-                Ok(Explanation::Entries(reasons))
-            }
+        let guard = self.guard;
+        let mut sink = ReasonSink {
+            case: &self.case,
+            reasons: Vec::with_capacity(alloc, guard.texts.len())?,
+        };
+        match self.put_folds(alloc, &mut sink)? {
+            Some(Failure { item, stop }) => Ok(Explanation::Evidence { item, stop }),
+            None => Ok(Explanation::Entries(sink.reasons)),
         }
     }
 

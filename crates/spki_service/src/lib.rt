@@ -6,7 +6,7 @@ mod asked;
 mod counts;
 mod date;
 mod entry_texts;
-mod fold_sink;
+mod failure;
 mod granted_entry;
 mod guard;
 mod index;
@@ -22,13 +22,13 @@ mod owned_signed;
 mod owned_texts;
 mod parts;
 mod question;
-mod reasons;
 mod shared;
+mod text_folds;
 mod texts;
 mod words;
 
 pub use asked::Asked;
-pub use fold_sink::{Failure, FoldSink};
+pub use failure::Failure;
 pub use guard::Guard;
 pub use limits::Limits;
 pub use list_fault::AclFault;
@@ -37,6 +37,6 @@ pub use owned_signed::OwnedSigned;
 pub use question::{AskFault, Moment, Part, Question, RequestInput};
 pub use shared::SharedGuard;
 pub use spki_decision::{
-    Decision, EntryFold, Explanation, GuardFault, Reason, Reduction, Signed, Stop,
+    Decision, EntryFold, Explanation, FoldSink, GuardFault, Reason, Reduction, Signed, Stop,
 };
 pub use texts::Texts;

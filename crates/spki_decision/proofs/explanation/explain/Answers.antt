@@ -1,12 +1,12 @@
 use Rattle.std.proofs.Common.{rules}
 use Rattle.spki_reduce.specs.Chain.{tuples_of}
 use Rattle.spki_case.specs.View.{model}
-use Rattle.spki_decision.proofs.Reasons.{are_reasons}
-use Rattle.spki_decision.proofs.Stopping.{all_stand, one_fails, as_many, failure}
+use Rattle.spki_decision.proofs.Reasons.{reasons_for}
+use Rattle.spki_decision.proofs.Stopping.{all_stand, one_fails, as_many, failure, are_folds}
 use Rattle.spki_decision.proofs.explanation.explain.Goals as goal
 
-pub entry_reasons-requires : goal.entry_reasons-requires
-entry_reasons-requires g c = search (rules, as_many, all_stand)
+pub put_folds-requires : goal.put_folds-requires
+put_folds-requires g c κs = search (rules, as_many, all_stand)
 
 pub returns-in-Fails-clause-exact : goal.returns-in-Fails-clause-exact
 returns-in-Fails-clause-exact g c =
@@ -14,12 +14,12 @@ returns-in-Fails-clause-exact g c =
     failure (model c.args.case.now) verified c.in-Fails.item c.in-Fails.stop
     (one_fails c.args.case.now.policy verified _ _ _ c.deref.ensures.value c.in_ok-item.ensures c.in-Fails.item c.in-Fails.stop c.in-Fails.is)
 
-pub returns-in_ok-reasons-in-Verified-clause-exact : goal.returns-in_ok-reasons-in-Verified-clause-exact
-returns-in_ok-reasons-in-Verified-clause-exact g c =
+pub returns-in_ok-put_folds-in-Verified-clause-exact : goal.returns-in_ok-put_folds-in-Verified-clause-exact
+returns-in_ok-put_folds-in-Verified-clause-exact g c =
+    let m = model c.args.case.now in
     let verified = g.V.Verifier.accepted c.args.verifier.now in
-    let shown = all_stand c.args.case.now.policy verified _ _ _ c.deref.ensures.value c.in_ok-item.ensures c.in-Verified.steps c.in-Verified.is in
-    let each = rw (c.deref-in-Verified-2.ensures.value, c.deref-in-Verified.ensures.value) at c.in_ok-reasons-in-Verified.ensures.each in
-    let small = rw (c.deref-in-Verified-2.ensures.value, c.deref-in-Verified.ensures.value) at c.in_ok-reasons-in-Verified.ensures.within_limit in
-    let worked = rw (c.deref-in-Verified-2.ensures.value, c.deref-in-Verified.ensures.value) at c.in_ok-reasons-in-Verified.ensures.worked in
-    are_reasons (model c.args.case.now) verified (tuples_of c.in-Verified.steps.items) c.in_ok-reasons-in-Verified.reasons.items
-    c.prove_well_formed.ensures shown each small worked
+    let shown = all_stand m.policy verified _ _ _ c.deref.ensures.value c.in_ok-item.ensures c.in-Verified.steps c.in-Verified.is in
+    let (folds, taken, of, dated, end) = c.in_ok-put_folds-in-Verified.ensures.folds in
+    let are = are_folds m verified (tuples_of c.in-Verified.steps.items) folds shown
+    (rw (c.deref-in-Verified-2.ensures.value, c.deref-in-Verified.ensures.value) at of) in
+    reasons_for m m.entries verified folds c.put_folds.new.sink.reasons.items c.prove_well_formed.ensures are (taken c.new-reasons.ensures.items).1

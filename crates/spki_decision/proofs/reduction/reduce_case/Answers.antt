@@ -1,13 +1,24 @@
-use Rattle.std.proofs.Common.{rules}
+use Rattle.std.proofs.Common.{◌++◌, ◌∙◌, ap, rules}
+use Rattle.spki_reduce.specs.Chain.{tuples_of}
 use Rattle.spki_case.specs.View.{model}
-use Rattle.spki_decision.proofs.Stopping.{all_stand, one_fails, as_many, failure}
+use Rattle.spki_decision.proofs.Stopping.{all_stand, one_fails, as_many, failure, are_folds}
 use Rattle.spki_decision.proofs.reduction.reduce_case.Goals as goal
 
-pub entry_folds-requires : goal.entry_folds-requires
-entry_folds-requires g c = search (rules, as_many, all_stand)
+pub put_folds-requires : goal.put_folds-requires
+put_folds-requires g c κs = search (rules, as_many, all_stand)
 
 pub returns-in-Fails-clause-exact : goal.returns-in-Fails-clause-exact
 returns-in-Fails-clause-exact g c =
     let verified = g.V.Verifier.accepted c.args.verifier.now in
     failure (model c.args.case.now) verified c.in-Fails.item c.in-Fails.stop
     (one_fails c.args.case.now.policy verified _ _ _ c.deref.ensures.value c.in_ok-item.ensures c.in-Fails.item c.in-Fails.stop c.in-Fails.is)
+
+pub returns-in_ok-put_folds-in-Verified-clause-exact : goal.returns-in_ok-put_folds-in-Verified-clause-exact
+returns-in_ok-put_folds-in-Verified-clause-exact g c =
+    let m = model c.args.case.now in
+    let verified = g.V.Verifier.accepted c.args.verifier.now in
+    let shown = all_stand m.policy verified _ _ _ c.deref.ensures.value c.in_ok-item.ensures c.in-Verified.steps c.in-Verified.is in
+    let (folds, taken, of, dated, end) = c.in_ok-put_folds-in-Verified.ensures.folds in
+    let are = are_folds m verified (tuples_of c.in-Verified.steps.items) folds shown
+    (rw (c.deref-in-Verified-2.ensures.value, c.deref-in-Verified.ensures.value) at of) in
+    rw (taken ∙ ap (λ xs. xs ++ folds) c.new-folds.ensures.items) are

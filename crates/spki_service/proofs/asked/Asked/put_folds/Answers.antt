@@ -6,7 +6,7 @@ use Rattle.spki_decision.specs.Asked.{every}
 use Rattle.spki_decision.specs.Judged.{IsEvidence}
 use Rattle.spki_decision.specs.Reduced.{AreFolds}
 use Rattle.spki_decision.specs.Views.{with_entries}
-use Rattle.spki_decision.proofs.Stopping.{as_many}
+use Rattle.spki_decision.proofs.Stopping.{as_many, are_folds}
 use Rattle.spki_service.specs.Asking.{AskedOf}
 use Rattle.spki_service.specs.Held.{AreEntries, octets_of_texts}
 use Rattle.spki_service.proofs.Outcomes.{folds_failed}
@@ -27,14 +27,7 @@ returns-in_ok-fold_texts-in-Verified-clause-folds g c =
     let whole = rw c.deref-in-Verified.ensures.value at all in
     let texts = ap octets_of_texts c.deref.ensures.value ∙ ap (λ h. h.texts) c.guard.view_is in
     let inner : (es : List Entry) → AreEntries c.self.inside.guard.now.texts es → AreFolds (with_entries m es) every folds =
-    λ es are.
-    let there : AreEntries (octets_of_texts c.deref.result.now) es = subst (λ ts. AreEntries ts es) (sym texts) are in
-    record {
-      tuples = tuples_of c.in-Verified.steps.items;
-      shown = stands;
-      each = whole.each es there;
-      within_limit = whole.within_limit es there;
-      worked = whole.worked es there;
-    } in
+    λ es are. are_folds (with_entries m es) every (tuples_of c.in-Verified.steps.items) folds stands
+    (whole es (subst (λ ts. AreEntries ts es) (sym texts) are)) in
     let shown = subst (λ (a : AskedOf). (es : List Entry) → AreEntries a.texts es → AreFolds (with_entries a.case es) every folds) c.self.view_is inner in
     (folds, taken, (shown, dated, end))

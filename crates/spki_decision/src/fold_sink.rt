@@ -1,0 +1,44 @@
+//! Takes what the entries of an access list become, one after another (RFC 2693, section 6.3).
+
+ghost use Rattle.std.specs.Prelude.{◌≡◌, ◌∷◌, [], ◌++◌, suc, List, length, OnOk};
+ghost use Rattle.spki_decision.specs.declared.reduction.EntryFold.{EntryFold};
+ghost use Rattle.spki_decision.specs.Taken.{TakesFolds, no_folds};
+
+use crate::reduction::EntryFold;
+use std::alloc::{AllocError, Global};
+
+/// Takes what the entries of an access list become, one after another.
+pub trait FoldSink<'a> {
+    // From the sink before it took what these entries become to the sink after it.
+    ghost takes: { Self → List EntryFold → Self → Type 0 };
+
+    /// Takes what entry number `entry`, from 1, becomes. It comes behind those of all entries before it.
+    ///
+    /// # Errors
+    ///
+    /// `AllocError` if memory ran out.
+    fn put(&mut self, alloc: Global, entry: usize, fold: EntryFold<'a>) -> Result<(), AllocError>
+        ensures { (start : Self) (folds : List EntryFold) → takes start folds self.old → entry ≡ suc (length folds)
+            → OnOk result (takes start (folds ++ fold.entry ∷ []) self.new) };
+
+    // Nothing is taken before the first call.
+    ghost nothing: { (s : Self) → takes s [] s };
+}
+
+/// A vector takes all, and keeps it.
+impl<'a> FoldSink<'a> for Vec<EntryFold<'a>> {
+    ghost takes = { TakesFolds };
+
+    /// Appends what the entry becomes.
+    fn put(
+        &mut self,
+        _alloc: Global,
+        _entry: usize,
+        fold: EntryFold<'a>,
+    ) -> Result<(), AllocError> {
+        self.push(fold)?;
+        Ok(())
+    }
+
+    ghost nothing = { no_folds };
+}

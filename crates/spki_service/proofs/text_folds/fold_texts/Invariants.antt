@@ -1,0 +1,13 @@
+-- What the entries of the texts so far become.
+use Rattle.std.proofs.Common.{List}
+use Rattle.spki_reduce.specs.Chain.{tuples_of}
+use Rattle.spki_reduce.specs.Work.{left_of}
+use Rattle.spki_case.specs.View.{model}
+use Rattle.spki_decision.specs.declared.reduction.EntryFold.{EntryFold}
+use Rattle.spki_decision.proofs.Stopping.{ArePut}
+use Rattle.spki_service.proofs.TextFolds.{TextsTo}
+use Rattle.spki_service.proofs.text_folds.fold_texts.Given as goal
+
+abbrev pub invariant-loop-place : goal.invariant-loop-place
+invariant-loop-place g l = (folds : List EntryFold) × g.S.FoldSink.takes l.initial.sink folds l.sink × ArePut l.place folds
+    × TextsTo l.texts (model l.case) (tuples_of l.steps) l.place (left_of l.work) folds

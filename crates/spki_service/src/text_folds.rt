@@ -1,0 +1,49 @@
+//! What the entries of an access list become, each read from its text (RFC 2693, section 6.3).
+
+ghost use Rattle.std.specs.Prelude.{◌≡◌, ◌⊎◌, List, length, OnOk, IsErrOf};
+ghost use Rattle.spki_cert.specs.declared.entry.Entry.{Entry};
+ghost use Rattle.spki_reduce.specs.Chain.{tuples_of};
+ghost use Rattle.spki_case.specs.Sequence.{certificates};
+ghost use Rattle.spki_case.specs.View.{model};
+ghost use Rattle.spki_decision.specs.declared.reduction.EntryFold.{EntryFold};
+ghost use Rattle.spki_decision.specs.Reduced.{HasLargeTags, HasMuchWork};
+ghost use Rattle.spki_decision.specs.Views.{with_entries};
+ghost use Rattle.spki_service.specs.Folded.{AreTextFolds};
+ghost use Rattle.spki_service.specs.Held.{AreEntries, octets_of_texts};
+
+use crate::entry_texts::entry_in;
+use spki_case::Case;
+use spki_decision::{FoldSink, GuardFault, certificates_of, entry_fold};
+use spki_reduce::{Step, Work};
+use std::alloc::Global;
+
+/// Puts into `sink` what each entry of an access list and the certificates of the case become. `texts` are the canonical
+/// texts of the entries, and `steps` the tuples of all certificates, in order. An entry is read just before it is folded,
+/// and nothing is kept of it. The case's own access list is not examined.
+///
+/// # Errors
+///
+/// Those of `Asked::reduce`.
+pub(crate) fn fold_texts<'a, S: FoldSink<'a>>(
+    alloc: Global,
+    texts: &'a [Vec<u8>],
+    case: &Case<'a>,
+    steps: &[Step<'a>],
+    sink: &mut S,
+) -> Result<(), GuardFault>
+    requires { length steps.now ≡ length (certificates case.now.sequence.items) }
+    ensures folds { OnOk result ((folds : List EntryFold) × S.takes sink.old folds sink.new
+        × AreTextFolds (octets_of_texts texts.entry.now) (model case.now) (tuples_of steps.now) folds) }
+    ensures too_large { (es : List Entry) → AreEntries (octets_of_texts texts.entry.now) es → IsErrOf result GuardFault.TooLarge →
+        HasLargeTags (with_entries (model case.now) es) (tuples_of steps.now)
+        ⊎ HasMuchWork (with_entries (model case.now) es) (tuples_of steps.now) }
+{
+    let shown = certificates_of(alloc, &case.sequence)?;
+    let mut work = Work::new(case.most_work);
+    for (place, text) in texts.iter().enumerate() {
+        let entry = entry_in(alloc, text)?;
+        let fold = entry_fold(alloc, case, &entry, &shown, steps, &mut work)?;
+        sink.put(alloc, place + 1, fold)?;
+    }
+    Ok(())
+}
