@@ -168,8 +168,5 @@ pub fn read_acl<'a>(
         IfErr result (λ fault. fault.kind ≢ CertFaultKind.Memory → acl_fault value ≡ Some fault)) }
     ensures faultless { IfSome (node document.now n.0) (λ value. IfOk result (λ _. acl_fault value ≡ None)) }
 {
-    match document.node(n) {
-        Some(value) => acl_of(alloc, &value),
-        None => unreachable!(),
-    }
+    acl_of(alloc, &document.node(n).unwrap())
 }

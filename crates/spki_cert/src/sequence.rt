@@ -169,8 +169,5 @@ pub fn read_sequence<'a>(
         IfErr result (λ fault. fault.kind ≢ CertFaultKind.Memory → sequence_fault value ≡ Some fault)) }
     ensures faultless { IfSome (node document.now n.0) (λ value. IfOk result (λ _. sequence_fault value ≡ None)) }
 {
-    match document.node(n) {
-        Some(value) => sequence_of(alloc, &value),
-        None => unreachable!(),
-    }
+    sequence_of(alloc, &document.node(n).unwrap())
 }

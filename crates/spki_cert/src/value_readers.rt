@@ -160,12 +160,9 @@ pub fn read_key<'a>(document: &Doc<'a>, n: NodeId) -> Result<Key<'a>, CertFault>
     ensures faultless { IfSome (node document.now n.0) (λ value. IfOk result (λ _. key_fault value ≡ None)) }
     ensures fault { IfErr result (λ fault. (fault.item ≡ 0) × (fault.kind ≢ CertFaultKind.Memory)) }
 {
-    match document.node(n) {
-        Some(value) => match key_of(&value) {
-            Ok(key) => Ok(key),
-            Err(kind) => Err(CertFault { item: 0, kind }),
-        },
-        None => unreachable!(),
+    match key_of(&document.node(n).unwrap()) {
+        Ok(key) => Ok(key),
+        Err(kind) => Err(CertFault { item: 0, kind }),
     }
 }
 
@@ -184,12 +181,9 @@ pub fn read_hash<'a>(document: &Doc<'a>, n: NodeId) -> Result<(HashAlg, Octets<'
     ensures faultless { IfSome (node document.now n.0) (λ value. IfOk result (λ _. hash_fault value ≡ None)) }
     ensures fault { IfErr result (λ fault. (fault.item ≡ 0) × (fault.kind ≢ CertFaultKind.Memory)) }
 {
-    match document.node(n) {
-        Some(value) => match hash_of(&value) {
-            Ok(hash) => Ok(hash),
-            Err(kind) => Err(CertFault { item: 0, kind }),
-        },
-        None => unreachable!(),
+    match hash_of(&document.node(n).unwrap()) {
+        Ok(hash) => Ok(hash),
+        Err(kind) => Err(CertFault { item: 0, kind }),
     }
 }
 
@@ -208,11 +202,8 @@ pub fn read_date(document: &Doc, n: NodeId) -> Result<Date, CertFault>
     ensures faultless { IfSome (node document.now n.0) (λ value. IfOk result (λ _. date_fault value ≡ None)) }
     ensures fault { IfErr result (λ fault. (fault.item ≡ 0) × (fault.kind ≡ CertFaultKind.BadDate)) }
 {
-    match document.node(n) {
-        Some(value) => match date_of(&value) {
-            Ok(date) => Ok(date),
-            Err(kind) => Err(CertFault { item: 0, kind }),
-        },
-        None => unreachable!(),
+    match date_of(&document.node(n).unwrap()) {
+        Ok(date) => Ok(date),
+        Err(kind) => Err(CertFault { item: 0, kind }),
     }
 }

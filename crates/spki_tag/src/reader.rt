@@ -236,9 +236,6 @@ impl Tag {
         ensures named { IfSome (node document.now n.0) (λ value. IfErr result (λ fault. IsNamed fault (tag_fault value))) }
         ensures faultless { IfSome (node document.now n.0) (λ value. IfOk result (λ tag. tag_fault value ≡ None)) }
     {
-        match document.node(n) {
-            Some(value) => Tag::of(alloc, &value),
-            None => unreachable!(),
-        }
+        Tag::of(alloc, &document.node(n).unwrap())
     }
 }

@@ -167,10 +167,7 @@ impl Ground {
         ensures named { IfSome (node document.now n.0) (λ value. IfErr result (λ fault. IsNamed fault (request_fault value))) }
         ensures faultless { IfSome (node document.now n.0) (λ value. IfOk result (λ g. request_fault value ≡ None)) }
     {
-        match document.node(n) {
-            Some(value) => Ground::of(alloc, &value),
-            None => unreachable!(),
-        }
+        Ground::of(alloc, &document.node(n).unwrap())
     }
 
     /// A fact for the prover: a request is always well-formed, however it was made. Does nothing.
