@@ -61,7 +61,7 @@ fn same_as_leaf(leaf: &Leaf, node: &Node) -> bool
 }
 
 impl Leaf {
-    /// Whether both tags without members have the same form and the same strings.
+    /// Whether both tags without members have the same form, and the same string or the same ordering and limits.
     fn same(&self, other: &Leaf) -> bool
         ensures { IsTrue result ↔ (leaf_tag self.now ≡ leaf_tag other.now) }
     {

@@ -63,7 +63,7 @@ fn limit_shown(limit: &Option<Limit>) -> Option<TagLimit<'_>>
     }
 }
 
-/// The form of a tag without members, for callers: its string, or its limits.
+/// The form of a tag without members, for callers: `(*)`, a string, a prefix, or a range with its ordering and limits.
 fn leaf_form(leaf: &Leaf) -> TagForm<'_>
     ensures { IsFormOf (leaf_tag leaf.now) result }
 {
@@ -133,7 +133,7 @@ fn is_set(tag: &Tag) -> bool
     }
 }
 
-/// Whether one of two tags is a set.
+/// Whether at least one of two tags is a set.
 pub(crate) fn has_set(one: &Tag, other: &Tag) -> bool
     ensures { result ≡ (spec.is_set one.now || spec.is_set other.now) }
 {

@@ -85,7 +85,7 @@ pub(crate) fn is_below(up: &Option<Limit>, octets: &[u8]) -> bool
     }
 }
 
-/// A copy of a limit that shares its octets. Err if there are too many copies to count.
+/// A copy of a limit that shares its octets. A missing limit stays missing. Err if there are too many copies to count.
 pub(crate) fn copied_limit(limit: &Option<Limit>) -> Result<Option<Limit>, AllocError>
     ensures { IfOk result (λ copy. limit_of copy ≡ limit_of limit.now) }
 {

@@ -29,7 +29,8 @@ fn common_ordering(one: RangeOrdering, other: RangeOrdering) -> Option<RangeOrde
     }
 }
 
-/// The range of an ordering with two limits. None if there is no ordering, or if the limits exclude each other.
+/// The range of an ordering with two limits. None if there is no ordering, or if the limits exclude each other. Err if
+/// there are too many copies to count.
 fn limited(
     ordering: Option<RangeOrdering>,
     low: &Option<Limit>,
@@ -51,7 +52,8 @@ fn limited(
 }
 
 /// Returns the intersection of two ranges: the range with the greater lower limit and the lesser upper limit. None if
-/// one ordering is of times and the other of dates, or if these limits exclude each other.
+/// one ordering is of times and the other of dates, or if these limits exclude each other. Err if there are too many
+/// copies to count.
 fn meet_ranges(
     ordering: RangeOrdering,
     low: &Option<Limit>,
@@ -71,7 +73,7 @@ fn meet_ranges(
     )
 }
 
-/// Returns the string as a tag if `other` contains it. None if not.
+/// Returns the string as a tag if `other` contains it. None if not. Err if there are too many copies to count.
 fn meet_string(octets: &SharedOctets, other: &Leaf) -> Result<Option<Leaf>, AllocError>
     ensures { IfOk result (λ r. leaf_or_nothing r ≡ string_meet (arc_slice_items octets.now) (leaf_tag other.now)) }
 {
@@ -82,7 +84,8 @@ fn meet_string(octets: &SharedOctets, other: &Leaf) -> Result<Option<Leaf>, Allo
     }
 }
 
-/// Returns the longer of two prefixes if it starts with the shorter. None if not.
+/// Returns the longer of two prefixes if it starts with the shorter. None if not. Err if there are too many copies to
+/// count.
 fn meet_prefixes(one: &Prefix, other: &Prefix) -> Result<Option<Leaf>, AllocError>
     ensures { IfOk result (λ r. leaf_or_nothing r ≡ prefixes_meet one.now other.now) }
 {
@@ -96,8 +99,9 @@ fn meet_prefixes(one: &Prefix, other: &Prefix) -> Result<Option<Leaf>, AllocErro
 }
 
 impl Leaf {
-    /// Returns the intersection of two tags without members. None if it is `(* set)`. A prefix is treated as the range
-    /// of any strings from itself to below the least string above all that start with it. Err if memory ran out.
+    /// Returns the intersection of two tags without members. None if it is `(* set)`. With a range, a prefix is treated
+    /// as the range of any strings from itself to below the least string above all that start with it. Err if there are
+    /// too many copies to count.
     pub(crate) fn meet(&self, other: &Leaf) -> Result<Option<Leaf>, AllocError>
         ensures { IfOk result (λ r. leaf_or_nothing r ≡ meet (leaf_tag self.now) (leaf_tag other.now)) }
     {

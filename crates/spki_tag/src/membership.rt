@@ -8,7 +8,8 @@ use crate::request::{Ground, GroundNode};
 use crate::tag::{Node, Tag};
 
 impl Tag {
-    /// Whether the tag contains a request (RFC 2693, section 6.3.1).
+    /// Whether the tag contains a request (RFC 2693, section 6.3.1). A list contains the lists with the same head whose
+    /// members are in its own, place by place; further members of the request may be anything.
     #[cycle(holds)]
     pub fn holds(&self, request: &Ground) -> bool
         ensures { result ≡ contains self.now request.now }

@@ -11,7 +11,7 @@ fn is_digit(octet: u8) -> bool
 }
 
 /// Whether the two octets at the offsets `i` and `i` + 1 are decimal digits of a number from `low` to `high`, both
-/// included.
+/// included. The text must have both octets.
 fn is_number_at(text: &[u8], i: usize, low: u8, high: u8) -> bool
     requires { i + 1 < length text.now }
     ensures { result ≡ spec.is_number_at text.now i low high }

@@ -47,7 +47,8 @@ impl Prefix {
         self.octets.as_slice()
     }
 
-    /// The lower limit of the strings that start with the prefix: the prefix itself, included. Always Some.
+    /// The lower limit of the strings that start with the prefix: the prefix itself, included. Never None. Err if there
+    /// are too many copies to count.
     pub(crate) fn lower_limit(&self) -> Result<Option<Limit>, AllocError>
         ensures { IfOk result (λ low. limit_of low ≡ from self.now) }
     {
@@ -58,7 +59,7 @@ impl Prefix {
     }
 
     /// The upper limit of the strings that start with the prefix: a strict limit above all of them. None if the prefix
-    /// has no octets other than `FF`.
+    /// is empty or has only octets `FF`. Err if there are too many copies to count.
     pub(crate) fn upper_limit(&self) -> Result<Option<Limit>, AllocError>
         ensures { IfOk result (λ up. limit_of up ≡ strict_limit (least_above self.now)) }
     {

@@ -99,7 +99,8 @@ fn read_limit(
 /// The limits of a range.
 type Limits = (Option<Limit>, Option<Limit>);
 
-/// Reads two values as the only limit of a range, lower or upper. None if they are no limit. Err if memory ran out.
+/// Reads two values as the only limit of a range: lower after the word `g` or `ge`, upper after `l` or `le`. The other
+/// limit of the pair is None. None alone if they are no limit. Err if memory ran out.
 fn read_one_limit(
     alloc: Global,
     word: &Node<'_, '_>,
@@ -119,7 +120,8 @@ fn read_one_limit(
     Ok(Some((None, up)))
 }
 
-/// Reads four values as a lower and an upper limit of a range. None if they are not. Err if memory ran out.
+/// Reads four values as a lower limit, with the word `g` or `ge`, and an upper limit, with `l` or `le`. None if they
+/// are not. Err if memory ran out.
 fn read_two_limits(
     alloc: Global,
     low_word: &Node<'_, '_>,
@@ -142,8 +144,8 @@ fn read_two_limits(
     Ok(Some((low, up)))
 }
 
-/// Reads values as the limits of a range: at most one lower limit, and then at most one upper limit. None if they are
-/// no limits. Err if memory ran out.
+/// Reads values as the limits of a range: at most one lower limit, and then at most one upper limit. A limit that is
+/// not given is None in the pair. None alone if the values are no limits. Err if memory ran out.
 fn limits_of(alloc: Global, values: &[Node<'_, '_>]) -> Result<Option<Limits>, AllocError>
     ensures { IfOk result (λ found. MatchOption found (AreNoLimits values.now)
         (λ p. AreLimits (limit_of p.0) (limit_of p.1) values.now)) }
@@ -188,7 +190,9 @@ fn read_limits(alloc: Global, rest: Members<'_, '_>) -> Result<Limits, TagFault>
     }
 }
 
-/// Reads a range from the members after `*` and `range`: an ordering and limits. Err is the first fault.
+/// Reads a range from the members after `*` and `range`: an ordering and limits. The limits may be any strings,
+/// whatever the ordering. Err is `RangeOrdering` without members, the fault of the ordering or of the limits, or
+/// `Memory`.
 pub(crate) fn read_range(alloc: Global, further: Members<'_, '_>) -> Result<Leaf, TagFault>
     ensures read { IfOk result (λ leaf. tag_value (leaf_tag leaf) ≡ starred (codes "range") (values further.entry)) }
     ensures named { IfErr result (λ fault. IsNamed fault (range_fault further.entry)) }

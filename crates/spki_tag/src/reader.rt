@@ -36,8 +36,8 @@ pub(crate) fn head_of<'a>(first: &Node<'_, 'a>) -> Result<&'a [u8], TagFault>
     }
 }
 
-/// Reads a prefix from the members after `*` and `prefix`. Err is `Hint`, or `UnknownStar` if they are not exactly one
-/// string, or `Memory`.
+/// Reads a prefix from the members after `*` and `prefix`. Err is `UnknownStar` if they are not exactly one string,
+/// `Hint` if that has a display hint, or `Memory`.
 fn read_prefix(alloc: Global, further: Members<'_, '_>) -> Result<Leaf, TagFault>
     ensures read { IfOk result (λ leaf. tag_value (leaf_tag leaf) ≡ starred (codes "prefix") (values further.entry)) }
     ensures named { IfErr result (λ fault. IsNamed fault (prefix_fault further.entry)) }
@@ -79,7 +79,7 @@ fn read_tag(alloc: Global, value: &Node<'_, '_>, used: usize) -> Result<(Tag, us
     }
 }
 
-/// Reads a list of these members as a tag. `used` and the result are as for `read_tag`.
+/// Reads a list of these members as a tag. `used`, which must be below 1,024, and the result are as for `read_tag`.
 #[cycle(read)]
 fn read_list(alloc: Global, members: Members<'_, '_>, used: usize) -> Result<(Tag, usize), TagFault>
     requires { used < most_read }
@@ -99,7 +99,8 @@ fn read_list(alloc: Global, members: Members<'_, '_>, used: usize) -> Result<(Ta
     }
 }
 
-/// Reads a tag from the members after the head `*` of a list. `used` and the result are as for `read_tag`.
+/// Reads a tag from the members after the head `*` of a list. `used`, which must be below 1,024, and the result are as
+/// for `read_tag`.
 #[cycle(read)]
 fn read_starred(
     alloc: Global,
@@ -120,8 +121,8 @@ fn read_starred(
     }
 }
 
-/// Reads a tag from the members after `*` and `word`, which must be `set`, `prefix` or `range`. `used` and the result
-/// are as for `read_tag`.
+/// Reads a tag from the members after `*` and `word`. Err is `UnknownStar` if the word is not `set`, `prefix` or
+/// `range`. `used`, which must be below 1,024, and the result are otherwise as for `read_tag`.
 #[cycle(read)]
 fn read_form(
     alloc: Global,
@@ -144,7 +145,8 @@ fn read_form(
     }
 }
 
-/// Reads a set from the members after `*` and `set`. `used` and the result are as for `read_tag`.
+/// Reads a set from the members after `*` and `set`. `used`, which must be below 1,024, and the result are as for
+/// `read_tag`.
 #[cycle(read)]
 fn read_set(alloc: Global, further: Members<'_, '_>, used: usize) -> Result<(Tag, usize), TagFault>
     requires { used < most_read }
@@ -155,8 +157,8 @@ fn read_set(alloc: Global, further: Members<'_, '_>, used: usize) -> Result<(Tag
     Ok((Tag::set_of(alloc, members)?, after))
 }
 
-/// Reads a list with this head, which is not `*`, and these members after it as a tag. `used` and the result are as for
-/// `read_tag`.
+/// Reads a list with this head, which is not `*`, and these members after it as a tag. `used`, which must be below
+/// 1,024, and the result are as for `read_tag`.
 #[cycle(read)]
 fn read_plain_list(
     alloc: Global,
@@ -177,7 +179,7 @@ fn read_plain_list(
     Ok((Tag::list_of(octets, members), after))
 }
 
-/// Reads each of the members as a tag. `used` and the result are as for `read_tag`.
+/// Reads each of the members as a tag. `used`, which must be at most 1,024, and the result are as for `read_tag`.
 #[cycle(read)]
 fn read_members(
     alloc: Global,
@@ -205,11 +207,12 @@ impl Tag {
     ///
     /// # Errors
     ///
-    /// The first fault, depth first from the left. `TooManyNodes`: more than 1,024 nodes as written. `Hint`: a string with a
-    /// display hint; among the limits of a range it is named before `RangeLimit`. `EmptyList`: a list without members. `ListHead`:
-    /// a list that begins with a list. `UnknownStar`: a list that begins with `*` and is no form of a tag. `RangeOrdering`: a range
-    /// without an ordering, or of another one than `alpha`, `time` and `date`. `RangeLimit`: limits that are not at most one lower
-    /// limit and then at most one upper limit. `Memory`: memory ran out.
+    /// The first fault, depth first from the left. `TooManyNodes`: more than 1,024 nodes as written. `Hint`: a string
+    /// with a display hint; among the limits of a range it is named before `RangeLimit`. `EmptyList`: a list without
+    /// members. `ListHead`: a list that begins with a list. `UnknownStar`: a list that begins with `*` and is no form
+    /// of a tag. `RangeOrdering`: a range without an ordering, or of another one than `alpha`, `time` and `date`.
+    /// `RangeLimit`: limits that are not at most one lower limit and then at most one upper limit; their strings are
+    /// not checked against the ordering. `Memory`: memory ran out.
     pub fn of(alloc: Global, value: &Node<'_, '_>) -> Result<Tag, TagFault>
         ensures read { IfOk result (λ tag. ReadsAs value.now tag) }
         ensures only { (t : Tag) → IsTag t → nodes t ≤ most_read → tag_value t ≡ value.now
