@@ -69,8 +69,8 @@ fn is_base64_octet(octet: u8) -> bool
         || octet == b'='
 }
 
-/// Returns the offset of the first octet from `at` on that may not occur in base64, or the length of the text if there
-/// is none.
+/// Returns the offset of the first octet from `at` on that is no symbol of base64 and no `=`, or the length of the text
+/// if there is none. `at` is at most this length.
 fn skip_symbols(text: &[u8], at: usize) -> usize
     requires { at ≤ length text.now }
     ensures { SkipsSymbols text.now at result }
@@ -85,8 +85,10 @@ fn skip_symbols(text: &[u8], at: usize) -> usize
     i
 }
 
-/// Returns the base64 symbols from the offset `at` up to the octet `mark`, without whitespace, and the offset after the
-/// mark. Err is `Short` if there is no mark, `Bad` at an octet that is no symbol and no whitespace, or `Memory`.
+/// Returns the symbols of base64 and the `=` from the offset `at` up to the octet `mark`, without the whitespace
+/// between them, and the offset after the mark. `at` may be the end of the text. `mark` is no symbol, no `=` and no
+/// whitespace. Err is `Short` if the text ends before the mark, `Bad` at the first octet that is none of these, or
+/// `Memory`.
 fn gather_symbols(alloc: Global, text: &[u8], at: usize, mark: u8) -> Result<Gathered, FormFault>
     requires begins { at ≤ length text.now }
     requires apart { is_body_octet mark ≡ false }
@@ -115,7 +117,7 @@ fn gather_symbols(alloc: Global, text: &[u8], at: usize, mark: u8) -> Result<Gat
     Err(FormFault::Short)
 }
 
-/// Appends `missing` octets `=` to the symbols. Err if memory ran out.
+/// Appends `missing` octets `=` to the symbols. Err if memory ran out: then some may have been appended.
 fn pad(symbols: &mut Vec<u8>, missing: usize) -> Result<(), AllocError>
     ensures { OnOk result (symbols.new.items ≡ symbols.old.items ++ replicate missing 61) }
 {
@@ -125,8 +127,8 @@ fn pad(symbols: &mut Vec<u8>, missing: usize) -> Result<(), AllocError>
     Ok(())
 }
 
-/// Decodes base64 symbols, whose padding may be missing. Err is `Bad` at the offset `at` if they are no base64, or
-/// `Memory`.
+/// Decodes base64 symbols, of whose padding some or all may be missing. Err is `Bad` at the offset `at` if they are no
+/// base64 or an unused bit is not zero, or `Memory`.
 fn unpack(alloc: Global, symbols: Vec<u8>, at: usize) -> Result<Vec<u8>, FormFault>
     ensures read { IfOk result (λ octets. IsBase64 symbols.items octets.items) }
     ensures only { (octets : List ℕ) → IsBase64 symbols.items octets → IsOkUnless result FormFault.Memory }
@@ -145,13 +147,16 @@ fn unpack(alloc: Global, symbols: Vec<u8>, at: usize) -> Result<Vec<u8>, FormFau
     }
 }
 
-/// Reads base64 from the offset `at` up to the closing octet `mark`, with whitespace in it. Some or all of the padding
-/// may be missing, and unused bits are zero (RFC 9804, section 4.5; RFC 4648, section 4).
+/// Reads base64 from the offset `at` up to the closing octet `mark`, and returns its octets and the offset after the
+/// mark. Whitespace is allowed anywhere in it, and it may be empty. Some or all of the padding may be missing, and an
+/// unused bit must be zero (RFC 9804, section 4.5; RFC 4648, section 4). `at` is at most the length of the text. `mark`
+/// is no symbol of base64, no `=` and no whitespace.
 ///
 /// # Errors
 ///
-/// Short: the text ends before the mark. Bad: at the first octet that is not allowed there, or at the mark if the body is no
-/// base64. No text that begins with the octets up to this one has base64 and the mark at the offset.
+/// Short: the text ends before the mark. Bad: at the first octet that is not allowed there, or at the mark if the body
+/// is no base64. No text that begins with the octets up to this one has base64 and the mark at the offset. Memory:
+/// memory ran out.
 pub fn read_base64(alloc: Global, text: &[u8], at: usize, mark: u8) -> Result<Unpacked, FormFault>
     requires begins { at ≤ length text.now }
     requires apart { is_body_octet mark ≡ false }
@@ -178,8 +183,9 @@ fn body_fault(fault: FormFault, at: usize) -> FormFault
     }
 }
 
-/// Checks that the octets in a text in braces are a canonical form within the limits. `at` is the offset of the closing
-/// brace, at which the fault is `Bad`, unless it is `TooDeep`.
+/// Checks that the octets in a text in braces, at most `MOST_OCTETS`, are one value in canonical form, with at most
+/// `MOST_LISTS` lists open at once. Err is `TooDeep` if more are, and for any other fault `Bad` at the offset `at`,
+/// which is that of the closing brace.
 fn check_body(octets: &[u8], at: usize) -> Result<(), FormFault>
     requires { length octets.now ≤ 1048576 }
     ensures read { OnOk result ((v : Value) × (octets.now ≡ canon v) × IsWithinLimits v) }
@@ -192,15 +198,16 @@ fn check_body(octets: &[u8], at: usize) -> Result<(), FormFault>
     }
 }
 
-/// Reads the transport form (RFC 9804, section 6.3): braces around base64 of a canonical form. Whitespace is allowed around
-/// the braces and inside them. Some or all of the padding may be missing.
+/// Reads the transport form (RFC 9804, section 6.3): braces around base64 of a canonical form. Whitespace is allowed
+/// around the braces and inside them. Some or all of the padding may be missing, and an unused bit must be zero.
 ///
 /// # Errors
 ///
-/// TooLong: the text has more than `MOST_OCTETS` octets. Otherwise the first fault from the left. Bad: the first octet past
-/// whitespace is no opening brace, or an octet in the body is not a symbol, `=` or whitespace. Short: the text ends before
-/// the closing brace. At the closing brace TooDeep: the octets open more than `MOST_LISTS` lists at once; or Bad: the body
-/// is no base64 of a canonical form. Trailing: an octet after the braces is not whitespace.
+/// TooLong: the text has more than `MOST_OCTETS` octets. Otherwise the first fault from the left. Bad: the first octet
+/// past whitespace is no opening brace, or an octet in the body is not a symbol, `=` or whitespace. Short: the text
+/// ends before the closing brace. At the closing brace TooDeep: the octets open more than `MOST_LISTS` lists at once;
+/// or Bad: the body is no base64 of a canonical form. Trailing: an octet after the braces is not whitespace. Memory:
+/// memory ran out.
 pub fn unwrap_braces(alloc: Global, text: &[u8]) -> Result<Sexp, FormFault>
     ensures read { IfOk result (λ tree. IsBracedWithin text.now (sexp_value tree)) }
     ensures only { (v : Value) → IsBracedWithin text.now v → IsOkUnless result FormFault.Memory }

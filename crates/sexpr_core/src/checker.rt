@@ -11,8 +11,9 @@ use crate::fault::FormFault;
 use crate::parser::{MOST_LISTS, MOST_OCTETS, read_string};
 use crate::spaces::octet_at;
 
-/// Returns the offset after the value at the offset `at`. At most `room` lists may be open at once in it. Err is the
-/// first fault.
+/// Returns the offset after the value at the offset `at`, which may be the end of the text. The text has at most
+/// `MOST_OCTETS` octets. At most `room` lists may be open at once in the value. Err is the first fault: `TooDeep`,
+/// `Short` or `Bad`.
 #[cycle(passing)]
 fn pass_value(text: &[u8], at: usize, room: usize) -> Result<usize, FormFault>
     requires short { length text.now ≤ 1048576 }
@@ -31,8 +32,8 @@ fn pass_value(text: &[u8], at: usize, room: usize) -> Result<usize, FormFault>
     Ok(read.end as usize)
 }
 
-/// Returns the offset after the list whose opening parenthesis is at `at`. At most `room` lists may be open at once,
-/// this one included. Err is the first fault.
+/// Returns the offset after the list whose opening parenthesis is at `at`. The text has at most `MOST_OCTETS` octets.
+/// At most `room` lists may be open at once, this one included. Err is the first fault: `TooDeep`, `Short` or `Bad`.
 #[cycle(passing)]
 fn pass_list(text: &[u8], at: usize, room: usize) -> Result<usize, FormFault>
     requires short { length text.now ≤ 1048576 }
@@ -48,8 +49,9 @@ fn pass_list(text: &[u8], at: usize, room: usize) -> Result<usize, FormFault>
     Ok(end)
 }
 
-/// Returns the offset after the list whose members begin at `at`. At most `room` lists may be open at once in them. Err
-/// is the first fault.
+/// Returns the offset after the list whose members begin at `at`, which may be the end of the text. The text has at
+/// most `MOST_OCTETS` octets. At most `room` lists may be open at once in the members. Err is the first fault:
+/// `TooDeep`, `Short` or `Bad`.
 #[cycle(passing)]
 fn pass_members(text: &[u8], at: usize, room: usize) -> Result<usize, FormFault>
     requires short { length text.now ≤ 1048576 }
@@ -68,7 +70,8 @@ fn pass_members(text: &[u8], at: usize, room: usize) -> Result<usize, FormFault>
     Err(FormFault::Short)
 }
 
-/// Checks that a text is one value in canonical form. The refusals are those of `Doc::open`.
+/// Checks that a text is one value in canonical form. The refusals are those of `Doc::open`, except `Memory`: this
+/// allocates nothing.
 pub(crate) fn check_canonical(text: &[u8]) -> Result<(), FormFault>
     ensures read { OnOk result ((v : Value) × IsWithinLimits v × (text.now ≡ canon v)) }
     ensures only { (v : Value) → IsWithinLimits v → text.now ≡ canon v → IsOkUnless result FormFault.Memory }

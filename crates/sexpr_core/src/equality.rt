@@ -15,7 +15,7 @@ impl PartialEq for Atom {
 
     ghost laws = { partial_equiv_from_equiv (on_equiv (λ atom. canon (atom_value atom)) nat_list_eq_equiv) };
 
-    /// Whether both strings have the same octets and the same display hint, or none.
+    /// Whether both strings have the same octets, and the same display hint or both none.
     fn eq(&self, other: &Atom) -> bool
         ensures test { result ≡ is_same (atom_value self.now) (atom_value other.now) }
         ensures meaning { IsTrue result ↔ (atom_value self.now ≡ atom_value other.now) }
@@ -60,7 +60,7 @@ fn same_hints(hint: &Option<Vec<u8>>, other: &Option<Vec<u8>>) -> bool
     }
 }
 
-/// Whether two strings have the same octets and the same display hints.
+/// Whether two strings have the same octets, and the same display hint or both none.
 fn same_atoms(atom: &Atom, other: &Atom) -> bool
     ensures { IsTrue result ↔ (atom_value atom.now ≡ atom_value other.now) }
 {

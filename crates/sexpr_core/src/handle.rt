@@ -47,7 +47,8 @@ pub enum NodeKind<'d, 'a> {
     List(Members<'d, 'a>),
 }
 
-/// The octets of a text from the offset `from` to before the offset `to`.
+/// The octets of a text from the offset `from` to before the offset `to`, which is at least `from` and at most the
+/// length of the text.
 fn piece(text: &[u8], from: usize, to: usize) -> &[u8]
     requires ordered { from ≤ to }
     requires within { to ≤ length text.now }
@@ -77,7 +78,7 @@ impl<'d, 'a> Node<'d, 'a> {
         )
     }
 
-    /// What the node is: a string with its octets, or a list with its members.
+    /// What the node is: a string with its octets and its display hint, if it has one, or a list with its members.
     pub fn kind(&self) -> NodeKind<'d, 'a>
         ensures { kind_value result ≡ self.now }
     {
@@ -121,8 +122,8 @@ impl<'d, 'a> Node<'d, 'a> {
         }
     }
 
-    /// The members of a list after its head, if the head is this word without a display hint. None for every other
-    /// value.
+    /// The members of a list after its first, if the first is the string `word` without a display hint. None for every
+    /// other value, also for the empty list.
     pub fn headed(&self, word: &[u8]) -> Option<Members<'d, 'a>>
         ensures { MatchOption result (IsNotHeaded self.now word.now)
             (λ vs. self.now ≡ group (plain word.now ∷ vs)) }

@@ -62,7 +62,7 @@ fn first_digit(text: &[u8], at: usize) -> Result<usize, FormFault>
 
 /// Reads the decimal length at the offset `at`, without leading zeros, and the colon after it. A length of any size is
 /// read, since a text may continue for as long. One over `MOST_OCTETS` is returned as `MOST_OCTETS` plus one. Err is
-/// `Bad` or `Short`.
+/// `Bad` at the first octet that is not allowed there, or `Short` if the text ends before the colon.
 fn read_length(text: &[u8], at: usize) -> Result<Length, FormFault>
     requires { at ≤ length text.now }
     ensures { MatchResult result
@@ -84,8 +84,9 @@ fn read_length(text: &[u8], at: usize) -> Result<Length, FormFault>
     Err(FormFault::Short)
 }
 
-/// Reads the string in verbatim form, such as `3:abc`, at the offset `at`. Its octets are not examined. Err is `Bad` or
-/// `Short`.
+/// Returns where the octets of the string in verbatim form, such as `3:abc`, at the offset `at` are. They are not
+/// examined. The text has at most `MOST_OCTETS` octets. Err is `Bad` if no length and colon are there, or `Short` if
+/// the text ends before the colon or has fewer octets after it.
 fn read_verbatim(text: &[u8], at: usize) -> Result<Piece, FormFault>
     requires short { length text.now ≤ 1048576 }
     requires begins { at ≤ length text.now }
@@ -103,7 +104,8 @@ fn read_verbatim(text: &[u8], at: usize) -> Result<Piece, FormFault>
     })
 }
 
-/// Reads the closing bracket of a hint, at the offset `at`, and the string after it. Err is `Bad` or `Short`.
+/// Reads the closing bracket of a hint, at the offset `at`, and the string in verbatim form after it. Returns where the
+/// octets of this string are. The text has at most `MOST_OCTETS` octets. Err is `Bad` or `Short`.
 fn read_closing(text: &[u8], at: usize) -> Result<Piece, FormFault>
     requires short { length text.now ≤ 1048576 }
     requires begins { at ≤ length text.now }
@@ -121,7 +123,8 @@ fn read_closing(text: &[u8], at: usize) -> Result<Piece, FormFault>
     Ok(read)
 }
 
-/// Reads the string with a hint whose opening bracket is at `at`. Err is `Bad` or `Short`.
+/// Returns the record of the string with a hint whose opening bracket is at `at`. The text has at most `MOST_OCTETS`
+/// octets. Err is `Bad` or `Short`.
 fn read_hinted(text: &[u8], at: usize) -> Result<Record, FormFault>
     requires short { length text.now ≤ 1048576 }
     requires begins { StandsAt text.now at 91 }
@@ -144,8 +147,8 @@ fn read_hinted(text: &[u8], at: usize) -> Result<Record, FormFault>
     })
 }
 
-/// Reads the string at the offset `at`, with or without a hint. `octet` is the octet there, which is no parenthesis.
-/// Err is `Bad` or `Short`.
+/// Returns the record of the string at the offset `at`, with or without a hint. `octet` is the octet there, which is no
+/// opening parenthesis. The text has at most `MOST_OCTETS` octets. Err is `Bad` or `Short`.
 pub(crate) fn read_string(text: &[u8], at: usize, octet: u8) -> Result<Record, FormFault>
     requires short { length text.now ≤ 1048576 }
     requires begins { StandsAt text.now at octet }
@@ -171,8 +174,10 @@ pub(crate) fn read_string(text: &[u8], at: usize, octet: u8) -> Result<Record, F
     })
 }
 
-/// Reads the value at the offset `at`, and appends the records of its nodes to `nodes`. Returns the offset after it. At
-/// most `room` lists may be open at once in it. Err is the first fault.
+/// Reads the value at the offset `at`, which may be the end of the text, and appends the records of its nodes to
+/// `nodes`. Returns the offset after it. The text has at most `MOST_OCTETS` octets. At most `room` lists may be open at
+/// once in the value. Err is the first fault, `TooDeep`, `Short` or `Bad`, or `Memory`: then some records may have been
+/// appended.
 #[cycle(reading)]
 fn read_value(
     text: &[u8],
@@ -198,7 +203,8 @@ fn read_value(
 }
 
 /// Reads the list whose opening parenthesis is at `at`, and appends the records of its nodes to `nodes`. Returns the
-/// offset after it. At most `room` lists may be open at once, this one included. Err is the first fault.
+/// offset after it. The text has at most `MOST_OCTETS` octets. At most `room` lists may be open at once, this one
+/// included. Err is as for `read_value`.
 #[cycle(reading)]
 fn read_list(
     text: &[u8],
@@ -236,7 +242,8 @@ fn read_list(
 }
 
 /// Reads the members of a list and its closing parenthesis, from the offset `at` on, and appends the records of their
-/// nodes to `nodes`. At most `room` lists may be open at once in them. Err is the first fault.
+/// nodes to `nodes`. Returns the number of the members and the offset after the list. The text has at most
+/// `MOST_OCTETS` octets. At most `room` lists may be open at once in the members. Err is as for `read_value`.
 #[cycle(reading)]
 fn read_members(
     text: &[u8],

@@ -35,7 +35,7 @@ impl<'d, 'a> Model for Members<'d, 'a> {
 }
 
 impl<'d, 'a> Members<'d, 'a> {
-    /// The members of node n, which must be a list.
+    /// The members of the node with number `n`, from 0. The document must have this node, and it must be a list.
     pub(crate) fn of(document: &'d Doc<'a>, n: usize) -> Members<'d, 'a>
         requires known { n < size document.now }
         requires listed { IsList (node_at document.now n) }

@@ -26,7 +26,8 @@ pub fn is_space(octet: u8) -> bool
     octet == b' ' || (octet >= 9 && octet <= 13)
 }
 
-/// Returns the offset of the first octet from `at` on that is not whitespace, or the length of the text if there is none.
+/// Returns the offset of the first octet from `at` on that is not whitespace, or the length of the text if there is
+/// none. `at` is at most this length.
 pub fn skip_spaces(text: &[u8], at: usize) -> usize
     requires { at ≤ length text.now }
     ensures { Skips text.now at result }
@@ -41,7 +42,7 @@ pub fn skip_spaces(text: &[u8], at: usize) -> usize
     i
 }
 
-/// Checks that only whitespace follows in the text, from the offset `at` on.
+/// Checks that nothing but whitespace follows in the text, from the offset `at` on, which may be its end.
 ///
 /// # Errors
 ///

@@ -61,7 +61,8 @@ pub fn append_verbatim(octets: &[u8], out: &mut Vec<u8>) -> Result<(), AllocErro
     Ok(())
 }
 
-/// Appends the canonical form of a string to the output, with its display hint if it has one. Err if memory ran out.
+/// Appends the canonical form of a string to the output, with its display hint if it has one. Err if memory ran out:
+/// then a part of it may have been appended.
 fn append_atom(atom: &Atom, out: &mut Vec<u8>) -> Result<(), AllocError>
     ensures { OnOk result (out.new.items ≡ out.old.items ++ canon (atom_value atom.now)) }
 {
@@ -73,7 +74,8 @@ fn append_atom(atom: &Atom, out: &mut Vec<u8>) -> Result<(), AllocError>
     append_verbatim(&atom.body, out)
 }
 
-/// Appends the canonical form of a tree to the output. The recursion is as deep as the tree. Err if memory ran out.
+/// Appends the canonical form of a tree to the output. The recursion is as deep as the tree. Err if memory ran out:
+/// then a part of it may have been appended.
 fn append_tree(tree: &Sexp, out: &mut Vec<u8>) -> Result<(), AllocError>
     ensures { OnOk result (out.new.items ≡ out.old.items ++ canon (sexp_value tree.now)) }
 {
