@@ -28,7 +28,7 @@ pub enum ReadFault {
 }
 
 /// Reads once, into `buffer`. Returns how many octets were read, or None if the read was interrupted and must be
-/// repeated. Err is `Failed` at any other error.
+/// repeated. 0 octets mean that the reader has ended, unless the buffer is empty. Err is `Failed` at any other error.
 fn ask<R: Read>(reader: &mut Metered<R>, buffer: &mut [u8]) -> Result<Option<usize>, ReadFault>
     ensures asks { asks_of reader.new ≡ counted (asks_of reader.old) }
     ensures fault { IsErrOf result ReadFault.Failed → faults_of reader.new ≡ counted (faults_of reader.old) }
@@ -54,8 +54,10 @@ fn ask<R: Read>(reader: &mut Metered<R>, buffer: &mut [u8]) -> Result<Option<usi
     }
 }
 
-/// Reads once, no more than is needed to see that a text has over `most` octets, and appends the octets to `text`.
-/// Returns whether the reader has ended. Err is `Failed`, `TooLong` or `Memory`.
+/// Reads once, and appends the octets to `text`, which has at most `most` octets before. Reads no more than is needed
+/// to see that a text has over `most` octets, and no more than `buffer`, which is not empty, can hold. Returns whether
+/// the reader has ended; an interrupted read returns false. Err is `Failed` at any other error of the reader, `TooLong`
+/// if the text then has over `most` octets, or `Memory`.
 fn read_piece<R: Read>(
     reader: &mut Metered<R>,
     buffer: &mut [u8],
@@ -90,7 +92,8 @@ fn read_piece<R: Read>(
     }
 }
 
-/// Appends octets to the text. Err is `TooLong` if the text then has over `most` octets, or `Memory`.
+/// Appends octets to the text, which has at most `most` octets before, and at most one more with these. Err is
+/// `TooLong` if the text then has over `most` octets, or `Memory`.
 fn append(text: &mut Vec<u8>, octets: &[u8], most: usize) -> Result<(), ReadFault>
     requires short { vec_len text.old ≤ most }
     requires wanted { vec_len text.old + length octets.now ≤ most + 1 }

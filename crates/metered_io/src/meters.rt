@@ -65,14 +65,15 @@ impl<T> Metered<T> {
         self.faults
     }
 
-    /// Whether the last read into a buffer with room returned 0 octets.
+    /// Whether the last read into a buffer with room returned 0 octets. False if there was none since `new` or
+    /// `restart`.
     pub fn ended(&self) -> bool
         ensures { result ≡ ended_of self.now }
     {
         self.ended
     }
 
-    /// Whether the last write or flush was a flush that succeeded.
+    /// Whether the last write or flush was a flush that succeeded. False if there was none since `new` or `restart`.
     pub fn flushed(&self) -> bool
         ensures { result ≡ flushed_of self.now }
     {
@@ -94,7 +95,8 @@ pub(crate) fn is_interrupted(error: &Error) -> bool
     error.kind() == ErrorKind::Interrupted
 }
 
-/// The number of faults after one more error. `Interrupted` is no fault.
+/// The number of faults after one more error, up to the greatest `u64`. `Interrupted` is no fault: the number stays
+/// `faults`.
 fn count_error(faults: u64, error: &Error) -> u64
     ensures { CountsIf (IsFault error.now) faults result }
 {
@@ -108,8 +110,8 @@ fn count_error(faults: u64, error: &Error) -> u64
 impl<R: Read> Read for Metered<R> {
     ghost remaining = { λ m. R.remaining (inner_of m) };
 
-    /// Reads from the reader inside, and returns its answer. Counts the call and an error, and notes whether the reader
-    /// has ended.
+    /// Reads from the reader inside, and returns its answer. Counts the call, and as a fault an error other than
+    /// `Interrupted`. If the buffer has room, `ended` is then whether 0 octets were read. `flushed` does not change.
     fn read(&mut self, buf: &mut [u8]) -> io::Result<usize>
         ensures bound { ReadsAtMost result buf.new }
         ensures bytes { ReadConsumes (R.remaining (inner_of self.old)) (R.remaining (inner_of self.new)) result buf.new }
@@ -142,8 +144,8 @@ impl<R: Read> Read for Metered<R> {
 impl<W: Write> Write for Metered<W> {
     ghost contents = { λ m. W.contents (inner_of m) };
 
-    /// Writes to the writer inside, and returns its answer. Counts the call, and as a fault an error or 0 octets
-    /// written of a buffer that is not empty.
+    /// Writes to the writer inside, and returns its answer. Counts the call, and as a fault an error other than
+    /// `Interrupted`, or 0 octets written of a buffer that is not empty. `flushed` is then false.
     fn write(&mut self, buf: &[u8]) -> io::Result<usize>
         ensures bound { WritesAtMost result buf.now }
         ensures bytes { WriteAppends (W.contents (inner_of self.old)) (W.contents (inner_of self.new)) result buf.now }
@@ -166,8 +168,8 @@ impl<W: Write> Write for Metered<W> {
         answer
     }
 
-    /// Flushes the writer inside, and returns its answer. Counts the call and an error, and notes whether the flush
-    /// succeeded.
+    /// Flushes the writer inside, and returns its answer. Counts the call, and as a fault an error other than
+    /// `Interrupted`. `flushed` is then whether the flush succeeded.
     fn flush(&mut self) -> io::Result<()>
         ensures bytes { Keeps (W.contents (inner_of self.old)) (W.contents (inner_of self.new)) }
         ensures asks { asks_of self.new ≡ counted (asks_of self.old) }

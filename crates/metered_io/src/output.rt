@@ -61,13 +61,13 @@ fn flush_once<W: Write>(writer: &mut Metered<W>) -> Result<bool, WriteFault>
     }
 }
 
-/// Writes all the octets. A call that fails with `Interrupted` is repeated. The writer is called until its count `asks` is
-/// `most`.
+/// Writes all the octets, and does not flush. A call that fails with `Interrupted` is repeated. The writer is called
+/// until its count `asks` is `most`. For no octets it is not called.
 ///
 /// # Errors
 ///
-/// `WriteFault` at another error, if 0 octets of a buffer that is not empty are written, and at that count. A beginning of
-/// the octets has been written then.
+/// `WriteFault` at another error, if 0 octets of a buffer that is not empty are written, and at that count if octets
+/// are left. A beginning of the octets has been written then, which may be empty.
 pub fn write_octets<W: Write>(
     writer: &mut Metered<W>,
     octets: &[u8],
@@ -117,8 +117,8 @@ pub fn flush_writer<W: Write>(writer: &mut Metered<W>, most: u64) -> Result<(), 
 ///
 /// # Errors
 ///
-/// `WriteFault` at another error, if 0 octets of a buffer that is not empty are written, and at that count. A beginning of
-/// the octets has been written then.
+/// `WriteFault` at another error, if 0 octets of a buffer that is not empty are written, and at that count. A beginning
+/// of the octets has been written then: none, some or all of them.
 pub fn write_whole<W: Write>(writer: &mut Metered<W>, octets: &[u8]) -> Result<(), WriteFault>
     ensures octets { OnOk result (Takes W.contents writer.old writer.new octets.now) }
     ensures flushed { OnOk result (IsTrue (flushed_of writer.new)) }
