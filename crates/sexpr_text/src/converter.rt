@@ -35,8 +35,8 @@ pub enum Form {
     Advanced,
 }
 
-/// Reads a text in any of the three forms and writes its value in the form `form`. It is written while it is read,
-/// without a tree. The refusals are those of `read_any`.
+/// Reads a text in canonical, transport or advanced form, and writes its value in the form `form`. It is written while
+/// it is read, without a tree. The refusals are those of `read_any`.
 pub fn convert(alloc: Global, form: Form, text: &[u8]) -> Result<Vec<u8>, FormFault>
     ensures read { IfOk result (λ out. (v : Value) × IsTextWithin text.now v × (out.items ≡ written form v)) }
     ensures only { (v : Value) → IsTextWithin text.now v → IsOkUnless result FormFault.Memory }
@@ -64,7 +64,8 @@ fn convert_braces(alloc: Global, form: Form, text: &[u8]) -> Result<Vec<u8>, For
     }
 }
 
-/// Writes the value of a canonical text in advanced form. Err if the text is not canonical, or memory ran out.
+/// Writes the value of a canonical text in advanced form. Other texts in advanced form are read as well. The refusals
+/// are those of `read_advanced`.
 fn advanced_of(alloc: Global, octets: &[u8]) -> Result<Vec<u8>, FormFault>
     ensures read { (v : Value) → IsWithinLimits v → octets.now ≡ canon v → IfOk result (λ out. out.items ≡ adv v) }
     ensures only { (v : Value) → IsWithinLimits v → octets.now ≡ canon v → IsOkUnless result FormFault.Memory }
@@ -89,7 +90,8 @@ fn convert_advanced(alloc: Global, form: Form, text: &[u8]) -> Result<Vec<u8>, F
     Ok(out)
 }
 
-/// Appends a string without a display hint to the output, in the form `form`. Err if memory ran out.
+/// Appends a string without a display hint to the output, in the form `form`. Err if memory ran out: then a part of it
+/// may have been appended.
 fn write_string(form: Form, octets: &[u8], out: &mut Vec<u8>) -> Result<(), AllocError>
     ensures { OnOk result (out.new.items ≡ out.old.items ++ written_string form octets.now) }
 {
@@ -123,8 +125,9 @@ fn write_gap(gap: Option<u8>, out: &mut Vec<u8>) -> Result<(), AllocError>
     Ok(())
 }
 
-/// Reads the string without a display hint at the offset `at`, whose first octet is `first`, and appends it to `out`.
-/// Returns the offset after it. Err is the first fault.
+/// Reads the string without a display hint at the offset `at`, whose first octet is `first`, and appends it to `out` in
+/// the form `form`. Returns the offset after it. The text has at most `MOST_OCTETS` octets. Err is the first fault,
+/// `Short` or `Bad`, or `Memory`. On an error a part of the string may have been appended.
 #[inline(always)]
 fn convert_string(
     alloc: Global,
@@ -150,8 +153,8 @@ fn convert_string(
     Ok(string.end)
 }
 
-/// Reads the token at the offset `at`, whose first octet is `first`, and appends it to `out`. Returns the offset after
-/// it. Err if memory ran out.
+/// Reads the token at the offset `at`, and appends it to `out` in the form `form`. Its first octet is `first`, which is
+/// no digit. Returns the offset after it. Err if memory ran out: then a part of it may have been appended.
 #[inline(always)]
 fn convert_token(
     text: &[u8],
@@ -172,7 +175,7 @@ fn convert_token(
 }
 
 /// Appends the string of a token to the output: in canonical form its length, a colon and its octets, in advanced form
-/// the token itself. Err if memory ran out.
+/// the token itself. Err if memory ran out: then a part of it may have been appended.
 fn write_token(form: Form, octets: &[u8], out: &mut Vec<u8>) -> Result<(), AllocError>
     requires { IsToken octets.now }
     ensures { OnOk result (out.new.items ≡ out.old.items ++ written_string form octets.now) }
@@ -183,9 +186,11 @@ fn write_token(form: Form, octets: &[u8], out: &mut Vec<u8>) -> Result<(), Alloc
     }
 }
 
-/// Reads the value at the offset `at`, and appends it to `out`. Returns the offset after it. At most `room` lists may
-/// be open at once in it. Err is the first fault. This function and those that it calls for a token are inlined. So a
-/// member that is a token takes one call only, the one that writes it.
+/// Reads the value at the offset `at`, which may be the end of the text, and appends it to `out` in the form `form`.
+/// Returns the offset after it. The text has at most `MOST_OCTETS` octets. At most `room` lists may be open at once in
+/// the value. Err is the first fault, `TooDeep`, `Short` or `Bad`, or `Memory`. On an error a part of the value may
+/// have been appended. This function and those that it calls for a token are inlined. So a member that is a token takes
+/// one call only, the one that writes it.
 #[cycle(converting)]
 #[inline(always)]
 fn convert_value(
@@ -212,8 +217,9 @@ fn convert_value(
     }
 }
 
-/// Reads the list whose opening parenthesis is at `at`, and appends it to `out`. Returns the offset after it. At most
-/// `room` lists may be open at once, this one included. Err is the first fault.
+/// Reads the list whose opening parenthesis is at `at`, and appends it to `out` in the form `form`. Returns the offset
+/// after it. The text has at most `MOST_OCTETS` octets. At most `room` lists may be open at once, this one included.
+/// Err is as for `convert_value`.
 #[cycle(converting)]
 fn convert_list(
     alloc: Global,
@@ -238,8 +244,9 @@ fn convert_list(
     convert_members(alloc, text, at + 1, room - 1, form, out)
 }
 
-/// Reads the members of a list and its closing parenthesis, from the offset `at` on, and appends them to `out`. Returns
-/// the offset after it. At most `room` lists may be open at once in them. Err is the first fault.
+/// Reads the members of a list and its closing parenthesis, from the offset `at` on, with whitespace around each, and
+/// appends them to `out` in the form `form`. Returns the offset after the parenthesis. The text has at most
+/// `MOST_OCTETS` octets. At most `room` lists may be open at once in the members. Err is as for `convert_value`.
 #[cycle(converting)]
 fn convert_members(
     alloc: Global,
@@ -272,8 +279,9 @@ fn convert_members(
     Err(FormFault::Short)
 }
 
-/// Reads the string with a hint whose opening bracket is at `at`, and appends it to `out`. Returns the offset after it.
-/// Err is the first fault.
+/// Reads the string with a hint whose opening bracket is at `at`, and appends it to `out` in the form `form`. Returns
+/// the offset after it. The text has at most `MOST_OCTETS` octets. Err is the first fault, `Short` or `Bad`, or
+/// `Memory`. On an error a part of the string may have been appended.
 fn convert_hinted(
     alloc: Global,
     text: &[u8],

@@ -23,7 +23,8 @@ pub(crate) struct HintedString<'t> {
     pub(crate) end: usize,
 }
 
-/// Reads the string with a hint whose opening bracket is at `at`. Err is the first fault.
+/// Reads the string with a hint whose opening bracket is at `at`. Whitespace is allowed around the hint and after the
+/// closing bracket. The text has at most `MOST_OCTETS` octets. Err is the first fault, `Short` or `Bad`, or `Memory`.
 pub(crate) fn read_hinted_string<'t>(
     alloc: Global,
     text: &'t [u8],

@@ -12,12 +12,12 @@ ghost use Rattle.sexpr_core.specs.Octets.{HasOctets};
 ghost use Rattle.sexpr_text.specs.Spelling.{Spells, IsText, IsSpelledWithin, IsTextWithin};
 ghost use Rattle.sexpr_text.specs.Printed.{adv};
 
-/// A text spells or braces at most one value.
+/// A text spells (in advanced form) or braces (in transport form) at most one value.
 pub fn one_value()
     ensures { (text : List ℕ) (v w : Value) → IsText text v → IsText text w → v ≡ w }
 {}
 
-/// The canonical text of a value spells it (RFC 9804, sections 6.2 and 6.4).
+/// The canonical text of a value spells it, that is, it is also in advanced form (RFC 9804, sections 6.2 and 6.4).
 pub fn canonical_is_advanced()
     ensures { (v : Value) → Spells (canon v) v }
 {}
@@ -41,8 +41,8 @@ pub fn one_refusal_in_any_form()
     ensures one { (text : List ℕ) (e f : FormFault) → IsOfForm e → IsOfForm f → RefusesText text e → RefusesText text f → e ≡ f }
 {}
 
-/// At an octet that is refused as Bad, in any form, no text of a value continues. That is, no text that spells or braces a
-/// value begins with the octets up to this one.
+/// At an octet that is refused as Bad, in any form, no text of a value continues. That is, no text that spells or
+/// braces a value begins with the octets up to and including this one.
 pub fn bad_is_bad()
     ensures { (text : List ℕ) (at : ℕ) → RefusesText text (Bad at) → (at < length text) × ¬ Begins IsSomeText (take (at + 1) text) }
 {}

@@ -21,8 +21,9 @@ const PACKED_OCTETS: usize = 384;
 const PACKED_SYMBOLS: usize = 512;
 
 /// Returns the printed text of a tree in advanced form. Each string is a token if it can be one; otherwise quoted, if
-/// all its octets are printable; otherwise base64. Display hints are in brackets directly before the string, and there
-/// is one space between members. The text spells the tree's value (RFC 9804, section 6.4). Err if memory ran out.
+/// all its octets are printable ASCII or it is empty; otherwise base64. Display hints are in brackets directly before
+/// the string, and there is one space between members. The text spells the tree's value (RFC 9804, section 6.4). Err if
+/// memory ran out.
 pub fn print_advanced(alloc: Global, tree: &Sexp) -> Result<Vec<u8>, AllocError>
     ensures printed { IfOk result (λ text. text.items ≡ adv (sexp_value tree.now)) }
     ensures spells { IfOk result (λ text. Spells text.items (sexp_value tree.now)) }
@@ -112,7 +113,7 @@ fn print_quoted<S: Sink>(octets: &[u8], sink: &mut S)
     sink.put_octet(b'"');
 }
 
-/// Prints at most 384 octets in base64.
+/// Prints at most 384 octets in padded base64.
 fn print_piece<S: Sink>(octets: &[u8], sink: &mut S)
     requires { length octets.now ≤ 384 }
     ensures { S.takes sink.old (encode_of standard octets.now) sink.new }
@@ -123,7 +124,7 @@ fn print_piece<S: Sink>(octets: &[u8], sink: &mut S)
     }
 }
 
-/// Prints a string in base64 between `|` and `|`.
+/// Prints a string in padded base64 between `|` and `|`.
 fn print_packed<S: Sink>(octets: &[u8], sink: &mut S)
     ensures { S.takes sink.old (124 ∷ (encode_of standard octets.now ++ 124 ∷ [])) sink.new }
 {
@@ -138,7 +139,8 @@ fn print_packed<S: Sink>(octets: &[u8], sink: &mut S)
     sink.put_octet(b'|');
 }
 
-/// Prints a string without a display hint, as `print_advanced` does. Allocates nothing.
+/// Prints a string without a display hint, as `print_advanced` does. Prints nothing to a full sink. Allocates nothing,
+/// unless the sink does.
 pub fn print_octets<S: Sink>(octets: &[u8], sink: &mut S)
     ensures printed { S.takes sink.old (printed_string octets.now) sink.new }
     ensures octets { IsBytes octets.now }
@@ -155,7 +157,7 @@ pub fn print_octets<S: Sink>(octets: &[u8], sink: &mut S)
     }
 }
 
-/// Prints a display hint in brackets.
+/// Prints a display hint in brackets, in the spelling of `print_octets`.
 fn print_hint<S: Sink>(hint: &[u8], sink: &mut S)
     ensures printed { S.takes sink.old (91 ∷ (printed_string hint.now ++ 93 ∷ [])) sink.new }
     ensures octets { IsBytes hint.now }
@@ -189,7 +191,8 @@ fn print_gap<S: Sink>(member: usize, sink: &mut S)
     sink.put_octet(b' ');
 }
 
-/// Prints a tree in advanced form, as `print_advanced` does. Allocates nothing.
+/// Prints a tree in advanced form, as `print_advanced` does. The recursion is as deep as the tree. Allocates nothing,
+/// unless the sink does.
 pub fn print_tree<S: Sink>(tree: &Sexp, sink: &mut S)
     ensures printed { S.takes sink.old (adv (sexp_value tree.now)) sink.new }
     ensures octets { HasOctets (sexp_value tree.now) }

@@ -25,7 +25,7 @@ struct Escape {
 }
 
 /// Returns the offset of the first quote or backslash from the offset `at` on, or the length of the text if there is
-/// none.
+/// none. `at` is at most this length.
 fn plain_end(text: &[u8], at: usize) -> usize
     requires { at ≤ length text.now }
     ensures { (octets : List ℕ) × ReadsPlain text.now at octets result }
@@ -57,8 +57,8 @@ pub(crate) fn lend_quoted<'t>(text: &'t [u8], at: usize) -> Option<ReadString<'t
     }
 }
 
-/// Reads the quoted string whose opening quote is at `at`. Err is the first fault: `Short` if it does not end, `Bad` in
-/// an unknown escape.
+/// Reads the quoted string whose opening quote is at `at`. Err is the first fault, `Short` if it does not end or `Bad`
+/// in an unknown escape, or `Memory`.
 pub(crate) fn read_quoted(alloc: Global, text: &[u8], at: usize) -> Result<MarkedString, FormFault>
     requires { StandsAt text.now at 34 }
     ensures read { IfOk result (λ read. Reads IsQuoted text.now at read.octets.items read.end) }
@@ -77,8 +77,8 @@ pub(crate) fn read_quoted(alloc: Global, text: &[u8], at: usize) -> Result<Marke
     Err(FormFault::Short)
 }
 
-/// Reads the octet at `at`, which is `octet`, or the escape that begins there, and appends what it means to `octets`.
-/// Returns the offset after it. Err is the fault of the escape, or `Memory`.
+/// Reads the octet at `at`, which is `octet` and no quote, or the escape that begins there, and appends what it means
+/// to `octets`. Returns the offset after it. Err is the fault of the escape, or `Memory`.
 fn read_piece(text: &[u8], at: usize, octet: u8, octets: &mut Vec<u8>) -> Result<usize, FormFault>
     requires begins { StandsAt text.now at octet }
     requires other { octet ≢ 34 }
@@ -101,8 +101,8 @@ fn read_piece(text: &[u8], at: usize, octet: u8, octets: &mut Vec<u8>) -> Result
     }
 }
 
-/// Reads the part of an escape after the backslash, from the offset `at` on. Err is `Bad` for an unknown escape, or
-/// `Short`.
+/// Reads the part of an escape after the backslash, from the offset `at` on, which may be the end of the text. Err is
+/// `Bad` at the first octet that continues no escape, or `Short` if the text ends before the escape is complete.
 fn read_escape(text: &[u8], at: usize) -> Result<Escape, FormFault>
     requires { at ≤ length text.now }
     ensures read { IfOk result (λ read. ReadsEscape (92 ∷ []) text.now at read.octet read.end) }
@@ -122,8 +122,8 @@ fn read_escape(text: &[u8], at: usize) -> Result<Escape, FormFault>
     }
 }
 
-/// Reads the line end at the offset `at` after a backslash. It is one octet, or two if the next is `second`. It means
-/// no octet.
+/// Reads the line end at the offset `at` after a backslash: a CR with the LF as `second`, or an LF with the CR as
+/// `second`. It is one octet, or two if the next is `second`. It means no octet.
 fn line_end(text: &[u8], at: usize, second: u8) -> Escape
     requires { IsLineEnd text.now at second }
     ensures { ReadsEscape (92 ∷ []) text.now at result.octet result.end }
@@ -142,7 +142,7 @@ fn line_end(text: &[u8], at: usize, second: u8) -> Escape
     }
 }
 
-/// The octet that a backslash and this octet mean, such as a line feed for `n`. None if they are no escape.
+/// The octet that a backslash and this octet mean, such as a line feed for `n`. None if the two are no whole escape.
 fn meant_by(octet: u8) -> Option<u8>
     ensures { result ≡ escape_value octet }
 {
@@ -159,7 +159,8 @@ fn meant_by(octet: u8) -> Option<u8>
     }
 }
 
-/// Reads the escape that is the one octet `octet` at `at`, such as `n`. Err is `Bad` if this is no escape.
+/// Reads the escape of a backslash and the one octet `octet`, which is at `at`, such as `n`. Err is `Bad` at it if the
+/// two are no whole escape.
 fn read_letter(text: &[u8], at: usize, octet: u8) -> Result<Escape, FormFault>
     requires { StandsAt text.now at octet }
     ensures read { IfOk result (λ read. ReadsEscape (92 ∷ []) text.now at read.octet read.end) }
@@ -206,7 +207,8 @@ fn read_hexadecimal_digit(text: &[u8], at: usize) -> Result<u8, FormFault>
     }
 }
 
-/// Reads the two hexadecimal digits of an escape, from the offset `at` after its `x` on. Err is `Bad` or `Short`.
+/// Reads the two hexadecimal digits of an escape, from the offset `at` after its `x` on. The digits may be of either
+/// case. Err is `Bad` at the first other octet, or `Short` if the text ends before both.
 fn read_hexadecimal_escape(text: &[u8], at: usize) -> Result<Escape, FormFault>
     requires { at ≤ length text.now }
     ensures read { IfOk result (λ read. ReadsEscape (92 ∷ 120 ∷ []) text.now at read.octet read.end) }
@@ -240,7 +242,7 @@ fn read_octal_digit(text: &[u8], at: usize) -> Result<u8, FormFault>
 }
 
 /// Reads the three octal digits of an escape, from the offset `at` on. `first` is the value of the first, at most 3.
-/// Err is `Bad` or `Short`.
+/// Err is `Bad` at the first other octet, or `Short` if the text ends before all three.
 fn read_octal_escape(text: &[u8], at: usize, first: u8) -> Result<Escape, FormFault>
     requires begins { StandsAt text.now at (48 + first) }
     requires low { first < 4 }

@@ -31,15 +31,15 @@ struct ReadMembers {
     end: usize,
 }
 
-/// Reads a text in advanced form, which includes canonical form (RFC 9804, section 6.4). The text has at most `MOST_OCTETS`
-/// octets, and at most `MOST_LISTS` lists are open in it at once.
+/// Reads a text in advanced form, which includes canonical form (RFC 9804, section 6.4). Whitespace is allowed around
+/// the value. The text has at most `MOST_OCTETS` octets, and at most `MOST_LISTS` lists are open in it at once.
 ///
 /// # Errors
 ///
-/// TooLong: the text has more octets. Otherwise the first fault from the left. TooDeep: a list begins while `MOST_LISTS` are
-/// open. Bad: the octet at this offset is not allowed in its place. At a closing mark it may also be that the body does not
-/// fit the marks or the length in front. Short: the text ends before the value is complete. Trailing: an octet follows the
-/// complete value and the whitespace after it, at this offset.
+/// TooLong: the text has more octets. Otherwise the first fault from the left. TooDeep: a list begins while
+/// `MOST_LISTS` are open. Bad: the octet at this offset is not allowed in its place. At a closing mark it may also be
+/// that the body does not fit the marks or the length in front. Short: the text ends before the value is complete.
+/// Trailing: an octet follows the complete value and the whitespace after it, at this offset. Memory: memory ran out.
 pub fn read_advanced(alloc: Global, text: &[u8]) -> Result<Sexp, FormFault>
     ensures read { IfOk result (λ tree. IsSpelledWithin text.now (sexp_value tree)) }
     ensures only { (v : Value) → IsSpelledWithin text.now v → IsOkUnless result FormFault.Memory }
@@ -70,7 +70,9 @@ pub fn read_any(alloc: Global, text: &[u8]) -> Result<Sexp, FormFault>
     read_advanced(alloc, text)
 }
 
-/// Reads the value at the offset `at`. At most `room` lists may be open at once in it. Err is the first fault.
+/// Reads the value at the offset `at`, which may be the end of the text. Returns its tree and the offset after it. The
+/// text has at most `MOST_OCTETS` octets. At most `room` lists may be open at once in the value. Err is the first
+/// fault, `TooDeep`, `Short` or `Bad`, or `Memory`.
 #[cycle(reading)]
 fn read_tree(alloc: Global, text: &[u8], at: usize, room: usize) -> Result<ReadTree, FormFault>
     requires short { length text.now ≤ 1048576 }
@@ -97,8 +99,8 @@ fn read_tree(alloc: Global, text: &[u8], at: usize, room: usize) -> Result<ReadT
     }
 }
 
-/// Reads the list whose opening parenthesis is at `at`. Returns its tree and the offset after it. At most `room` lists may
-/// be open at once, this one included. Err is the first fault.
+/// Reads the list whose opening parenthesis is at `at`. Returns its tree and the offset after it. The text has at most
+/// `MOST_OCTETS` octets. At most `room` lists may be open at once, this one included. Err is as for `read_tree`.
 #[cycle(reading)]
 fn read_list(alloc: Global, text: &[u8], at: usize, room: usize) -> Result<ReadTree, FormFault>
     requires short { length text.now ≤ 1048576 }
@@ -118,8 +120,9 @@ fn read_list(alloc: Global, text: &[u8], at: usize, room: usize) -> Result<ReadT
     })
 }
 
-/// Reads the members of a list and its closing parenthesis, from the offset `at` on. At most `room` lists may be open
-/// at once in them. Err is the first fault.
+/// Reads the members of a list and its closing parenthesis, from the offset `at` on, with whitespace around each.
+/// Returns their trees and the offset after the parenthesis. The text has at most `MOST_OCTETS` octets. At most `room`
+/// lists may be open at once in the members. Err is as for `read_tree`.
 #[cycle(reading)]
 fn read_members(
     alloc: Global,
@@ -150,7 +153,8 @@ fn read_members(
     Err(FormFault::Short)
 }
 
-/// Reads the string with a hint whose opening bracket is at `at`. Err is the first fault.
+/// Reads the string with a hint whose opening bracket is at `at`. Returns its tree and the offset after it. The text
+/// has at most `MOST_OCTETS` octets. Err is the first fault, `Short` or `Bad`, or `Memory`.
 fn read_hinted(alloc: Global, text: &[u8], at: usize) -> Result<ReadTree, FormFault>
     requires short { length text.now ≤ 1048576 }
     requires begins { StandsAt text.now at 91 }

@@ -15,11 +15,11 @@ pub trait Sink {
     // The sink stays as it is from now on.
     ghost full: { Self → Bool };
 
-    /// Takes octets, after all that were put before.
+    /// Takes octets, after all that were put before. A full sink may drop them.
     fn put(&mut self, octets: &[u8])
         ensures { takes self.old octets.now self.new };
 
-    /// Takes one octet, after all that were put before.
+    /// Takes one octet, after all that were put before. A full sink may drop it.
     fn put_octet(&mut self, octet: u8)
         ensures { takes self.old (octet ∷ []) self.new };
 
@@ -76,14 +76,16 @@ impl<'v> Sink for VectorSink<'v> {
 
     ghost full = { has_failed };
 
-    /// Appends octets to the vector. If memory runs out, the sink notes it for `end`.
+    /// Appends octets to the vector. If memory runs out, the sink notes it for `end`. Octets of later calls may still
+    /// be appended.
     fn put(&mut self, octets: &[u8]) {
         if self.octets.extend_from_slice(octets).is_err() {
             self.failed = true;
         }
     }
 
-    /// Appends one octet to the vector. If memory runs out, the sink notes it for `end`.
+    /// Appends one octet to the vector. If memory runs out, the sink notes it for `end`. Octets of later calls may
+    /// still be appended.
     fn put_octet(&mut self, octet: u8) {
         if self.octets.push(octet).is_err() {
             self.failed = true;
@@ -129,12 +131,12 @@ impl Sink for Counter {
 
     ghost full = { is_at_end };
 
-    /// Adds the number of these octets to the count.
+    /// Adds the number of these octets to the count, up to the greatest `u64`.
     fn put(&mut self, octets: &[u8]) {
         self.count = self.count.saturating_add(octets.len() as u64);
     }
 
-    /// Adds one to the count.
+    /// Adds one to the count, up to the greatest `u64`.
     fn put_octet(&mut self, _octet: u8) {
         self.count = self.count.saturating_add(1);
     }

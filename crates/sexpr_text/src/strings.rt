@@ -40,7 +40,9 @@ struct Count {
     end: usize,
 }
 
-/// Reads the string without a display hint at the offset `at`. Err is the first fault.
+/// Reads the string without a display hint at the offset `at`, which may be the end of the text: a token, a string in
+/// verbatim form, or one between marks with or without a length in front. The text has at most `MOST_OCTETS` octets.
+/// Err is the first fault, `Short` or `Bad`, or `Memory`.
 pub(crate) fn read_string<'t>(
     alloc: Global,
     text: &'t [u8],
@@ -84,8 +86,8 @@ pub(crate) fn own(alloc: Global, octets: CowSlice<'_, u8, Global>) -> Result<Vec
     }
 }
 
-/// Reads the token at the offset `at`, whose first octet is `first`. It ends before the next octet that may not occur
-/// in one.
+/// Reads the token at the offset `at`. Its first octet is `first`, which may occur in a token and is no digit. It ends
+/// before the next octet that may not occur in one, or with the text.
 fn read_token<'t>(text: &'t [u8], at: usize, first: u8) -> ReadString<'t>
     requires begins { StandsAt text.now at first }
     requires other { is_digit first ≡ false }
@@ -99,7 +101,8 @@ fn read_token<'t>(text: &'t [u8], at: usize, first: u8) -> ReadString<'t>
     }
 }
 
-/// Returns the offset after the token at the offset `at`, whose first octet is `first`.
+/// Returns the offset after the token at the offset `at`. Its first octet is `first`, which may occur in a token and is
+/// no digit.
 pub(crate) fn token_end(text: &[u8], at: usize, first: u8) -> usize
     requires begins { StandsAt text.now at first }
     requires other { is_digit first ≡ false }
@@ -116,8 +119,8 @@ pub(crate) fn token_end(text: &[u8], at: usize, first: u8) -> usize
     i
 }
 
-/// Reads the string between marks, `"`, `#` or `|`, whose opening mark is at `at`. Err is `Bad` if no such mark is
-/// there, or the first fault of the string.
+/// Reads the string between marks, `"`, `#` or `|`, whose opening mark is at `at`. Err is `Bad` if another octet is
+/// there, `Short` if `at` is the end of the text, the first fault of the string, or `Memory`.
 fn read_marked(alloc: Global, text: &[u8], at: usize) -> Result<MarkedString, FormFault>
     requires { at ≤ length text.now }
     ensures read { IfOk result (λ read. Reads IsMarked text.now at read.octets.items read.end) }
@@ -137,8 +140,8 @@ fn read_marked(alloc: Global, text: &[u8], at: usize) -> Result<MarkedString, Fo
     }
 }
 
-/// Reads the length at the offset `at`, without leading zeros and of any size. `first` is its first digit. One over
-/// `MOST_OCTETS` is returned as `MOST_OCTETS` plus one.
+/// Reads the length at the offset `at`, of any size. `first` is its first digit; if this is `0`, it is the whole
+/// length. A length over `MOST_OCTETS` is returned as `MOST_OCTETS` plus one.
 fn read_count(text: &[u8], at: usize, first: u8) -> Count
     requires begins { StandsAt text.now at first }
     requires digit { (48 ≤ first) × (first < 58) }
@@ -160,8 +163,9 @@ fn read_count(text: &[u8], at: usize, first: u8) -> Count
     Count { number, end: i }
 }
 
-/// Reads the string with a length in front whose first digit, `first`, is at `at`. Err is the first fault: `Bad` at the
-/// closing mark of a string that does not have this length.
+/// Reads the string with a length in front whose first digit, `first`, is at `at`. The length is that of the decoded
+/// octets. The text has at most `MOST_OCTETS` octets. Err is `Memory` or the first fault: `Short`, or `Bad`, which is
+/// at the closing mark for a string between marks that does not have this length.
 fn read_counted<'t>(
     alloc: Global,
     text: &'t [u8],
@@ -193,7 +197,8 @@ fn read_counted<'t>(
     })
 }
 
-/// Reads `number` octets as they are, from the offset `at` on. Err is `Short` if the text has fewer.
+/// Reads `number` octets as they are, from the offset `at` on, which may be the end of the text. The text has at most
+/// `MOST_OCTETS` octets. Err is `Short` if fewer follow.
 fn read_verbatim<'t>(text: &'t [u8], at: usize, number: usize) -> Result<ReadString<'t>, FormFault>
     requires short { length text.now ≤ 1048576 }
     requires begins { at ≤ length text.now }
