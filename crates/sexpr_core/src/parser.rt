@@ -176,8 +176,8 @@ pub(crate) fn read_string(text: &[u8], at: usize, octet: u8) -> Result<Record, F
 
 /// Reads the value at the offset `at`, which may be the end of the text, and appends the records of its nodes to
 /// `nodes`. Returns the offset after it. The text has at most `MOST_OCTETS` octets. At most `room` lists may be open at
-/// once in the value. Err is the first fault, `TooDeep`, `Short` or `Bad`, or `Memory`: then some records may have been
-/// appended.
+/// once in the value. Err is the first fault, `TooDeep`, `Short` or `Bad`, or `Memory`. On an error some records may
+/// have been appended.
 #[cycle(reading)]
 fn read_value(
     text: &[u8],
