@@ -86,7 +86,7 @@ const MOST_NODES: usize = 1_000_000;
 impl<'a> Case<'a> {
     ghost use Rattle.spki_case.specs.View.{model};
 
-    /// Reads a case in canonical form.
+    /// Reads a case in canonical form. Its `most_nodes` is 1,000,000, and its `most_work` None.
     ///
     /// # Errors
     ///
@@ -153,9 +153,11 @@ impl<'a> Case<'a> {
         })
     }
 
-    /// Makes a case with empty access and accepted lists, for a question to a separate access list. `most_nodes` and
-    /// `most_work` limit intersections. Its keys carry their digests by `algorithms`, those of the hashes in the
-    /// separate list, and by those of the hashes in the sequence.
+    /// Makes a case with empty access and accepted lists, for a question to a separate access list. Each certificate in
+    /// `sequence` must be followed by its signature. `most_nodes`, which must be at most 1,000,000, and `most_work`
+    /// limit intersections, as the fields of a case do. `algorithms` are those of the hashes in the separate list. The
+    /// keys carry their digests by these and by those of the hashes in the sequence; this saves time and changes no
+    /// answer.
     ///
     /// # Errors
     ///

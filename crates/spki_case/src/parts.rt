@@ -83,7 +83,8 @@ fn policy_in(members: Members) -> Option<Policy>
     }
 }
 
-/// The parts of a case in this value. None if the value does not have the outer structure of a case.
+/// The parts of a case in this value. None if the value does not have the outer structure of a case. Of the parts only
+/// the policy is read.
 pub(crate) fn parts_of<'d, 'a>(node: &Node<'d, 'a>) -> Option<Parts<'d, 'a>>
     ensures { MatchOption result ((p : spec.Parts) → node.now ≢ case_value p)
         (λ p. (parts : spec.Parts) × (node.now ≡ case_value parts) × ArePartsOf (part_values parts) p parts) }

@@ -78,7 +78,8 @@ fn fault_of_row(fault: CertFault) -> RowsFault
     }
 }
 
-/// Reads a row from its node: `(by KEY HASH VALUE)`. Err says why the node is no row. Allocates nothing.
+/// Reads a row from its node: `(by KEY HASH VALUE)`. HASH must be by SHA-256, and VALUE is any value. Err is the fault
+/// of KEY or of HASH, or `Shape`, the first from the left. Allocates nothing.
 fn row_at<'a>(node: &Node<'_, 'a>) -> Result<Row<'a>, CertFaultKind>
     ensures row { IfOk result (λ row. RowOf node.now (row_of row)) }
     ensures faultless { IfOk result (λ _. row_fault node.now ≡ None) }
@@ -108,8 +109,8 @@ fn row_at<'a>(node: &Node<'_, 'a>) -> Result<Row<'a>, CertFaultKind>
     })
 }
 
-/// Reads the digest from the node of a hash. Err is `HashAlg` if it is by SHA-1 or SHA-512, otherwise the fault of the
-/// hash.
+/// Reads the digest from the node of a hash by SHA-256. Err is the first fault of the hash, or `HashAlg` if it is a
+/// hash by SHA-1 or SHA-512.
 fn sha256_of<'a>(node: &Node<'_, 'a>) -> Result<Octets<'a>, CertFaultKind>
     ensures digest { IfOk result (λ digest. HashOf node.now HashAlg.Sha256 digest) }
     ensures faultless { IfOk result (λ _. sha256_fault node.now ≡ None) }
@@ -150,7 +151,7 @@ fn read_rows<'a>(alloc: Global, members: Members<'_, 'a>) -> Result<Vec<Row<'a>>
 }
 
 /// Reads an accepted list from its members after the head. Err is the first fault, with the number of its row, from 1,
-/// or `Memory`.
+/// or `Memory`, whose number may be 0.
 pub(crate) fn table_of<'a>(
     alloc: Global,
     members: Members<'_, 'a>,

@@ -54,7 +54,7 @@ pub trait Verifier {
 impl<'a> Verifier for AcceptedTable<'a> {
     ghost accepted = { verified_by };
 
-    /// Whether some row of the table is of this key, message and value. Always Ok.
+    /// Whether some row of the table is of this key and value, and of the message's SHA-256 digest. Always Ok.
     fn accepts(
         &self,
         _alloc: Global,

@@ -23,8 +23,8 @@ use std::alloc::{AllocError, Global};
 /// 6.4). Each authorization is joined by `Five::then`, and each definition by `Five::resolve`. Without steps the result
 /// is a copy of `first`.
 ///
-/// If a step does not join the result of the steps before it, the chain stops there, and the answer is its place and cause.
-/// Then no derivation over the same tuples grants anything, in any bracketing.
+/// If a step does not join the result of the steps before it, the chain stops there, and the answer is its number, from
+/// 1, and the cause. Then no derivation over the same tuples grants anything, in any bracketing.
 ///
 /// # Errors
 ///
@@ -64,13 +64,15 @@ pub fn fold_chain<'a>(
     fold_owned(alloc, own, steps, policy, MOST_NODES, &mut Work::new(None))
 }
 
-/// Like `fold_chain`, but consumes `first`, and with `most`, at most 1,000,000, as the limit instead. The products of
-/// the numbers of nodes of all tags that are intersected are taken from `work`.
+/// Like `fold_chain`, but consumes `first`, and with `most`, which must be at most 1,000,000, as the limit instead.
+/// Each authorization that joins, whatever the tags are, takes from `work` the product of the numbers of nodes of both
+/// tags. A definition that joins takes the number of nodes of the tag before it.
 ///
 /// # Errors
 ///
-/// `TooLarge` if a step's tag is too large for the result of the steps before it, or if the work of the steps is more than `work`. In
-/// the first case the product of the numbers of their nodes is over `most`. `Memory` if memory ran out.
+/// `TooLarge` if a step's tag is too large for the result of the steps before it, or if the steps take more than `work`
+/// has. In the first case the product of the numbers of their nodes is over `most`. `Memory` if memory ran out. What
+/// was taken from `work` before an error stays taken.
 pub fn fold_owned<'a>(
     alloc: Global,
     first: Five<'a>,
@@ -133,8 +135,9 @@ impl<'a> Five<'a> {
         })
     }
 
-    /// The cost of joining this authorization with a step, if they join whatever their tags are: the product of the numbers of nodes of both
-    /// tags. A definition has no tag, so it costs the number of nodes of this authorization's tag. The cost is 0 if they do not join.
+    /// The cost of joining this authorization with a step, if they join whatever their tags are: the product of the
+    /// numbers of nodes of both tags. A definition has no tag, so it costs the number of nodes of this authorization's
+    /// tag. The cost is 0 if they do not join.
     fn cost_with(&self, step: &Step<'a>, policy: Policy) -> usize
         ensures { IsCostOf policy (five_tuple self.now) self.now.tag (step_tuple step.now) result }
     {
@@ -156,8 +159,9 @@ impl<'a> Five<'a> {
         }
     }
 
-    /// Joins this authorization with a step, by `then_within` or `into_resolve`. `most` is the greatest product of the
-    /// nodes of two tags that are intersected. Err is `TooLarge` or `Memory`.
+    /// Joins this authorization with a step: an authorization by `then_within`, a definition by `into_resolve`. `most`,
+    /// which is at most 1,000,000, is the greatest product of the numbers of nodes of two tags that are intersected.
+    /// Err is `TooLarge`, only for an authorization, or `Memory`.
     fn joined(
         self,
         alloc: Global,

@@ -55,7 +55,7 @@ impl<'a> Five<'a> {
         self.then_within(alloc, next, policy, MOST_NODES)
     }
 
-    /// Like `then`, with `most`, which is at most 1,000,000, as the greatest product of the nodes of both tags.
+    /// Like `then`, with `most`, which must be at most 1,000,000, as the greatest product of the nodes of both tags.
     pub(crate) fn then_within(
         &self,
         alloc: Global,
@@ -140,8 +140,8 @@ impl<'a> Five<'a> {
         }))
     }
 
-    /// The intersection of the windows of this authorization and the next. Err is the first cause why they do not join,
-    /// whatever their tags are.
+    /// The intersection of the windows of this authorization and the next, if they join whatever their tags are. Err is
+    /// the first cause why they do not: `NotIssuer`, `NoDelegation` or `NoValidity`.
     pub(crate) fn window_with(&self, next: &Five, policy: Policy) -> Result<Window, Cause>
         ensures joins { IfOk result (λ window. Issues policy (five_tuple self.now) (five_tuple next.now)
             × (self.now.propagate ≡ true) × IsMeet self.now.window next.now.window window
@@ -246,8 +246,8 @@ impl<'a> Four<'a> {
     }
 }
 
-/// Whether a subject begins with the name that the definition defines: its principal names the definition's key, and
-/// its first name is the same.
+/// Whether a subject begins with the name that the definition defines: its principal names the definition's key under
+/// the policy, and its first name is the same. False if it has no names.
 fn begins(subject: &Subject, definition: &Four, policy: Policy) -> bool
     ensures begins { IsTrue result → IsTrue (names policy subject.now.principal definition.now.key)
         × (subject.now.names ≡ definition.now.name ∷ drop 1 subject.now.names) }

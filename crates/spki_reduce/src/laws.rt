@@ -16,8 +16,8 @@ ghost use Rattle.spki_reduce.specs.declared.tuple.Step.{Step};
 ghost use Rattle.spki_reduce.specs.Chain.{tuples_of, FoldsTo, HasMet, StopsAt};
 ghost use Rattle.spki_reduce.specs.Written.{IsWrittenFive};
 
-/// What is derived in any bracketing is derived when the same tuples are joined from the left, one after another (RFC 2693,
-/// sections 6.3 and 6.4). So it is enough to look for a derivation in that bracketing.
+/// What is derived or supported in any bracketing is so when the same tuples are joined from the left, one after
+/// another (RFC 2693, sections 6.3 and 6.4). So it is enough to look for a derivation in that bracketing.
 ///
 /// The converse does not hold: see `not_every_bracketing`.
 pub fn any_bracketing()

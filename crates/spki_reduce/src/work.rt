@@ -19,11 +19,11 @@ impl Work {
         Work { left: bound }
     }
 
-    /// Subtracts `work` from what may still be done.
+    /// Subtracts `work` from what may still be done. Does nothing if there is no bound.
     ///
     /// # Errors
     ///
-    /// `TooLarge` if it is more than may still be done.
+    /// `TooLarge` if it is more than may still be done. Then nothing is subtracted.
     pub(crate) fn take(&mut self, work: usize) -> Result<(), ReduceFault>
         ensures taken { OnOk result (Takes (left_of self.old) (left_of self.new) work) }
         ensures over { OnErr result (IsOver (left_of self.old) work) }

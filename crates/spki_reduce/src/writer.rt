@@ -136,8 +136,8 @@ fn push_headed(
     Ok(())
 }
 
-/// Returns the tree of a key. Only the readers make keys, so a key is a canonical form within the limits, and reading it
-/// fails only if memory runs out.
+/// Returns the tree of a key. Err if memory ran out. Only the readers make keys, so a key is a canonical form within
+/// the limits, and reading it has no other fault.
 fn write_key(alloc: Global, key: &Key) -> Result<Sexp, AllocError>
     ensures { IfOk result (λ s. key.now ≡ canon (sexp_value s)) }
 {
