@@ -142,7 +142,8 @@ fn as_certificate<'s, 'a>(item: &'s SeqItem<'a>) -> Option<Certificate<'s, 'a>>
     }
 }
 
-/// Appends the item with this number, from 1, to the certificates, if it is one. The items of `behind` follow it.
+/// Appends the item with this number, from 1, to the certificates, if it is one, with its signature from `behind`, the
+/// items after it. Err if memory ran out.
 fn push_certificate<'s, 'a>(
     shown: &mut Vec<ShownCert<'s, 'a>>,
     number: usize,
@@ -163,7 +164,8 @@ fn push_certificate<'s, 'a>(
     Ok(())
 }
 
-/// Returns the certificates of a sequence, in order, each with its number and its signature. Err if memory ran out.
+/// Returns the certificates of a sequence, in order, each with the number of its item, from 1, and its signature if the
+/// next item that is no operation is one. Err if memory ran out.
 pub fn certificates_of<'s, 'a>(
     alloc: Global,
     sequence: &'s [SeqItem<'a>],

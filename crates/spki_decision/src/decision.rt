@@ -31,7 +31,8 @@ pub enum Decision {
 
 /// Decides a case (RFC 2693, section 6). The answer is yes exactly if every certificate of its sequence stands, and an
 /// entry and all certificates, in their order, reduce to an authorization that grants the request. A certificate stands
-/// if it passes the four tests of `Stop`; the last is that the verifier accepts its signature.
+/// if it passes the four tests of `Stop`; the last is that the verifier accepts its signature. The case's accepted list
+/// counts only if it is given as the verifier.
 ///
 /// # Errors
 ///
@@ -76,8 +77,9 @@ fn first_within_limit<'a>(
     Ok(Decision::No)
 }
 
-/// Tests that no step's tag is too large to be intersected after this entry. If the numbers of nodes in `sizes` do not
-/// show it, the entry and the steps are folded. Err is `TooLarge` if a tag is too large, or `Memory`.
+/// Tests that no step's tag is too large to be intersected after this entry. If the numbers of nodes in `sizes`, which
+/// must be those of the steps, do not show it, the entry and the steps are folded. Err is `TooLarge` if a tag is too
+/// large, or `Memory`.
 fn require_small<'a>(
     alloc: Global,
     entry: &Entry<'a>,

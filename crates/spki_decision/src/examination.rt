@@ -71,7 +71,8 @@ pub fn examine<'a>(
     Ok(Examined { signed, evidence })
 }
 
-/// Does the tests of a certificate that need no verifier: its issuer's key is shown, its digest is right, this key signed.
+/// Does the tests of a certificate that need no verifier, in this order: its issuer's key is shown, its digest is
+/// right, this key signed. The certificate must have a signature. Err if memory ran out.
 fn test<'a>(
     alloc: Global,
     shown: &ShownCert<'_, 'a>,

@@ -54,7 +54,8 @@ pub(crate) fn required_subject<'a>(
 }
 
 impl<'a> RequiredSubject<'a> {
-    /// Whether a subject is as required. `propagate` says whether the subject may delegate. Allocates nothing.
+    /// Whether a subject is as required: it names the key under the policy, has exactly the names, and may delegate if
+    /// that is required. `propagate` says whether it may. Allocates nothing.
     pub(crate) fn is_met_by(&self, subject: &Subject, propagate: bool, policy: Policy) -> bool
         ensures { IsTrue result ↔ Meets policy self.now subject.now.principal subject.now.names propagate }
     {
@@ -63,7 +64,8 @@ impl<'a> RequiredSubject<'a> {
             && subject.principal.names(&self.key, policy)
     }
 
-    /// The subject that is required before a step, if `self` is required after it. None if there is none.
+    /// The subject that is required before a step, if `self` is required after it: before an authorization by
+    /// `before_delegation`, before a definition by `before_definition`. None if there is none. Err if memory ran out.
     fn before(
         self,
         alloc: Global,
@@ -102,7 +104,8 @@ impl<'a> RequiredSubject<'a> {
     }
 
     /// The subject that is required before a name's definition: the defined name, and after it the required names
-    /// without those of the definition's subject. None if that subject does not lead to what is required.
+    /// without those of the definition's subject. It may delegate if `self` may. None if the definition's subject does
+    /// not name the required key, or if the required names do not begin with its names. Err if memory ran out.
     fn before_definition(
         self,
         alloc: Global,

@@ -50,7 +50,8 @@ impl<'a> ShownKeys<'a> {
         }
     }
 
-    /// The key of an issuer: the issuer if it is a key, or the first key of the sequence that it names. None if there is none.
+    /// The key of an issuer: the issuer itself if it is a key, or the first key of the sequence that it names under the
+    /// policy. None if there is none. The keys stay the same; an index may be added. Err if memory ran out.
     pub(crate) fn holder(
         &mut self,
         alloc: Global,
@@ -90,7 +91,8 @@ impl<'a> ShownKeys<'a> {
     }
 }
 
-/// The first of the keys whose digest by the algorithm is `digest`, or None. It is found in `index`, made if it is None.
+/// The first of the keys whose digest by the algorithm is `digest`. None if there is none. It is found in `index`,
+/// which must be None or that of these keys by this algorithm, and is made if it is None. Err if memory ran out.
 fn first_in<'a>(
     index: &mut Option<FirstKeys<'a>>,
     alloc: Global,

@@ -63,7 +63,8 @@ impl Sizes {
     }
 }
 
-/// The product of the numbers of nodes of the steps' tags. None if it is over 1,000,000.
+/// The product of the numbers of nodes of the steps' tags, which is 1 if there are none. A name's definition counts as
+/// one node. None if it is over 1,000,000.
 fn product_of(steps: &[Step]) -> Option<usize>
     ensures { IfSome result (λ n. (n ≡ nodes_product (all_tags (tuples_of steps.now))) × (n ≤ 1000000)) }
 {
@@ -77,7 +78,8 @@ fn product_of(steps: &[Step]) -> Option<usize>
     Some(product)
 }
 
-/// How many nodes the steps' tags have together, and the largest. None if a tag has a set, or they have over 1,000,000.
+/// How many nodes the steps' tags have together, and the largest, at least 1. A name's definition counts as one node.
+/// None if a tag has a set, or they have over 1,000,000.
 fn plain_of(steps: &[Step]) -> Option<PlainNodes>
     ensures { IfSome result (ArePlain (tuples_of steps.now)) }
 {
