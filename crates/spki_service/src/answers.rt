@@ -61,8 +61,9 @@ impl<'a> Asked<'a> {
         }
     }
 
-    /// Decides the question, if exactly the signatures are accepted that `signed` lists at the places where `verified` is
-    /// true. Missing places count as false.
+    /// Decides the question, if exactly the signatures are accepted that `signed` lists at the places where `verified`
+    /// is true. A true mark also accepts the same key, message and value at any other place. Missing marks count as
+    /// false, and marks past the last signature are ignored.
     ///
     /// # Errors
     ///
@@ -76,7 +77,8 @@ impl<'a> Asked<'a> {
         }
     }
 
-    /// The decision if the verifier accepts every signature. Err if memory ran out.
+    /// The decision if the verifier accepts every signature. `No` if a certificate fails another test. Err if memory
+    /// ran out.
     pub(crate) fn decided(&self, alloc: Global) -> Result<Decision, AllocError>
         ensures { IfOk result (Decides every self.now) }
     {
@@ -123,7 +125,8 @@ impl<'a> Asked<'a> {
     }
 
     /// Explains the question, if exactly the signatures are accepted that `signed` lists at the places where `verified`
-    /// is true. Missing places count as false.
+    /// is true. A true mark also accepts the same key, message and value at any other place. Missing marks count as
+    /// false, and marks past the last signature are ignored.
     ///
     /// # Errors
     ///
@@ -166,7 +169,8 @@ impl<'a> Asked<'a> {
     }
 
     /// Reduces the question, if exactly the signatures are accepted that `signed` lists at the places where `verified`
-    /// is true. Missing places count as false.
+    /// is true. A true mark also accepts the same key, message and value at any other place. Missing marks count as
+    /// false, and marks past the last signature are ignored.
     ///
     /// # Errors
     ///

@@ -17,7 +17,8 @@ pub struct Asked<'a> {
 }
 
 impl<'a> Asked<'a> {
-    /// The most octets of the lines of an explanation or a reduction: the guard's limit.
+    /// The most octets of the lines of an explanation or a reduction: the guard's limit. `explain` and `reduce` do not
+    /// test it: the code that prints their answers must.
     pub fn most_answer(&self) -> usize
         ensures { result ≡ self.now.answer }
     {

@@ -17,7 +17,8 @@ use spki_case::Case;
 use spki_cert::SeqItem;
 use std::alloc::Global;
 
-/// Checks that a case has at most as many certificates and strings as the limits allow. `texts` are those that it was read from.
+/// Checks that a case has at most as many certificates, and its request at most as many strings, as the limits allow.
+/// `texts` must be those that it was read from.
 ///
 /// # Errors
 ///
@@ -87,7 +88,7 @@ fn has_more_strings(alloc: Global, text: &PartText, most: usize) -> Result<bool,
     }
 }
 
-/// Whether a value has more than `most` strings.
+/// Whether a value has more than `most` strings. A display hint does not count.
 fn node_has_more_strings(node: &Node, most: usize) -> bool
     ensures { TellsStrings most result node.now }
 {

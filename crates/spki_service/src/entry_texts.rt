@@ -11,8 +11,8 @@ use sexpr_core::syntax::{Members, Node};
 use spki_cert::{Entry, entry_of};
 use std::alloc::{AllocError, Global};
 
-/// Returns the canonical texts of the entries of an access list, without a version before them. `count` is the number
-/// of its entries. Err if memory ran out.
+/// Returns the canonical texts of the entries of an access list, in order, without a version before them. `list` must
+/// be an access list, and `count` the number of its entries. Err if memory ran out.
 pub(crate) fn entry_texts(
     alloc: Global,
     list: &Node,

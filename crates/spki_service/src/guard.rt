@@ -71,9 +71,9 @@ impl Guard {
     ///
     /// # Errors
     ///
-    /// `Form` if the text spells and braces no value within the limits. `Form(TooLong)` exactly if the text or its canonical
-    /// form has more than 1,048,576 octets. Otherwise `Acl` if the value is no access list, with the first fault from the
-    /// left. `Memory` if memory ran out.
+    /// `Form` if the text has no value within the limits in any of these forms. `Form(TooLong)` exactly if the text or
+    /// its canonical form has more than 1,048,576 octets. Otherwise `Acl` if the value is no access list, with the
+    /// first fault from the left. `Memory` if memory ran out.
     pub fn read(
         alloc: Global,
         list: &[u8],
@@ -99,14 +99,16 @@ impl Guard {
         self.texts.len()
     }
 
-    /// The guard's limit of an explanation or a reduction: the most octets that its lines have together. A decision has no such limit.
+    /// The guard's limit of an explanation or a reduction: the most octets that its lines have together. A decision has
+    /// no such limit.
     pub(crate) fn most_answer(&self) -> usize
         ensures { result ≡ self.now.answer }
     {
         self.limits.answer
     }
 
-    /// Returns the canonical texts of a question's parts, for `ask`. A text that is already canonical is not copied.
+    /// Returns the canonical texts of a question's parts, for `ask`. A text that is already canonical is not copied. A
+    /// text that has no value within the limits is no error here: `ask` refuses it.
     ///
     /// # Errors
     ///
@@ -125,10 +127,11 @@ impl Guard {
     ///
     /// # Errors
     ///
-    /// `TooLong` exactly if the texts have more octets than the guard's limit, which `texts` of another guard may allow. Otherwise the
-    /// first part that cannot be read is named: `Form` if its text has no value within the limits, otherwise the fault of its value.
-    /// If all can be read: `TooManyCertificates` or `TooManyWords` if there are more certificates, or more strings of the request, than the
-    /// guard's limit. Nothing of the question is judged before. `Memory` if memory ran out.
+    /// `TooLong` exactly if the texts have more octets than the guard's limit, which `texts` of another guard may
+    /// allow. Otherwise the first part that cannot be read is named: `Form` if its text has no value within the limits,
+    /// otherwise the fault of its value. If all can be read: `TooManyCertificates` or `TooManyWords`, tested in this
+    /// order, if there are more certificates, or more strings of the request, than the guard's limit. Nothing of the
+    /// question is judged before. `Memory` if memory ran out.
     pub fn ask<'a>(&'a self, alloc: Global, texts: &'a Texts<'_>) -> Result<Asked<'a>, AskFault>
         ensures asked { (q : Question) → IsTextsOf q texts.entry.now → IfOk result (λ a. IsAskedCase q a.case) }
         ensures entries { IfOk result (λ a. a.texts ≡ self.entry.now.texts) }

@@ -59,7 +59,8 @@ impl EntryIndex {
     }
 
     /// The numbers of the entries whose subject's principal names the key under the policy (RFC 2693, section 2.5),
-    /// ascending. This takes at most four look-ups in maps, three digests, and steps in proportion to the numbers found.
+    /// ascending and counted from 1. Names after the principal are not compared. This takes at most four look-ups in
+    /// maps, three digests, and steps in proportion to the numbers found.
     ///
     /// # Errors
     ///
@@ -117,8 +118,8 @@ impl EntryIndex {
         }
     }
 
-    /// The numbers of the entries whose principal is the key's hash by the algorithm. If the index has no hash by the
-    /// algorithm, the key is not digested.
+    /// The numbers of the entries whose principal is the key's hash by the algorithm, under any policy. If the index
+    /// has no hash by the algorithm, they are none, and the key is not digested.
     fn hashed(&self, alg: HashAlg, key: &Key) -> &[usize]
         ensures { result.now ≡ numbers_at (by_algorithm self.now alg) (digest_of alg key.now) }
     {
@@ -184,8 +185,8 @@ fn numbers_at<'i>(numbers: &'i Numbers, octets: &[u8]) -> &'i [usize]
     }
 }
 
-/// Merges two ascending lists into one. If one is empty, the other is kept or copied without comparisons. Err if memory
-/// ran out.
+/// Merges two ascending lists into one. A number that both have comes twice. If one is empty, the other is kept or
+/// copied without comparisons. Err if memory ran out.
 fn joined(alloc: Global, own: Vec<usize>, more: &[usize]) -> Result<Vec<usize>, AllocError>
     ensures { IfOk result (λ numbers. numbers.items ≡ merge own.items more.now) }
 {

@@ -9,7 +9,8 @@ ghost use Rattle.spki_service.specs.Marks.{AskSame};
 use spki_decision::Signed;
 
 /// The place, from 0, of the first signature without a true mark. None if every signature has one. A mark is for the
-/// signature at its place, and for each signature with the same key, message and value.
+/// signature at its place, and for each signature with the same key, message and value. Missing marks count as false,
+/// and marks past the last signature are ignored.
 pub(crate) fn first_unmarked(signed: &[Signed], marks: &[bool]) -> Option<usize>
     ensures { IsFirstRefused (MarksAccept (map signed_of signed.now) marks.now) (map signed_of signed.now) result }
 {

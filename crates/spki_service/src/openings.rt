@@ -76,7 +76,7 @@ impl Opened {
     ///
     /// # Errors
     ///
-    /// `Memory` if memory ran out.
+    /// Only `Memory`, if memory ran out: `open` has read the same texts for the same guard.
     pub fn ask(&self, alloc: Global) -> Result<Asked<'_>, AskFault>
         ensures asked { IfOk result (IsReadFrom self.now.guard self.now.texts) }
         ensures too_long { (q : Question) → IsTextsOf q self.now.texts

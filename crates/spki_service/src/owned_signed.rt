@@ -55,8 +55,8 @@ impl OwnedSigned {
         self.value.as_slice()
     }
 
-    /// Whether two signatures are by the same key, over the same message, with the same value. So a verifier's answer to one is its answer to
-    /// the other.
+    /// Whether two signatures are by the same key, over the same message, with the same value. So a verifier's answer
+    /// to one is its answer to the other.
     pub(crate) fn asks_same(&self, other: &OwnedSigned) -> bool
         ensures { IsTrue result ↔ AskSame self.now other.now }
     {

@@ -7,7 +7,8 @@ use crate::texts::{MomentText, PartText, Texts};
 use std::alloc::{AllocError, Global};
 
 impl Texts<'_> {
-    /// Returns the same texts in memory of their own: the question's texts may change afterwards. A text that was made is not copied.
+    /// Returns the same texts in memory of their own: the question's texts may change afterwards. A text that was made
+    /// is not copied.
     ///
     /// # Errors
     ///
@@ -33,7 +34,8 @@ impl Texts<'_> {
 }
 
 impl PartText<'_> {
-    /// Returns the same text in memory of its own. A text that was made is not copied. Err if memory ran out.
+    /// Returns the same text in memory of its own. A text that was made is not copied, and `Malformed` stays. Err if
+    /// memory ran out.
     fn into_owned(self, alloc: Global) -> Result<PartText<'static>, AllocError>
         ensures { IfOk result (IsCopyOf self.entry) }
     {

@@ -24,9 +24,9 @@ use spki_cert::{
 use spki_tag::{Ground, TagFault};
 use std::alloc::Global;
 
-/// Reads the case of a question, without entries, with a guard's policy and limits of nodes and work. The parts are read in the order
-/// sequence, key, request, moment. Its keys carry their digests by `algorithms`, those of the hashes in the access list, and
-/// by those of the hashes in the sequence.
+/// Reads the case of a question, without entries, with a guard's policy and limits of nodes and work. The other limits
+/// are not tested here. The parts are read in the order sequence, key, request, moment. Its keys carry their digests by
+/// `algorithms`, those of the hashes in the access list, and by those of the hashes in the sequence.
 ///
 /// # Errors
 ///

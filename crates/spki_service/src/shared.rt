@@ -28,7 +28,7 @@ impl SharedGuard {
     ///
     /// # Errors
     ///
-    /// `AllocError` if memory ran out.
+    /// `AllocError` if memory ran out. Then the guard is freed.
     pub fn new(alloc: Global, guard: Guard) -> Result<SharedGuard, AllocError>
         ensures { IfOk result (λ shared. shared ≡ guard) }
     {
