@@ -30,8 +30,8 @@ pub trait Verifier {
     ) -> Result<bool, AllocError>
         ensures { IfOk result (λ yes. IsTrue yes ↔ accepted self.now key.now message.now value.now) };
 
-    /// Like `accepts`, with the SHA-256 digest of the message, so that a verifier that looks for it does not digest the
-    /// message again. A verifier that does not use the digest keeps this body.
+    /// Like `accepts`. `digest` must be the SHA-256 digest of the message, so that a verifier that looks for it does
+    /// not digest the message again. A verifier that does not use the digest keeps this body, which ignores it.
     ///
     /// # Errors
     ///
@@ -69,7 +69,7 @@ impl<'a> Verifier for AcceptedTable<'a> {
         Ok(some_accepts(self, key, digest.as_slice(), value))
     }
 
-    /// As `accepts`, with the SHA-256 digest of the message. Always Ok.
+    /// As `accepts`, but `digest`, which must be the SHA-256 digest of the message, is not computed again. Always Ok.
     fn accepts_digested(
         &self,
         _alloc: Global,

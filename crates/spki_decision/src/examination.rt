@@ -35,7 +35,8 @@ pub(crate) enum Tested<'a> {
 }
 
 /// Does the first three tests of each certificate, in order, up to the first that fails (RFC 2693, section 6). These
-/// tests of `Stop` need no verifier. Each certificate of the sequence must be followed by its signature.
+/// tests of `Stop` need no verifier. Returns the signatures of the certificates that pass, and the evidence if a
+/// verifier accepts all of them. Each certificate of the sequence must be followed by its signature.
 ///
 /// # Errors
 ///

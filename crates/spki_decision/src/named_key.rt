@@ -35,7 +35,7 @@ pub fn keys_of<'a>(alloc: Global, sequence: &[SeqItem<'a>]) -> Result<Vec<Key<'a
 }
 
 /// Returns the place, from 0, of the first of `keys` that the principal names: for which the closure `names` returns
-/// true. None if there is none. Allocates nothing.
+/// true. None if there is none. What `names` requires must hold for the principal and each key. Allocates nothing.
 pub fn first_named<F: Fn(&Principal, &Key) -> bool>(
     principal: &Principal,
     keys: &[Key],

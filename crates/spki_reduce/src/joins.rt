@@ -55,7 +55,8 @@ impl<'a> Five<'a> {
         self.then_within(alloc, next, policy, MOST_NODES)
     }
 
-    /// Like `then`, with `most`, which must be at most 1,000,000, as the greatest product of the nodes of both tags.
+    /// Like `then`, with `most`, which must be at most 1,000,000, as the greatest product of the nodes of both tags. So
+    /// `TooLarge` is for a product over `most`.
     pub(crate) fn then_within(
         &self,
         alloc: Global,

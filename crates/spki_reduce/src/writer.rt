@@ -58,8 +58,8 @@ impl<'a> Five<'a> {
         Ok(Sexp::list(members))
     }
 
-    /// Writes all parts of the authorization that `write` writes, except the subject and the tag. These may be large, with
-    /// hundreds of thousands of nodes, and can be printed without a tree.
+    /// Writes the members of the list that `write` writes, except the head, the subject and the tag. The last two may
+    /// be large, with hundreds of thousands of nodes, and can be printed without a tree.
     ///
     /// # Errors
     ///

@@ -59,7 +59,7 @@ fn octets_of(civil: DateTime) -> [u8; 19]
     ]
 }
 
-/// The digit of the tens of a number below 100, as an ASCII octet.
+/// The digit of the tens of a number, which must be below 100, as an ASCII octet.
 fn tens(number: u8) -> u8
     requires { number < 100 }
     ensures { result ≡ 48 + number / 10 }

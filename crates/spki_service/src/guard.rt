@@ -161,8 +161,8 @@ impl Guard {
         })
     }
 
-    /// The numbers, ascending and counted from 1, of the entries whose principal names the key. Empty if `key` is None.
-    /// Err if memory ran out.
+    /// The numbers, ascending and counted from 1, of the entries whose principal names the key under the guard's
+    /// policy. Empty if `key` is None. Err if memory ran out.
     pub(crate) fn numbers_of(
         &self,
         alloc: Global,

@@ -81,7 +81,8 @@ impl EntryIndex {
         joined(alloc, second, self.admitted(HashAlg::Sha512, key, policy))
     }
 
-    /// Adds to the index that the entry with this number, counted from 1, has this principal. Err if memory ran out.
+    /// Adds to the index that the entry with this number, counted from 1, has this principal. Entries are added in
+    /// their order, so that numbers ascend. Err if memory ran out.
     fn add(&mut self, alloc: Global, principal: &Principal, number: usize) -> Result<(), AllocError>
         ensures keys { OnOk result ((octets : List ℕ) → numbers_of_key self.new octets
             ≡ (if is_key octets principal.now then numbers_of_key self.old octets ++ number ∷ []

@@ -24,8 +24,8 @@ ghost use Rattle.spki_service.specs.declared.list_fault.AclFault.{AclFault};
 
 use spki_case::Verifier;
 
-/// A text is held as one list of texts, or has one fault as an access list, and never both. These texts are those of one list of
-/// entries.
+/// A text is held as at most one list of texts, or has at most one fault as an access list, and never both. These texts
+/// are those of at most one list of entries.
 pub fn one_list()
     ensures list { (text : List ℕ) (a b : List (List ℕ)) → HoldsList text a → HoldsList text b → a ≡ b }
     ensures entries { (texts : List (List ℕ)) (es fs : List Entry) → AreEntries texts es → AreEntries texts fs → es ≡ fs }
@@ -33,8 +33,8 @@ pub fn one_list()
     ensures fault { (text : List ℕ) (f g : AclFault) → IsNoAccessList text f → IsNoAccessList text g → f ≡ g }
 {}
 
-/// For a policy and a limit of nodes, a question has one case or one fault, and never both. So the fault of a question is a
-/// function of its parts: the first part that cannot be read, with its fault.
+/// For a policy and limits of nodes and work, a question has at most one case or one fault, and never both. So the
+/// fault of a question is a function of its parts: the first part that cannot be read, with its fault.
 pub fn one_asking()
     ensures case { (q : Question) (c d : Case) → IsAskedCase q c → IsAskedCase q d → c.policy ≡ d.policy
         → c.most_nodes ≡ d.most_nodes → c.most_work ≡ d.most_work → c ≡ d }

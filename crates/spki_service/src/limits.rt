@@ -50,7 +50,8 @@ impl Limits {
         }
     }
 
-    /// The highest limits. On some questions within them an explanation takes minutes.
+    /// The highest limits: 1,048,576 octets, 1,000,000 nodes, and 2^64 - 1 for each other. On some questions within
+    /// them an explanation takes minutes.
     pub fn highest() -> Limits
         ensures { (result.octets ≡ 1048576) × (result.certificates ≡ 18446744073709551615) × (result.words ≡ 18446744073709551615)
             × (result.nodes ≡ 1000000) × (result.work ≡ 18446744073709551615) × (result.answer ≡ 18446744073709551615) }

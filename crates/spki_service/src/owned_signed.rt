@@ -84,7 +84,7 @@ pub(crate) fn owned_signed(alloc: Global, signed: &[Signed]) -> Result<Vec<Owned
     Ok(owned)
 }
 
-/// Returns a copy of a signature. `key` has the octets of its key, and is not copied. Err if memory ran out.
+/// Returns a copy of a signature. `key` must have the octets of its key, and is not copied. Err if memory ran out.
 fn owned_one(alloc: Global, one: &Signed, key: Arc<Vec<u8>>) -> Result<OwnedSigned, AllocError>
     requires { key.value.items ≡ one.now.key }
     ensures { IfOk result (λ owned. owned ≡ signed_of one.now) }
