@@ -6,11 +6,10 @@ ghost use Rattle.spki_c.specs.Handed.{IsHanded};
 use crate::numbers::{MISUSED, TOO_SMALL};
 use spki_guard::Answer;
 
-/// Writes an answer to the front of a buffer, and sets `needed` to its length in octets. Returns the given status.
+/// Writes an answer to the front of a buffer, and returns the given status. The rest of the buffer is unchanged.
 ///
-/// If the buffer is too small, it is unchanged, and the status is `TOO_SMALL`.
-///
-/// If the buffer is too small, it is unchanged, and the status says so.
+/// If the buffer is too small, all of it is unchanged, and the status is `TOO_SMALL`. In both cases `needed` is set to
+/// the answer's length in octets.
 pub fn hand_over(answer: &Answer, status: u32, buffer: &mut [u8], needed: &mut usize) -> u32
     ensures { IsHanded buffer.old buffer.new needed.new result status (written_by answer.now) }
 {

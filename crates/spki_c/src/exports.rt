@@ -18,9 +18,10 @@ use std::alloc::Global;
 
 /// Runs the command of this number on a text in any of the three forms, and writes the answer to the front of the buffer.
 ///
-/// The command `check` returns 9 for yes and 1 for no. Every other command returns 6, also if no entry grants the request. All
-/// return 2 for a refusal, 4 if the buffer is too small, and 5 if no command has this number or the text is not lent whole. `needed` is
-/// the length of the answer, and 0 with status 5. With 4 and 5 the buffer is unchanged.
+/// The command `check` returns 9 for yes and 1 for no. Every other command returns 6, also if no entry grants the
+/// request. All return 2 for a refusal, also if memory ran out, 4 if the buffer is too small, and 5 if no command has
+/// this number or the text is not lent whole (`Text::is_lent`). `needed` is the length of the answer, and 0 with status
+/// 5. With 4 and 5 the buffer is unchanged.
 #[unsafe(no_mangle)]
 pub extern "C" fn spki_c_answer(
     alloc: Global,
@@ -52,8 +53,9 @@ pub extern "C" fn spki_c_answer(
     }
 }
 
-/// Decides a case by a separate accepted list, `(accepted row ..)`, and writes the answer to the front of the buffer. The status,
-/// the buffer and `needed` are as for `check` in `spki_c_answer`. The rows in the case are not used.
+/// Decides a case by a separate accepted list, `(accepted row ..)`, as `check_accepted` does, and writes the answer to
+/// the front of the buffer. The status, the buffer and `needed` are as for `check` in `spki_c_answer`. The rows in the
+/// case are read, and none of them is used.
 #[unsafe(no_mangle)]
 pub extern "C" fn spki_c_check_accepted(
     alloc: Global,
@@ -82,8 +84,8 @@ pub extern "C" fn spki_c_check_accepted(
     )
 }
 
-/// Finds a string inside a value in canonical form. The path leads to it: each number is that of the list member to enter,
-/// from 0.
+/// Finds a string inside a value in canonical form. The path leads to it: each number is that of the list member to
+/// enter, from 0. An empty path leads to the value itself.
 ///
 /// Returns 6 if there is a string, and sets `at` to the offset of its octets in the text and `count` to their number. Otherwise
 /// both are unchanged: returns 7 if the path leads to no string, 2 if the text is no value in canonical form within the limits,

@@ -15,12 +15,13 @@ use crate::text::Text;
 use spki_guard::refused_list;
 use std::alloc::Global;
 
-/// Reads an access list, in any of the three forms, into a guard on the heap. The caller holds the guard by the handle.
+/// Reads an access list, in any of the three forms, into a guard on the heap. The caller holds the guard by the handle,
+/// which must have no guard before. The limits are the first of `limits`, or the default ones if there are none.
 ///
-/// Returns 6 if the handle has the guard. Otherwise the handle is unchanged. Returns 2 for a refusal, whose line is in
-/// the buffer, and 4 if the buffer is too small for the line. `needed` is the length of the line, and 0 if there is
-/// none. Returns 5 if no policy has this number (0 is strict, 1 is open), a limit is too high or the list is not lent
-/// whole. The limits are the first of `limits`, or the default ones if there are none.
+/// Returns 6 if the handle has the guard. Otherwise the handle is unchanged. Returns 2 for a refusal, also if memory
+/// ran out, and 4 if the buffer is too small for its line. Returns 5 if no policy has this number (0 is strict, 1 is
+/// open), a limit is too high (`limits_of`), or the list is not lent whole (`Text::is_lent`). With 2 the line is at the
+/// front of the buffer. Otherwise the buffer is unchanged. `needed` is the length of the line, and 0 if there is none.
 #[unsafe(no_mangle)]
 pub extern "C" fn spki_c_guard_open(
     alloc: Global,

@@ -9,7 +9,8 @@ use std::alloc::{AllocError, Global};
 const MOST: usize = 9_223_372_036_854_775_807;
 
 impl Text {
-    /// Whether the text is lent whole: its count is 0, or the pointer is not null and memory can have as many octets.
+    /// Whether the text is lent whole: its count is 0, or the pointer is not null and the count is at most
+    /// 9,223,372,036,854,775,807, the most that memory can have.
     pub(crate) fn is_lent(&mut self) -> bool
         ensures { (self.new ≡ self.old) × (IsTrue result ↔ IsLent self.old) }
     {

@@ -23,8 +23,8 @@ pub struct LimitParts {
     pub answer: usize,
 }
 
-/// The limits that C passes: the first of `limits`, or the default ones if there are none. None if `octets` or `nodes`
-/// is over its highest value.
+/// The limits that C passes: the first of `limits`, or the default ones if there are none. None if `octets` is over
+/// 1,048,576 or `nodes` over 1,000,000. `size` is not tested.
 pub(crate) fn limits_of(limits: &[LimitParts]) -> Option<Limits>
     ensures { MatchOption result (¬ AreAllowed (numbers_in limits.now)) (AreLimits (numbers_in limits.now)) }
 {

@@ -24,11 +24,14 @@ use crate::text::Text;
 use spki_guard::{AclFault, answer_opened, refused_list};
 use std::alloc::Global;
 
-/// Reads a question for a guard, and keeps what it needs of it on the heap. The caller holds the question by the handle.
+/// Reads a question for a guard, and keeps what it needs of it on the heap. The caller holds the question by the
+/// handle, which must have no question before. The strings of the request are `words` if `is_worded` of `parts` is
+/// true. The moment is the first of `seconds`, if there are any.
 ///
-/// Returns 6 if the handle has the question. Otherwise the handle is unchanged. Returns 2 for a refusal, whose line is in the buffer,
-/// and 4 if the buffer is too small for the line. Returns 5 if a request or a moment is given both ways, or a text is not lent whole. The
-/// strings of the request are `words`, and the moment is the first of `seconds`, if there are any.
+/// Returns 6 if the handle has the question. Otherwise the handle is unchanged. Returns 2 for a refusal, also if memory
+/// ran out, and 4 if the buffer is too small for its line. Returns 5 if a request or a moment is given both ways
+/// (`Parts::is_ambiguous`), or a text is not lent whole (`Text::is_lent`). With 2 the line is at the front of the
+/// buffer. Otherwise the buffer is unchanged. `needed` is the length of the line, and 0 if there is none.
 #[unsafe(no_mangle)]
 pub extern "C" fn spki_c_guard_ask(
     alloc: Global,
@@ -114,11 +117,13 @@ pub extern "C" fn spki_c_asked_signature<'a>(
     }
 }
 
-/// Answers an opened question, if exactly those signatures are valid at whose places `verified` is 1. Writes the answer to the front of
-/// the buffer.
+/// Answers an opened question, if exactly those signatures are valid at whose places `verified` is 1. Writes the answer
+/// to the front of the buffer. The numbers of the queries are those of `query_of`.
 ///
-/// A decision returns 9 for yes and 1 for no. An explanation or a reduction returns 6. All return 2 for a refusal, and 4 if the
-/// buffer is too small. All return 5 if there are more or fewer marks than signatures, if no query has this number, or if the marks are not lent whole.
+/// A decision returns 9 for yes and 1 for no. An explanation or a reduction returns 6. All return 2 for a refusal, also
+/// if memory ran out, and 4 if the buffer is too small. All return 5 if there are more or fewer marks than signatures,
+/// if no query has this number, or if the marks are not lent whole (`Text::is_lent`). `needed` is the length of the
+/// answer, and 0 with status 5. With 4 and 5 the buffer is unchanged.
 #[unsafe(no_mangle)]
 pub extern "C" fn spki_c_asked_answer(
     alloc: Global,

@@ -23,7 +23,8 @@ pub struct SignatureTexts<'a> {
     pub is_string: bool,
 }
 
-/// Returns the key, the message and the value of a signature as texts, and the octets of a value that is one string.
+/// Returns the key, the message and the value of a signature as texts, and the octets of a value that is one string. If
+/// the value is a list, `octets` is empty.
 ///
 /// # Errors
 ///

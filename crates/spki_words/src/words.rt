@@ -114,7 +114,8 @@ fn met(matches: &clap::ArgMatches<'_>) -> Command
     command
 }
 
-/// The fault for an error of `clap`: `Help` or `Refused` with its text, or `Memory` if memory ran out.
+/// The fault for an error of `clap`: `Help` with its text if it shows the help, otherwise `Refused` with its text.
+/// `Memory` if memory ran out, there or for the text.
 fn fault(alloc: Global, error: &clap::Error) -> WordsFault
     ensures { IsFault (kind_of error.now) result }
 {
