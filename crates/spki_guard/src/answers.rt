@@ -182,7 +182,7 @@ impl From<AllocError> for Refusal {
 }
 
 /// Answers a whole text, in any of the three forms, with what `run` writes for it. For more than 1,048,576 octets the
-/// answer is `refused form TooLong`.
+/// answer is `refused form TooLong`. If memory ran out, it is `refused Memory`.
 pub fn answer_text(alloc: Global, command: Command, text: &[u8]) -> Answer
     ensures answer { IsAnswer command text.now result.verdict (written_by result) }
     ensures too_long { 1048576 < length text.now → RefusesAsLong result.verdict (written_by result) }
@@ -215,7 +215,7 @@ fn whole_or_memory(alloc: Global, reply: Reply) -> Answer
 }
 
 /// The reply of a command to the source that `read_source` returned for it. Nothing is printed yet. Err says why the
-/// text is refused.
+/// text is refused, or that memory ran out.
 pub(crate) fn reply_to<'o>(
     alloc: Global,
     command: Command,
@@ -233,7 +233,7 @@ pub(crate) fn reply_to<'o>(
 }
 
 /// The reply of a command to `octets`: a value, written in the form that the command needs (`form_of`). Err says why
-/// the value is refused.
+/// the value is refused, or that memory ran out.
 fn reply_to_octets<'o>(
     alloc: Global,
     command: Command,
@@ -255,7 +255,8 @@ fn reply_to_octets<'o>(
     }
 }
 
-/// The reply of `reduce`, `check` or `explain` to the canonical text of a case. Err says why the text is refused.
+/// The reply of `reduce`, `check` or `explain` to the canonical text of a case. Err says why the text is refused, or
+/// that memory ran out.
 fn reply_to_canonical<'o>(
     alloc: Global,
     command: CaseCommand,
@@ -269,7 +270,7 @@ fn reply_to_canonical<'o>(
     reply_to_case(alloc, command, &case)
 }
 
-/// The reply of `reduce`, `check` or `explain` to a case that was read. Err says why the case is refused.
+/// The reply of `reduce`, `check` or `explain` to a case that was read. Err is `TooLarge` or `Memory`.
 fn reply_to_case<'a>(
     alloc: Global,
     command: CaseCommand,
@@ -296,8 +297,8 @@ fn check<'a>(alloc: Global, case: &Case<'a>) -> Result<Reply<'a>, Refusal>
     Ok(Reply::Whole(decision_line(alloc, decision)?))
 }
 
-/// Reduces a case by its accepted list. The reply has a line for each entry, or one for the certificate that fails. Err
-/// is `TooLarge` or `Memory`.
+/// Reduces a case by its accepted list. The reply has a line for each entry, `no entries`, or one line for the
+/// certificate that fails. Err is `TooLarge` or `Memory`.
 fn reduce<'a>(alloc: Global, case: &Case<'a>) -> Result<Reply<'a>, Refusal>
     ensures answered { (text : List ℕ) → IsCaseText text (model case.now) → IfOk result (λ r. Reduces text (reply_verdict r) (printed r)) }
     ensures refused { (v : Value) → IsCaseText (canon v) (model case.now) → IfErr result (λ refusal. RefusesValue Command.Reduce v refusal) }
@@ -306,8 +307,8 @@ fn reduce<'a>(alloc: Global, case: &Case<'a>) -> Result<Reply<'a>, Refusal>
     Ok(reply_of_reduction(alloc, reduction)?)
 }
 
-/// Explains a case by its accepted list. The reply has a line for each entry, or one for the certificate that fails.
-/// Err is `TooLarge` or `Memory`.
+/// Explains a case by its accepted list. The reply has a line for each entry, `no entries`, or one line for the
+/// certificate that fails. Err is `TooLarge` or `Memory`.
 fn explain_case<'a>(alloc: Global, case: &Case<'a>) -> Result<Reply<'a>, Refusal>
     ensures answered { (text : List ℕ) → IsCaseText text (model case.now) → IfOk result (λ r. Explains text (reply_verdict r) (printed r)) }
     ensures refused { (v : Value) → IsCaseText (canon v) (model case.now) → IfErr result (λ refusal. RefusesValue Command.Explain v refusal) }

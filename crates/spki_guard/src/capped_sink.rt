@@ -36,8 +36,8 @@ impl<'v> CappedSink<'v> {
     ///
     /// # Errors
     ///
-    /// `TooLarge` if more octets were put: the vector lacks some. `Memory` if memory ran out, or the count is the greatest `u64`, which
-    /// is no count: no memory holds so many.
+    /// `TooLarge` if more octets were put: the vector lacks some. `Memory` if memory ran out, whatever was put, or the
+    /// count is the greatest `u64`, which is no count: no memory holds so many.
     pub(crate) fn end(self) -> Result<(), GuardFault>
         ensures kept { self.exit.0.now.items ≡ kept_by self.entry }
         ensures ok { OnOk result ((has_failed self.entry ≡ false)
@@ -67,8 +67,8 @@ impl<'v> Sink for CappedSink<'v> {
 
     ghost full = { is_over };
 
-    /// Counts the octets, and appends them if all octets so far are at most `most`. If memory runs out, the sink notes
-    /// it for `end`.
+    /// Counts the octets, and appends them if all octets so far are at most `most`, otherwise none of them. If memory
+    /// runs out, the sink notes it for `end`.
     fn put(&mut self, octets: &[u8]) {
         self.counter.put(octets);
         if self.counter.count() <= self.most as u64

@@ -92,8 +92,8 @@ fn print_word<S: Sink>(entry: usize, word: &str, sink: &mut S)
     print_last(word, sink);
 }
 
-/// Prints the line that explains an entry, such as `entry 1 grants` or `entry 2 item 3 NoTag`; `entry` is counted from
-/// 1.
+/// Prints the line that explains an entry, and a line feed: `entry N grants`, `entry N item J CAUSE` for `Stopped`, or
+/// `entry N` and the name of the variant for the others; `entry` is counted from 1.
 pub fn print_reason<S: Sink>(entry: usize, reason: Reason, sink: &mut S)
     ensures { S.takes sink.old (reason_line entry reason) sink.new }
 {

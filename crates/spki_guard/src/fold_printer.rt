@@ -39,7 +39,8 @@ impl FoldPrinter {
         }
     }
 
-    /// The answer with all lines, or `no entries` if nothing was put. `most` is the number of octets that it may have.
+    /// The answer with all lines, or `no entries` if nothing was put. The verdict is `Done` if some entry becomes an
+    /// authorization, otherwise `No`. `most` must be that of `new`, the number of octets that the answer may have.
     ///
     /// # Errors
     ///
@@ -66,7 +67,8 @@ impl FoldPrinter {
 impl<'a> FoldSink<'a> for FoldPrinter {
     ghost takes = { PrintsFolds };
 
-    /// Prints the line of the entry. Once the lines are too long, nothing is made or printed.
+    /// Prints the line of the entry. Once the lines are too long, nothing is made or printed, and `end` refuses them.
+    /// Err if memory ran out.
     fn put(&mut self, alloc: Global, entry: usize, fold: EntryFold<'a>) -> Result<(), AllocError> {
         self.count = entry;
         self.some_done = self.some_done || is_fold_done(&fold);
@@ -85,12 +87,13 @@ impl<'a> FoldSink<'a> for FoldPrinter {
     ghost nothing = { nothing_printed };
 }
 
-/// Appends the line of an entry, which is counted from 1, to `lines`, and returns how many octets there is room for then.
-/// `room` is how many there is room for before it.
+/// Appends the line of an entry, which is counted from 1, to `lines`, and returns how many octets there is room for
+/// then. `room` is how many there is room for before it.
 ///
 /// # Errors
 ///
-/// `TooLarge` if the line has more octets. `Memory` if memory ran out.
+/// `TooLarge` if the line has more than `room` octets. `Memory` if memory ran out. Then `lines` may have a part of the
+/// line.
 fn append_line(
     alloc: Global,
     entry: usize,

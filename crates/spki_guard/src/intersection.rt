@@ -121,8 +121,8 @@ fn meet_in(alloc: Global, node: &Node) -> Result<Tag, IntersectFault>
 /// # Errors
 ///
 /// `Form` if the text is no canonical form within the limits; `Form(TooLong)` exactly if it has more than 1,048,576 octets.
-/// `Shape` if the value is not `(intersect A B)`. Otherwise the fault of the first of the two that is no tag, and then
-/// `TooLarge` if the product of their nodes is over 1,000,000. `Memory` if memory ran out.
+/// `Shape` if the value is not `(intersect A B)`. Otherwise `First` if A is no tag, then `Second` if B is none, and
+/// then `TooLarge` if the product of their numbers of nodes is over 1,000,000. `Memory` if memory ran out.
 pub fn intersect(alloc: Global, text: &[u8]) -> Result<Tag, IntersectFault>
     ensures read { IfOk result (λ tag. IsMetText text.now tag) }
     ensures too_long { IsErrOf result (IntersectFault.Form FormFault.TooLong) ↔ (1048576 < length text.now) }

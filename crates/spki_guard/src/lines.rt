@@ -31,8 +31,8 @@ pub fn push_no(out: &mut Vec<u8>) -> Result<(), AllocError>
     push(out, b"no\n")
 }
 
-/// Appends `refused form KIND`, or `refused form KIND OFFSET` for `Bad` and `Trailing`. For `Memory` it appends
-/// `refused Memory`. Err if memory ran out; then the output does not change.
+/// Appends `refused form KIND`, or `refused form KIND OFFSET` for `Bad` and `Trailing`, and a line feed. For `Memory`
+/// it appends the line `refused Memory`. Err if memory ran out; then the output does not change.
 pub fn push_refused_form(
     alloc: Global,
     out: &mut Vec<u8>,
@@ -44,9 +44,9 @@ pub fn push_refused_form(
     push_refused_text(alloc, out, "form", fault)
 }
 
-/// Appends `refused TEXT KIND`, or `refused TEXT KIND OFFSET` for `Bad` and `Trailing`; `text` is the word for the text
-/// that has the fault. For `Memory` it appends `refused Memory`. Err if memory ran out; then the output does not
-/// change.
+/// Appends `refused TEXT KIND`, or `refused TEXT KIND OFFSET` for `Bad` and `Trailing`, and a line feed; `text` is the
+/// word for the text that has the fault. For `Memory` it appends the line `refused Memory`. Err if memory ran out; then
+/// the output does not change.
 pub(crate) fn push_refused_text(
     alloc: Global,
     out: &mut Vec<u8>,
@@ -161,8 +161,8 @@ pub fn kind_name(kind: CertFaultKind) -> &'static str
 }
 
 /// Appends the line of a fault in an access list, accepted list or sequence: `refused PART N KIND`, or `refused PART N
-/// Tag KIND` for a tag. N is the number of the entry, row or item, from 1, or 0 for the whole list. For `Memory` it
-/// appends `refused Memory`. Err if memory ran out; then the output does not change.
+/// Tag KIND` for a tag, and a line feed. N is the number of the entry, row or item, from 1, or 0 for the whole list.
+/// For `Memory` it appends the line `refused Memory`. Err if memory ran out; then the output does not change.
 pub(crate) fn push_refused_in(
     alloc: Global,
     out: &mut Vec<u8>,

@@ -33,7 +33,8 @@ pub fn open_question(
 /// opened, whatever became of the question's texts since. A decision reads nothing again. An explanation and a reduction read the parts
 /// again, from the texts that were kept.
 ///
-/// The result is `None` if the question does not have as many signatures as there are marks.
+/// The result is `None` if the question does not have as many signatures as there are marks, and memory did not run out
+/// before.
 pub fn answer_opened(alloc: Global, query: Query, opened: &Opened, marks: &[bool]) -> Option<Answer>
     ensures answer { (q : Question) → IsOpened opened.now.guard q opened.now
         → IfSome result (λ a. IsAnswerHeld query opened.now.guard q marks.now a.verdict (written_by a)) }
@@ -47,8 +48,8 @@ pub fn answer_opened(alloc: Global, query: Query, opened: &Opened, marks: &[bool
     }
 }
 
-/// The line of the decision of a question that was opened. A signature is accepted if its mark is true. None if there
-/// are not as many marks as signatures.
+/// The line of the decision of a question that was opened, or `refused Memory`. A signature is accepted if the mark at
+/// its place is true. None if there are not as many marks as signatures.
 fn decide_opened(alloc: Global, opened: &Opened, marks: &[bool]) -> Option<Answer>
     ensures answer { (q : Question) → IsOpened opened.now.guard q opened.now
         → IfSome result (λ a. IsAnswerHeld Query.Decide opened.now.guard q marks.now a.verdict (written_by a)) }
@@ -64,8 +65,8 @@ fn decide_opened(alloc: Global, opened: &Opened, marks: &[bool]) -> Option<Answe
     }
 }
 
-/// Reads a question again that was opened, and answers it with the lines of `query`. None if there are not as many
-/// marks as signatures.
+/// Reads a question again that was opened, and answers it as `answer_asked` does. If memory runs out, the answer is
+/// `refused Memory`. Otherwise None if there are not as many marks as signatures.
 fn answer_again(alloc: Global, query: Query, opened: &Opened, marks: &[bool]) -> Option<Answer>
     ensures answer { (q : Question) → IsOpened opened.now.guard q opened.now
         → IfSome result (λ a. IsAnswerHeld query opened.now.guard q marks.now a.verdict (written_by a)) }

@@ -71,7 +71,8 @@ impl<'w, W: Write> PageSink<'w, W> {
         self.page.clear();
     }
 
-    /// Takes octets when the page is empty: keeps them in the page, or writes them if they are more than 4,096.
+    /// Takes octets when the page is empty, as it must be: keeps them in the page, or writes them if they are more than
+    /// 4,096.
     fn take_on_empty_page(&mut self, octets: &[u8])
         requires { page_of self.old ≡ [] }
         ensures { PageTakes W.contents self.old octets.now self.new }
@@ -82,7 +83,7 @@ impl<'w, W: Write> PageSink<'w, W> {
         self.failed = pass_on(self.writer, self.failed, octets, self.most);
     }
 
-    /// Writes the last page, and flushes the writer.
+    /// Writes the last page, and flushes the writer. If a write failed, there is no flush.
     ///
     /// # Errors
     ///

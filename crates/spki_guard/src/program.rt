@@ -13,12 +13,13 @@ use std::alloc::Global;
 use std::io;
 use std::io::{ErrorKind, Read, Write};
 
-/// Does what the words of a command line ask for, and returns the exit status. `words` is the result of reading them. The
-/// first word is the program's name.
+/// Does what the words of a command line ask for, and returns the exit status, that of `Status::code` or of
+/// `WordsFault::code`. `words` is the result of reading them. The first word is the program's name.
 ///
-/// If the words ask for a command, it is run: it reads from the reader, and its answer goes to the writer. If the run is cut
-/// off, the reason goes to `errors`. If the words ask for help or for no command, the text of `clap` goes to `errors`, and
-/// nothing is read. The call resets all meters first.
+/// If the words ask for a command, it is run: it reads from the reader, and its answer goes to the writer. If the run
+/// is cut off, the reason goes to `errors`. If the words ask for help or for no command, the text of `clap` goes to
+/// `errors`, and nothing is read. If they are not UTF-8, a line that says so goes there. At any other error of `words`,
+/// and if memory ran out for them, `refused Memory` goes to the writer. The call resets all meters first.
 pub fn run_words<R: Read, W: Write, E: Write>(
     alloc: Global,
     words: &io::Result<Vec<String>>,
@@ -99,8 +100,8 @@ fn report<E: Write>(errors: &mut Metered<E>, status: Status)
     }
 }
 
-/// Writes the help, or why the words are refused, and returns the exit status of the fault. Nothing is read. All three
-/// meters are reset.
+/// Writes the help, or why the words are refused, as `write_words_fault` does, and returns the exit status of the
+/// fault. Nothing is read. All three meters are reset.
 fn report_words_fault<R: Read, W: Write, E: Write>(
     fault: &WordsFault,
     reader: &mut Metered<R>,
@@ -115,7 +116,8 @@ fn report_words_fault<R: Read, W: Write, E: Write>(
     fault.code()
 }
 
-/// Writes the help, or why the words are refused, to `errors`. If memory ran out, writes `refused Memory` to `writer`.
+/// Writes the help, or why the words are refused, to `errors`. If memory ran out, writes `refused Memory` to `writer`
+/// alone. Both meters are reset first.
 fn write_words_fault<W: Write, E: Write>(
     fault: &WordsFault,
     writer: &mut Metered<W>,

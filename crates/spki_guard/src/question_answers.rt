@@ -30,11 +30,12 @@ pub enum Query {
 /// guard's list and the question's parts. Exactly the signatures that `Asked::signed` lists at the places of true marks are
 /// accepted.
 ///
-/// A question that is not read is refused. The line is `refused question TooLong` exactly if its parts together have more octets
-/// than the guard's limit. Otherwise the line names the first part that has no reading, and its fault, such as `refused sequence
-/// Bad 5`; the word for the moment is `at`. `refused TooLarge` is an answer of `Explain` and `Reduce` alone: an intersection exceeds the
-/// guard's limit of nodes, all intersections together its limit of work, or the lines its limit of octets. If memory ran out, the line is
-/// `refused Memory`.
+/// A question that is not read is refused. The line is `refused question TooLong` exactly if its parts together have
+/// more octets than the guard's limit. Otherwise the line names the first part that has no reading, and its fault, such
+/// as `refused sequence Bad 5`; the word for the moment is `at`. If all parts have a reading, it is `refused question
+/// TooManyCertificates` or then `refused question TooManyWords` if they exceed the guard's limits. `refused TooLarge`
+/// is an answer of `Explain` and `Reduce` alone: an intersection exceeds the guard's limit of nodes, all intersections
+/// together its limit of work, or the lines its limit of octets. If memory ran out, the line is `refused Memory`.
 ///
 /// The result is `None` if the question is read and does not have as many signatures as there are marks.
 pub fn answer_question(
@@ -69,8 +70,8 @@ pub fn refused_list(alloc: Global, fault: AclFault) -> Answer
     }
 }
 
-/// The answer to a question that was read, with the lines of `query`. A signature is accepted if the mark at its place
-/// is true. None if there are not as many marks as `Asked::signed` lists signatures.
+/// The answer to a question that was read: the lines of `query`, `refused TooLarge` or `refused Memory`. A signature is
+/// accepted if the mark at its place is true. None if there are not as many marks as `Asked::signed` lists signatures.
 pub(crate) fn answer_asked(
     alloc: Global,
     query: Query,

@@ -45,8 +45,8 @@ pub(crate) enum Reply<'o> {
 }
 
 impl<'o> Reply<'o> {
-    /// `Done` or `No`: what the reply says. For lines of entries it is `Done` if an entry becomes an authorization, or
-    /// grants the request.
+    /// The verdict of the reply: `Done` for octets or a tag, and `No` for `Item` and `NoEntries`. For lines of entries
+    /// it is `Done` if an entry becomes an authorization, or grants the request, otherwise `No`. `Whole` has its own.
     pub(crate) fn verdict(&self) -> Verdict
         ensures { result ≡ reply_verdict self.now }
     {
@@ -141,7 +141,8 @@ pub(crate) fn count_with(reply: &Reply, more: u64) -> Option<u64>
     counter.count().checked_add(more)
 }
 
-/// The answer that a reply prints. An answer that is made already is not copied. Err if memory ran out.
+/// The answer that a reply prints, with the reply's verdict. An answer that is made already is not copied. Err if
+/// memory ran out.
 pub(crate) fn whole(alloc: Global, reply: Reply) -> Result<Answer, AllocError>
     ensures verdict { IfOk result (λ a. a.verdict ≡ reply_verdict reply.entry) }
     ensures octets { IfOk result (λ a. written_by a ≡ printed reply.entry) }
@@ -152,7 +153,7 @@ pub(crate) fn whole(alloc: Global, reply: Reply) -> Result<Answer, AllocError>
     }
 }
 
-/// Prints a reply into a new vector, and returns it as an answer. Err if memory ran out.
+/// Prints a reply into a new vector, and returns it as an answer with the reply's verdict. Err if memory ran out.
 fn print_whole(alloc: Global, reply: &Reply) -> Result<Answer, AllocError>
     ensures verdict { IfOk result (λ a. a.verdict ≡ reply_verdict reply.now) }
     ensures octets { IfOk result (λ a. written_by a ≡ printed reply.now) }

@@ -135,7 +135,8 @@ pub(crate) fn print_folds<S: Sink>(lines: &[FoldLine], sink: &mut S)
     }
 }
 
-/// Prints the line of an entry, and makes what it needs just before; `entry` is counted from 1. Err if memory ran out.
+/// Prints the line of an entry, and makes what it needs just before; `entry` is counted from 1. Err if memory ran out;
+/// then nothing is printed.
 pub(crate) fn make_and_print_fold<S: Sink>(
     alloc: Global,
     entry: usize,

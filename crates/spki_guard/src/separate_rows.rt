@@ -16,12 +16,14 @@ use spki_case::{AcceptedTable, Case, RowsFault};
 use spki_decision::decide;
 use std::alloc::Global;
 
-/// Decides a case by a separate accepted list, `(accepted row ..)`, each text in any of the three forms. The rows of the
-/// case's accepted list are read, and none of them is used.
+/// Decides a case by a separate accepted list, `(accepted row ..)`, each text in any of the three forms. The answer is
+/// `yes entry N`, `no` or a refusal, as for the command `check`. The rows of the case's accepted list are read, and
+/// none of them is used.
 ///
-/// The case's text is read first: its form, and then the case. If it is refused, the rows are not examined. Then the text of
-/// the rows is read: its form, and then the rows. A refusal of the rows begins with `refused rows`. A text is TooLong
-/// exactly if it, or its canonical form, has more than 1,048,576 octets.
+/// The case's text is read first: its form, and then the case. If it is refused, the rows are not examined. Then the
+/// text of the rows is read: its form, and then the rows. A refusal of the rows begins with `refused rows`. A text is
+/// TooLong exactly if it, or its canonical form, has more than 1,048,576 octets. If both texts are read, the line may
+/// still be `refused TooLarge`, as `decide` says. If memory ran out, it is `refused Memory`.
 pub fn check_accepted(alloc: Global, text: &[u8], rows: &[u8]) -> Answer
     ensures answer { IsAnswerApart text.now rows.now result.verdict (written_by result) }
     ensures too_long { 1048576 < length text.now → RefusesAsLong result.verdict (written_by result) }
@@ -32,8 +34,8 @@ pub fn check_accepted(alloc: Global, text: &[u8], rows: &[u8]) -> Answer
     }
 }
 
-/// The answer of `check_accepted`. Err if one of the texts is refused. If the case's text is canonical, it is not
-/// converted.
+/// The answer of `check_accepted`. Err if one of the texts is refused, the case is too large, or memory ran out. If the
+/// case's text is canonical, it is not converted.
 fn checked(alloc: Global, text: &[u8], rows: &[u8]) -> Result<Answer, Refusal>
     ensures answered { IfOk result (λ a. DecidesApart text.now rows.now a.verdict (written_by a)) }
     ensures refused { IfErr result (λ refusal. RefusesApart text.now rows.now refusal) }

@@ -38,7 +38,8 @@ pub(crate) enum Source<'a> {
 }
 
 /// Reads a text for a command. A case is read from it directly if the text is canonical. Otherwise the text is
-/// converted to the form that the command needs. Err says why the text is refused.
+/// converted to the form that the command needs. Err says why the text is refused, or that memory ran out. For more
+/// than 1,048,576 octets it is `Form(TooLong)`.
 pub(crate) fn read_source<'a>(
     alloc: Global,
     command: Command,
@@ -99,8 +100,8 @@ fn is_of_form(fault: CaseFault) -> bool
     }
 }
 
-/// Reads a case directly from a canonical text. None if the text is not canonical. Err if the text is canonical and its
-/// case is refused, or memory ran out.
+/// Reads a case directly from a canonical text. None if the text is not canonical, or exceeds a limit, such as
+/// 1,048,576 octets. Err if the text is canonical and its case is refused, or memory ran out.
 pub(crate) fn canonical_case<'a>(
     alloc: Global,
     text: &'a [u8],

@@ -54,7 +54,8 @@ fn print_prefix<S: Sink>(octets: &[u8], sink: &mut S)
     sink.put_octet(b')');
 }
 
-/// Prints `(* range ORDERING LOW UP)`. A limit that is None is left out.
+/// Prints `(* range ORDERING LOW UP)`. LOW is `g OCTETS` if the limit itself is excluded, otherwise `ge OCTETS`, and UP
+/// is `l OCTETS` or `le OCTETS`. A limit that is None is left out.
 fn print_range<S: Sink>(
     ordering: RangeOrdering,
     low: Option<TagLimit<'_>>,

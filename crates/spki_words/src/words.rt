@@ -115,7 +115,7 @@ fn met(matches: &clap::ArgMatches<'_>) -> Command
 }
 
 /// The fault for an error of `clap`: `Help` with its text if it shows the help, otherwise `Refused` with its text.
-/// `Memory` if memory ran out, there or for the text.
+/// `Memory` if memory ran out, also for the text.
 fn fault(alloc: Global, error: &clap::Error) -> WordsFault
     ensures { IsFault (kind_of error.now) result }
 {
