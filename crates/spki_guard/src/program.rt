@@ -51,7 +51,7 @@ fn asked_by(alloc: Global, words: &io::Result<Vec<String>>) -> Result<Command, W
     }
 }
 
-/// The fault of words that the system did not give: `Refused` with a message if they are not UTF-8, otherwise `Memory`.
+/// The fault of words that the system did not give: that of `no_text` if they are not UTF-8, otherwise `Memory`.
 fn unread(alloc: Global, error: &io::Error) -> WordsFault
     ensures { AreUnreadWords (error_kind error.now) result }
 {

@@ -20,9 +20,15 @@ use std::io::{Read, Write};
 /// The largest number of calls of a writer, in addition to one for each octet.
 const WRITER_ASKS: u64 = 2_097_152;
 
-/// Reads a text, does the command with it, and writes the answer. The status says what the answer is, or that the
-/// reader or the writer failed. All that the answer is printed from is made before its first octet is written, and
-/// nothing is allocated after it. The call resets both meters first.
+/// Reads a text, in any of the three forms, does the command with it, and writes the answer. The status says what the
+/// answer is, or that the reader or the writer failed. All that the answer is printed from is made before its first
+/// octet is written, and nothing is allocated after it. The call resets both meters first.
+///
+/// At most 1,048,577 octets are taken from the reader. If it has as many, the answer is `refused form TooLong`. If
+/// memory ran out, it is `refused Memory`. The status is `ReadFault` if the reader failed, or had not ended after
+/// 2,097,152 calls; then nothing is written. It is `WriteFault` if the writer failed, or needs more calls than
+/// 2,097,152 and one for each octet of the answer; then a beginning of the answer is written, which may be all or none
+/// of it.
 pub fn run<R: Read, W: Write>(
     alloc: Global,
     command: Command,
@@ -55,8 +61,8 @@ pub fn run<R: Read, W: Write>(
     }
 }
 
-/// Reads a text to its end. None if the reader failed. Inside, Err is the answer to a text that is too long, or for
-/// which memory ran out.
+/// Reads a text to its end. None if the reader failed, or its count of calls reached 2,097,152. Inside, Err is the
+/// answer to a text of more than 1,048,576 octets, or for which memory ran out.
 fn read_text<R: Read>(alloc: Global, reader: &mut Metered<R>) -> Option<Result<Vec<u8>, Answer>>
     ensures asks { asks_of reader.new ≤ max (asks_of reader.old) 2097152 }
     ensures no_more { (octets : List ℕ) × (length octets ≤ 1048577) × Gives R.remaining reader.old reader.new octets }
@@ -76,7 +82,7 @@ fn read_text<R: Read>(alloc: Global, reader: &mut Metered<R>) -> Option<Result<V
 }
 
 /// Answers the text that `read_text` read, and writes the answer. If `read` is an answer already, writes that one.
-/// `WriteFault` if the writer failed.
+/// Returns its status, or `WriteFault` if the writer failed. The writer's count of calls must be 0.
 fn send_answer<W: Write>(
     alloc: Global,
     command: Command,
@@ -93,7 +99,8 @@ fn send_answer<W: Write>(
     }
 }
 
-/// Answers a text, which may be in any of the three forms, and writes the answer. `WriteFault` if the writer failed.
+/// Answers a text, which may be in any of the three forms, and writes the answer. Returns its status, or `WriteFault`
+/// if the writer failed. The writer's count of calls must be 0.
 fn send_text<W: Write>(
     alloc: Global,
     command: Command,
@@ -109,8 +116,8 @@ fn send_text<W: Write>(
     }
 }
 
-/// Answers a command from the source that `read_source` returned for it, and writes the answer. `WriteFault` if the
-/// writer failed.
+/// Answers a command from the source that `read_source` returned for it, and writes the answer. Returns its status, or
+/// `WriteFault` if the writer failed. The writer's count of calls must be 0.
 fn send_source<W: Write>(
     alloc: Global,
     command: Command,
@@ -129,7 +136,7 @@ fn send_source<W: Write>(
 
 /// Writes a reply, and returns its status. `WriteFault` if the writer failed. The reply's octets are counted first, since
 /// the largest number of calls of the writer depends on them. If that number is over the greatest `u64`, `refused Memory`
-/// is written instead.
+/// is written instead. The writer's count of calls must be 0.
 fn send_reply<W: Write>(writer: &mut Metered<W>, reply: &Reply) -> Status
     requires { asks_of writer.old ≡ 0 }
     ensures { Sends W.contents (λ verdict output. ((verdict ≡ reply_verdict reply.now) × (output ≡ printed reply.now))
@@ -141,8 +148,9 @@ fn send_reply<W: Write>(writer: &mut Metered<W>, reply: &Reply) -> Status
     }
 }
 
-/// Writes a reply, page by page, and returns its status, or `WriteFault`. Writing fails when the writer's count of
-/// calls, `asks`, is `most`.
+/// Writes a reply, page by page, and returns its status, or `WriteFault` if the writer failed. Writing fails when the
+/// writer's count of calls, `asks`, is `most`. The count must be 0, and `most` the number of the reply's octets plus
+/// 2,097,152.
 fn send_pages<W: Write>(writer: &mut Metered<W>, reply: &Reply, most: u64) -> Status
     requires unasked { asks_of writer.old ≡ 0 }
     requires most { most ≡ length (printed reply.now) + 2097152 }
@@ -156,7 +164,8 @@ fn send_pages<W: Write>(writer: &mut Metered<W>, reply: &Reply, most: u64) -> St
 }
 
 /// Prints a reply to a writer, page by page, and flushes it. Err if a write or the flush failed. Writing fails when the
-/// writer's count of calls, `asks`, is `most`.
+/// writer's count of calls, `asks`, is `most`. The count must be 0, and `most` the number of the reply's octets plus
+/// 2,097,152.
 fn print_pages<W: Write>(
     writer: &mut Metered<W>,
     reply: &Reply,
@@ -173,7 +182,8 @@ fn print_pages<W: Write>(
     sink.end()
 }
 
-/// Writes an answer, and returns its status, or `WriteFault` if the writer failed.
+/// Writes an answer, and returns its status, or `WriteFault` if the writer failed. The writer's count of calls must be
+/// 0.
 fn send<W: Write>(writer: &mut Metered<W>, answer: &Answer) -> Status
     requires { asks_of writer.old ≡ 0 }
     ensures { Sends W.contents (λ verdict output. (verdict ≡ answer.now.verdict) × (output ≡ output_octets answer.now.output))
