@@ -17,7 +17,7 @@ impl<T, A: Allocator> Model for BoxPointer<T, A> {
 }
 
 impl<T: Drop, A: Allocator> BoxPointer<T, A> {
-    /// Returns the pointer of a box, which now owns the value. `into_box` gives the box back.
+    /// Returns the pointer of a box. The pointer now owns the value, and `into_box` returns the box.
     pub(crate) fn of(value: Box<T, A>) -> BoxPointer<T, A>
         ensures { result.value ≡ value.value }
     {

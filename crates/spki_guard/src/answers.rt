@@ -193,7 +193,8 @@ pub fn answer_text(alloc: Global, command: Command, text: &[u8]) -> Answer
     }
 }
 
-/// Answers a command from the source that `read_source` returned for it. The answer to a refusal is its line.
+/// Answers a command from the source that `read_source` returned for it. The answer to a refusal is its line. If memory
+/// ran out, it is `refused Memory`.
 fn answer_source(alloc: Global, command: Command, source: &Source) -> Answer
     ensures { (text : List ℕ) → IsSourceOf command text source.now → IsAnswer command text result.verdict (written_by result) }
 {

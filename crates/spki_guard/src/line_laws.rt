@@ -38,8 +38,9 @@ pub fn one_too_large()
         → RefusesAnswer command text refusal → refusal ≢ refusals.Memory → refusal ≡ refusals.Intersect intersect.TooLarge }
 {}
 
-/// A question that is asked of a guard has one answer, unless memory ran out: one output and verdict, or none. So `answer_question`
-/// returns one result for the same marks. The texts are those of the guard's entries.
+/// A question that is asked of a guard has one answer, unless memory ran out: one output and verdict, or none. So
+/// `answer_question` returns one result for the same marks. It is required that the guard's texts are those of entries,
+/// which holds for every guard.
 pub fn one_answer_held()
     ensures same { (query : Query) (held : Held) (q : Question) (marks : List Bool) (es : List Entry) (x y : Verdict) (output line : List ℕ)
         → AreEntries held.texts es → IsAnswerHeld query held q marks x output → IsAnswerHeld query held q marks y line

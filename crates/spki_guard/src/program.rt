@@ -88,8 +88,7 @@ fn run_command<R: Read, W: Write, E: Write>(
     status.code()
 }
 
-/// Writes to `errors` that reading or writing failed. For any other status, writes nothing and resets the meter of
-/// `errors`.
+/// Resets the meter of `errors`, and writes to it that reading or writing failed. For any other status, writes nothing.
 fn report<E: Write>(errors: &mut Metered<E>, status: Status)
     ensures { IsReported E.contents errors.old errors.new status }
 {
@@ -137,8 +136,8 @@ fn write_words_fault<W: Write, E: Write>(
     }
 }
 
-/// Resets the writer's meter, and writes octets. If the writer fails, its meter counts the fault, and nothing is
-/// returned.
+/// Resets the writer's meter, writes octets, and flushes the writer. If the writer fails, a beginning of them is
+/// written, and nothing is returned.
 fn say<W: Write>(writer: &mut Metered<W>, octets: &[u8])
     ensures { IsSaid W.contents writer.old writer.new octets.now }
 {

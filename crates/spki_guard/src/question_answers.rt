@@ -118,7 +118,8 @@ fn decided(alloc: Global, read: &Asked, marks: &[bool]) -> Result<Answer, AllocE
     decision_line(alloc, decision)
 }
 
-/// The lines of the explanation. Err is `TooLarge` if they, or an intersection, exceed the guard's limits, or `Memory`.
+/// The lines of the explanation. Err is `TooLarge` if they, an intersection or all of them together exceed the guard's
+/// limits, or `Memory`.
 fn explained(alloc: Global, read: &Asked, marks: &[bool]) -> Result<Answer, GuardFault>
     ensures written { IfOk result (λ a. WritesAsked Query.Explain read.now (marked read.now.case marks.now) a.verdict (written_by a)) }
     ensures large { IsErrOf result GuardFault.TooLarge → IsTooLargeFor Query.Explain read.now (marked read.now.case marks.now) }
@@ -131,7 +132,8 @@ fn explained(alloc: Global, read: &Asked, marks: &[bool]) -> Result<Answer, Guar
     )
 }
 
-/// The lines of the reduction. Err is `TooLarge` if they, or an intersection, exceed the guard's limits, or `Memory`.
+/// The lines of the reduction. Err is `TooLarge` if they, an intersection or all of them together exceed the guard's
+/// limits, or `Memory`.
 fn reduced(alloc: Global, read: &Asked, marks: &[bool]) -> Result<Answer, GuardFault>
     ensures written { IfOk result (λ a. WritesAsked Query.Reduce read.now (marked read.now.case marks.now) a.verdict (written_by a)) }
     ensures large { IsErrOf result GuardFault.TooLarge → IsTooLargeFor Query.Reduce read.now (marked read.now.case marks.now) }

@@ -45,8 +45,9 @@ pub(crate) enum Reply<'o> {
 }
 
 impl<'o> Reply<'o> {
-    /// The verdict of the reply: `Done` for octets or a tag, and `No` for `Item` and `NoEntries`. For lines of entries
-    /// it is `Done` if an entry becomes an authorization, or grants the request, otherwise `No`. `Whole` has its own.
+    /// The verdict of the reply: that of the answer in `Whole`, `Done` for octets or a tag, and `No` for `Item` and
+    /// `NoEntries`. For lines of entries it is `Done` if an entry becomes an authorization, or grants the request,
+    /// otherwise `No`.
     pub(crate) fn verdict(&self) -> Verdict
         ensures { result ≡ reply_verdict self.now }
     {
@@ -168,11 +169,11 @@ fn print_whole(alloc: Global, reply: &Reply) -> Result<Answer, AllocError>
     })
 }
 
-/// The answer that a reply prints, if it has at most `most` octets.
+/// The answer that a reply prints, with the reply's verdict, if it has at most `most` octets.
 ///
 /// # Errors
 ///
-/// `TooLarge` if they are more. `Memory` if memory ran out.
+/// `TooLarge` if it has more. `Memory` if memory ran out.
 pub(crate) fn whole_within(alloc: Global, reply: &Reply, most: usize) -> Result<Answer, GuardFault>
     ensures verdict { IfOk result (λ a. a.verdict ≡ reply_verdict reply.now) }
     ensures octets { IfOk result (λ a. written_by a ≡ printed reply.now) }

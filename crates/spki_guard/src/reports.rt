@@ -112,7 +112,8 @@ fn print_done<S: Sink>(
     sink.put_octet(b'\n');
 }
 
-/// Prints the line of an entry: its authorization, or the certificate that stops it and why; `entry` is counted from 1.
+/// Prints the line of an entry: `entry N (five ..)` with its authorization, or `entry N item J CAUSE` for the
+/// certificate that stops it; `entry` is counted from 1.
 fn print_fold<S: Sink>(entry: usize, line: &FoldLine, sink: &mut S)
     ensures { S.takes sink.old (fold_line entry line.now) sink.new }
 {
@@ -135,8 +136,8 @@ pub(crate) fn print_folds<S: Sink>(lines: &[FoldLine], sink: &mut S)
     }
 }
 
-/// Prints the line of an entry, and makes what it needs just before; `entry` is counted from 1. Err if memory ran out;
-/// then nothing is printed.
+/// Prints the line of an entry, as `print_fold`, and makes what it needs just before; `entry` is counted from 1. Err if
+/// memory ran out; then nothing is printed.
 pub(crate) fn make_and_print_fold<S: Sink>(
     alloc: Global,
     entry: usize,

@@ -83,7 +83,7 @@ fn case_command(command: Command) -> Option<CaseCommand>
     }
 }
 
-/// Whether a fault is that of a text that is not canonical, and not that of the case in it.
+/// Whether a fault is `Form`: that of a text that is not canonical within the limits, and not that of the case in it.
 fn is_of_form(fault: CaseFault) -> bool
     ensures { IsTrue result ↔ ((form : FormFault) × (fault ≡ CaseFault.Form form)) }
 {
