@@ -6,7 +6,7 @@ ghost use Rattle.sexpr_text.specs.SinkLaws.{vector_takes_nothing, vector_takes_b
 
 use std::alloc::AllocError;
 
-/// Takes octets, one piece after another. A sink that fails takes no more octets and reports the fault at its end, so a
+/// Takes octets, one piece after another. A sink that fails reports the fault at its end, whatever is put after it, so a
 /// printer has no errors.
 pub trait Sink {
     // From the sink before it took these octets to the sink after it.
@@ -35,7 +35,7 @@ pub trait Sink {
     ghost stays: { (s : Self) → full s ≡ true → (octets : List ℕ) → takes s octets s };
 }
 
-/// Appends octets to a vector. The vector is exactly what was put if no allocation failed.
+/// Appends octets to a vector. If no allocation failed, exactly what was put is behind the octets that the vector had.
 pub struct VectorSink<'v> {
     octets: &'v mut Vec<u8>,
     failed: bool,

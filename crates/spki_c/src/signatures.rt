@@ -17,7 +17,7 @@ pub struct SignatureTexts<'a> {
     pub message: &'a [u8],
     /// The canonical octets of the signature's value.
     pub value: &'a [u8],
-    /// The octets of a value that is one string. None if it is a list.
+    /// The octets of a value that is one string. Empty if it is a list.
     pub octets: &'a [u8],
     /// Whether the value is one string.
     pub is_string: bool,

@@ -10,7 +10,7 @@ use thiserror::Error;
 #[derive(Clone, Copy, Debug, PartialEq, Eq, Error)]
 pub enum GuardFault {
     /// The product of the nodes of a certificate's tag and of what the entry and the certificates before it became is over
-    /// the case's `most_nodes`.
+    /// the case's `most_nodes`. Or these products are together over its `most_work`.
     #[error("the tags are too large")]
     TooLarge,
     /// Memory ran out, in the guard or in the verifier.

@@ -82,7 +82,8 @@ pub fn reduce_case<'a, V: Verifier>(
 }
 
 /// Puts into `sink` what each entry of an access list and the certificates of the case become. `steps` are the tuples of
-/// all certificates, in order. The case's own access list is not examined. Err is `TooLarge` or `Memory`, as for `reduce_case`.
+/// all certificates, in order: one for each. The case's own access list is not examined. Err is `TooLarge` or `Memory`, as
+/// for `reduce_case`.
 pub(crate) fn put_folds<'a, S: FoldSink<'a>>(
     alloc: Global,
     acl: &[Entry<'a>],
@@ -107,8 +108,8 @@ pub(crate) fn put_folds<'a, S: FoldSink<'a>>(
     Ok(())
 }
 
-/// Returns what an entry and the certificates of the case become. These are `shown`, with the tuples `steps`. The products of
-/// intersected nodes are taken from `work`.
+/// Returns what an entry and the certificates of the case become. `shown` are all of these, in order, and `steps` their
+/// tuples. The products of intersected nodes are taken from `work`.
 ///
 /// # Errors
 ///

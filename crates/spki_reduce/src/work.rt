@@ -1,4 +1,5 @@
-//! Bounds on the work of folding chains: for each intersection of two tags, the product of their numbers of nodes.
+//! Bounds on the work of folding chains: for each intersection of two tags, the product of their numbers of nodes, and for
+//! each definition of a name that is applied, the number of nodes of the tag before it.
 
 ghost use Rattle.std.specs.Prelude.{◌≡◌, OnOk, IfErr, OnErr};
 ghost use Rattle.spki_reduce.specs.Work.{left_of, Takes, IsOver};
@@ -6,6 +7,7 @@ ghost use Rattle.spki_reduce.specs.Work.{left_of, Takes, IsOver};
 use crate::fault::ReduceFault;
 
 /// How much work may still be done. Forming an intersection takes the product of the numbers of nodes of both tags.
+/// Applying a definition takes the number of nodes of the tag before it.
 #[derive(Clone, Copy, Debug, PartialEq, Eq)]
 pub struct Work {
     left: Option<usize>,

@@ -16,8 +16,9 @@ use spki_reduce::Step;
 use std::alloc::{AllocError, Global};
 
 /// Returns the first of the entries with these numbers, counted from 1, that grants what the case asks together with the
-/// certificates whose tuples are `steps`, and names it by its number. `No` if there is none. `texts` are the canonical texts of
-/// all entries. An entry is read just before it is tested, and nothing is kept of it. No intersection is formed.
+/// certificates whose tuples are `steps`, and names it by its number. `No` if there is none. `texts` are the canonical
+/// texts of all entries, and has one for each number. An entry is read just before it is tested, and nothing is kept of
+/// it. No intersection is formed.
 ///
 /// # Errors
 ///

@@ -18,8 +18,8 @@ use spki_reduce::{Step, Work};
 use std::alloc::Global;
 
 /// Puts into `sink` what each entry of an access list and the certificates of the case become. `texts` are the canonical
-/// texts of the entries, and `steps` the tuples of all certificates, in order. An entry is read just before it is folded,
-/// and nothing is kept of it. The case's own access list is not examined.
+/// texts of the entries, and `steps` the tuples of all certificates, in order: one for each. An entry is read just before
+/// it is folded, and nothing is kept of it. The case's own access list is not examined.
 ///
 /// # Errors
 ///
