@@ -4,26 +4,28 @@ ghost use Rattle.std.specs.Prelude.{◌≡◌};
 ghost use Rattle.spki_reduce.specs.Tuples.{own};
 ghost use Rattle.spki_reduce.specs.Views.{issuer_of};
 
-use crate::answers::{Reply, answer, octets, shown, word};
-use crate::failure::Failure;
-use crate::texts::{at, behind, keys, number, read};
 use metered_io::Metered;
 use sexpr_core::Doc;
 use sexpr_core::syntax::Node;
 use spki_cert::{Entry, Policy};
-use spki_guard::{AcceptedTable, Case, Moment, Question as Posed, RequestInput};
+use spki_guard::{
+    AcceptedTable, AclFault, AskFault, Case, Decision, Moment, Question as Posed, RequestInput,
+};
 use spki_reduce::{Five, Issuer};
-use spki_tag::Tag;
+use spki_tag::{MeetFault, Tag, TagFault};
 use std::alloc::Global;
 use test_callers::cases::{Question, case_of};
 use test_callers::certificates::pinned_key;
 use test_callers::chains::{Asked, grants};
 use test_callers::decisions::decide_unrevoked;
-use test_callers::services::{answer_both, shared_guard};
-use test_callers::streams::text_from;
-use test_callers::tags::narrowed;
+use test_callers::services::{ServiceFault, answer_both, shared_guard};
+use test_callers::streams::{TextFault, text_from};
+use test_callers::tags::{NarrowFault, narrowed};
 use test_callers::texts::same_value;
 use test_callers::values::first_member;
+use test_calls::answers::{Reply, answer, octets, refused, shown, word};
+use test_calls::failure::Failure;
+use test_calls::texts::{at, behind, keys, number, read};
 
 /// The answer of the call with this name. None if there is no such call.
 pub(crate) fn call(alloc: Global, name: &str, texts: &[Vec<u8>]) -> Option<Reply> {
@@ -52,7 +54,11 @@ fn member(alloc: Global, text: &[u8]) -> Reply {
 /// A text that a reader passes on, of so many octets at most.
 fn whole(alloc: Global, text: &[u8], most: usize) -> Reply {
     let mut client = Metered::new(text);
-    answer(alloc, text_from(alloc, &mut client, most))
+    match text_from(alloc, &mut client, most) {
+        Ok(text) => Ok(text),
+        Err(TextFault::Memory) => Err(Failure::Memory),
+        Err(fault) => refused(alloc, "Text", &fault),
+    }
 }
 
 /// A tag, narrowed by a given one.
@@ -65,7 +71,16 @@ fn narrow(alloc: Global, text: &[u8], given: &[u8]) -> Reply {
 
 fn narrow_by(alloc: Global, own: &Tag, given: &[u8]) -> Reply {
     let document = Doc::open(alloc, given)?;
-    answer(alloc, narrowed(alloc, own, &document.top()))
+    of_narrowed(alloc, narrowed(alloc, own, &document.top()))
+}
+
+fn of_narrowed(alloc: Global, tag: Result<Tag, NarrowFault>) -> Reply {
+    match tag {
+        Ok(tag) => answer(alloc, tag),
+        Err(NarrowFault::Tag(TagFault::Memory)) => Err(Failure::Memory),
+        Err(NarrowFault::Meet(MeetFault::Memory)) => Err(Failure::Memory),
+        Err(fault) => refused(alloc, "Narrow", &fault),
+    }
 }
 
 /// Whether a text is the key with this digest.
@@ -167,7 +182,17 @@ fn both(alloc: Global, texts: &[Vec<u8>]) -> Reply {
     let first = posed(at(texts, 1), at(texts, 2));
     let second = posed(at(texts, 1), at(texts, 3));
     let decisions = answer_both(alloc, at(texts, 0), &first, &second, &table, &revoked);
-    answer(alloc, decisions)
+    of_answered(alloc, decisions)
+}
+
+fn of_answered(alloc: Global, decisions: Result<(Decision, Decision), ServiceFault>) -> Reply {
+    match decisions {
+        Ok(decisions) => answer(alloc, decisions),
+        Err(ServiceFault::Memory) => Err(Failure::Memory),
+        Err(ServiceFault::List(AclFault::Memory)) => Err(Failure::Memory),
+        Err(ServiceFault::Question(AskFault::Memory)) => Err(Failure::Memory),
+        Err(fault) => refused(alloc, "Service", &fault),
+    }
 }
 
 /// The number of entries of a guard that threads may share.

@@ -1,39 +1,36 @@
 //! `test_one_call` does calls of the libraries. Each line of standard input is a row: the name of a call and its texts, as hexadecimal
-//! digits, with one space between them. For each row it writes a line: the answer, as hexadecimal digits. `tests/calls.py` says
+//! digits, with one space between them. For each row it writes a line: the answer, as hexadecimal digits. `tests/call_rows.py` says
 //! which texts a call takes.
 //!
-//! Where a value goes out of scope, the proof of the function goes through the drop of each of its parts. So a value with many parts is
-//! moved, before the function ends, to a generic function, whose proof is the same for all types: to `answer`, `call_on` or `drop`.
+//! The crate `test_calls` contains the calls of the libraries up to `spki_service`, and this crate the others. This crate is proved last,
+//! when nothing else is left to prove.
 //!
 //! If memory runs out for a row, its line is `refused Memory`, and the program ends with status 2. `tests/test_hostile.py` refuses each
 //! allocation of a call in turn.
 #![tactic(auto)]
 
-mod answers;
 mod callers;
-mod cases;
-mod documents;
-mod failure;
-mod forms;
-mod guards;
-mod opened;
+mod lines;
 mod streams;
-mod tags;
-mod texts;
-mod tuples;
-mod verifier;
-mod windows;
 
-use crate::answers::Reply;
-use crate::failure::Failure;
 use std::alloc::Global;
 use std::io;
 use std::io::{BufRead, BufReader};
 use std::process::ExitCode;
+use test_calls::answers::Reply;
+use test_calls::failure::Failure;
 
-/// What is answered to a call: its answer, or why there is none. Each module passes a name that it does not have on to the next one.
+/// The answer of the call with this name, of `test_calls` or of this crate. None if there is no such call.
+fn call(alloc: Global, name: &str, texts: &[Vec<u8>]) -> Option<Reply> {
+    match test_calls::call(alloc, name, texts) {
+        None => lines::call(alloc, name, texts),
+        reply => reply,
+    }
+}
+
+/// What is answered to a call: its answer, or why there is none.
 fn said(alloc: Global, name: &str, texts: &[Vec<u8>]) -> Reply {
-    match forms::call(alloc, name, texts) {
+    match call(alloc, name, texts) {
         Some(Err(failure)) => failure.said(alloc),
         Some(answer) => answer,
         None => Err(Failure::Unknown),

@@ -2,10 +2,7 @@
 
 ghost use Rattle.std.specs.Prelude.{◌≡◌, ◌≤◌, IfOk};
 
-use crate::answers::{Reply, joined};
 use crate::callers;
-use crate::failure::Failure;
-use crate::texts::{at, behind, number, word_of};
 use metered_io::{ReadFault, WriteFault};
 use sexpr_core::FormFault;
 use spki_cert::CertFaultKind;
@@ -15,6 +12,9 @@ use spki_tag::{MeetFault, TagFault};
 use std::alloc::Global;
 use std::io;
 use std::io::{Error, ErrorKind, Read, Write};
+use test_calls::answers::{Reply, joined};
+use test_calls::failure::Failure;
+use test_calls::texts::{at, behind, number, word_of};
 
 /// The answer of the call with this name, of this module or of those behind it. None if there is no such call.
 pub(crate) fn call(alloc: Global, name: &str, texts: &[Vec<u8>]) -> Option<Reply> {

@@ -9,7 +9,7 @@ use std::alloc::Global;
 use std::str;
 
 /// The text at a place, and no octets where there is none.
-pub(crate) fn at(texts: &[Vec<u8>], place: usize) -> &[u8] {
+pub fn at(texts: &[Vec<u8>], place: usize) -> &[u8] {
     match texts.get(place) {
         Some(text) => text.as_slice(),
         None => b"",
@@ -17,7 +17,7 @@ pub(crate) fn at(texts: &[Vec<u8>], place: usize) -> &[u8] {
 }
 
 /// The texts from a place on.
-pub(crate) fn behind(texts: &[Vec<u8>], place: usize) -> &[Vec<u8>] {
+pub fn behind(texts: &[Vec<u8>], place: usize) -> &[Vec<u8>] {
     match texts.get(place..) {
         Some(rest) => rest,
         None => &[],
@@ -25,22 +25,22 @@ pub(crate) fn behind(texts: &[Vec<u8>], place: usize) -> &[Vec<u8>] {
 }
 
 /// The word that a text is, and no word where it is none.
-pub(crate) fn word_of(text: &[u8]) -> &str {
+pub fn word_of(text: &[u8]) -> &str {
     str::from_utf8(text).unwrap_or("")
 }
 
 /// A number in decimal digits, and the greatest one for any other text.
-pub(crate) fn number(text: &[u8]) -> usize {
+pub fn number(text: &[u8]) -> usize {
     word_of(text).parse().unwrap_or(usize::MAX)
 }
 
 /// A value that a node is read as.
-pub(crate) trait OfNode<'a>: Sized {
+pub trait OfNode<'a>: Sized {
     fn of_node(alloc: Global, node: &Node<'_, 'a>) -> Result<Self, Failure>;
 }
 
 /// The value that a text is.
-pub(crate) fn read<'a, T: OfNode<'a> + Drop>(alloc: Global, text: &'a [u8]) -> Result<T, Failure> {
+pub fn read<'a, T: OfNode<'a> + Drop>(alloc: Global, text: &'a [u8]) -> Result<T, Failure> {
     let document = Doc::open(alloc, text)?;
     T::of_node(alloc, &document.top())
 }
@@ -82,7 +82,7 @@ impl<'a> OfNode<'a> for Vec<Entry<'a>> {
     }
 }
 
-pub(crate) fn keys<'a>(alloc: Global, texts: &'a [Vec<u8>]) -> Result<Vec<Key<'a>>, Failure> {
+pub fn keys<'a>(alloc: Global, texts: &'a [Vec<u8>]) -> Result<Vec<Key<'a>>, Failure> {
     let mut keys = Vec::new(alloc);
     for text in texts {
         keys.push(read(alloc, text)?)?;

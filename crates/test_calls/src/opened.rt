@@ -2,25 +2,23 @@
 
 use crate::answers::{Called, Reply, answer, call_on, word};
 use crate::failure::Failure;
-use crate::guards::{guard, marks, query_of, question};
-use crate::streams;
+use crate::guards::{guard, marks, question};
 use crate::texts::{at, behind};
-use spki_guard::{Opened, Query, SharedGuard, answer_opened, open_question};
+use spki_service::{Opened, SharedGuard};
 use std::alloc::Global;
 
-/// The answer of the call with this name, of this module or of those behind it. None if there is no such call.
+/// The answer of the call with this name. None if there is no such call.
 pub(crate) fn call(alloc: Global, name: &str, texts: &[Vec<u8>]) -> Option<Reply> {
     match name {
         "Opened::signed" | "Opened::decide_by" => {
             Some(call_on(alloc, opened(alloc, texts), name, texts))
         }
-        "answer_opened" => Some(answer_marked(alloc, texts)),
-        _ => streams::call(alloc, name, texts),
+        _ => None,
     }
 }
 
 /// The guard of the first four texts.
-fn shared(alloc: Global, texts: &[Vec<u8>]) -> Result<SharedGuard, Failure> {
+pub fn shared(alloc: Global, texts: &[Vec<u8>]) -> Result<SharedGuard, Failure> {
     Ok(SharedGuard::new(alloc, guard(alloc, texts)?)?)
 }
 
@@ -61,22 +59,4 @@ fn decide(alloc: Global, opened: &Opened, text: &[u8]) -> Reply {
         return word(alloc, "two decisions");
     }
     answer(alloc, decision)
-}
-
-/// The line by marks. The fifth text says what is asked for.
-fn answer_marked(alloc: Global, texts: &[Vec<u8>]) -> Reply {
-    let marks = marks(alloc, at(texts, 9))?;
-    let shared = shared(alloc, texts)?;
-    let opened = open_question(alloc, &shared, &question(behind(texts, 5)));
-    drop(shared);
-    match opened {
-        Err(refusal) => answer(alloc, refusal),
-        Ok(opened) => answer_of(alloc, query_of(at(texts, 4)), opened, &marks),
-    }
-}
-
-fn answer_of(alloc: Global, query: Query, opened: Opened, marks: &[bool]) -> Reply {
-    let line = answer_opened(alloc, query, &opened, marks);
-    drop(opened);
-    answer(alloc, line)
 }

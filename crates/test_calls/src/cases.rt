@@ -4,18 +4,16 @@ use crate::answers::{Called, Reply, answer, call_on};
 use crate::guards;
 use crate::texts::at;
 use crate::verifier::RowVerifier;
-use spki_decision::judge;
-use spki_guard::{Case, check_accepted, decide, explain, reduce_case};
+use spki_case::Case;
+use spki_decision::{decide, explain, judge, reduce_case};
 use std::alloc::Global;
 
 /// The answer of the call with this name, of this module or of those behind it. None if there is no such call.
 pub(crate) fn call(alloc: Global, name: &str, texts: &[Vec<u8>]) -> Option<Reply> {
-    let (text, rows) = (at(texts, 0), at(texts, 1));
     match name {
         "Case::read" | "judge" | "decide" | "explain" | "reduce_case" => {
-            Some(call_on(alloc, Case::read(alloc, text), name, texts))
+            Some(call_on(alloc, Case::read(alloc, at(texts, 0)), name, texts))
         }
-        "check_accepted" => Some(answer(alloc, check_accepted(alloc, text, rows))),
         _ => guards::call(alloc, name, texts),
     }
 }

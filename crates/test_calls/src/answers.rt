@@ -3,35 +3,34 @@
 use crate::failure::Failure;
 use sexpr_core::{Sexp, encode};
 use spki_cert::{Date, Entry, Key, Policy, Principal, SeqItem};
-use spki_decision::Evidence;
-use spki_guard::{Answer, Decision, EntryFold, Explanation, Reduction, Verdict};
+use spki_decision::{Decision, EntryFold, Evidence, Explanation, Reduction};
 use spki_reduce::{Five, Fold, Four, Issuer, Joined};
 use spki_tag::{Ground, Tag};
 use std::alloc::Global;
-use std::fmt::Debug;
+use std::fmt::{Debug, Display};
 
 /// The octets that are answered to a row, or why there are none.
-pub(crate) type Reply = Result<Vec<u8>, Failure>;
+pub type Reply = Result<Vec<u8>, Failure>;
 
 /// A value that a call returns.
-pub(crate) trait Answered {
+pub trait Answered {
     /// The answer to a row whose call returned this value.
     fn answered(&self, alloc: Global) -> Reply;
 }
 
 /// What a call returned, as an answer. The value is dropped here.
-pub(crate) fn answer<T: Answered + Drop>(alloc: Global, value: T) -> Reply {
+pub fn answer<T: Answered + Drop>(alloc: Global, value: T) -> Reply {
     value.answered(alloc)
 }
 
 /// A value that is read for several calls.
-pub(crate) trait Called {
+pub trait Called {
     /// The answer of the call with this name and these texts.
     fn call(&self, alloc: Global, name: &str, texts: &[Vec<u8>]) -> Reply;
 }
 
 /// The answer of a call on a value that was read. The value is dropped here.
-pub(crate) fn call_on<T: Called + Drop, E: Into<Failure>>(
+pub fn call_on<T: Called + Drop, E: Into<Failure>>(
     alloc: Global,
     value: Result<T, E>,
     name: &str,
@@ -44,22 +43,27 @@ pub(crate) fn call_on<T: Called + Drop, E: Into<Failure>>(
 }
 
 /// A word as an answer.
-pub(crate) fn word(alloc: Global, word: &str) -> Reply {
+pub fn word(alloc: Global, word: &str) -> Reply {
     octets(alloc, word.as_bytes())
 }
 
 /// Octets as an answer.
-pub(crate) fn octets(alloc: Global, octets: &[u8]) -> Reply {
+pub fn octets(alloc: Global, octets: &[u8]) -> Reply {
     Ok(Vec::from_slice(alloc, octets)?)
 }
 
 /// A value as an answer, as `Debug` writes it.
-pub(crate) fn shown<T: Debug>(alloc: Global, value: &T) -> Reply {
+pub fn shown<T: Debug>(alloc: Global, value: &T) -> Reply {
     Ok(format!(in alloc; "{value:?}")?.into_bytes())
 }
 
+/// A fault that `Failure` lacks as an answer, in the same form: the name of its kind, the fault and its text.
+pub fn refused<F: Debug + Display>(alloc: Global, kind: &str, fault: &F) -> Reply {
+    Ok(format!(in alloc; "{kind}({fault:?}): {fault}")?.into_bytes())
+}
+
 /// Octets one behind another, as an answer.
-pub(crate) fn joined(alloc: Global, parts: &[&[u8]]) -> Reply {
+pub fn joined(alloc: Global, parts: &[&[u8]]) -> Reply {
     let mut out = Vec::new(alloc);
     for part in parts {
         out.extend_from_slice(part)?;
@@ -253,25 +257,4 @@ fn lines_of(alloc: Global, folds: &[EntryFold]) -> Reply {
         out.push(b'\n')?;
     }
     Ok(out)
-}
-
-/// Its verdict and its line.
-impl Answered for Answer {
-    fn answered(&self, alloc: Global) -> Reply {
-        if self.verdict == Verdict::Refused && self.octets() == b"refused Memory\n".as_slice() {
-            return Err(Failure::Memory);
-        }
-        let verdict = shown(alloc, &self.verdict)?;
-        joined(alloc, &[&verdict, b" ", self.octets()])
-    }
-}
-
-/// None if there are not as many marks as signatures.
-impl Answered for Option<Answer> {
-    fn answered(&self, alloc: Global) -> Reply {
-        match self {
-            Some(answer) => answer.answered(alloc),
-            None => word(alloc, "other marks"),
-        }
-    }
 }

@@ -3,16 +3,15 @@
 use crate::answers::Reply;
 use hex::FromHexError;
 use sexpr_core::FormFault;
+use spki_case::{CaseFault, RowsFault};
 use spki_cert::{CertFault, CertFaultKind};
-use spki_guard::{AclFault, AskFault, CaseFault, GuardFault, IntersectFault, RowsFault};
+use spki_decision::GuardFault;
 use spki_reduce::ReduceFault;
+use spki_service::{AclFault, AskFault};
 use spki_tag::{MeetFault, TagFault};
 use std::alloc::{AllocError, AllocFailed, Global};
 use std::io;
 use std::io::ErrorKind;
-use test_callers::services::ServiceFault;
-use test_callers::streams::TextFault;
-use test_callers::tags::NarrowFault;
 use thiserror::Error;
 
 /// Why a row has no answer.
@@ -43,17 +42,9 @@ pub enum Failure {
     #[error(transparent)]
     Decision(#[from] GuardFault),
     #[error(transparent)]
-    Intersect(#[from] IntersectFault),
-    #[error(transparent)]
     Acl(#[from] AclFault),
     #[error(transparent)]
     Ask(#[from] AskFault),
-    #[error(transparent)]
-    Text(#[from] TextFault),
-    #[error(transparent)]
-    Narrow(#[from] NarrowFault),
-    #[error(transparent)]
-    Service(#[from] ServiceFault),
 }
 
 impl Failure {
@@ -74,20 +65,13 @@ impl Failure {
                 | Failure::Case(CaseFault::Memory)
                 | Failure::Rows(RowsFault::Memory)
                 | Failure::Decision(GuardFault::Memory)
-                | Failure::Intersect(IntersectFault::Memory)
                 | Failure::Acl(AclFault::Memory)
                 | Failure::Ask(AskFault::Memory)
-                | Failure::Text(TextFault::Memory)
-                | Failure::Narrow(NarrowFault::Tag(TagFault::Memory))
-                | Failure::Narrow(NarrowFault::Meet(MeetFault::Memory))
-                | Failure::Service(ServiceFault::List(AclFault::Memory))
-                | Failure::Service(ServiceFault::Question(AskFault::Memory))
-                | Failure::Service(ServiceFault::Memory)
         )
     }
 
     /// The fault and its text, as the answer to a row. `Memory` if memory ran out.
-    pub(crate) fn said(self, alloc: Global) -> Reply {
+    pub fn said(self, alloc: Global) -> Reply {
         if self.is_memory() {
             return Err(Failure::Memory);
         }

@@ -75,5 +75,5 @@ fn first_named(alloc: Global, texts: &[Vec<u8>]) -> Reply {
         alg: HashAlg::Sha256,
         digest: Octets::new(SHARED),
     };
-    shown(alloc, &spki_guard::first_named(&hash, &keys, is_owner))
+    shown(alloc, &spki_decision::first_named(&hash, &keys, is_owner))
 }

@@ -3,7 +3,6 @@
 use crate::answers::{Called, Reply, answer, call_on};
 use crate::texts::{at, number, read};
 use crate::windows;
-use spki_guard::intersect;
 use spki_tag::{Ground, Index, Tag, merged};
 use std::alloc::{AllocError, Global};
 
@@ -17,7 +16,6 @@ pub(crate) fn call(alloc: Global, name: &str, texts: &[Vec<u8>]) -> Option<Reply
         | "Tag::meet_within"
         | "Index::places" => Some(call_on(alloc, read::<Tag>(alloc, at(texts, 0)), name, texts)),
         "merged" => Some(merge(alloc, at(texts, 0), at(texts, 1))),
-        "intersect" => Some(answer(alloc, intersect(alloc, at(texts, 0)))),
         _ => windows::call(alloc, name, texts),
     }
 }

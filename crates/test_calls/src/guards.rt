@@ -6,20 +6,16 @@ use crate::opened;
 use crate::texts::{at, behind, number, word_of};
 use crate::verifier::RowVerifier;
 use spki_cert::Policy;
-use spki_guard::{
-    Asked, Guard, GuardFault, Limits, Moment, Query, Question, Reduction, RequestInput, Texts,
-    answer_question,
-};
+use spki_decision::{GuardFault, Reduction};
+use spki_service::{Asked, Guard, Limits, Moment, Question, RequestInput, Texts};
 use std::alloc::{AllocError, Global};
 
 /// The answer of the call with this name, of this module or of those behind it. None if there is no such call.
 pub(crate) fn call(alloc: Global, name: &str, texts: &[Vec<u8>]) -> Option<Reply> {
     match name {
         "Limits::new" => Some(new_limits(alloc, texts)),
-        "refused_list" => Some(refused_list(alloc, texts)),
         "Guard::read"
         | "Guard::ask"
-        | "answer_question"
         | "Guard::texts"
         | "Asked::decide"
         | "Asked::decide_by"
@@ -69,7 +65,7 @@ fn limits(octets: &[u8], nodes: &[u8]) -> Option<Limits> {
 }
 
 /// The guard of the first four texts.
-pub(crate) fn guard(alloc: Global, texts: &[Vec<u8>]) -> Result<Guard, Failure> {
+pub fn guard(alloc: Global, texts: &[Vec<u8>]) -> Result<Guard, Failure> {
     let policy = match word_of(at(texts, 1)) {
         "strict" => Policy::Strict,
         _ => Policy::Open,
@@ -80,20 +76,8 @@ pub(crate) fn guard(alloc: Global, texts: &[Vec<u8>]) -> Result<Guard, Failure> 
     Ok(Guard::read(alloc, at(texts, 0), policy, limits)?)
 }
 
-/// The line of a refused list.
-fn refused_list(alloc: Global, texts: &[Vec<u8>]) -> Reply {
-    match guard(alloc, texts) {
-        Ok(guard) => {
-            drop(guard);
-            word(alloc, "read")
-        }
-        Err(Failure::Acl(fault)) => answer(alloc, spki_guard::refused_list(alloc, fault)),
-        Err(failure) => Err(failure),
-    }
-}
-
 /// The question of four texts: the sequence, the key, the request and the moment.
-pub(crate) fn question(texts: &[Vec<u8>]) -> Question<'_> {
+pub fn question(texts: &[Vec<u8>]) -> Question<'_> {
     Question {
         sequence: at(texts, 0),
         key: at(texts, 1),
@@ -108,7 +92,6 @@ impl Called for Guard {
         match name {
             "Guard::read" => shown(alloc, &self.entries()),
             "Guard::ask" => ask_words(alloc, self, behind(texts, 4)),
-            "answer_question" => answer_all(alloc, self, query_of(at(texts, 4)), behind(texts, 5)),
             _ => ask(
                 alloc,
                 name,
@@ -142,38 +125,12 @@ fn seconds(text: &[u8]) -> i64 {
 }
 
 /// Which signatures are verified: those whose octet is 1.
-pub(crate) fn marks(alloc: Global, text: &[u8]) -> Result<Vec<bool>, AllocError> {
+pub fn marks(alloc: Global, text: &[u8]) -> Result<Vec<bool>, AllocError> {
     let mut marks = Vec::new(alloc);
     for octet in text {
         marks.push(*octet == b'1')?;
     }
     Ok(marks)
-}
-
-/// What is asked for.
-pub(crate) fn query_of(text: &[u8]) -> Query {
-    match word_of(text) {
-        "explain" => Query::Explain,
-        "reduce" => Query::Reduce,
-        _ => Query::Decide,
-    }
-}
-
-/// What a guard answers to several questions. Each has four texts and its marks.
-fn answer_all(alloc: Global, guard: &Guard, query: Query, texts: &[Vec<u8>]) -> Reply {
-    let mut out = Vec::new(alloc);
-    for asked in texts.chunks(5) {
-        out.extend_from_slice(&answer_to(alloc, guard, query, asked)?)?;
-    }
-    Ok(out)
-}
-
-fn answer_to(alloc: Global, guard: &Guard, query: Query, texts: &[Vec<u8>]) -> Reply {
-    let marks = marks(alloc, at(texts, 4))?;
-    answer(
-        alloc,
-        answer_question(alloc, query, guard, &question(texts), &marks),
-    )
 }
 
 /// What is answered to a question of a guard, by a verifier or by marks.

@@ -1,0 +1,119 @@
+//! The calls of `spki_guard` that answer with a line, and `intersect`.
+
+use crate::streams;
+use spki_guard::{
+    Answer, Guard, IntersectFault, Opened, Query, Verdict, answer_opened, answer_question,
+    check_accepted, intersect, open_question,
+};
+use std::alloc::Global;
+use test_calls::answers::{Reply, answer, joined, refused, shown, word};
+use test_calls::failure::Failure;
+use test_calls::guards::{guard, marks, question};
+use test_calls::opened::shared;
+use test_calls::texts::{at, behind, word_of};
+
+/// The answer of the call with this name, of this module or of those behind it. None if there is no such call.
+pub(crate) fn call(alloc: Global, name: &str, texts: &[Vec<u8>]) -> Option<Reply> {
+    let (one, other) = (at(texts, 0), at(texts, 1));
+    match name {
+        "intersect" => Some(intersection(alloc, one)),
+        "check_accepted" => Some(line(alloc, check_accepted(alloc, one, other))),
+        "refused_list" => Some(refused_list(alloc, texts)),
+        "answer_question" => Some(answer_all(alloc, texts)),
+        "answer_opened" => Some(answer_marked(alloc, texts)),
+        _ => streams::call(alloc, name, texts),
+    }
+}
+
+fn intersection(alloc: Global, text: &[u8]) -> Reply {
+    match intersect(alloc, text) {
+        Ok(tag) => answer(alloc, tag),
+        Err(IntersectFault::Memory) => Err(Failure::Memory),
+        Err(fault) => refused(alloc, "Intersect", &fault),
+    }
+}
+
+/// The verdict of an answer and its line.
+fn line(alloc: Global, answer: Answer) -> Reply {
+    let reply = verdict_and_line(alloc, &answer);
+    drop(answer);
+    reply
+}
+
+fn verdict_and_line(alloc: Global, answer: &Answer) -> Reply {
+    if answer.verdict == Verdict::Refused && answer.octets() == b"refused Memory\n".as_slice() {
+        return Err(Failure::Memory);
+    }
+    let verdict = shown(alloc, &answer.verdict)?;
+    joined(alloc, &[&verdict, b" ", answer.octets()])
+}
+
+/// The same of an answer by marks. None if there are not as many marks as signatures.
+fn line_by_marks(alloc: Global, answer: Option<Answer>) -> Reply {
+    match answer {
+        Some(answer) => line(alloc, answer),
+        None => word(alloc, "other marks"),
+    }
+}
+
+/// The line of a refused list.
+fn refused_list(alloc: Global, texts: &[Vec<u8>]) -> Reply {
+    match guard(alloc, texts) {
+        Ok(guard) => {
+            drop(guard);
+            word(alloc, "read")
+        }
+        Err(Failure::Acl(fault)) => line(alloc, spki_guard::refused_list(alloc, fault)),
+        Err(failure) => Err(failure),
+    }
+}
+
+/// What is asked for.
+fn query_of(text: &[u8]) -> Query {
+    match word_of(text) {
+        "explain" => Query::Explain,
+        "reduce" => Query::Reduce,
+        _ => Query::Decide,
+    }
+}
+
+/// What the guard of the first four texts answers to several questions. The fifth text says what is asked for. Each question has four
+/// texts and its marks.
+fn answer_all(alloc: Global, texts: &[Vec<u8>]) -> Reply {
+    let guard = guard(alloc, texts)?;
+    let reply = answers_to(alloc, &guard, query_of(at(texts, 4)), behind(texts, 5));
+    drop(guard);
+    reply
+}
+
+fn answers_to(alloc: Global, guard: &Guard, query: Query, texts: &[Vec<u8>]) -> Reply {
+    let mut out = Vec::new(alloc);
+    for asked in texts.chunks(5) {
+        out.extend_from_slice(&answer_to(alloc, guard, query, asked)?)?;
+    }
+    Ok(out)
+}
+
+fn answer_to(alloc: Global, guard: &Guard, query: Query, texts: &[Vec<u8>]) -> Reply {
+    let marks = marks(alloc, at(texts, 4))?;
+    let answer = answer_question(alloc, query, guard, &question(texts), &marks);
+    line_by_marks(alloc, answer)
+}
+
+/// The line by marks of a question that is opened. The fifth text says what is asked for.
+fn answer_marked(alloc: Global, texts: &[Vec<u8>]) -> Reply {
+    let marks = marks(alloc, at(texts, 9))?;
+    let shared = shared(alloc, texts)?;
+    let opened = open_question(alloc, &shared, &question(behind(texts, 5)));
+    drop(shared);
+    match opened {
+        Err(refusal) => line(alloc, refusal),
+        Ok(opened) => answer_of(alloc, query_of(at(texts, 4)), opened, &marks),
+    }
+}
+
+fn answer_of(alloc: Global, query: Query, opened: Opened, marks: &[bool]) -> Reply {
+    let answer = answer_opened(alloc, query, &opened, marks);
+    drop(opened);
+    line_by_marks(alloc, answer)
+}
