@@ -113,7 +113,7 @@ fn print_quoted<S: Sink>(octets: &[u8], sink: &mut S)
     sink.put_octet(b'"');
 }
 
-/// Prints at most 384 octets in padded base64.
+/// Prints octets in padded base64, without the `|` around them. There must be at most 384.
 fn print_piece<S: Sink>(octets: &[u8], sink: &mut S)
     requires { length octets.now ≤ 384 }
     ensures { S.takes sink.old (encode_of standard octets.now) sink.new }

@@ -32,6 +32,7 @@ pub(crate) enum Place {
 /// The content of one field.
 #[derive(Drop)]
 pub(crate) enum Said<'a> {
+    /// No content that is kept: `propagate`, a version, or a field that is ignored.
     Nothing,
     Issuer(Issuer<'a>),
     Subject(Who<'a>),

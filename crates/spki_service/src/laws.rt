@@ -49,7 +49,7 @@ pub fn one_date()
 {}
 
 /// By one verifier, a question that was read has at most one answer of `Asked::decide`, of `explain` and of `reduce`, unless
-/// memory ran out. The texts are those of a guard's entries.
+/// memory ran out. The guard's texts must be those of some entries, as they are in every guard.
 pub fn one_answer<V: Verifier>()
     ensures decision { (verifier : V) (a : AskedOf) (es : List Entry) (x y : Decision) → AreEntries a.texts es
         → Decides (V.accepted verifier) a x → Decides (V.accepted verifier) a y → x ≡ y }
@@ -64,7 +64,7 @@ pub fn one_answer<V: Verifier>()
 {}
 
 /// By the same marks, a question that was read has at most one answer of `Asked::decide_by`, of `explain_by` and of `reduce_by`,
-/// unless memory ran out. The texts are those of a guard's entries.
+/// unless memory ran out. The guard's texts must be those of some entries, as they are in every guard.
 pub fn one_marked_answer()
     ensures decision { (signed : List Signed) (marks : List Bool) (a : AskedOf) (es : List Entry) (x y : Decision)
         → AreEntries a.texts es → Decides (MarksAccept signed marks) a x → Decides (MarksAccept signed marks) a y → x ≡ y }

@@ -122,7 +122,7 @@ impl Tag {
     }
 }
 
-/// Whether the tag is a set, which `(*)` is not.
+/// Whether the tag has the form `(* set ..)`, which `(*)` has not.
 fn is_set(tag: &Tag) -> bool
     ensures { result ≡ spec.is_set tag.now }
 {
