@@ -146,7 +146,7 @@ fn of_parts<'a>(
 ) -> Result<Case<'a>, Failure> {
     let entries = read(alloc, at(texts, 0))?;
     let question = question(alloc, behind(texts, 2))?;
-    case_of(alloc, entries, shown, question).map_err(Failure::Cert)
+    Ok(case_of(alloc, entries, shown, question)?)
 }
 
 fn question<'a>(alloc: Global, texts: &'a [Vec<u8>]) -> Result<Question<'a>, Failure> {
