@@ -77,9 +77,8 @@ fn first_within_limit<'a>(
     Ok(Decision::No)
 }
 
-/// Tests that no step's tag is too large to be intersected after this entry. If the numbers of nodes in `sizes`, which
-/// must be those of the steps, do not show it, the entry and the steps are folded. Err is `TooLarge` if a tag is too
-/// large, or `Memory`.
+/// Tests that no step's tag is too large to be intersected after this entry. If `sizes`, those of the steps, do not show
+/// it, the entry and the steps are folded. Err is `TooLarge` if a tag is too large, or `Memory`.
 fn require_small<'a>(
     alloc: Global,
     entry: &Entry<'a>,

@@ -10,9 +10,8 @@ use spki_cert::{Entry, Policy};
 use spki_reduce::{Five, Fold, Issuer, ReduceFault, Step, Work, fold_owned};
 use std::alloc::{AllocError, Global};
 
-/// Joins an entry's 5-tuple with the steps after it, as `fold_owned` does. `most`, which must be at most 1,000,000, is
-/// the greatest product of the numbers of nodes of two tags that are intersected. What the steps cost is taken from
-/// `work`. Err is `TooLarge` if one of these is too little, or `Memory`.
+/// Joins an entry's 5-tuple with the steps after it, as `fold_owned` does. `most` must be at most 1,000,000. What the
+/// steps cost is taken from `work`. Err is `TooLarge` if one of these is too little, or `Memory`.
 pub(crate) fn fold_entry<'a>(
     alloc: Global,
     entry: &Entry<'a>,

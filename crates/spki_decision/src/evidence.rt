@@ -40,9 +40,8 @@ pub enum Evidence<'a> {
     },
 }
 
-/// Returns the evidence of a sequence: the tuples of its certificates, or the first that fails one of the four tests
-/// (RFC 2693, section 6). Without certificates there are no tuples. Each certificate must be followed by its signature,
-/// and only operations may be between. The verifier's message is a certificate's canonical form.
+/// Returns the evidence of a sequence: the tuples of its certificates, or the first that fails one of the four tests (RFC
+/// 2693, section 6). Each must be followed by its signature. The verifier's message is a certificate's canonical form.
 ///
 /// # Errors
 ///

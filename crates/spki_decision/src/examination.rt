@@ -72,8 +72,7 @@ pub fn examine<'a>(
     Ok(Examined { signed, evidence })
 }
 
-/// Does the tests of a certificate that need no verifier, in this order: its issuer's key is shown, its digest is
-/// right, this key signed. The certificate must have a signature. Err if memory ran out.
+/// Does the tests of a signed certificate that need no verifier: its issuer's key is shown, its digest right, this key signed.
 fn test<'a>(
     alloc: Global,
     shown: &ShownCert<'_, 'a>,

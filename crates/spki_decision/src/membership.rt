@@ -28,8 +28,7 @@ pub struct Membership<'a> {
 
 impl<'a> Membership<'a> {
     /// What certificates with the tuples `steps` require of an entry, so that both grant what the case asks. If a
-    /// step's tag lacks the request, or its window the moment, no entry is enough. The case's access list is not read.
-    /// This takes time in proportion to the steps.
+    /// step's tag lacks the request, or its window the moment, no entry is enough. Takes time in proportion to the steps.
     ///
     /// # Errors
     ///
@@ -49,8 +48,7 @@ impl<'a> Membership<'a> {
         Ok(Membership { required })
     }
 
-    /// Whether an entry and the certificates grant what this case asks, which must be the case of `of`. This takes time
-    /// in proportion to the entry. Allocates nothing.
+    /// Whether an entry and the certificates grant what this case asks, which must be that of `of`. Allocates nothing.
     pub fn grants(&self, entry: &Entry, case: &Case) -> bool
         ensures { (tuples : List Tuple) → IsMembership (model case.now) tuples self.now
             → IsTrue result ↔ Supported (model case.now) tuples entry.now }

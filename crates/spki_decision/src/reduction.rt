@@ -82,8 +82,7 @@ pub fn reduce_case<'a, V: Verifier>(
 }
 
 /// Puts into `sink` what each entry of an access list and the certificates of the case become. `steps` are the tuples of
-/// all certificates, in order: one for each. The case's own access list is not examined. Err is `TooLarge` or `Memory`, as
-/// for `reduce_case`.
+/// all certificates, in order. The case's own access list is not examined. Err is `TooLarge` or `Memory`.
 pub(crate) fn put_folds<'a, S: FoldSink<'a>>(
     alloc: Global,
     acl: &[Entry<'a>],

@@ -64,8 +64,7 @@ impl<'a> RequiredSubject<'a> {
             && subject.principal.names(&self.key, policy)
     }
 
-    /// The subject that is required before a step, if `self` is required after it: before an authorization by
-    /// `before_delegation`, before a definition by `before_definition`. None if there is none. Err if memory ran out.
+    /// The subject that is required before a step, if `self` is required after it. None if there is none.
     fn before(
         self,
         alloc: Global,

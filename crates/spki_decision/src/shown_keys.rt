@@ -91,8 +91,7 @@ impl<'a> ShownKeys<'a> {
     }
 }
 
-/// The first of the keys whose digest by the algorithm is `digest`. None if there is none. It is found in `index`,
-/// which must be None or that of these keys by this algorithm, and is made if it is None. Err if memory ran out.
+/// The first of the keys whose digest by the algorithm is `digest`, or None. It is found in `index`, made if it is None.
 fn first_in<'a>(
     index: &mut Option<FirstKeys<'a>>,
     alloc: Global,

@@ -63,8 +63,7 @@ impl Sizes {
     }
 }
 
-/// The product of the numbers of nodes of the steps' tags, which is 1 if there are none. A name's definition counts as
-/// one node. None if it is over 1,000,000.
+/// The product of the numbers of nodes of the steps' tags. A definition counts as one node. None if it is over 1,000,000.
 fn product_of(steps: &[Step]) -> Option<usize>
     ensures { IfSome result (λ n. (n ≡ nodes_product (all_tags (tuples_of steps.now))) × (n ≤ 1000000)) }
 {
