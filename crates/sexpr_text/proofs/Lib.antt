@@ -7,6 +7,7 @@ pub mod Marked
 pub mod OneString
 pub mod OneValue
 pub mod Openings
+pub mod CanonicalPrinting
 pub mod PrintLaws
 pub mod SinkLaws
 pub mod PrintedSpelled

@@ -1,6 +1,7 @@
 -- What is printed behind other octets.
-use Rattle.std.proofs.Common.{◌≡◌, ℕ, suc, ◌+◌, ◌%◌, ◌<◌, ◌≤◌, ◌==◌, ◌||◌, Bool, true, false, List, [], ◌∷◌, ◌++◌, length, map, take, drop, take-append-drop, get_or, Vec, Global, Some, refl, sym, ap, ◌∙◌, append_assoc, append-nil, arith, rules}
+use Rattle.std.proofs.Common.{◌≡◌, ℕ, suc, ◌+◌, ◌%◌, ◌<◌, ◌≤◌, ◌==◌, ◌||◌, Bool, true, false, List, [], ◌∷◌, ◌++◌, length, map, take, drop, take-append-drop, get_or, cond, Vec, Global, Some, refl, sym, ap, ◌∙◌, append_assoc, append-nil, arith, rules}
 use Rattle.std.proofs.lemmas.Bool.{cases_Bool}
+use Rattle.std.proofs.lemmas.Bool.Decides.{nat_tests}
 use Rattle.std.proofs.lemmas.List.{map-append, take_more, take_all, length-take-le, length-map}
 use Rattle.std.specs.List.{AllByRecursion}
 use Rattle.base64.specs.Engines.{standard}
@@ -9,7 +10,7 @@ use Rattle.base64.proofs.EngineFacts.{encode_of-append}
 use Rattle.sexpr_core.specs.declared.tree.Atom.{Atom}
 use Rattle.sexpr_core.specs.declared.tree.Sexp.{Sexp}
 use Rattle.sexpr_core.specs.declared.tree.Sexp.TheVariants.{List as Branch}
-use Rattle.sexpr_core.specs.Value.{Value, values}
+use Rattle.sexpr_core.specs.Value.{Value, Values, none, more, values}
 use Rattle.sexpr_core.specs.Tree.{atom_value, sexp_value}
 use Rattle.sexpr_core.proofs.Written.{sexp_list}
 use Rattle.sexpr_text.specs.Strings.{IsToken}
@@ -51,6 +52,15 @@ printed_packed octets e f = rw (e, f) refl
 pub adv_all-append : (n : ℕ) (vs ws : List Value) → adv_all n (values (vs ++ ws)) ≡ adv_all n (values vs) ++ adv_all (n + length vs) (values ws)
 adv_all-append n [] ws = let e : n ≡ n + 0 = omega arith in ap (λ m. adv_all m (values ws)) e
 adv_all-append n (v ∷ vs) ws = search (rules, append_assoc, adv_all-append (suc n) vs ws)
+
+gap_suc : (n : ℕ) → gap (suc n) ≡ 32 ∷ []
+gap_suc n = let e : (suc n == 0) ≡ false = grind (arith, nat_tests) in ap (λ b. cond b [] (32 ∷ [])) e
+
+-- past the first member, each has a space before it
+pub past_first : (n : ℕ) (vs : Values) → adv_all (suc n) vs ≡ adv_all 1 vs
+past_first n none = refl
+past_first n (more v vs) =
+    (λ i. gap_suc n i ++ (adv v ++ past_first (suc n) vs i)) ∙ sym (λ i. gap_suc 0 i ++ (adv v ++ past_first 1 vs i))
 
 pub member_behind : {A : Type 0} (f : A → Value) (xs : List A) (k : ℕ) (d : A) → k < length xs
     → (adv_all 0 (values (map f (take k xs))) ++ gap k) ++ adv (f (get_or xs k d)) ≡ adv_all 0 (values (map f (take (k + 1) xs)))

@@ -4,6 +4,7 @@
 //! `laws` contains what is proved about the definitions.
 #![tactic(auto)]
 
+mod canonical_printer;
 mod converter;
 mod hexadecimal_strings;
 mod hinted_strings;
@@ -15,6 +16,7 @@ mod reader;
 mod sinks;
 mod strings;
 
+pub use canonical_printer::print_canonical;
 pub use converter::{Form, convert};
 pub use printer::{print_advanced, print_octets, print_tree};
 pub use reader::{read_advanced, read_any};

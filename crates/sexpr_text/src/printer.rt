@@ -158,7 +158,7 @@ pub fn print_octets<S: Sink>(octets: &[u8], sink: &mut S)
 }
 
 /// Prints a display hint in brackets, in the spelling of `print_octets`.
-fn print_hint<S: Sink>(hint: &[u8], sink: &mut S)
+pub(crate) fn print_hint<S: Sink>(hint: &[u8], sink: &mut S)
     ensures printed { S.takes sink.old (91 ∷ (printed_string hint.now ++ 93 ∷ [])) sink.new }
     ensures octets { IsBytes hint.now }
 {
@@ -182,7 +182,7 @@ fn print_atom<S: Sink>(atom: &Atom, sink: &mut S)
 }
 
 /// Prints the space before a member, unless it is the first. `member` is its place, from 0.
-fn print_gap<S: Sink>(member: usize, sink: &mut S)
+pub(crate) fn print_gap<S: Sink>(member: usize, sink: &mut S)
     ensures { S.takes sink.old (gap member) sink.new }
 {
     if member == 0 {

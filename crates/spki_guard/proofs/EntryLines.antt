@@ -30,8 +30,3 @@ module _ {A : Type 0} (one : ℕ → A → List ℕ) (all : ℕ → List A → L
       let count : 1 + length (take k xs) ≡ k + 1 = omega (arith, length-take-le k xs (omega arith)) in
       ap (λ m. all 1 (take k xs) ++ one m (get_or xs k d)) (sym count) ∙ sym (lines_append 1 (take k xs) (get_or xs k d))
       ∙ ap (all 1) (sym (take_more xs k d lt))
-
-  -- the same of a value that is there
-  pub line_behind : (xs : List A) (k : ℕ) (x : A) → k < length xs → x ≡ get_or xs k x
-      → all 1 (take k xs) ++ one (k + 1) x ≡ all 1 (take (k + 1) xs)
-  line_behind xs k x lt at = ap (λ u. all 1 (take k xs) ++ one (k + 1) u) at ∙ line_at xs k x lt

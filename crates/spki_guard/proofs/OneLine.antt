@@ -1,5 +1,5 @@
 -- A text has one answer of a command, and is not refused where it has one.
-use Rattle.std.proofs.Common.{◌≡◌, ◌≢◌, ℕ, suc, ◌*◌, ◌<◌, ◌≤◌, inl, inr, List, [], ◌∷◌, ◌++◌, Option, Some, None, Result, Ok, refl, sym, ap, subst, ◌∙◌, arith, rules}
+use Rattle.std.proofs.Common.{◌≡◌, ◌≢◌, ℕ, ◌*◌, ◌<◌, ◌≤◌, inl, inr, List, [], ◌∷◌, ◌++◌, Option, Some, None, Result, Ok, refl, sym, ap, subst, ◌∙◌, arith, rules}
 use Rattle.std.specs.Prelude.{codes}
 use Rattle.sexpr_core.specs.Value.{Value, canon}
 use Rattle.sexpr_text.specs.Printed.{adv}
@@ -13,7 +13,6 @@ use Rattle.spki_case.specs.CaseForm.{IsCaseText}
 use Rattle.spki_case.proofs.Building.{behind_head}
 use Rattle.spki_case.proofs.OneCase.{text-one}
 use Rattle.spki_case.proofs.Unrefused.{one_text, well_formed, case_unrefused}
-use Rattle.spki_reduce.proofs.OneFive.{written_one}
 use Rattle.spki_decision.specs.declared.decision.Decision.{Decision}
 use Rattle.spki_decision.specs.declared.decision.Decision.TheVariants as decision
 use Rattle.spki_decision.specs.declared.fault.GuardFault.{GuardFault}
@@ -21,7 +20,6 @@ use Rattle.spki_decision.specs.declared.fault.GuardFault.TheVariants.{TooLarge}
 use Rattle.spki_decision.specs.declared.reduction.Reduction.{Reduction}
 use Rattle.spki_decision.specs.declared.reduction.Reduction.TheVariants as reduction
 use Rattle.spki_decision.specs.declared.reduction.EntryFold.{EntryFold}
-use Rattle.spki_decision.specs.declared.reduction.EntryFold.TheVariants as folded
 use Rattle.spki_decision.specs.declared.explanation.Explanation.{Explanation}
 use Rattle.spki_decision.specs.declared.explanation.Explanation.TheVariants as explanation
 use Rattle.spki_decision.specs.declared.explanation.Reason.{Reason}
@@ -38,9 +36,10 @@ use Rattle.spki_guard.specs.declared.answers.Refusal.TheVariants as refusals
 use Rattle.spki_guard.specs.declared.answers.Verdict.{Verdict}
 use Rattle.spki_guard.specs.declared.intersection.IntersectFault.{IntersectFault}
 use Rattle.spki_guard.specs.declared.intersection.IntersectFault.TheVariants as intersect
-use Rattle.spki_guard.specs.Lines.{item_line, entry_line}
+use Rattle.spki_guard.specs.Lines.{item_line}
 use Rattle.spki_service.specs.declared.failure.Failure.{Failure}
-use Rattle.spki_guard.specs.Reports.{IsFoldLine, AreFoldLines, ReportsFolds, IsReductionReport, ReportsReduced, ReportsReasons, IsExplanationReport}
+use Rattle.spki_guard.specs.Reports.{ReportsFolds, IsReductionReport, ReportsReduced, ReportsReasons, IsExplanationReport}
+use Rattle.spki_guard.proofs.ReportLines.{folds_once}
 use Rattle.spki_guard.specs.Intersect.{intersect_value, Intersects, AreTooLarge, ValueNotMet, IsMetText, TextNotMet}
 use Rattle.spki_guard.specs.Answer.{IsLineOf, Decides, Reduces, Explains, WritesMeet, HasTooLarge, IsOnCase, AnswersValue, AnswersRead, RefusesValue, RefusesAnswer}
 
@@ -140,21 +139,9 @@ explains_one text x y output line m n =
 
 -- ---- reductions
 
-fold_line : (n : ℕ) (fold : EntryFold) (output line : List ℕ) → IsFoldLine n fold output → IsFoldLine n fold line → output ≡ line
-fold_line n (folded.Done f) output line (v, written, e) (w, also, d) =
-    e ∙ ap (λ (u : Value). entry_line n (adv u ∷ [])) (written_one f v w written also) ∙ sym d
-fold_line n (folded.Stopped item cause) output line a b = a ∙ sym b
-
-fold_lines : (n : ℕ) (folds : List EntryFold) (output line : List ℕ) → AreFoldLines n folds output → AreFoldLines n folds line → output ≡ line
-fold_lines n [] output line a b = a ∙ sym b
-fold_lines n (fold ∷ folds) output line a b =
-    let first = fold_line n fold a.0 b.0 a.2 b.2 in
-    let rest = fold_lines (suc n) folds a.1 b.1 a.3 b.3 in
-    a.4 ∙ (λ i. first i ++ rest i) ∙ sym b.4
-
 folds_line : (folds : List EntryFold) (x y : Verdict) (output line : List ℕ) → ReportsFolds folds x output → ReportsFolds folds y line → Same x y output line
 folds_line [] x y output line a b = (a.0 ∙ sym b.0, a.1 ∙ sym b.1)
-folds_line (fold ∷ folds) x y output line a b = (a.0 ∙ sym b.0, fold_lines 1 (fold ∷ folds) output line a.1 b.1)
+folds_line (fold ∷ folds) x y output line a b = (a.0 ∙ sym b.0, folds_once 1 (fold ∷ folds) output line a.1 b.1)
 
 pub reported_line : (failure : Option Failure) (folds : List EntryFold) (x y : Verdict) (output line : List ℕ)
     → ReportsReduced failure folds x output → ReportsReduced failure folds y line → Same x y output line

@@ -79,7 +79,7 @@ module _ {W : Type 0} (contents : W → Option (List ℕ)) where
         (last_front old (writer_of t) end sent (page_of t) octets rest (subst (λ w. Takes contents w (writer_of t) sent) from first) joined front)
         (subst (λ n. (0 < faults_of end) ⊎ (n ≤ asks_of end)) (taken.same_most ∙ most_is ∙ limit) faulty)
 
-  on_err : {A E P Q : Type 0} (r : Result A E) → (P → Q) → OnErr r P → OnErr r Q
+  pub on_err : {A E P Q : Type 0} (r : Result A E) → (P → Q) → OnErr r P → OnErr r Q
   on_err (Ok a) f h = tt
   on_err (Err e) f h = f h
 

@@ -1,23 +1,12 @@
 -- Tags in advanced form, member by member.
-use Rattle.std.proofs.Common.{◌≡◌, ℕ, suc, ◌+◌, ◌<◌, ◌==◌, false, cond, List, [], ◌∷◌, ◌++◌, Option, length, map, take, get_or, refl, sym, ap, ◌∙◌, append_assoc, append-nil, arith, rules}
+use Rattle.std.proofs.Common.{◌≡◌, ℕ, suc, ◌+◌, ◌<◌, List, [], ◌∷◌, ◌++◌, Option, length, map, take, get_or, refl, sym, ap, ◌∙◌, append_assoc, append-nil, arith, rules}
 use Rattle.std.specs.Prelude.{codes}
-use Rattle.std.proofs.lemmas.Bool.Decides.{nat_tests}
 use Rattle.std.proofs.lemmas.List.{take_more, map-append}
-use Rattle.sexpr_core.specs.Value as value
-use Rattle.sexpr_core.specs.Value.{Value, Values, plain, values}
-use Rattle.sexpr_text.specs.Printed.{printed_string, gap, adv, adv_all}
-use Rattle.sexpr_text.proofs.PrintLaws.{adv_all-append}
+use Rattle.sexpr_core.specs.Value.{Value, plain, values}
+use Rattle.sexpr_text.specs.Printed.{printed_string, adv, adv_all}
+use Rattle.sexpr_text.proofs.PrintLaws.{adv_all-append, past_first}
 use Rattle.spki_tag.proofs.Spelling.{tag_values-tags}
 use Rattle.spki_tag.specs.Tag.{Tag, Limit, Ordering, tags, star, prefix, range, list, set, ordering_name, limit_values, tag_value, tag_values}
-
-gap_suc : (n : ℕ) → gap (suc n) ≡ 32 ∷ []
-gap_suc n = let e : (suc n == 0) ≡ false = grind (arith, nat_tests) in ap (λ b. cond b [] (32 ∷ [])) e
-
--- past the first member, each has a space before it
-pub past_first : (n : ℕ) (vs : Values) → adv_all (suc n) vs ≡ adv_all 1 vs
-past_first n value.none = refl
-past_first n (value.more v vs) =
-    (λ i. gap_suc n i ++ (adv v ++ past_first (suc n) vs i)) ∙ sym (λ i. gap_suc 0 i ++ (adv v ++ past_first 1 vs i))
 
 -- members with a space before each
 abbrev pub spaced : List Value → List ℕ

@@ -1,37 +1,27 @@
 -- The lines of entries' chains and reasons, one behind another.
-use Rattle.std.proofs.Common.{◌≡◌, ℕ, suc, ◌+◌, ◌<◌, ◌==◌, false, Vec, Global, List, [], ◌∷◌, ◌++◌, length, take, get_or, refl, sym, ap, subst, ◌∙◌, append_assoc, append-nil, arith}
+use Rattle.std.proofs.Common.{◌≡◌, ℕ, suc, ◌+◌, ◌<◌, ◌==◌, false, Vec, Global, Option, Some, None, IfSome, List, [], ◌∷◌, ◌++◌, length, take, get_or, length-take-le, refl, sym, ap, subst, ◌∙◌, append_assoc, append-nil, arith}
 use Rattle.std.specs.Prelude.{codes}
-use Rattle.std.specs.List.{AllZip}
+use Rattle.std.proofs.lemmas.Bool.Decides.{nat_tests}
+use Rattle.std.proofs.lemmas.List.{take_more}
 use Rattle.sexpr_core.specs.Value.{Value, decimal}
-use Rattle.spki_reduce.specs.declared.tuple.Five.{Five}
-use Rattle.spki_reduce.specs.declared.writer.WrittenParts.{WrittenParts}
-use Rattle.spki_reduce.specs.Written.{IsWrittenPrincipal, IsWrittenFive}
+use Rattle.sexpr_text.specs.Printed.{adv}
+use Rattle.spki_reduce.proofs.OneFive.{written_one}
 use Rattle.spki_decision.specs.declared.reduction.EntryFold.{EntryFold}
 use Rattle.spki_decision.specs.declared.reduction.EntryFold.TheVariants as folded
 use Rattle.spki_decision.specs.declared.reduction.Reduction.{Reduction}
 use Rattle.spki_decision.specs.declared.reduction.Reduction.TheVariants as reduction
 use Rattle.spki_decision.specs.declared.explanation.Reason.{Reason}
 use Rattle.spki_guard.specs.declared.answers.Verdict.{Verdict}
-use Rattle.spki_guard.specs.declared.reports.FoldLine.{FoldLine}
+use Rattle.spki_guard.specs.declared.replies.Reply.{Reply}
+use Rattle.spki_guard.specs.declared.replies.Reply.TheVariants.{Whole, Octets, Line, Tag, Item, NoEntries, Folds, Reasons}
 use Rattle.spki_guard.specs.Lines.{entry_line, reason_line}
 use Rattle.spki_guard.specs.Reports.{verdict_of, IsFoldLine, AreFoldLines, ReportsFolds, IsReductionReport, some_done, reason_lines}
-use Rattle.spki_guard.specs.Inner.FoldLines.{value_of, IsPrincipalText, five_text, fold_line, fold_lines, some_done_line, IsLineOfFold}
-use Rattle.spki_guard.proofs.PrintedFives.{text_whole}
-use Rattle.spki_guard.proofs.EntryLines.{line_behind, line_at, entry_whole}
+use Rattle.spki_guard.specs.Inner.Replies.{Prints, PrintsAs}
+use Rattle.spki_guard.proofs.EntryLines.{line_at, entry_whole}
 
 pub fold_whole : (n : ℕ) (text : List ℕ)
     → ((codes "entry " ++ (decimal n ++ 32 ∷ [])) ++ text) ++ 10 ∷ [] ≡ entry_line n (text ∷ [])
 fold_whole n text = append_assoc (codes "entry " ++ (decimal n ++ 32 ∷ [])) text (10 ∷ []) ∙ entry_whole n text []
-
-pub done_line : (f : Five) (parts : WrittenParts) (principal : List ℕ)
-    → ((owner : Value) → IsWrittenPrincipal f.subject.principal owner → IsWrittenFive f (value_of parts owner f))
-    → IsPrincipalText f.subject.principal principal → (n : ℕ) → IsFoldLine n (folded.Done f) (entry_line n (five_text parts principal f ∷ []))
-done_line f parts principal written (owner, is, e) n =
-    (value_of parts owner f, written owner is, ap (λ text. entry_line n (text ∷ [])) (text_whole parts f principal owner e))
-
-pub fold_behind : (xs : List FoldLine) (k : ℕ) (x : FoldLine) → k < length xs → x ≡ get_or xs k x
-    → fold_lines 1 (take k xs) ++ fold_line (k + 1) x ≡ fold_lines 1 (take (k + 1) xs)
-fold_behind = line_behind fold_line fold_lines (λ n. refl) (λ n x xs. refl)
 
 pub reason_behind : (xs : List Reason) (k : ℕ) (d : Reason) → k < length xs
     → reason_lines 1 (take k xs) ++ reason_line (k + 1) (get_or xs k d) ≡ reason_lines 1 (take (k + 1) xs)
@@ -63,39 +53,46 @@ pub reported_as : (folds : List EntryFold) (lines output : List ℕ) (verdict : 
     → verdict ≡ verdict_of (some_done folds) → output ≡ lines → ReportsFolds folds verdict output
 reported_as folds lines output verdict some h e f = rw (e, f) (chains_reported folds lines some h)
 
--- ---- the lines of chains are those of what the chains become
+pub lines_more : (folds : List EntryFold) (k : ℕ) (fold : EntryFold) (lines line : List ℕ) → k < length folds → fold ≡ get_or folds k fold
+    → AreFoldLines 1 (take k folds) lines → IsFoldLine (k + 1) fold line → AreFoldLines 1 (take (k + 1) folds) (lines ++ line)
+lines_more folds k fold lines line lt at are is =
+    let count : k + 1 ≡ 1 + length (take k folds) = omega (arith, length-take-le k folds (omega arith)) in
+    let whole : take k folds ++ fold ∷ [] ≡ take (k + 1) folds = ap (λ f. take k folds ++ f ∷ []) at ∙ sym (take_more folds k fold lt) in
+    subst (λ fs. AreFoldLines 1 fs (lines ++ line)) whole
+    (lines_after 1 (take k folds) fold lines line are (subst (λ m. IsFoldLine m fold line) count is))
 
-are_lines : (n : ℕ) (folds : List EntryFold) (lines : List FoldLine) → AllZip IsLineOfFold folds lines → AreFoldLines n folds (fold_lines n lines)
-are_lines n [] [] h = refl
-are_lines n (f ∷ fs) (l ∷ ls) h = (fold_line n l, fold_lines (suc n) ls, h.0.line n, are_lines (suc n) fs ls h.1, refl)
-are_lines n folds lines h = elim h [ ]
+-- ---- one text of the lines
 
-same_done : (folds : List EntryFold) (lines : List FoldLine) → AllZip IsLineOfFold folds lines → some_done_line lines ≡ some_done folds
-same_done [] [] h = refl
-same_done (f ∷ fs) (l ∷ ls) h = rw (h.0.done, same_done fs ls h.1) refl
-same_done folds lines h = elim h [ ]
+fold_once : (n : ℕ) (fold : EntryFold) (a b : List ℕ) → IsFoldLine n fold a → IsFoldLine n fold b → a ≡ b
+fold_once n (folded.Done f) a b (v, written, e) (w, also, d) = e ∙ ap (λ (u : Value). entry_line n (adv u ∷ [])) (written_one f v w written also) ∙ sym d
+fold_once n (folded.Stopped item cause) a b e d = e ∙ sym d
 
-pub folds_reported : (folds : List EntryFold) (lines : List FoldLine) → ¬ (folds ≡ []) → AllZip IsLineOfFold folds lines
-    → ReportsFolds folds (verdict_of (some_done_line lines)) (fold_lines 1 lines)
-folds_reported [] lines some h = absurd (some refl)
-folds_reported (f ∷ fs) [] some h = elim h [ ]
-folds_reported (f ∷ fs) (l ∷ ls) some h = (ap verdict_of (same_done (f ∷ fs) (l ∷ ls) h), are_lines 1 (f ∷ fs) (l ∷ ls) h)
+pub folds_once : (n : ℕ) (folds : List EntryFold) (a b : List ℕ) → AreFoldLines n folds a → AreFoldLines n folds b → a ≡ b
+folds_once n [] a b e d = e ∙ sym d
+folds_once n (fold ∷ folds) a b e d =
+    let first = fold_once n fold e.0 d.0 e.2 d.2 in
+    let rest = folds_once (suc n) folds e.1 d.1 e.3 d.3 in
+    e.4 ∙ (λ i. first i ++ rest i) ∙ sym d.4
 
-zip_more : (folds : List EntryFold) (lines : List FoldLine) (fold : EntryFold) (one : FoldLine) → AllZip IsLineOfFold folds lines
-    → IsLineOfFold fold one → AllZip IsLineOfFold (folds ++ fold ∷ []) (lines ++ one ∷ [])
-zip_more [] [] fold one h here = (here, tt)
-zip_more (f ∷ fs) (l ∷ ls) fold one h here = (h.0, zip_more fs ls fold one h.1 here)
-zip_more folds lines fold one h here = elim h [ ]
+pub prints_once : (reply : Reply) (a b : List ℕ) → Prints reply a → Prints reply b → a ≡ b
+prints_once (Folds folds) a b e d = folds_once 1 folds.items a b e d
+prints_once (Whole answer) a b e d = e ∙ sym d
+prints_once (Octets octets) a b e d = e ∙ sym d
+prints_once (Line octets) a b e d = e ∙ sym d
+prints_once (Tag tag) a b e d = e ∙ sym d
+prints_once (Item item stop) a b e d = e ∙ sym d
+prints_once NoEntries a b e d = e ∙ sym d
+prints_once (Reasons reasons) a b e d = e ∙ sym d
 
-pub line_pushed : (folds : List EntryFold) (lines new : List FoldLine) (fold : EntryFold) (one : FoldLine) → AllZip IsLineOfFold folds lines
-    → IsLineOfFold fold one → new ≡ lines ++ one ∷ [] → AllZip IsLineOfFold (folds ++ fold ∷ []) new
-line_pushed folds lines new fold one h here e = rw e (zip_more folds lines fold one h here)
+-- so their number is one
+pub counted_once : (reply : Reply) (octets : List ℕ) (more : ℕ) (sum : Option ℕ) → Prints reply octets → IfSome sum (λ n. n ≡ length octets + more)
+    → IfSome sum (λ n. (others : List ℕ) → Prints reply others → n ≡ length others + more)
+counted_once reply octets more None printed e = tt
+counted_once reply octets more (Some n) printed e = λ others also. e ∙ ap (λ o. length o + more) (prints_once reply octets others printed also)
 
-some_folds : (folds : List EntryFold) → (length folds == 0) ≡ false → ¬ (folds ≡ [])
-some_folds [] e none = cc
-some_folds (f ∷ fs) e none = cc
+-- ---- what is reported of folds
 
-pub reduction_reported : (r : Reduction) (folds : Vec EntryFold Global) (lines : List FoldLine) → r ≡ reduction.Entries folds
-    → (length folds.items == 0) ≡ false → AllZip IsLineOfFold folds.items lines
-    → IsReductionReport r (verdict_of (some_done_line lines)) (fold_lines 1 lines)
-reduction_reported r folds lines is some h = rw is (folds_reported folds.items lines (some_folds folds.items some) h)
+pub reduction_reported : (r : Reduction) (folds : Vec EntryFold Global) → r ≡ reduction.Entries folds → (length folds.items == 0) ≡ false
+    → PrintsAs (IsReductionReport r) (Folds folds)
+reduction_reported r folds is some output printed =
+    let more : 0 < length folds.items = grind (arith, nat_tests) in rw is (chains_reported folds.items output more printed)

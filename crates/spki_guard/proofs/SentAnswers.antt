@@ -1,5 +1,5 @@
 -- Answers, from replies and refusals.
-use Rattle.std.proofs.Common.{◌≡◌, ◌⊎◌, ℕ, List, inl, inr, subst, sym}
+use Rattle.std.proofs.Common.{◌≡◌, ◌⊎◌, ℕ, List, inl, inr, refl, subst, sym}
 use Rattle.spki_words.specs.declared.commands.Command.{Command}
 use Rattle.spki_guard.specs.declared.answers.Answer.{Answer}
 use Rattle.spki_guard.specs.declared.answers.Refusal.{Refusal}
@@ -10,7 +10,7 @@ use Rattle.spki_guard.specs.declared.replies.Reply.{Reply}
 use Rattle.spki_guard.specs.Answer.{IsAnswer, AnswersRead, RefusesAnswer, refused_line, output_octets}
 use Rattle.spki_guard.specs.Lines.{refused_memory}
 use Rattle.spki_guard.specs.Run.{RefusesForMemory}
-use Rattle.spki_guard.specs.Inner.Replies.{reply_verdict, printed}
+use Rattle.spki_guard.specs.Inner.Replies.{reply_verdict, Prints, PrintsAs}
 
 module _ (command : Command) (text : List ℕ) where
   pub refusal_answers : (refusal : Refusal) (verdict : Verdict) (output : List ℕ) → RefusesAnswer command text refusal → verdict ≡ Refused
@@ -31,8 +31,8 @@ module _ (command : Command) (text : List ℕ) where
       same_answer v answer.verdict o (output_octets answer.output) h.0 h.1
       (refusal_answers refusal answer.verdict (output_octets answer.output) refused is line)
 
-  pub reply_answers : (reply : Reply) → AnswersRead command text (reply_verdict reply) (printed reply) → (v : Verdict) (o : List ℕ)
-      → ((v ≡ reply_verdict reply) × (o ≡ printed reply)) ⊎ RefusesForMemory v o → IsAnswer command text v o
-  reply_answers reply answered v o (inl h) = same_answer v (reply_verdict reply) o (printed reply) h.0 h.1 (inl answered)
+  pub reply_answers : (reply : Reply) → PrintsAs (AnswersRead command text) reply → (v : Verdict) (o : List ℕ)
+      → ((v ≡ reply_verdict reply) × Prints reply o) ⊎ RefusesForMemory v o → IsAnswer command text v o
+  reply_answers reply answered v o (inl h) = same_answer v (reply_verdict reply) o o h.0 refl (inl (answered o h.1))
   reply_answers reply answered v o (inr h) =
       inr (record { refusal = refusals.Memory; refused = tt; verdict_is = h.verdict_is; line = h.line })

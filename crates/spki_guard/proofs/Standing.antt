@@ -19,7 +19,7 @@ use Rattle.spki_guard.specs.declared.answers.Refusal.{Refusal}
 use Rattle.spki_guard.specs.declared.answers.Refusal.TheVariants as refusals
 use Rattle.spki_guard.specs.declared.replies.Reply.{Reply}
 use Rattle.spki_guard.specs.Answer.{form_of, IsOnCase, AnswersValue, RefusesValue, AnswersRead, RefusesAnswer, written_by}
-use Rattle.spki_guard.specs.Inner.Replies.{reply_verdict, printed, command_of}
+use Rattle.spki_guard.specs.Inner.Replies.{PrintsAs, command_of}
 use Rattle.spki_guard.specs.Apart.{ReadsCase, DecidesApart, DecidesBy, RefusesApart, RefusesBy}
 
 canonical_text : (text : List ℕ) (v : Value) → IsWithinLimits v → text ≡ canon v → IsTextWithin text v
@@ -32,9 +32,9 @@ of_value text fault (inl m) other = absurd (other (m.form, m.is))
 of_value text fault (inr t) other = t
 
 answered_by : (command : Command) (text : List ℕ) (v : Value) (r : Result Reply Refusal) → IsTextWithin text v
-    → IfOk r (λ x. AnswersValue command v (reply_verdict x) (printed x))
-    → IfOk r (λ x. AnswersRead command text (reply_verdict x) (printed x))
-answered_by command text v (Ok x) t h = record { value = v; read = t; answer = h }
+    → IfOk r (PrintsAs (AnswersValue command v))
+    → IfOk r (PrintsAs (AnswersRead command text))
+answered_by command text v (Ok x) t h = λ output printed. record { value = v; read = t; answer = h output printed }
 answered_by command text v (Err refusal) t h = tt
 
 refused_by : (command : Command) (text : List ℕ) (v : Value) (refusal : Refusal) → IsTextWithin text v
@@ -51,8 +51,8 @@ err_by command text v (Err refusal) t h = refused_by command text v refusal t h
 
 -- what is answered to the value is answered to the canonical text
 pub standing_answered : (command : Command) (text : List ℕ) (c : Case) (r : Result Reply Refusal) → IsCaseText text c
-    → ((v : Value) → IsCaseText (canon v) c → IfOk r (λ x. AnswersValue command v (reply_verdict x) (printed x)))
-    → IfOk r (λ x. AnswersRead command text (reply_verdict x) (printed x))
+    → ((v : Value) → IsCaseText (canon v) c → IfOk r (PrintsAs (AnswersValue command v)))
+    → IfOk r (PrintsAs (AnswersRead command text))
 standing_answered command text c r t f =
     answered_by command text t.value r (canonical_text text t.value t.within t.written)
     (f t.value (subst (λ s. IsCaseText s c) t.written t))
@@ -67,8 +67,8 @@ standing_refused command text c r t f =
 -- the same of the octets of a value that is converted
 pub converted_answered : (command : Command) (text octets : List ℕ) (r : Result Reply Refusal)
     → (v : Value) × IsTextWithin text v × (octets ≡ written (form_of command) v)
-    → ((v : Value) → octets ≡ written (form_of command) v → IfOk r (λ x. AnswersValue command v (reply_verdict x) (printed x)))
-    → IfOk r (λ x. AnswersRead command text (reply_verdict x) (printed x))
+    → ((v : Value) → octets ≡ written (form_of command) v → IfOk r (PrintsAs (AnswersValue command v)))
+    → IfOk r (PrintsAs (AnswersRead command text))
 converted_answered command text octets r (v, t, e) f = answered_by command text v r t (f v e)
 
 pub converted_refused : (command : Command) (text octets : List ℕ) (r : Result Reply Refusal)

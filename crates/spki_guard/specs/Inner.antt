@@ -1,7 +1,6 @@
 -- Definitions that only the contracts of private functions cite.
 pub mod Capped
 pub mod CappedLaws
-pub mod FoldLines
 pub mod Printing
 pub mod Pages
 pub mod PageLaws

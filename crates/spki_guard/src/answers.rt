@@ -8,7 +8,7 @@ ghost use Rattle.spki_case.specs.View.{model};
 ghost use Rattle.spki_guard.specs.Answer.{form_of, IsAnswer, AnswersValue, RefusesValue, AnswersRead, RefusesAnswer, RefusesAsLong, Decides, Reduces, Explains, IsLineOf, refused_line, output_octets, written_by};
 ghost use Rattle.spki_guard.specs.Lines.{refused_memory};
 ghost use Rattle.spki_guard.specs.Run.{RefusesForMemory};
-ghost use Rattle.spki_guard.specs.Inner.Replies.{reply_verdict, printed, command_of, IsSourceOf};
+ghost use Rattle.spki_guard.specs.Inner.Replies.{reply_verdict, Prints, PrintsAs, command_of, IsSourceOf};
 
 use crate::intersection::{IntersectFault, intersect};
 use crate::lines::{
@@ -206,7 +206,7 @@ fn answer_source(alloc: Global, command: Command, source: &Source) -> Answer
 
 /// Prints a reply into an answer. If memory runs out, the answer is `refused Memory`.
 fn whole_or_memory(alloc: Global, reply: Reply) -> Answer
-    ensures { ((result.verdict ≡ reply_verdict reply.entry) × (written_by result ≡ printed reply.entry))
+    ensures { ((result.verdict ≡ reply_verdict reply.entry) × Prints reply.entry (written_by result))
         ⊎ RefusesForMemory result.verdict (written_by result) }
 {
     match whole(alloc, reply) {
@@ -223,7 +223,7 @@ pub(crate) fn reply_to<'o>(
     source: &'o Source<'o>,
 ) -> Result<Reply<'o>, Refusal>
     ensures answered { (text : List ℕ) → IsSourceOf command text source.entry.now
-        → IfOk result (λ r. AnswersRead command text (reply_verdict r) (printed r)) }
+        → IfOk result (PrintsAs (AnswersRead command text)) }
     ensures refused { (text : List ℕ) → IsSourceOf command text source.entry.now
         → IfErr result (λ refusal. RefusesAnswer command text refusal) }
 {
@@ -241,7 +241,7 @@ fn reply_to_octets<'o>(
     octets: &'o [u8],
 ) -> Result<Reply<'o>, Refusal>
     ensures answered { (v : Value) → octets.entry.now ≡ written (form_of command) v
-        → IfOk result (λ r. AnswersValue command v (reply_verdict r) (printed r)) }
+        → IfOk result (PrintsAs (AnswersValue command v)) }
     ensures refused { (v : Value) → octets.entry.now ≡ written (form_of command) v
         → IfErr result (λ refusal. RefusesValue command v refusal) }
 {
@@ -264,7 +264,7 @@ fn reply_to_canonical<'o>(
     text: &'o [u8],
 ) -> Result<Reply<'o>, Refusal>
     ensures answered { (v : Value) → text.entry.now ≡ canon v
-        → IfOk result (λ r. AnswersValue (command_of command) v (reply_verdict r) (printed r)) }
+        → IfOk result (PrintsAs (AnswersValue (command_of command) v)) }
     ensures refused { (v : Value) → text.entry.now ≡ canon v → IfErr result (λ refusal. RefusesValue (command_of command) v refusal) }
 {
     let case = Case::read(alloc, text)?;
@@ -278,7 +278,7 @@ fn reply_to_case<'a>(
     case: &Case<'a>,
 ) -> Result<Reply<'a>, Refusal>
     ensures answered { (v : Value) → IsCaseText (canon v) (model case.now)
-        → IfOk result (λ r. AnswersValue (command_of command) v (reply_verdict r) (printed r)) }
+        → IfOk result (PrintsAs (AnswersValue (command_of command) v)) }
     ensures refused { (v : Value) → IsCaseText (canon v) (model case.now)
         → IfErr result (λ refusal. RefusesValue (command_of command) v refusal) }
 {
@@ -291,7 +291,7 @@ fn reply_to_case<'a>(
 
 /// Decides a case by its accepted list. The reply is `yes entry N` or `no`. Err is `TooLarge` or `Memory`.
 fn check<'a>(alloc: Global, case: &Case<'a>) -> Result<Reply<'a>, Refusal>
-    ensures answered { (text : List ℕ) → IsCaseText text (model case.now) → IfOk result (λ r. Decides text (reply_verdict r) (printed r)) }
+    ensures answered { (text : List ℕ) → IsCaseText text (model case.now) → IfOk result (PrintsAs (Decides text)) }
     ensures refused { (v : Value) → IsCaseText (canon v) (model case.now) → IfErr result (λ refusal. RefusesValue Command.Check v refusal) }
 {
     let decision = decide(alloc, case, case.accepted())?;
@@ -301,17 +301,17 @@ fn check<'a>(alloc: Global, case: &Case<'a>) -> Result<Reply<'a>, Refusal>
 /// Reduces a case by its accepted list. The reply has a line for each entry, `no entries`, or one line for the
 /// certificate that fails. Err is `TooLarge` or `Memory`.
 fn reduce<'a>(alloc: Global, case: &Case<'a>) -> Result<Reply<'a>, Refusal>
-    ensures answered { (text : List ℕ) → IsCaseText text (model case.now) → IfOk result (λ r. Reduces text (reply_verdict r) (printed r)) }
+    ensures answered { (text : List ℕ) → IsCaseText text (model case.now) → IfOk result (PrintsAs (Reduces text)) }
     ensures refused { (v : Value) → IsCaseText (canon v) (model case.now) → IfErr result (λ refusal. RefusesValue Command.Reduce v refusal) }
 {
     let reduction = reduce_case(alloc, case, case.accepted())?;
-    Ok(reply_of_reduction(alloc, reduction)?)
+    Ok(reply_of_reduction(reduction))
 }
 
 /// Explains a case by its accepted list. The reply has a line for each entry, `no entries`, or one line for the
 /// certificate that fails. Err is `TooLarge` or `Memory`.
 fn explain_case<'a>(alloc: Global, case: &Case<'a>) -> Result<Reply<'a>, Refusal>
-    ensures answered { (text : List ℕ) → IsCaseText text (model case.now) → IfOk result (λ r. Explains text (reply_verdict r) (printed r)) }
+    ensures answered { (text : List ℕ) → IsCaseText text (model case.now) → IfOk result (PrintsAs (Explains text)) }
     ensures refused { (v : Value) → IsCaseText (canon v) (model case.now) → IfErr result (λ refusal. RefusesValue Command.Explain v refusal) }
 {
     let explanation = explain(alloc, case, case.accepted())?;

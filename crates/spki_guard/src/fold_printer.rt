@@ -1,5 +1,5 @@
 //! The lines of what a guard's entries become, printed one after another.
-ghost use Rattle.std.specs.Prelude.{◌≡◌, ◌++◌, ◌+◌, ◌<◌, ◌≤◌, false, ℕ, [], List, length, IfOk, OnOk, IsErrOf};
+ghost use Rattle.std.specs.Prelude.{◌≡◌, ◌++◌, ◌+◌, ◌<◌, ◌≤◌, false, ℕ, List, length, IfOk, IsErrOf};
 ghost use Rattle.spki_decision.specs.declared.reduction.EntryFold.{EntryFold};
 ghost use Rattle.spki_guard.specs.Answer.{written_by};
 ghost use Rattle.spki_guard.specs.Reports.{IsFoldLine, ReportsFolds};
@@ -9,7 +9,7 @@ ghost use Rattle.spki_guard.specs.Inner.Replies.{AreLongFolds};
 use crate::answers::{Answer, Output};
 use crate::capped_sink::CappedSink;
 use crate::replies::{Reply, whole_within};
-use crate::reports::{is_fold_done, make_and_print_fold, prove_line, verdict_of};
+use crate::reports::{is_done, print_fold, prove_line, verdict_of};
 use spki_decision::{EntryFold, GuardFault};
 use spki_service::FoldSink;
 use std::alloc::{AllocError, Global};
@@ -71,12 +71,12 @@ impl<'a> FoldSink<'a> for FoldPrinter {
     /// Err if memory ran out.
     fn put(&mut self, alloc: Global, entry: usize, fold: EntryFold<'a>) -> Result<(), AllocError> {
         self.count = entry;
-        self.some_done = self.some_done || is_fold_done(&fold);
+        self.some_done = self.some_done || is_done(&fold);
         if self.is_long {
             prove_line(entry, &fold);
             return Ok(());
         }
-        match append_line(alloc, entry, &fold, &mut self.lines, self.room) {
+        match append_line(entry, &fold, &mut self.lines, self.room) {
             Ok(room) => self.room = room,
             Err(GuardFault::TooLarge) => self.is_long = true,
             Err(GuardFault::Memory) => return Err(AllocError),
@@ -95,7 +95,6 @@ impl<'a> FoldSink<'a> for FoldPrinter {
 /// `TooLarge` if the line has more than `room` octets. `Memory` if memory ran out. Then `lines` may have a part of the
 /// line.
 fn append_line(
-    alloc: Global,
     entry: usize,
     fold: &EntryFold,
     lines: &mut Vec<u8>,
@@ -107,9 +106,7 @@ fn append_line(
 {
     let before = lines.len();
     let mut sink = CappedSink::new(lines, room);
-    let printed = make_and_print_fold(alloc, entry, fold, &mut sink);
-    let ended = sink.end();
-    printed?;
-    ended?;
+    print_fold(entry, fold, &mut sink);
+    sink.end()?;
     Ok(room - (lines.len() - before))
 }

@@ -1,32 +1,18 @@
-//! Prints authorizations in advanced form, member by member.
+//! Prints authorizations in advanced form, member by member. Allocates nothing.
 
-ghost use Rattle.std.specs.Prelude.{[], ◌∷◌, map, codes, IfOk};
-ghost use Rattle.sexpr_core.specs.Value.{values, plain};
-ghost use Rattle.sexpr_core.specs.Tree.{sexp_value};
+ghost use Rattle.std.specs.Prelude.{◌≡◌, List, [], ◌∷◌, codes};
+ghost use Rattle.sexpr_core.specs.Value.{Value, values, plain, canon};
 ghost use Rattle.sexpr_text.specs.Printed.{adv, adv_all};
 ghost use Rattle.spki_tag.specs.Tag.{tag_value};
 ghost use Rattle.spki_cert.specs.Readings.{alg_name};
 ghost use Rattle.spki_cert.specs.Subjects.{plains};
-ghost use Rattle.spki_reduce.specs.Written.{headed};
-ghost use Rattle.spki_guard.specs.Inner.FoldLines.{IsPrincipalText, named_text, subject_text, five_text};
+ghost use Rattle.spki_reduce.specs.Written.{headed, IsWrittenPrincipal, IsWrittenSubject, IsWrittenIssuer, delegation_values, limit_values, in_valid, window_limits, IsWrittenFive};
 
 use crate::tag_printer::print_tag;
-use sexpr_core::Sexp;
-use sexpr_text::{Form, Sink, VectorSink, convert, print_octets, print_tree};
-use spki_cert::{HashAlg, Key, Names, Principal};
-use spki_reduce::{Five, WrittenParts};
+use sexpr_text::{Sink, print_canonical, print_octets};
+use spki_cert::{Date, HashAlg, Key, Names, Principal, Subject, Window};
+use spki_reduce::{Five, Issuer};
 use spki_tag::Tag;
-use std::alloc::{AllocError, Global};
-
-/// Prints trees in advanced form, each with a space before it.
-fn print_trees<S: Sink>(trees: &[Sexp], sink: &mut S)
-    ensures { S.takes sink.old (adv_all 1 (values (map sexp_value trees.now))) sink.new }
-{
-    for tree in trees {
-        sink.put_octet(b' ');
-        print_tree(tree, sink);
-    }
-}
 
 /// Prints names as strings in advanced form, each with a space before it.
 fn print_names<S: Sink>(names: &Names, sink: &mut S)
@@ -49,61 +35,66 @@ fn print_hash<S: Sink>(alg: HashAlg, digest: &[u8], sink: &mut S)
     sink.put_octet(b')');
 }
 
-/// The text of a hash of a key in advanced form. Err if memory ran out.
-fn hash_text(alloc: Global, alg: HashAlg, digest: &[u8]) -> Result<Vec<u8>, AllocError>
-    ensures { IfOk result (λ text. IsPrincipalText (Principal.Hash alg digest.now) text.items) }
-{
-    let mut text = Vec::new(alloc);
-    let mut sink = VectorSink::new(&mut text);
-    print_hash(alg, digest, &mut sink);
-    sink.end()?;
-    Ok(text)
-}
-
-/// The text of a key in advanced form, made from the key's octets without a tree. Only the readers make keys, so a key is
-/// a canonical form within the limits, and this fails only if memory runs out.
-fn key_text(alloc: Global, key: &Key) -> Result<Vec<u8>, AllocError>
-    ensures { IfOk result (λ text. IsPrincipalText (Principal.Key key.now) text.items) }
+/// Prints a key in advanced form.
+fn print_key<S: Sink>(key: &Key, sink: &mut S)
+    ensures { (v : Value) × (key.now ≡ canon v) × S.takes sink.old (adv v) sink.new }
 {
     key.prove_well_formed();
-    match convert(alloc, Form::Advanced, key.as_slice()) {
-        Ok(text) => Ok(text),
-        Err(_) => Err(AllocError),
-    }
+    print_canonical(key.as_slice(), sink);
 }
 
-/// The text of a principal in advanced form, without the `uri` of a hash. Err if memory ran out.
-pub fn principal_text(alloc: Global, principal: &Principal) -> Result<Vec<u8>, AllocError>
-    ensures { IfOk result (λ text. IsPrincipalText principal.now text.items) }
+/// Prints a principal in advanced form, a hash without its `uri`.
+fn print_principal<S: Sink>(principal: &Principal, sink: &mut S)
+    ensures { (owner : Value) × IsWrittenPrincipal principal.now owner × S.takes sink.old (adv owner) sink.new }
 {
     match principal {
-        Principal::Key(key) => key_text(alloc, key),
-        Principal::Hash { alg, digest } => hash_text(alloc, *alg, digest.as_slice()),
+        Principal::Key(key) => print_key(key, sink),
+        Principal::Hash { alg, digest } => print_hash(*alg, digest.as_slice(), sink),
     }
 }
 
-/// Prints the text of a principal alone, or `(name PRINCIPAL N N ..)` if there are names.
-fn print_named<S: Sink>(principal: &[u8], names: &Names, sink: &mut S)
-    ensures { S.takes sink.old (named_text principal.now names.now) sink.new }
+/// Prints the principal of a subject alone, or `(name PRINCIPAL N N ..)` if there are names.
+fn print_named<S: Sink>(subject: &Subject, sink: &mut S)
+    ensures { (s : Value) × IsWrittenSubject subject.now.principal subject.now.names s × S.takes sink.old (adv s) sink.new }
 {
-    if names.is_empty() {
-        sink.put(principal);
+    if subject.names.is_empty() {
+        print_principal(&subject.principal, sink);
         return;
     }
     sink.put(b"(name ");
-    sink.put(principal);
-    print_names(names, sink);
+    print_principal(&subject.principal, sink);
+    print_names(&subject.names, sink);
     sink.put_octet(b')');
 }
 
-/// Prints a space and `(subject S)`, where S is the text of the principal alone, or `(name PRINCIPAL N N ..)` if there
-/// are names.
-fn print_subject<S: Sink>(principal: &[u8], names: &Names, sink: &mut S)
-    ensures { S.takes sink.old (subject_text principal.now names.now) sink.new }
+/// Prints a space and `(subject S)`, where S is the principal alone, or `(name PRINCIPAL N N ..)` if there are names.
+fn print_subject<S: Sink>(subject: &Subject, sink: &mut S)
+    ensures { (s : Value) × IsWrittenSubject subject.now.principal subject.now.names s
+        × S.takes sink.old (adv_all 1 (values (headed (codes "subject") (s ∷ []) ∷ []))) sink.new }
 {
     sink.put(b" (subject ");
-    print_named(principal, names, sink);
+    print_named(subject, sink);
     sink.put_octet(b')');
+}
+
+/// Prints a space and `(issuer K)`, or nothing for the owner of the access list.
+fn print_issuer<S: Sink>(issuer: &Issuer, sink: &mut S)
+    ensures { (written : List Value) × IsWrittenIssuer issuer.now written × S.takes sink.old (adv_all 1 (values written)) sink.new }
+{
+    if let Issuer::Key(key) = issuer {
+        sink.put(b" (issuer ");
+        print_key(key, sink);
+        sink.put_octet(b')');
+    }
+}
+
+/// Prints a space and `(propagate)`, or nothing if the authorization may not be delegated.
+fn print_delegation<S: Sink>(propagate: bool, sink: &mut S)
+    ensures { S.takes sink.old (adv_all 1 (values (delegation_values propagate))) sink.new }
+{
+    if propagate {
+        sink.put(b" (propagate)");
+    }
 }
 
 /// Prints a space and `(tag T)`, with T in advanced form.
@@ -115,16 +106,41 @@ fn print_tag_part<S: Sink>(tag: &Tag, sink: &mut S)
     sink.put_octet(b')');
 }
 
-/// Prints an authorization as `(five ..)`. `parts` are all of it but its subject and its tag, as `write_parts` of the
-/// same authorization made them, and `principal` is the text of its subject's principal, as `principal_text` made it.
-pub fn print_five<S: Sink>(five: &Five, parts: &WrittenParts, principal: &[u8], sink: &mut S)
-    ensures { S.takes sink.old (five_text parts.now principal.now five.now) sink.new }
+/// Prints a space and `(WORD DATE)`, or nothing if there is no limit.
+fn print_date<S: Sink>(word: &[u8], limit: Option<Date>, sink: &mut S)
+    ensures { S.takes sink.old (adv_all 1 (values (limit_values word.now limit))) sink.new }
+{
+    if let Some(date) = limit {
+        sink.put(b" (");
+        print_octets(word, sink);
+        sink.put_octet(b' ');
+        print_octets(date.as_slice(), sink);
+        sink.put_octet(b')');
+    }
+}
+
+/// Prints a space and `(valid ..)` with the limits of a window, or nothing if it has no limit.
+fn print_window<S: Sink>(window: &Window, sink: &mut S)
+    ensures { S.takes sink.old (adv_all 1 (values (in_valid (window_limits window.now)))) sink.new }
+{
+    if window.not_before.is_none() && window.not_after.is_none() {
+        return;
+    }
+    sink.put(b" (valid");
+    print_date(b"not-before", window.not_before, sink);
+    print_date(b"not-after", window.not_after, sink);
+    sink.put_octet(b')');
+}
+
+/// Prints an authorization as `(five ..)`, as `Five::write` writes it.
+pub fn print_five<S: Sink>(five: &Five, sink: &mut S)
+    ensures { (v : Value) × IsWrittenFive five.now v × S.takes sink.old (adv v) sink.new }
 {
     sink.put(b"(five");
-    print_trees(&parts.before_subject, sink);
-    print_subject(principal, &five.subject.names, sink);
-    print_trees(&parts.before_tag, sink);
+    print_issuer(&five.issuer, sink);
+    print_subject(&five.subject, sink);
+    print_delegation(five.propagate, sink);
     print_tag_part(&five.tag, sink);
-    print_trees(&parts.behind_tag, sink);
+    print_window(&five.window, sink);
     sink.put_octet(b')');
 }

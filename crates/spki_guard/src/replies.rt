@@ -1,24 +1,22 @@
 //! Replies: all that is printed for a text or a question, before it is printed.
-ghost use Rattle.std.specs.Prelude.{◌≡◌, [], ◌∷◌, ◌++◌, ◌+◌, ◌<◌, ◌≤◌, length, IfOk, IfSome, IsErrOf};
+ghost use Rattle.std.specs.Prelude.{◌≡◌, ℕ, List, [], ◌∷◌, ◌++◌, ◌+◌, ◌<◌, ◌≤◌, length, IfOk, IfSome, IsErrOf};
 ghost use Rattle.sexpr_text.specs.Printed.{adv};
 ghost use Rattle.spki_tag.specs.Tag.{tag_value};
 ghost use Rattle.spki_guard.specs.Answer.{written_by};
 ghost use Rattle.spki_guard.specs.Reports.{IsReductionReport, IsExplanationReport};
-ghost use Rattle.spki_guard.specs.Inner.Replies.{reply_verdict, printed};
+ghost use Rattle.spki_guard.specs.Inner.Replies.{reply_verdict, Prints, PrintsAs};
 
 use crate::answers::{Answer, Output, Verdict};
 use crate::capped_sink::CappedSink;
 use crate::entry_lines::print_item;
-use crate::reports::{
-    FoldLine, fold_lines_of, print_folds, print_reasons, some_done, some_grant, verdict_of,
-};
+use crate::reports::{print_folds, print_reasons, some_done, some_grant, verdict_of};
 use crate::tag_printer::print_tag;
 use sexpr_text::{Counter, Sink, VectorSink};
-use spki_decision::{Explanation, GuardFault, Reason, Reduction, Stop};
+use spki_decision::{EntryFold, Explanation, GuardFault, Reason, Reduction, Stop};
 use spki_tag::Tag;
 use std::alloc::{AllocError, Global};
 
-/// What a text or a question is answered, before it is printed. All that printing needs is made, so that it allocates nothing.
+/// What a text or a question is answered, before it is printed. Printing it allocates nothing.
 #[derive(Drop)]
 pub(crate) enum Reply<'o> {
     /// An answer whose octets are made.
@@ -38,8 +36,8 @@ pub(crate) enum Reply<'o> {
     },
     /// The line for an access list without entries.
     NoEntries,
-    /// A line for each entry's chain.
-    Folds(Vec<FoldLine<'o>>),
+    /// A line for what each entry becomes.
+    Folds(Vec<EntryFold<'o>>),
     /// A line for each entry's reason.
     Reasons(Vec<Reason>),
 }
@@ -58,27 +56,23 @@ impl<'o> Reply<'o> {
             Reply::Tag(_) => Verdict::Done,
             Reply::Item { .. } => Verdict::No,
             Reply::NoEntries => Verdict::No,
-            Reply::Folds(lines) => verdict_of(some_done(lines)),
+            Reply::Folds(folds) => verdict_of(some_done(folds)),
             Reply::Reasons(reasons) => verdict_of(some_grant(reasons)),
         }
     }
 }
 
 /// The reply that prints a reduction: a line for each entry, `no entries`, or the line of the certificate that fails.
-/// Err if memory ran out.
-pub(crate) fn reply_of_reduction<'a>(
-    alloc: Global,
-    reduction: Reduction<'a>,
-) -> Result<Reply<'a>, AllocError>
-    ensures { IfOk result (λ reply. IsReductionReport reduction.entry (reply_verdict reply) (printed reply)) }
+pub(crate) fn reply_of_reduction<'a>(reduction: Reduction<'a>) -> Reply<'a>
+    ensures { PrintsAs (IsReductionReport reduction.entry) result }
 {
     match reduction {
-        Reduction::Evidence { item, stop } => Ok(Reply::Item { item, stop }),
+        Reduction::Evidence { item, stop } => Reply::Item { item, stop },
         Reduction::Entries(folds) => {
             if folds.is_empty() {
-                return Ok(Reply::NoEntries);
+                return Reply::NoEntries;
             }
-            Ok(Reply::Folds(fold_lines_of(alloc, folds)?))
+            Reply::Folds(folds)
         }
     }
 }
@@ -86,7 +80,7 @@ pub(crate) fn reply_of_reduction<'a>(
 /// The reply that prints an explanation: a line for each entry, `no entries`, or the line of the certificate that
 /// fails.
 pub(crate) fn reply_of_explanation(explanation: Explanation) -> Reply<'static>
-    ensures { IsExplanationReport explanation (reply_verdict result) (printed result) }
+    ensures { PrintsAs (IsExplanationReport explanation) result }
 {
     match explanation {
         Explanation::Evidence { item, stop } => Reply::Item { item, stop },
@@ -117,7 +111,7 @@ fn print_tag_line<S: Sink>(tag: &Tag, sink: &mut S)
 
 /// Prints all octets of a reply. Allocates nothing.
 pub(crate) fn print_reply<S: Sink>(reply: &Reply, sink: &mut S)
-    ensures { S.takes sink.old (printed reply.now) sink.new }
+    ensures { (octets : List ℕ) × Prints reply.now octets × S.takes sink.old octets sink.new }
 {
     match reply {
         Reply::Whole(answer) => sink.put(answer.output.as_slice()),
@@ -126,7 +120,7 @@ pub(crate) fn print_reply<S: Sink>(reply: &Reply, sink: &mut S)
         Reply::Tag(tag) => print_tag_line(tag, sink),
         Reply::Item { item, stop } => print_item(*item, *stop, sink),
         Reply::NoEntries => sink.put(b"no entries\n"),
-        Reply::Folds(lines) => print_folds(lines, sink),
+        Reply::Folds(folds) => print_folds(folds, sink),
         Reply::Reasons(reasons) => print_reasons(reasons, sink),
     }
 }
@@ -135,7 +129,7 @@ pub(crate) fn print_reply<S: Sink>(reply: &Reply, sink: &mut S)
 /// no memory holds.
 pub(crate) fn count_with(reply: &Reply, more: u64) -> Option<u64>
     requires { 0 < more }
-    ensures { IfSome result (λ n. n ≡ length (printed reply.now) + more) }
+    ensures { IfSome result (λ n. (octets : List ℕ) → Prints reply.now octets → n ≡ length octets + more) }
 {
     let mut counter = Counter::new();
     print_reply(reply, &mut counter);
@@ -146,7 +140,7 @@ pub(crate) fn count_with(reply: &Reply, more: u64) -> Option<u64>
 /// memory ran out.
 pub(crate) fn whole(alloc: Global, reply: Reply) -> Result<Answer, AllocError>
     ensures verdict { IfOk result (λ a. a.verdict ≡ reply_verdict reply.entry) }
-    ensures octets { IfOk result (λ a. written_by a ≡ printed reply.entry) }
+    ensures octets { IfOk result (λ a. Prints reply.entry (written_by a)) }
 {
     match reply {
         Reply::Whole(answer) => Ok(answer),
@@ -157,7 +151,7 @@ pub(crate) fn whole(alloc: Global, reply: Reply) -> Result<Answer, AllocError>
 /// Prints a reply into a new vector, and returns it as an answer with the reply's verdict. Err if memory ran out.
 fn print_whole(alloc: Global, reply: &Reply) -> Result<Answer, AllocError>
     ensures verdict { IfOk result (λ a. a.verdict ≡ reply_verdict reply.now) }
-    ensures octets { IfOk result (λ a. written_by a ≡ printed reply.now) }
+    ensures octets { IfOk result (λ a. Prints reply.now (written_by a)) }
 {
     let mut out = Vec::new(alloc);
     let mut sink = VectorSink::new(&mut out);
@@ -176,9 +170,9 @@ fn print_whole(alloc: Global, reply: &Reply) -> Result<Answer, AllocError>
 /// `TooLarge` if it has more. `Memory` if memory ran out.
 pub(crate) fn whole_within(alloc: Global, reply: &Reply, most: usize) -> Result<Answer, GuardFault>
     ensures verdict { IfOk result (λ a. a.verdict ≡ reply_verdict reply.now) }
-    ensures octets { IfOk result (λ a. written_by a ≡ printed reply.now) }
+    ensures octets { IfOk result (λ a. Prints reply.now (written_by a)) }
     ensures short { IfOk result (λ a. length (written_by a) ≤ most) }
-    ensures large { IsErrOf result GuardFault.TooLarge → most < length (printed reply.now) }
+    ensures large { IsErrOf result GuardFault.TooLarge → (octets : List ℕ) × Prints reply.now octets × (most < length octets) }
 {
     let mut out = Vec::new(alloc);
     let mut sink = CappedSink::new(&mut out, most);

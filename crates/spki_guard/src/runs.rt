@@ -4,7 +4,7 @@ ghost use Rattle.metered_io.specs.Metered.{inner_of, asks_of, faults_of, ended_o
 ghost use Rattle.spki_guard.specs.Answer.{IsAnswer, output_octets};
 ghost use Rattle.spki_guard.specs.Status.{answer_status};
 ghost use Rattle.spki_guard.specs.Run.{IsReply, IsFaulty, IsWritten, IsCutOff, RefusesForMemory};
-ghost use Rattle.spki_guard.specs.Inner.Replies.{reply_verdict, printed, IsSourceOf, IsTextRead, Sends};
+ghost use Rattle.spki_guard.specs.Inner.Replies.{reply_verdict, Prints, IsSourceOf, IsTextRead, Sends};
 
 use crate::answers::{Answer, Output, Verdict, out_of_memory, refuse, reply_to};
 use crate::pages::PageSink;
@@ -139,7 +139,7 @@ fn send_source<W: Write>(
 /// is written instead. The writer's count of calls must be 0.
 fn send_reply<W: Write>(writer: &mut Metered<W>, reply: &Reply) -> Status
     requires { asks_of writer.old ≡ 0 }
-    ensures { Sends W.contents (λ verdict output. ((verdict ≡ reply_verdict reply.now) × (output ≡ printed reply.now))
+    ensures { Sends W.contents (λ verdict output. ((verdict ≡ reply_verdict reply.now) × Prints reply.now output)
         ⊎ RefusesForMemory verdict output) writer.old writer.new result }
 {
     match count_with(reply, WRITER_ASKS) {
@@ -153,8 +153,8 @@ fn send_reply<W: Write>(writer: &mut Metered<W>, reply: &Reply) -> Status
 /// 2,097,152.
 fn send_pages<W: Write>(writer: &mut Metered<W>, reply: &Reply, most: u64) -> Status
     requires unasked { asks_of writer.old ≡ 0 }
-    requires most { most ≡ length (printed reply.now) + 2097152 }
-    ensures { Sends W.contents (λ verdict output. (verdict ≡ reply_verdict reply.now) × (output ≡ printed reply.now))
+    requires most { (octets : List ℕ) → Prints reply.now octets → most ≡ length octets + 2097152 }
+    ensures { Sends W.contents (λ verdict output. (verdict ≡ reply_verdict reply.now) × Prints reply.now output)
         writer.old writer.new result }
 {
     if print_pages(writer, reply, most).is_err() {
@@ -172,10 +172,10 @@ fn print_pages<W: Write>(
     most: u64,
 ) -> Result<(), WriteFault>
     requires unasked { asks_of writer.old ≡ 0 }
-    requires most { most ≡ length (printed reply.now) + 2097152 }
-    ensures written { OnOk result (IsWritten W.contents writer.old writer.new (printed reply.now)) }
+    requires most { (octets : List ℕ) → Prints reply.now octets → most ≡ length octets + 2097152 }
+    ensures written { OnOk result ((octets : List ℕ) × Prints reply.now octets × IsWritten W.contents writer.old writer.new octets) }
     ensures no_fault { OnOk result (faults_of writer.new ≡ faults_of writer.old) }
-    ensures cut_off { OnErr result (IsCutOff W.contents writer.old writer.new (printed reply.now)) }
+    ensures cut_off { OnErr result ((octets : List ℕ) × Prints reply.now octets × IsCutOff W.contents writer.old writer.new octets) }
 {
     let mut sink = PageSink::new(writer, most);
     print_reply(reply, &mut sink);

@@ -17,4 +17,3 @@ pub use fold::{Cause, Fold, Joined};
 pub use last_tests::Denial;
 pub use tuple::{Five, Four, Issuer, Step};
 pub use work::Work;
-pub use writer::WrittenParts;

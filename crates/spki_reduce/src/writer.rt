@@ -1,27 +1,15 @@
 //! Writes authorizations as S-expressions.
 
-ghost use Rattle.std.specs.Prelude.{◌≡◌, List, [], ◌∷◌, ◌++◌, IfOk, OnOk, codes, map};
+ghost use Rattle.std.specs.Prelude.{◌≡◌, List, [], ◌∷◌, ◌++◌, IfOk, OnOk, map};
 ghost use Rattle.sexpr_core.specs.Value.{Value, canon, plain};
 ghost use Rattle.sexpr_core.specs.Tree.{sexp_value};
-ghost use Rattle.spki_cert.specs.Readings.{alg_name};
 ghost use Rattle.spki_cert.specs.Subjects.{plains};
-ghost use Rattle.spki_reduce.specs.Written.{headed, IsWrittenPrincipal, IsWrittenIssuer, named, delegation_values, limit_values, in_valid, window_limits, five_value, IsWrittenFive};
+ghost use Rattle.spki_reduce.specs.Written.{headed, IsWrittenPrincipal, IsWrittenIssuer, named, delegation_values, limit_values, in_valid, window_limits, IsWrittenFive};
 
 use crate::tuple::{Five, Issuer};
 use sexpr_core::{Sexp, decode};
 use spki_cert::{Date, HashAlg, Key, Names, Principal, Window};
 use std::alloc::{AllocError, Global};
-
-/// The members of a written authorization, except its head, its subject and its tag.
-#[derive(Drop)]
-pub struct WrittenParts {
-    /// Those before the subject: the issuer.
-    pub before_subject: Vec<Sexp>,
-    /// Those between the subject and the tag: the delegation.
-    pub before_tag: Vec<Sexp>,
-    /// Those after the tag: the window.
-    pub behind_tag: Vec<Sexp>,
-}
 
 impl<'a> Five<'a> {
     /// A fact for the prover: an authorization can be written, however it was made. Does nothing.
@@ -42,45 +30,15 @@ impl<'a> Five<'a> {
     pub fn write(&self, alloc: Global) -> Result<Sexp, AllocError>
         ensures { IfOk result (λ s. IsWrittenFive self.now (sexp_value s)) }
     {
-        let WrittenParts {
-            before_subject,
-            before_tag,
-            behind_tag,
-        } = self.write_parts(alloc)?;
         let mut members = begun(alloc, b"five")?;
-        push_all(&mut members, before_subject)?;
+        push_issuer(alloc, &mut members, &self.issuer)?;
         let principal = write_principal(alloc, &self.subject.principal)?;
         let subject = with_names(alloc, principal, &self.subject.names)?;
         push_headed(alloc, &mut members, b"subject", subject)?;
-        push_all(&mut members, before_tag)?;
+        push_delegation(alloc, &mut members, self.propagate)?;
         push_headed(alloc, &mut members, b"tag", self.tag.write(alloc)?)?;
-        push_all(&mut members, behind_tag)?;
+        push_window(alloc, &mut members, &self.window)?;
         Ok(Sexp::list(members))
-    }
-
-    /// Writes the members of the list that `write` writes, except the head, the subject and the tag. The last two may
-    /// be large, with hundreds of thousands of nodes, and can be printed without a tree.
-    ///
-    /// # Errors
-    ///
-    /// `AllocError` if memory ran out.
-    pub fn write_parts(&self, alloc: Global) -> Result<WrittenParts, AllocError>
-        ensures { IfOk result (λ parts. (owner : Value) → IsWrittenPrincipal self.now.subject.principal owner → IsWrittenFive self.now
-            (five_value ((map sexp_value parts.before_subject.items
-            ++ headed (codes "subject") (named owner self.now.subject.names ∷ []) ∷ [])
-            ++ map sexp_value parts.before_tag.items) self.now.tag (map sexp_value parts.behind_tag.items))) }
-    {
-        let mut before_subject = Vec::new(alloc);
-        push_issuer(alloc, &mut before_subject, &self.issuer)?;
-        let mut before_tag = Vec::new(alloc);
-        push_delegation(alloc, &mut before_tag, self.propagate)?;
-        let mut behind_tag = Vec::new(alloc);
-        push_window(alloc, &mut behind_tag, &self.window)?;
-        Ok(WrittenParts {
-            before_subject,
-            before_tag,
-            behind_tag,
-        })
     }
 }
 
@@ -100,15 +58,6 @@ fn prove_principal(principal: &Principal)
     if let Principal::Key(key) = principal {
         key.prove_well_formed();
     }
-}
-
-/// Appends the trees of `others` to `members`. Err if memory ran out.
-fn push_all(members: &mut Vec<Sexp>, others: Vec<Sexp>) -> Result<(), AllocError>
-    ensures { OnOk result (map sexp_value members.new.items
-        ≡ map sexp_value members.old.items ++ map sexp_value others.items) }
-{
-    let mut others = others;
-    members.append(&mut others)
 }
 
 /// Returns the members of a list that has only its head, as a string without a hint. Err if memory ran out.

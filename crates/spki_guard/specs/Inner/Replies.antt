@@ -26,10 +26,9 @@ use Rattle.spki_guard.specs.declared.statuses.Status.TheVariants.{WriteFault}
 use Rattle.spki_guard.specs.declared.answers.Answer.{Answer}
 use Rattle.spki_guard.specs.Answer.{form_of, output_octets, written_by}
 use Rattle.spki_guard.specs.Lines.{item_line, no_entries}
-use Rattle.spki_guard.specs.Reports.{verdict_of, ReportsFolds, some_grant, reason_lines}
+use Rattle.spki_guard.specs.Reports.{verdict_of, AreFoldLines, ReportsFolds, some_done, some_grant, reason_lines}
 use Rattle.spki_guard.specs.Run.{RefusesLong, RefusesForMemory, IsWritten, IsCutOff}
 use Rattle.spki_guard.specs.Status.{answer_status}
-use Rattle.spki_guard.specs.Inner.FoldLines.{some_done_line, fold_lines}
 
 -- ---- replies
 
@@ -40,19 +39,23 @@ reply_verdict (Line octets) = verdict.Done
 reply_verdict (Tag tag) = verdict.Done
 reply_verdict (Item item stop) = verdict.No
 reply_verdict NoEntries = verdict.No
-reply_verdict (Folds lines) = verdict_of (some_done_line lines.items)
+reply_verdict (Folds folds) = verdict_of (some_done folds.items)
 reply_verdict (Reasons reasons) = verdict_of (some_grant reasons.items)
 
--- the octets that are printed
-abbrev pub printed : Reply → List ℕ
-printed (Whole answer) = output_octets answer.output
-printed (Octets octets) = octets.now
-printed (Line octets) = octets.now ++ 10 ∷ []
-printed (Tag tag) = adv (tag_value tag) ++ 10 ∷ []
-printed (Item item stop) = item_line item stop
-printed NoEntries = no_entries
-printed (Folds lines) = fold_lines 1 lines.items
-printed (Reasons reasons) = reason_lines 1 reasons.items
+-- these octets are printed
+abbrev pub Prints : Reply → List ℕ → Type 0
+Prints (Whole answer) output = output ≡ output_octets answer.output
+Prints (Octets octets) output = output ≡ octets.now
+Prints (Line octets) output = output ≡ octets.now ++ 10 ∷ []
+Prints (Tag tag) output = output ≡ adv (tag_value tag) ++ 10 ∷ []
+Prints (Item item stop) output = output ≡ item_line item stop
+Prints NoEntries output = output ≡ no_entries
+Prints (Folds folds) output = AreFoldLines 1 folds.items output
+Prints (Reasons reasons) output = output ≡ reason_lines 1 reasons.items
+
+-- of the verdict and the octets that are printed this is said
+abbrev pub PrintsAs : (Verdict → List ℕ → Type 0) → Reply → Type 0
+PrintsAs IsOne reply = (output : List ℕ) → Prints reply output → IsOne (reply_verdict reply) output
 
 -- ---- answers within a number of octets
 

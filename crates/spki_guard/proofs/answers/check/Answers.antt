@@ -9,13 +9,13 @@ pub returns-clause-answered : goal.returns-clause-answered
 returns-clause-answered c text is =
     let exact = rw c.accepted.ensures at c.in_ok-decision.ensures.exact in
     let small = rw c.accepted.ensures at c.in_ok-decision.ensures.within_limit in
-    record {
+    λ output printed. record {
       case_read = model c.args.case.now;
       text_is = is;
       decided = c.in_ok-decision.decision;
       decision_is = exact;
       unrefused = small;
-      line = c.in_ok-decision_line.ensures;
+      line = rw printed c.in_ok-decision_line.ensures;
     }
 
 pub returns-in_err-decision-clause-refused : goal.returns-in_err-decision-clause-refused

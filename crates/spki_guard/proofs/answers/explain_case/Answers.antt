@@ -8,12 +8,12 @@ use Rattle.spki_guard.proofs.answers.explain_case.Goals as goal
 pub returns-clause-answered : goal.returns-clause-answered
 returns-clause-answered c text is =
     let exact = rw c.accepted.ensures at c.in_ok-explanation.ensures.exact in
-    record {
+    λ output printed. record {
       case_read = model c.args.case.now;
       text_is = is;
       explanation = c.in_ok-explanation.explanation;
       explanation_is = exact;
-      lines = c.reply_of_explanation.ensures;
+      lines = c.reply_of_explanation.ensures output printed;
     }
 
 pub returns-in_err-explanation-clause-refused : goal.returns-in_err-explanation-clause-refused

@@ -8,14 +8,14 @@ use Rattle.spki_guard.proofs.answers.reduce.Goals as goal
 pub returns-clause-answered : goal.returns-clause-answered
 returns-clause-answered c text is =
     let exact = rw c.accepted.ensures at c.in_ok-reduction.ensures.exact in
-    record {
+    λ output printed. record {
       case_read = model c.args.case.now;
       text_is = is;
       reduction = c.in_ok-reduction.reduction;
       reduction_is = exact;
       dated = c.in_ok-reduction.ensures.dated;
       end = c.in_ok-reduction.ensures.end;
-      lines = c.in_ok-reply_of_reduction.ensures;
+      lines = c.reply_of_reduction.ensures output printed;
     }
 
 pub returns-in_err-reduction-clause-refused : goal.returns-in_err-reduction-clause-refused

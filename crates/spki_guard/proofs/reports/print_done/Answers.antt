@@ -4,4 +4,5 @@ use Rattle.spki_guard.proofs.reports.print_done.Goals as goal
 
 pub returns : goal.returns
 returns g c =
-    in_three g.S.Sink.takes g.met.S.Sink.both _ c.print_entry.ensures c.print_five.ensures c.put_octet.ensures (fold_whole c.args.entry _)
+    let (v, is, printed) = c.print_five.ensures in
+    (v, is, in_three g.S.Sink.takes g.met.S.Sink.both _ c.print_entry.ensures printed c.put_octet.ensures (fold_whole c.args.entry _))

@@ -1,7 +1,8 @@
 -- The lines so far.
-use Rattle.std.proofs.Common.{take}
-use Rattle.spki_guard.specs.Inner.FoldLines.{fold_lines}
+use Rattle.std.proofs.Common.{ℕ, List, take}
+use Rattle.spki_guard.specs.Reports.{AreFoldLines}
 use Rattle.spki_guard.proofs.reports.print_folds.Given as goal
 
 abbrev pub invariant-loop-place : goal.invariant-loop-place
-invariant-loop-place g l = g.S.Sink.takes l.initial.sink (fold_lines 1 (take l.place l.lines)) l.sink
+invariant-loop-place g l =
+    (lines : List ℕ) × AreFoldLines 1 (take l.place l.folds) lines × g.S.Sink.takes l.initial.sink lines l.sink

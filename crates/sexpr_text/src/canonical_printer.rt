@@ -1,0 +1,100 @@
+//! Prints canonical texts in advanced form, without a tree.
+
+ghost use Rattle.std.specs.Prelude.{◌≡◌, ℕ, List, ◌∷◌, ◌++◌};
+ghost use Rattle.sexpr_core.specs.Value.{Value, Values, list, verbatim, canon, canons};
+ghost use Rattle.sexpr_text.specs.Printed.{printed_string, adv};
+
+use crate::printer::{print_gap, print_hint, print_octets};
+use crate::sinks::Sink;
+
+/// Takes the string in verbatim form, such as `3:abc`, with which a text begins. Returns its octets, and the text
+/// behind it.
+fn split_verbatim<'t>(text: &'t [u8]) -> (&'t [u8], &'t [u8])
+    requires { (octets behind : List ℕ) × (text.now ≡ verbatim octets ++ behind) }
+    ensures { (octets behind : List ℕ) → text.now ≡ verbatim octets ++ behind
+        → (result.0.now ≡ octets) × (result.1.now ≡ behind) }
+{
+    let mut number = 0;
+    let mut rest = text;
+    while let Some((octet, behind)) = rest.split_first() {
+        if *octet == b':' {
+            return behind.split_at(number);
+        }
+        number = number * 10 + (*octet - b'0') as usize;
+        rest = behind;
+    }
+    (rest, rest)
+}
+
+/// Prints the string in verbatim form with which a text begins. Returns the text behind it.
+fn print_verbatim<'t, S: Sink>(text: &'t [u8], sink: &mut S) -> &'t [u8]
+    requires { (octets behind : List ℕ) × (text.now ≡ verbatim octets ++ behind) }
+    ensures { (octets behind : List ℕ) → text.now ≡ verbatim octets ++ behind
+        → S.takes sink.old (printed_string octets) sink.new × (result.now ≡ behind) }
+{
+    let (octets, behind) = split_verbatim(text);
+    print_octets(octets, sink);
+    behind
+}
+
+/// Prints the string with a hint with which a text begins. The opening bracket is not part of the text. Returns the
+/// text behind the string.
+fn print_hinted<'t, S: Sink>(text: &'t [u8], sink: &mut S) -> &'t [u8]
+    requires { (hint octets behind : List ℕ) × (text.now ≡ verbatim hint ++ 93 ∷ (verbatim octets ++ behind)) }
+    ensures { (hint octets behind : List ℕ) → text.now ≡ verbatim hint ++ 93 ∷ (verbatim octets ++ behind)
+        → S.takes sink.old (91 ∷ (printed_string hint ++ 93 ∷ printed_string octets)) sink.new × (result.now ≡ behind) }
+{
+    let (hint, behind) = split_verbatim(text);
+    print_hint(hint, sink);
+    print_verbatim(&behind[1..], sink)
+}
+
+/// Prints the members of a list and its parentheses. The text begins with the members and the closing parenthesis.
+/// Returns the text behind the list.
+#[cycle(printing)]
+fn print_members<'t, S: Sink>(text: &'t [u8], sink: &mut S) -> &'t [u8]
+    requires { (vs : Values) × (behind : List ℕ) × (text.now ≡ canons vs ++ 41 ∷ behind) }
+    ensures { (vs : Values) (behind : List ℕ) → text.now ≡ canons vs ++ 41 ∷ behind
+        → S.takes sink.old (adv (list vs)) sink.new × (result.now ≡ behind) }
+{
+    sink.put_octet(b'(');
+    let mut rest = text;
+    let mut member = 0;
+    while let Some((octet, behind)) = rest.split_first() {
+        if *octet == b')' {
+            sink.put_octet(b')');
+            return behind;
+        }
+        print_gap(member, sink);
+        rest = print_first(rest, sink);
+        // There is a space before each member but the first.
+        member = 1;
+    }
+    rest
+}
+
+/// Prints the value with which a text in canonical form begins. Returns the text behind it.
+#[cycle(printing)]
+fn print_first<'t, S: Sink>(text: &'t [u8], sink: &mut S) -> &'t [u8]
+    requires { (v : Value) × (behind : List ℕ) × (text.now ≡ canon v ++ behind) }
+    ensures { (v : Value) (behind : List ℕ) → text.now ≡ canon v ++ behind
+        → S.takes sink.old (adv v) sink.new × (result.now ≡ behind) }
+{
+    let Some((first, behind)) = text.split_first() else {
+        return text;
+    };
+    match *first {
+        b'(' => print_members(behind, sink),
+        b'[' => print_hinted(behind, sink),
+        _ => print_verbatim(text, sink),
+    }
+}
+
+/// Prints the value of a text in canonical form, in advanced form, as `print_advanced` does. The recursion is as deep as
+/// the value. Allocates nothing, unless the sink does.
+pub fn print_canonical<S: Sink>(text: &[u8], sink: &mut S)
+    requires { (v : Value) × (text.now ≡ canon v) }
+    ensures { (v : Value) → text.now ≡ canon v → S.takes sink.old (adv v) sink.new }
+{
+    print_first(text, sink);
+}
