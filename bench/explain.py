@@ -3,6 +3,7 @@
 
 - On cases of one entry, at most 4 times the instructions of `check`, which intersects no tags there.
 - On many entries with many certificates, at most 1.5 times the entries times what one entry takes with the certificates: each is folded.
+- `reduce` of a text of 1 MiB, of which half is the key that stands in each line: at most 32 MiB of memory.
 
 Build the program first (`rt run` in crates/spki). Usage: bench/explain.py [PROGRAM]
 """
@@ -16,6 +17,7 @@ from memory import used
 from slowest import LIMIT_SUM, MEMBERS, SHAPES, SIZES
 
 LIMIT_RATIO = 4
+LIMIT_OF_KEYS = 32
 COPIES = 999
 
 
@@ -63,6 +65,20 @@ def reduced():
     print(f"{fit} such entries fit into {MOST_OCTETS} octets: {fit * (COPIES * COPIES * 2 + 70)} octets to be written")
 
 
+def of_long_keys():
+    """The most memory of `reduce` of entries whose certificate is for a key of half the text, which has one string or very many."""
+    most = 0.0
+    issuer, other = keys_of(1)
+    for parts in ([string(b"\x01" * (MOST_OCTETS // 2 - 100))], [string("")] * 250_000):
+        links = [(certificate(issuer, group(string("public-key"), group(string("rsa"), *parts))), issuer)]
+        one = len(case([entry(issuer)], links, asks=other)) - len(case([], links, asks=other))
+        entries = (MOST_OCTETS - len(case([], links, asks=other))) // one
+        took, memory = used(PROGRAM, "reduce", case([entry(issuer)] * entries, links, asks=other))
+        print(f"{entries:,} entries and a certificate for a key of {len(parts):,} strings: {took:.2f} s, {memory:.0f} MiB", flush=True)
+        most = max(most, memory)
+    return most
+
+
 def main():
     count = counter()
     worst, most = explained(count)
@@ -70,7 +86,9 @@ def main():
     together = folded(count)
     print(f"largest ratio of many entries to as many of one: {together:.2f} (at most {LIMIT_SUM})")
     reduced()
-    if worst > LIMIT_RATIO or most > LIMIT_MEMORY or together > LIMIT_SUM:
+    of_keys = of_long_keys()
+    print(f"most memory where a long key stands in each line: {of_keys:.1f} MiB (at most {LIMIT_OF_KEYS})")
+    if worst > LIMIT_RATIO or most > LIMIT_MEMORY or together > LIMIT_SUM or of_keys > LIMIT_OF_KEYS:
         sys.exit(1)
 
 

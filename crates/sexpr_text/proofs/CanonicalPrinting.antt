@@ -63,10 +63,6 @@ module _ (rest tail : List ℕ) (c number : ℕ) (octets behind : List ℕ) (beg
   pub length_ends : IsInLength rest number octets behind → c ≡ 58 → (number ≡ length octets) × (tail ≡ octets ++ behind)
   length_ends h colon = no_more h.digits h.low h.spelled h.counts colon
 
-pub length_left : (rest : List ℕ) (number : ℕ) (octets behind : List ℕ) → IsInLength rest number octets behind → length rest ≡ 0 → ⊥
-length_left rest number octets behind h ended =
-    omega (arith, ended, ap length h.spelled, length-append (map digit_of h.digits) (58 ∷ (octets ++ behind)))
-
 pub length_within : (rest : List ℕ) (number : ℕ) (octets behind : List ℕ) → IsInLength rest number octets behind → length octets ≤ length rest
 length_within rest number octets behind h =
     omega (arith, ap length h.spelled, length-append (map digit_of h.digits) (58 ∷ (octets ++ behind)), length-append octets behind)
@@ -124,14 +120,7 @@ pub record IsInMembers (Printed : List ℕ → Type 0) (vs : Values) (behind res
   pub spelled : rest ≡ canons left ++ 41 ∷ behind
   pub printed : Printed front
 
-pub members_begin : (Printed : List ℕ → Type 0) (vs : Values) (behind rest : List ℕ) → rest ≡ canons vs ++ 41 ∷ behind → Printed []
-    → IsInMembers Printed vs behind rest 0
-members_begin Printed vs behind rest e p = record { left = vs; front = []; whole = refl; spelled = e; printed = p }
-
 module _ (Printed : List ℕ → Type 0) (vs : Values) (behind rest : List ℕ) (member : ℕ) where
-  pub members_open : IsInMembers Printed vs behind rest member → length rest ≡ 0 → ⊥
-  members_open h ended = omega (arith, ap length h.spelled, length-append (canons h.left) (41 ∷ behind))
-
   module _ (c : ℕ) (tail : List ℕ) (begins : rest ≡ c ∷ tail) where
     first_of : (left : Values) → rest ≡ canons left ++ 41 ∷ behind → c ≢ 41
         → (v : Value) × (us : Values) × (left ≡ more v us) × (rest ≡ canon v ++ (canons us ++ 41 ∷ behind))

@@ -35,9 +35,6 @@ append-nil : (vs : List Value) → vs ++ [] ≡ vs
 append-nil [] = refl
 append-nil (v ∷ vs) = ap (λ ms. v ∷ ms) (append-nil vs)
 
-pub first_left : (v : Value) (number : ℕ) (rest : List Value) → v ≡ group rest → Left v 1 number number rest
-first_left v number rest is = record { before = []; is = is; long = refl; counted = omega arith }
-
 pub next_left : (v : Value) (begins left number : ℕ) (m : Value) (rest : List Value) → 0 < left → Left v begins left number (m ∷ rest)
     → Left v (begins + length (canon m)) (left - 1) number rest
 next_left v begins left number m rest some l =
@@ -113,17 +110,6 @@ path_there v m n at inner count path is s = record {
   place = lies_within (canon v) (canon m) s.octets at inner is.place s.place;
   counted = s.counted;
 }
-
-pub path_short : (v m : Value) (n at inner count : ℕ) (path : List ℕ) → IsMember v n m at → StandsIn (canon m) (octets_at m path) inner count
-    → at + inner ≤ length (canon v)
-path_short v m n at inner count path is s =
-    let a = lies_short (canon v) (canon m) at is.place in let b = lies_short (canon m) s.octets inner s.place in omega (arith, a, b)
-
-pub member_short : (v m : Value) (n at most : ℕ) → IsMember v n m at → length (canon v) ≤ most → length (canon m) ≤ most
-member_short v m n at most is low = let a = lies_short (canon v) (canon m) at is.place in omega (arith, a, low)
-
-pub no_path : (v m : Value) (n at : ℕ) (path : List ℕ) → IsMember v n m at → octets_at m path ≡ None → octets_at v (n ∷ path) ≡ None
-no_path v m n at path is missing = ap (λ o. if_there o (λ w. octets_at w path)) is.is ∙ missing
 
 pub no_first : (v : Value) (n : ℕ) (path : List ℕ) → slice_get (parts v) n ≡ None → octets_at v (n ∷ path) ≡ None
 no_first v n path missing = ap (λ o. if_there o (λ w. octets_at w path)) missing

@@ -111,9 +111,6 @@ pub hash-form : (v : Value) (rest : List Value) → IsHashed v rest → hash_fau
 unfolding hash_fault
 hash-form v rest e = of-form hash_looked (codes "hash") v rest e
 
-abbrev digest_looked : Option HashAlg → Value → List (Option CertFaultKind)
-digest_looked found digest = unless (is_plain any_octets digest) Shape ∷ unless (is_plain (is_sized found) digest) DigestLength ∷ []
-
 -- what is found in a digest and in what stands behind it
 pub hash-digest : (v word digest : Value) (rest more others : List Value) (alg : HashAlg) (found : Option CertFaultKind) (uris : Bool)
     → IsHashed v rest → rest ≡ word ∷ more → word ≡ plain (alg_name alg) → more ≡ digest ∷ others

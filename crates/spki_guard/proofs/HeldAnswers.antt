@@ -88,6 +88,3 @@ module _ (q : Question) (o : Opened) (marks : List Bool) (opened : IsOpened o.gu
         counted = counted ∙ ap length signed;
         answer = inl (d, subst (λ ts. Decides (marked a.case marks) (record { texts = ts; case = a.case; answer = o.guard.answer }) d) read.entries decides, line);
       })
-
-  pub opened_miscounted : ¬ (length marks ≡ length o.signed.items) → HasOtherCount o.guard q marks
-  opened_miscounted other = search (rules, opened_reads, length)

@@ -50,21 +50,6 @@ module _ {W : Type 0} (contents : W → Option (List ℕ)) where
     bounded : asks_of end ≤ max (asks_of old) (length octets + 2097152)
     bounded = search (rules)
 
-    pub all_written : (has_failed t ≡ false) × Takes contents (writer_of t) end (page_of t) × (faults_of end ≡ faults_of (writer_of t))
-        × IsTrue (flushed_of end) → IsWritten contents old end octets × (faults_of end ≡ faults_of old)
-    all_written (well, last, faultless, flushed) =
-        let (was, faults, sent, first, e) = taken.whole well in
-        let joined : sent ++ page_of t ≡ octets = e ∙ ap (λ p. p ++ octets) empty in (
-          record {
-            whole = subst (λ o. Takes contents old end o) joined
-                (Appends-trans (contents (inner_of old)) (contents (inner_of (writer_of t))) (contents (inner_of end)) sent (page_of t)
-                (subst (λ w. Takes contents w (writer_of t) sent) from first) last);
-            flushed = flushed;
-            asks = omega (arith, bounded, unasked);
-          },
-          faultless ∙ faults ∙ ap faults_of from,
-        )
-
     before_last : has_failed t ≡ true → end ≡ writer_of t
         → IsCutAfter contents (has_failed s) (writer_of s) (writer_of t) (page_of s ++ octets) (most_of s) → IsCutOff contents old end octets
     before_last failed same (inl h) = let clash : false ≡ true = sym ok ∙ h.0 in cc

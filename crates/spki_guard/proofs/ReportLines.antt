@@ -89,10 +89,3 @@ pub counted_once : (reply : Reply) (octets : List ℕ) (more : ℕ) (sum : Optio
     → IfSome sum (λ n. (others : List ℕ) → Prints reply others → n ≡ length others + more)
 counted_once reply octets more None printed e = tt
 counted_once reply octets more (Some n) printed e = λ others also. e ∙ ap (λ o. length o + more) (prints_once reply octets others printed also)
-
--- ---- what is reported of folds
-
-pub reduction_reported : (r : Reduction) (folds : Vec EntryFold Global) → r ≡ reduction.Entries folds → (length folds.items == 0) ≡ false
-    → PrintsAs (IsReductionReport r) (Folds folds)
-reduction_reported r folds is some output printed =
-    let more : 0 < length folds.items = grind (arith, nat_tests) in rw is (chains_reported folds.items output more printed)

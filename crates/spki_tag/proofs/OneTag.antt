@@ -10,10 +10,6 @@ use Rattle.spki_tag.specs.Tag.{Tag, Tags, Limit, Ordering, alpha, time, date, st
 pub apart : (a b : List ℕ) → false ≡ bytes_eq a b → a ≡ b → ⊥
 apart a b d e = other_text a b d e
 
--- the word behind the star
-pub word_only : (a b : List ℕ) (us vs : Values) → starred a us ≡ starred b vs → a ≡ b
-word_only a b us vs e = cc
-
 -- ---- ranges
 
 ordering_only : (a b : Ordering) → ordering_name a ≡ ordering_name b → a ≡ b

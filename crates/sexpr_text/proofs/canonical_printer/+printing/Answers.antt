@@ -1,5 +1,5 @@
 use Rattle.std.proofs.Common.{[], ◌∷◌, ◌++◌, length, sym, ◌∙◌, ap, append_assoc, arith, rules}
-use Rattle.sexpr_text.proofs.CanonicalPrinting.{opens_list, opens_hint, opens_plain, value_shortens, members_begin, members_open, member_next, member_printed, members_end}
+use Rattle.sexpr_text.proofs.CanonicalPrinting.{opens_list, opens_hint, opens_plain, value_shortens, member_next, member_printed, members_end}
 use Rattle.sexpr_text.proofs.SinkLaws.{in_two, in_three}
 use Rattle.sexpr_text.proofs.canonical_printer.+printing.Goals as goal
 
@@ -39,9 +39,6 @@ print_first-returns-in_default-first g t c v behind e =
     let (octets, is, whole) = opens_plain _ _ _ v behind c.in-Some.ensures.cases.0 (search rules) (search rules) e in
     rw is (c.print_verbatim.ensures octets behind whole)
 
-pub print_members-loop-octet-init : goal.print_members-loop-octet-init
-print_members-loop-octet-init g t c = (omega arith, λ vs behind e. members_begin _ vs behind _ e c.put_octet.ensures)
-
 pub print_members-returns-then-octet-eq41 : goal.print_members-returns-then-octet-eq41
 print_members-returns-then-octet-eq41 g t c vs behind e =
     let h = c.loop-octet.invariant.1 vs behind e in
@@ -78,6 +75,3 @@ print_members-loop-octet-preserved g t c =
           member_printed _ _ vs us v behind _ _ _ h is tail
           (in_three g.S.Sink.takes g.met.S.Sink.both _ h.printed c.print_gap.ensures printed (ap (λ s. 40 ∷ s) (append_assoc h.front _ _))),
     )
-
-pub print_members-returns : goal.print_members-returns
-print_members-returns g t c vs behind e = absurd (members_open _ vs behind _ _ (c.loop-octet.invariant.1 vs behind e) (search rules))

@@ -2,8 +2,5 @@ use Rattle.std.proofs.Common.{[], ◌∙◌, sym, append-nil}
 use Rattle.sexpr_core.specs.Value.{canon}
 use Rattle.sexpr_text.proofs.canonical_printer.print_canonical.Goals as goal
 
-pub print_first-requires : goal.print_first-requires
-print_first-requires g c = let (v, e) = c.requires in (v, [], e ∙ sym (append-nil (canon v)))
-
 pub returns : goal.returns
 returns g c v e = (c.print_first.ensures v [] (e ∙ sym (append-nil (canon v)))).0

@@ -1,5 +1,5 @@
 use Rattle.std.proofs.Common.{◌∙◌, ◌<◌, ◌^◌, length, length-append, ap, arith, rules}
-use Rattle.sexpr_text.proofs.CanonicalPrinting.{length_begins, length_goes_on, length_ends, length_left, length_within, split_there}
+use Rattle.sexpr_text.proofs.CanonicalPrinting.{length_begins, length_goes_on, length_ends, length_within, split_there}
 use Rattle.sexpr_text.proofs.canonical_printer.split_verbatim.Goals as goal
 
 pub loop-octet-init : goal.loop-octet-init
@@ -43,6 +43,3 @@ overflow_add-number c =
 pub loop-octet-preserved : goal.loop-octet-preserved
 loop-octet-preserved c octets behind e =
     (length_goes_on _ _ _ _ octets behind c.in-Some.ensures.cases.0 (c.loop-octet.invariant octets behind e) c.if-octet-eq58.false).2
-
-pub returns : goal.returns
-returns c octets behind e = absurd (length_left _ _ octets behind (c.loop-octet.invariant octets behind e) (search rules))
