@@ -1,6 +1,6 @@
 //! Reads the whole text of a reader, within a limit.
 ghost use Rattle.std.specs.Prelude.{◌≡◌, ℕ, ◌+◌, ◌<◌, ◌≤◌, ◌⊎◌, ◌++◌, List, length, take, max, vec_len, IsTrue, IfOk, OnOk, OnErr, IfSome, IfNone, IsErrOf};
-ghost use Rattle.metered_io.specs.Metered.{counted, asks_of, faults_of, ended_of, Gives, GivesNone, HasGivenAll};
+ghost use Rattle.metered_io.specs.MeteredCalls.{counted, asks_of, faults_of, ended_of, Gives, GivesNone, HasGivenAll};
 
 use crate::meters::{Metered, is_interrupted};
 use std::alloc::Global;

@@ -3,7 +3,7 @@ ghost use Rattle.std.specs.Prelude.{◌≡◌, ◌↔◌, ◌<◌, length, IsTru
 ghost use Rattle.std.specs.IoError.{error_kind};
 ghost use Rattle.std.specs.Io.{ReadsAtMost, WritesAtMost};
 ghost use Rattle.std.specs.Io.KnownBytes.{Keeps, ReadConsumes, WriteAppends};
-ghost use Rattle.metered_io.specs.Metered.{counted, inner_of, asks_of, faults_of, ended_of, flushed_of, CountsIf, IsFault, CountsErrors, CountsWrite};
+ghost use Rattle.metered_io.specs.MeteredCalls.{counted, inner_of, asks_of, faults_of, ended_of, flushed_of, CountsIf, IsFault, CountsErrors, CountsWrite};
 
 use std::io;
 use std::io::{Error, ErrorKind, Read, Write};

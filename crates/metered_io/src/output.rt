@@ -1,7 +1,6 @@
 //! Writes a whole output to a writer.
 ghost use Rattle.std.specs.Prelude.{◌≡◌, ℕ, ◌+◌, ◌<◌, ◌≤◌, ◌⊎◌, ◌++◌, List, length, take, max, IsTrue, IfOk, OnOk, OnErr};
-ghost use Rattle.metered_io.specs.Metered.{counted, asks_of, faults_of, flushed_of, Takes, TakesNone};
-ghost use Rattle.metered_io.specs.Sent.{SendsFront};
+ghost use Rattle.metered_io.specs.MeteredCalls.{counted, asks_of, faults_of, flushed_of, Takes, TakesNone, SendsFront};
 
 use crate::meters::{Metered, is_interrupted};
 use std::io::Write;

@@ -5,12 +5,10 @@ use Rattle.std.proofs.Math.Seq.{take-append-add, take-append_seam}
 use Rattle.sexpr_core.specs.declared.fault.FormFault.{FormFault}
 use Rattle.sexpr_core.specs.declared.fault.FormFault.TheVariants.{TooDeep, Short, Bad}
 use Rattle.sexpr_core.specs.Value.{Value, Values, string, list, none, decimal, verbatim, canon, canons, depths}
-use Rattle.sexpr_core.specs.Prefix.{Front}
+use Rattle.sexpr_core.specs.Reading.{Front, IsCanon, IsCanonWithin, IsMembers, IsMembersWithin, IsVerbatim, IsClosing, IsLength}
 use Rattle.sexpr_core.specs.Inner.PartFaults.{Barred, FaultAt}
-use Rattle.sexpr_core.specs.Texts.{IsCanon, IsCanonWithin, IsMembers, IsMembersWithin, IsVerbatim, IsClosing, IsLength}
 use Rattle.sexpr_core.proofs.Prefix.{FaultAt-head, FaultAt-tail, FaultAt-from, FaultAt-first, Front-none}
-use Rattle.sexpr_core.proofs.Decimal.{IsDigit, AreDigits-decimal, parts_agree, zero_ends, decimal_starts}
-use Rattle.sexpr_core.proofs.Texts.{IsFilled, IsFilledWithin, IsHinted, verbatim_is, verbatim_differs, colon_no_digit, Opens-verbatim, Opens-hinted, Behind-hint, Behind-closing, Behind-bracket, Behind-bracket_within, From-digit, From-digit_within}
+use Rattle.sexpr_core.proofs.Texts.{IsDigit, AreDigits-decimal, parts_agree, zero_ends, decimal_starts, IsFilled, IsFilledWithin, IsHinted, verbatim_is, verbatim_differs, colon_no_digit, Opens-verbatim, Opens-hinted, Behind-hint, Behind-closing, Behind-bracket, Behind-bracket_within, From-digit, From-digit_within}
 use Rattle.sexpr_core.proofs.ListTexts.{Behind-members, Behind-members_within, Behind-open, Behind-open_within, closed_within, From-filled, From-filled_within, Opens-filled, Opens-filled_within}
 
 some_append : (xs ys : List ℕ) → 0 < length ys → 0 < length (xs ++ ys)

@@ -4,8 +4,7 @@ use Rattle.std.proofs.lemmas.List.{append_cancel_left}
 use Rattle.std.proofs.Math.Seq.{take-append-add}
 use Rattle.sexpr_core.specs.declared.fault.FormFault.{FormFault}
 use Rattle.sexpr_core.specs.declared.fault.FormFault.TheVariants.{TooDeep, Short, Bad}
-use Rattle.sexpr_core.specs.Prefix.{Begins, Front}
-use Rattle.sexpr_core.specs.Bounds.{RefusesPart}
+use Rattle.sexpr_core.specs.Reading.{Begins, Front, RefusesPart}
 use Rattle.sexpr_core.specs.Inner.PartFaults.{Barred, FaultAt}
 
 -- a text that begins with one of U

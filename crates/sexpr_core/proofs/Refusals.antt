@@ -1,15 +1,109 @@
--- A text has at most one refusal that speaks of its form.
-use Rattle.std.proofs.Common.{◌≡◌, ◌≢◌, ℕ, ◌+◌, ◌<◌, ◌≤◌, List, [], ◌++◌, length, take, drop, refl, sym, ◌∙◌, ap, subst, arith, append-nil, append_assoc, length-drop, length-append, rules}
-use Rattle.std.proofs.lemmas.List.{take-append-drop, length-take-le, take-take}
+-- The refusals of a whole text: it has at most one that speaks of its form, and what the reader of canonical form
+-- meets at a value is a refusal of the whole text.
+use Rattle.std.proofs.Common.{◌≡◌, ℕ, ◌+◌, ◌<◌, ◌≤◌, inl, inr, List, ◌++◌, take, drop, refl, sym, ap, subst, arith, append_assoc, rules, ◌≢◌, [], length, ◌∙◌, append-nil, length-drop, length-append, suc}
+use Rattle.std.proofs.lemmas.List.{take-append-drop, take-take, length-take-le, take_at}
+use Rattle.std.proofs.lemmas.Bool.{cases_order}
 use Rattle.sexpr_core.specs.declared.fault.FormFault.{FormFault}
 use Rattle.sexpr_core.specs.declared.fault.FormFault.TheVariants.{TooLong, TooDeep, Short, Bad, Trailing, Memory}
+use Rattle.sexpr_core.specs.Reading.{Begins, Front, IsOfForm, IsCanon, IsShallowText, Refused, IsBodyFault, RefusesBody, IsCanonWithin, ReadsValue}
 use Rattle.sexpr_core.specs.Value.{Value, canon, IsShallow, IsWithinLimits}
-use Rattle.sexpr_core.specs.Prefix.{Begins, Front}
-use Rattle.sexpr_core.specs.Texts.{IsCanon}
-use Rattle.sexpr_core.specs.Refusal.{IsShallowText, IsOfForm, Refused}
-use Rattle.sexpr_core.specs.Bounds.{IsBodyFault, RefusesBody}
-use Rattle.sexpr_core.proofs.OneFault.{begins_front, front_begins, goes_part, StopsThere, no_deep, AreApart, one_fault, no_fault}
 use Rattle.sexpr_core.proofs.Texts.{canon_one}
+use Rattle.sexpr_core.specs.declared.layout.Record.{Record}
+use Rattle.sexpr_core.specs.Inner.PartFaults.{Barred, FaultAt}
+use Rattle.sexpr_core.proofs.Steps.{read_length}
+
+-- ---- why a text has at most one refusal that speaks of its form, whichever form that is
+
+-- ---- octets up to an offset
+
+-- octets in front of those of G are in G
+abbrev pub HasFronts : (List ℕ → Type 0) → Type 0
+HasFronts G = (x y : List ℕ) → G (x ++ y) → G x
+
+pub begins_front : (T : List ℕ → Type 0) → HasFronts (Begins T)
+begins_front T x y b = record { rest = y ++ b.rest; whole = subst T (append_assoc x y b.rest) b.whole }
+
+pub front_begins : (T : List ℕ → Type 0) (xs : List ℕ) → Front T xs → Begins T xs
+front_begins T xs f = record { rest = f.rest; whole = f.whole }
+
+pub goes_less : (G : List ℕ → Type 0) → HasFronts G → (m n : ℕ) (xs : List ℕ) → m ≤ n → G (take n xs) → G (take m xs)
+goes_less G front m n xs h g = search (rules, take-append-drop m (take n xs), take-take m n xs h)
+
+pub goes_part : (G : List ℕ → Type 0) → HasFronts G → (n : ℕ) (xs : List ℕ) → G xs → G (take n xs)
+goes_part G front n xs g = front (take n xs) (drop n xs) (subst G (sym (take-append-drop n xs)) g)
+
+-- ---- the place at which nothing goes on
+
+-- W: what goes on within the limits. A: what goes on at all.
+pub record StopsThere (W A : List ℕ → Type 0) (text : List ℕ) (at : ℕ) : Type 0 where
+  pub begun : W (take at text)
+  pub ended : A (take (at + 1) text) → ⊥
+
+module _ (W A : List ℕ → Type 0) (front : HasFronts W) (any : (x : List ℕ) → W x → A x) (text : List ℕ) where
+  stops_once : (i j : ℕ) → StopsThere W A text i → StopsThere W A text j → i < j → ⊥
+  stops_once i j a b h = a.ended (any (take (i + 1) text) (goes_less W front (i + 1) j text (omega arith) b.begun))
+
+  pub at_one : (i j : ℕ) → StopsThere W A text i → StopsThere W A text j → i ≡ j
+  at_one i j a b = search (rules, cases_order, stops_once)
+
+  pub no_short : (at : ℕ) → StopsThere W A text at → W text → ⊥
+  no_short at s g = s.ended (any (take (at + 1) text) (goes_part W front (at + 1) text g))
+
+  pub no_deep : HasFronts A → (at n : ℕ) → StopsThere W A text at → A (take n text) → (W (take n text) → ⊥) → ⊥
+  no_deep fronts at n s b h = elim (cases_order n at) [
+    | inl e ↦ h (goes_less W front n at text (omega arith) s.begun)
+    | inr (inl k) ↦ h (goes_less W front n at text (omega arith) s.begun)
+    | inr (inr k) ↦ s.ended (goes_less A fronts (at + 1) n text (omega arith) b)
+  ]
+
+-- ---- one refusal
+
+-- what the refusals R of a text are, where it has at most one of them
+pub record AreApart (W A : List ℕ → Type 0) (text : List ℕ) (R : FormFault → Type 0) : Type 0 where
+  pub short : R Short → W text
+  pub bad : (at : ℕ) → R (Bad at) → StopsThere W A text at
+  pub trailing : (at : ℕ) → R (Trailing at) → StopsThere W A text at
+  pub short_deep : R Short → R TooDeep → ⊥
+  pub bad_deep : (at : ℕ) → R (Bad at) → R TooDeep → ⊥
+  pub trailing_deep : (at : ℕ) → R (Trailing at) → R TooDeep → ⊥
+  pub bad_trailing : (at : ℕ) → R (Bad at) → R (Trailing at) → ⊥
+
+module _ (W A : List ℕ → Type 0) (front : HasFronts W) (any : (x : List ℕ) → W x → A x) (text : List ℕ)
+    (R : FormFault → Type 0) (k : AreApart W A text R)
+  where
+    apart_at : (i j : ℕ) → R (Bad i) → R (Trailing j) → ⊥
+    apart_at i j a b = k.bad_trailing j (subst (λ n. R (Bad n)) (at_one W A front any text i j (k.bad i a) (k.trailing j b)) a) b
+
+    pub one_fault : (e f : FormFault) → IsOfForm e → IsOfForm f → R e → R f → e ≡ f
+    one_fault TooDeep TooDeep p q a b = refl
+    one_fault TooDeep Short p q a b = absurd (k.short_deep b a)
+    one_fault TooDeep (Bad j) p q a b = absurd (k.bad_deep j b a)
+    one_fault TooDeep (Trailing j) p q a b = absurd (k.trailing_deep j b a)
+    one_fault Short TooDeep p q a b = absurd (k.short_deep a b)
+    one_fault Short Short p q a b = refl
+    one_fault Short (Bad j) p q a b = absurd (no_short W A front any text j (k.bad j b) (k.short a))
+    one_fault Short (Trailing j) p q a b = absurd (no_short W A front any text j (k.trailing j b) (k.short a))
+    one_fault (Bad i) TooDeep p q a b = absurd (k.bad_deep i a b)
+    one_fault (Bad i) Short p q a b = absurd (no_short W A front any text i (k.bad i a) (k.short b))
+    one_fault (Bad i) (Bad j) p q a b = ap Bad (at_one W A front any text i j (k.bad i a) (k.bad j b))
+    one_fault (Bad i) (Trailing j) p q a b = absurd (apart_at i j a b)
+    one_fault (Trailing i) TooDeep p q a b = absurd (k.trailing_deep i a b)
+    one_fault (Trailing i) Short p q a b = absurd (no_short W A front any text i (k.trailing i a) (k.short b))
+    one_fault (Trailing i) (Bad j) p q a b = absurd (apart_at j i b a)
+    one_fault (Trailing i) (Trailing j) p q a b = ap Trailing (at_one W A front any text i j (k.trailing i a) (k.trailing j b))
+    one_fault TooLong f p q a b = absurd p
+    one_fault Memory f p q a b = absurd p
+    one_fault _ _ p q a b = absurd q
+
+    -- none where the text is read
+    pub no_fault : W text → (R Short → ⊥) → (R TooDeep → ⊥) → (e : FormFault) → IsOfForm e → R e → ⊥
+    no_fault goes short deep TooDeep p r = deep r
+    no_fault goes short deep Short p r = short r
+    no_fault goes short deep (Bad at) p r = no_short W A front any text at (k.bad at r) goes
+    no_fault goes short deep (Trailing at) p r = no_short W A front any text at (k.trailing at r) goes
+    no_fault goes short deep _ p r = absurd p
+
+-- ---- a text has at most one refusal that speaks of its form
 
 -- ---- the place at which no canonical text goes on
 
@@ -106,3 +200,57 @@ body_refused octets at Memory fault few r e = subst (RefusesBody octets at) (sym
 -- the canonical text of a shallow value isn't too deep
 pub shallow_text : (octets : List ℕ) (v : Value) → IsShallow v → octets ≡ canon v → Refused octets TooDeep → ⊥
 shallow_text octets v h same r = search (rules, take-append-drop r.0 octets)
+
+-- ---- from a value read at the beginning of a text to what is said of the whole text
+
+barred_begins : (T : List ℕ → Type 0) (xs : List ℕ) → Barred T xs → Begins T xs → ⊥
+barred_begins T xs h b = h.bars (xs ++ b.rest) b.rest [] b.whole (sym (append-nil (xs ++ b.rest)))
+
+pub refused : (text : List ℕ) (e : FormFault) → FaultAt IsCanon (IsCanonWithin 64) 0 text e → Refused text e
+refused text TooDeep h = search (rules, front_begins, barred_begins)
+refused text Short h = h
+refused text (Bad k) h =
+    let e : h.place ≡ k = let o : k ≡ 0 + h.place = h.offset in omega arith in
+    let f : suc h.place ≡ k + 1 = omega arith in
+    search (rules, barred_begins)
+refused text Memory h = h
+refused text _ h = absurd h
+
+-- ---- a whole value
+
+pub whole_length :
+    (text : List ℕ) (to : ℕ) (old new : List Record) (r : ReadsValue 64 text 0 to old new) →
+    to ≡ length (canon r.value)
+whole_length text to old new r = omega (arith, read_length text (canon r.value) 0 to (omega arith) r.within r.spelled)
+
+pub trailing :
+    (text : List ℕ) (to : ℕ) (old new : List Record) → ReadsValue 64 text 0 to old new → to < length text →
+    Refused text (Trailing to)
+trailing text to old new r h = search (rules, take_at, whole_length text to old new r)
+
+-- ---- a canonical text within the limits is refused only for want of memory
+
+part : (text : List ℕ) (v : Value) (n : ℕ) → text ≡ canon v → take n text ++ drop n text ≡ canon v
+part text v n e = take-append-drop n text ∙ e
+
+pub only_memory :
+    (text : List ℕ) (e : FormFault) (v : Value) → IsWithinLimits v → text ≡ canon v → Refused text e →
+    e ≡ Memory
+only_memory text TooLong v w q h = let s : length (canon v) ≤ 1048576 = w.short in absurd (omega (arith, ap length q))
+only_memory text TooDeep v w q h = absurd (search (rules, part text v h.0 q))
+only_memory text Short v w q h =
+    let s : IsShallowText (text ++ h.rest) = h.whole in
+    let e : canon v ++ h.rest ≡ canon s.value ++ [] =
+    ap (λ t. t ++ h.rest) (sym q) ∙ s.is ∙ sym (append-nil (canon s.value)) in
+    let p = canon_one v s.value h.rest [] e in
+    let some : 0 < length h.rest = h.some in
+    absurd (omega (arith, ap length p.1))
+only_memory text (Bad k) v w q h = absurd (search (rules, part text v (k + 1) q))
+only_memory text (Trailing k) v w q h =
+    let s : IsShallowText (take k text) = h.1 in
+    let e : canon v ++ [] ≡ canon s.value ++ drop k text =
+    append-nil (canon v) ∙ sym (part text v k q) ∙ ap (λ t. t ++ drop k text) s.is in
+    let p = canon_one v s.value [] (drop k text) e in
+    let l : k < length text = h.0 in
+    absurd (omega (arith, ap length p.1, length-drop k text))
+only_memory text Memory v w q h = refl

@@ -8,13 +8,10 @@ use Rattle.sexpr_core.specs.declared.layout.Record.{Record}
 use Rattle.sexpr_core.specs.declared.layout.Shape.{Shape}
 use Rattle.sexpr_core.specs.declared.layout.Shape.TheVariants.{Plain, Hinted}
 use Rattle.sexpr_core.specs.Value.{string, decimal, verbatim, canon}
-use Rattle.sexpr_core.specs.Layout.{head, shape}
-use Rattle.sexpr_core.specs.Prefix.{Front}
+use Rattle.sexpr_core.specs.Nodes.{head, shape}
+use Rattle.sexpr_core.specs.Reading.{Front, IsCanon, IsCanonWithin, IsVerbatim, IsClosing, IsLength, StandsAt, ReadsLength, ReadsVerbatim, ReadsString}
 use Rattle.sexpr_core.specs.Inner.PartFaults.{IsBad, FaultAt}
-use Rattle.sexpr_core.specs.Texts.{IsCanon, IsCanonWithin, IsVerbatim, IsClosing, IsLength}
-use Rattle.sexpr_core.specs.Reading.{StandsAt, ReadsLength, ReadsVerbatim, ReadsString}
-use Rattle.sexpr_core.proofs.Decimal.{IsDigit, decimal_digit, decimal_more}
-use Rattle.sexpr_core.proofs.Texts.{IsHinted, verbatim_is}
+use Rattle.sexpr_core.proofs.Texts.{IsDigit, decimal_digit, decimal_more, IsHinted, verbatim_is}
 use Rattle.sexpr_core.proofs.Faults.{length_ended, length_first, length_short, length_bad, length_zero, verbatim_short, closing_ended, closing_first, closing_fault, hint_fault, hinted_fault, value_first, plain_fault, bracket_fault}
 
 -- ---- offsets

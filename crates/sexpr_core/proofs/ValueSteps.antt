@@ -5,11 +5,9 @@ use Rattle.sexpr_core.specs.declared.fault.FormFault.{FormFault}
 use Rattle.sexpr_core.specs.declared.layout.Record.{Record}
 use Rattle.sexpr_core.specs.declared.layout.Shape.TheVariants.{List as Group}
 use Rattle.sexpr_core.specs.Value.{Value, Values, string, list, none, more, members, canon, canons, depth, depths, nodes, nodes_all, size}
-use Rattle.sexpr_core.specs.Layout.{records, records_all}
-use Rattle.sexpr_core.specs.Prefix.{Front}
+use Rattle.sexpr_core.specs.Nodes.{records, records_all}
+use Rattle.sexpr_core.specs.Reading.{Front, IsCanon, IsCanonWithin, IsMembers, IsMembersWithin, StandsAt, ReadsString, ReadsValue, ReadsMembers, PassesValue, PassesMembers}
 use Rattle.sexpr_core.specs.Inner.PartFaults.{IsDeep, FaultAt}
-use Rattle.sexpr_core.specs.Texts.{IsCanon, IsCanonWithin, IsMembers, IsMembersWithin}
-use Rattle.sexpr_core.specs.Reading.{StandsAt, ReadsString, ReadsValue, ReadsMembers, PassesValue, PassesMembers}
 use Rattle.sexpr_core.proofs.ListTexts.{join, canons-join, depths-join}
 use Rattle.sexpr_core.proofs.Faults.{verbatim_none, value_ended, list_deep, list_fault, members_short, member_fault}
 use Rattle.sexpr_core.proofs.Steps.{read_length, read_both}

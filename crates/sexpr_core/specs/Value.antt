@@ -1,8 +1,26 @@
--- S-expressions as values, and their canonical text (RFC 9804).
-use Rattle.std.specs.Prelude.{ℕ, suc, ◌+◌, ◌≤◌, max, List, [], ◌∷◌, ◌++◌, length, map, Option, Some, None, ◌==◌, slice_get, if◌then◌else◌}
+-- S-expressions as values, and their canonical text (RFC 9804): the limits on what is read, values of octets, what a
+-- value is not, the equality of values, and the value of an owned tree.
+use Rattle.std.specs.Prelude.{ℕ, suc, ◌+◌, ◌≤◌, max, List, [], ◌∷◌, ◌++◌, length, map, Option, Some, None, ◌==◌, slice_get, if◌then◌else◌, ◌≢◌, Bool, option_map}
 use Rattle.std.specs.Int.Digits.{digits_of}
 use Rattle.sexpr_core.specs.Characters.{char}
-use Rattle.sexpr_core.specs.Limits.{octet_limit, depth_limit}
+use Rattle.base64.specs.GeneralPurpose.{IsBytes}
+use Rattle.std.specs.Str.{bytes_eq}
+use Rattle.sexpr_core.specs.declared.tree.Atom.{Atom}
+use Rattle.sexpr_core.specs.declared.tree.Sexp.{Sexp}
+use Rattle.sexpr_core.specs.declared.tree.Sexp.TheOpen.{Sexp-F, Atom as Leaf, List as Branch}
+use Rattle.sexpr_core.specs.declared.tree.Sexp.TheFolds.{fold-Sexp}
+
+-- ---- the limits of what is read
+
+-- the most octets of a text, 1 MiB
+abbrev pub octet_limit : ℕ
+octet_limit = 1048576
+
+-- the most lists that may be open at once
+abbrev pub depth_limit : ℕ
+depth_limit = 64
+
+-- ---- s-expressions as values, and their canonical text (RFC 9804)
 
 mutual
   -- An octet string, with or without a display hint (sections 4 and 4.6), or a list (section 5). Octets are plain numbers:
@@ -99,3 +117,50 @@ IsShallow v = depth v ≤ depth_limit
 pub record IsWithinLimits (v : Value) : Type 0 where
   pub short : length (canon v) ≤ octet_limit
   pub shallow : IsShallow v
+
+-- ---- what a value is not
+
+-- not a string without a display hint
+abbrev pub IsNoString : Value → Type 0
+IsNoString v = (octets : List ℕ) → v ≢ plain octets
+
+abbrev pub IsNoList : Value → Type 0
+IsNoList v = (vs : List Value) → v ≢ group vs
+
+-- not a list whose head is this word
+abbrev pub IsNotHeaded : Value → List ℕ → Type 0
+IsNotHeaded v word = (vs : List Value) → v ≢ group (plain word ∷ vs)
+
+-- ---- values of octets
+
+-- Values of octets (RFC 9804, section 4). In a value octets are plain numbers.
+
+abbrev mutual
+  -- each octet of each string and display hint is below 256
+  pub HasOctets : Value → Type 0
+  HasOctets (string None octets) = IsBytes octets
+  HasOctets (string (Some hint) octets) = IsBytes hint × IsBytes octets
+  HasOctets (list vs) = HaveOctets vs
+
+  pub HaveOctets : Values → Type 0
+  HaveOctets none = Unit {0}
+  HaveOctets (more v vs) = HasOctets v × HaveOctets vs
+
+-- ---- equality of values (RFC 9804, sections 4.7 and 6.2)
+
+-- whether two values have the same canonical text, and so are equal
+abbrev pub is_same : Value → Value → Bool
+is_same v w = bytes_eq (canon v) (canon w)
+
+-- ---- the value of an owned tree
+
+abbrev pub atom_value : Atom → Value
+atom_value a = string (option_map (λ h. h.items) a.hint) a.body.items
+
+-- one level of a tree, with the value of each member in its place
+abbrev pub level_value : Sexp-F Value → Value
+level_value (Leaf a) = atom_value a
+level_value (Branch members) = group members.items
+
+abbrev pub sexp_value : Sexp → Value
+sexp_value = fold-Sexp Value level_value

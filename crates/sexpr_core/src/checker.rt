@@ -2,10 +2,8 @@
 
 ghost use Rattle.std.specs.Prelude.{◌≡◌, ◌<◌, ◌≤◌, ◌↔◌, length, drop, MatchResult, IfErr, OnOk, IsErrOf, IsOkUnless};
 ghost use Rattle.sexpr_core.specs.Value.{Value, canon, IsWithinLimits};
-ghost use Rattle.sexpr_core.specs.Refusal.{Refused};
+ghost use Rattle.sexpr_core.specs.Reading.{Refused, IsCanon, IsCanonWithin, IsMembers, IsMembersWithin, StandsAt, PassesValue, PassesMembers};
 ghost use Rattle.sexpr_core.specs.Inner.PartFaults.{FaultAt};
-ghost use Rattle.sexpr_core.specs.Texts.{IsCanon, IsCanonWithin, IsMembers, IsMembersWithin};
-ghost use Rattle.sexpr_core.specs.Reading.{StandsAt, PassesValue, PassesMembers};
 
 use crate::fault::FormFault;
 use crate::parser::{MOST_LISTS, MOST_OCTETS, read_string};

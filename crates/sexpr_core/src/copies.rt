@@ -1,7 +1,7 @@
 //! Copies of trees.
 
 ghost use Rattle.std.specs.Prelude.{◌≡◌, map, IfOk};
-ghost use Rattle.sexpr_core.specs.Tree.{atom_value, sexp_value};
+ghost use Rattle.sexpr_core.specs.Value.{atom_value, sexp_value};
 
 use crate::tree::{Atom, Sexp};
 use std::alloc::{AllocError, Global};

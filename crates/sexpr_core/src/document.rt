@@ -2,9 +2,8 @@
 
 ghost use Rattle.std.specs.Prelude.{◌≡◌, ◌<◌, ◌^◌, ◌↔◌, length, Some, IfOk, IfErr, IsErrOf, IsOkUnless};
 ghost use Rattle.sexpr_core.specs.Value.{Value, canon, size, node, IsWithinLimits};
-ghost use Rattle.sexpr_core.specs.Refusal.{Refused};
-ghost use Rattle.sexpr_core.specs.Places.{IsPlace, node_at};
-ghost use Rattle.sexpr_core.specs.Starts.{start_of};
+ghost use Rattle.sexpr_core.specs.Reading.{Refused};
+ghost use Rattle.sexpr_core.specs.Nodes.{IsPlace, node_at, start_of};
 
 use crate::fault::FormFault;
 use crate::handle::Node;
@@ -27,13 +26,13 @@ pub struct Doc<'a> {
 
 impl<'a> Model for Doc<'a> {
     ghost use Rattle.sexpr_core.specs.Value as sexpr;
-    ghost use Rattle.sexpr_core.specs.Labels.{value_code};
+    ghost use Rattle.sexpr_core.specs.Nodes.{value_code};
 
     ghost Value = { sexpr.Value };
 
     ghost coded = { value_code };
 
-    ghost use Rattle.sexpr_core.specs.Table.{table_value, IsTable};
+    ghost use Rattle.sexpr_core.specs.Nodes.{table_value, IsTable};
 
     ghost view = { λ d. table_value d.text.now d.table.items };
 

@@ -1,11 +1,9 @@
 //! Handles to the nodes of a document.
 
 ghost use Rattle.std.specs.Prelude.{◌≡◌, ◌<◌, ◌≤◌, ◌∷◌, length, slice_range, MatchOption};
-ghost use Rattle.sexpr_core.specs.Value.{canon, size, plain, group};
-ghost use Rattle.sexpr_core.specs.Places.{node_at};
+ghost use Rattle.sexpr_core.specs.Value.{canon, size, plain, group, IsNoString, IsNoList, IsNotHeaded};
+ghost use Rattle.sexpr_core.specs.Nodes.{node_at, part_count};
 ghost use Rattle.sexpr_core.specs.KindValue.{kind_value};
-ghost use Rattle.sexpr_core.specs.Parts.{part_count};
-ghost use Rattle.sexpr_core.specs.Shapes.{IsNoString, IsNoList, IsNotHeaded};
 
 use crate::document::Doc;
 use crate::layout::Shape;
@@ -22,13 +20,13 @@ pub struct Node<'d, 'a> {
 impl<'d, 'a> Model for Node<'d, 'a> {
     ghost use Rattle.std.specs.Prelude.{◌<◌};
     ghost use Rattle.sexpr_core.specs.Value as sexpr;
-    ghost use Rattle.sexpr_core.specs.Labels.{value_code};
+    ghost use Rattle.sexpr_core.specs.Nodes.{value_code};
 
     ghost Value = { sexpr.Value };
 
     ghost coded = { value_code };
 
-    ghost use Rattle.sexpr_core.specs.Places.{node_at};
+    ghost use Rattle.sexpr_core.specs.Nodes.{node_at};
 
     ghost view = { λ n. node_at n.document.now n.number };
 

@@ -3,13 +3,8 @@
 
 ghost use Rattle.std.specs.Prelude.{◌≡◌, ◌≢◌, ◌↔◌, ℕ, List, ◌++◌, IsTrue};
 ghost use Rattle.sexpr_core.specs.declared.fault.FormFault.{FormFault};
-ghost use Rattle.sexpr_core.specs.Value.{Value, canon, IsWithinLimits};
-ghost use Rattle.sexpr_core.specs.Refusal.{IsOfForm, Refused};
-ghost use Rattle.sexpr_core.specs.Braces.{IsBracedWithin};
-ghost use Rattle.sexpr_core.specs.BraceRefusal.{RefusesBraces};
-ghost use Rattle.sexpr_core.specs.Equality.{is_same};
-ghost use Rattle.sexpr_core.specs.Octets.{HasOctets};
-ghost use Rattle.sexpr_core.specs.Tree.{atom_value, sexp_value};
+ghost use Rattle.sexpr_core.specs.Value.{Value, canon, IsWithinLimits, is_same, HasOctets, atom_value, sexp_value};
+ghost use Rattle.sexpr_core.specs.Reading.{IsOfForm, Refused, IsBracedWithin, RefusesBraces};
 ghost use Rattle.base64.specs.GeneralPurpose.{IsBytes};
 
 use crate::tree::{Atom, Sexp};

@@ -3,9 +3,7 @@
 ghost use Rattle.std.specs.Prelude.{◌≡◌, ◌<◌, ◌^◌, length, option_map, IfSome};
 ghost use Rattle.std.specs.Option.{option_copied};
 ghost use Rattle.sexpr_core.specs.Value.{canon, node, size};
-ghost use Rattle.sexpr_core.specs.Places.{node_at};
-ghost use Rattle.sexpr_core.specs.Starts.{start_of, LiesAt};
-ghost use Rattle.sexpr_core.specs.Parts.{of_node, part_count, part_number, part_at, member_number, members_of, body_of, hint_of};
+ghost use Rattle.sexpr_core.specs.Nodes.{node_at, start_of, LiesAt, of_node, part_count, part_number, part_at, member_number, members_of, body_of, hint_of};
 
 use crate::document::{Doc, NodeId};
 use crate::handle::NodeKind;

@@ -2,9 +2,8 @@
 
 ghost use Rattle.std.specs.Prelude.{◌≡◌, ◌<◌, ◌↔◌, length, map, IfOk, IfErr, IsErrOf, IsOkUnless};
 ghost use Rattle.std.specs.Option.{option_copied};
-ghost use Rattle.sexpr_core.specs.Value.{Value, string, canon, IsWithinLimits};
-ghost use Rattle.sexpr_core.specs.Tree.{atom_value, sexp_value};
-ghost use Rattle.sexpr_core.specs.Refusal.{Refused};
+ghost use Rattle.sexpr_core.specs.Value.{Value, string, canon, IsWithinLimits, atom_value, sexp_value};
+ghost use Rattle.sexpr_core.specs.Reading.{Refused};
 
 use crate::document::Doc;
 use crate::fault::FormFault;

@@ -2,11 +2,9 @@
 
 ghost use Rattle.std.specs.Prelude.{◌≡◌, ℕ, ◌+◌, ◌<◌, ◌≤◌, ◌≢◌, ◌↔◌, [], ◌∷◌, length, drop, MatchOption, MatchResult, IfOk, IfErr, IsErrOf, IsOkUnless};
 ghost use Rattle.sexpr_core.specs.Value.{Value, canon, IsWithinLimits};
-ghost use Rattle.sexpr_core.specs.Layout.{records};
-ghost use Rattle.sexpr_core.specs.Refusal.{Refused};
+ghost use Rattle.sexpr_core.specs.Nodes.{records};
+ghost use Rattle.sexpr_core.specs.Reading.{Refused, IsCanon, IsCanonWithin, IsMembers, IsMembersWithin, IsLength, IsVerbatim, IsClosing, StandsAt, ReadsLength, ReadsVerbatim, ReadsString, ReadsValue, ReadsMembers};
 ghost use Rattle.sexpr_core.specs.Inner.PartFaults.{FaultAt};
-ghost use Rattle.sexpr_core.specs.Texts.{IsCanon, IsCanonWithin, IsMembers, IsMembersWithin, IsLength, IsVerbatim, IsClosing};
-ghost use Rattle.sexpr_core.specs.Reading.{StandsAt, ReadsLength, ReadsVerbatim, ReadsString, ReadsValue, ReadsMembers};
 
 use crate::fault::FormFault;
 use crate::layout::{Record, Shape};

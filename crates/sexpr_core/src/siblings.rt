@@ -3,7 +3,7 @@
 ghost use Rattle.std.specs.Prelude.{◌≡◌, ◌<◌, ◌∷◌, [], MatchOption, IsTrue, ◌↔◌};
 ghost use Rattle.std.specs.Iterator.{YieldsFirst, item_count};
 ghost use Rattle.sexpr_core.specs.Value.{list, size, values};
-ghost use Rattle.sexpr_core.specs.Places.{IsList, node_at};
+ghost use Rattle.sexpr_core.specs.Nodes.{IsList, node_at};
 
 use crate::document::Doc;
 use crate::handle::Node;
@@ -21,13 +21,13 @@ impl<'d, 'a> Model for Members<'d, 'a> {
     ghost use Rattle.std.specs.Prelude.{List};
     ghost use Rattle.std.specs.Coded.{coded_list};
     ghost use Rattle.sexpr_core.specs.Value as sexpr;
-    ghost use Rattle.sexpr_core.specs.Labels.{value_code};
+    ghost use Rattle.sexpr_core.specs.Nodes.{value_code};
 
     ghost Value = { List sexpr.Value };
 
     ghost coded = { coded_list value_code };
 
-    ghost use Rattle.sexpr_core.specs.Siblings.{siblings_between, AreSiblings};
+    ghost use Rattle.sexpr_core.specs.Nodes.{siblings_between, AreSiblings};
 
     ghost view = { λ m. siblings_between m.document.now m.from m.to };
 

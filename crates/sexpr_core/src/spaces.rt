@@ -1,9 +1,7 @@
 //! Octets of a text by their offsets, and whitespace.
 
 ghost use Rattle.std.specs.Prelude.{◌≡◌, ◌≤◌, [], length, drop, MatchOption, IfErr, OnOk, IsOkUnless};
-ghost use Rattle.sexpr_core.specs.Bounds.{IsTrailingBehind};
-ghost use Rattle.sexpr_core.specs.Reading.{StandsAt};
-ghost use Rattle.sexpr_core.specs.Spaces.{is_whitespace, AreSpaces, Skips};
+ghost use Rattle.sexpr_core.specs.Reading.{IsTrailingBehind, StandsAt, is_whitespace, AreSpaces, Skips};
 
 use crate::fault::FormFault;
 

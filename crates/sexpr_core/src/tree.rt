@@ -1,8 +1,7 @@
 //! S-expressions as owned trees.
 
 ghost use Rattle.std.specs.Prelude.{◌≡◌, map, IfOk};
-ghost use Rattle.sexpr_core.specs.Value.{plain, group};
-ghost use Rattle.sexpr_core.specs.Tree.{sexp_value};
+ghost use Rattle.sexpr_core.specs.Value.{plain, group, sexp_value};
 
 use std::alloc::{AllocError, Global};
 

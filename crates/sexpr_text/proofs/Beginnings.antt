@@ -1,15 +1,13 @@
 -- What begins a value or the members of a list, and what of these is not closed.
 use Rattle.std.proofs.Common.{◌≡◌, ℕ, suc, ◌≤◌, Bool, true, false, inl, inr, List, [], ◌∷◌, ◌++◌, length, replicate, Some, None, refl, sym, ap, subst, ◌∙◌, append_assoc, append-nil, arith, rules}
 use Rattle.std.proofs.lemmas.List.{length-replicate}
-use Rattle.sexpr_core.specs.Prefix.{Begins}
-use Rattle.sexpr_core.specs.Spaces.{AreSpaces}
+use Rattle.sexpr_core.specs.Reading.{Begins, AreSpaces}
 use Rattle.sexpr_core.specs.Value.{Value, Values, string, list, none, more, decimal, depth, depths}
 use Rattle.sexpr_core.proofs.Texts.{verbatim_is}
-use Rattle.sexpr_text.specs.Strings.{is_token_octet, IsCount, Simple, IsApart}
-use Rattle.sexpr_text.specs.Spelling.{SpellsAs, SpellsMembers}
-use Rattle.sexpr_text.specs.Unclosed.{IsUnclosedString, IsUnclosedHinted, UnclosedMembers, depth_open}
+use Rattle.sexpr_text.specs.AdvancedForm.{is_token_octet, IsCount, Simple, IsApart, SpellsAs, SpellsMembers}
+use Rattle.sexpr_text.specs.Refusal.{IsUnclosedString, IsUnclosedHinted, UnclosedMembers, depth_open}
 use Rattle.sexpr_text.specs.Inner.Begun.{IsStringPart, GoesString, IsValuePart, IsUnclosedValue, GoesValue, IsMembersPart, AreUnclosedMembers, GoesMembers}
-use Rattle.sexpr_text.proofs.PrintedSpelled.{end_apart}
+use Rattle.sexpr_text.proofs.Printed.{end_apart}
 use Rattle.sexpr_text.proofs.OneValue.{apart_front, spaces_members}
 
 -- digits of a length begin a string, as nothing does

@@ -3,13 +3,11 @@ use Rattle.std.proofs.Common.{◌≡◌, ◌≢◌, ℕ, zero, suc, ◌+◌, ◌
 use Rattle.std.proofs.lemmas.Bool.Decides.{nat_tests}
 use Rattle.sexpr_core.specs.Value.{decimal}
 use Rattle.sexpr_core.specs.Reading.{StandsAt}
-use Rattle.sexpr_core.proofs.Decimal.{IsDigit, AreDigits, AreDigits-decimal, decimal_zero, decimal_leads, decimal_same, decimal_starts}
-use Rattle.sexpr_core.proofs.Texts.{verbatim_is}
-use Rattle.sexpr_text.specs.Strings.{is_digit, is_token_octet, IsToken, IsQuoted, IsMarked, Simple}
+use Rattle.sexpr_core.proofs.Texts.{IsDigit, AreDigits, AreDigits-decimal, decimal_zero, decimal_leads, decimal_same, decimal_starts, verbatim_is, Passes, one_front}
+use Rattle.sexpr_text.specs.AdvancedForm.{is_digit, is_token_octet, IsToken, IsQuoted, IsMarked, Simple}
 use Rattle.sexpr_text.specs.Reads.{Reads, ReadsCount, ReadsOctets, ReadsString, StringAt, Stops}
 use Rattle.sexpr_text.proofs.Marked.{is_mark, marked_first, one_marked, marked_few}
-use Rattle.sexpr_core.proofs.Runs.{Passes, one_front}
-use Rattle.sexpr_text.proofs.OneString.{Cut, cut, IsBehind, simple_first}
+use Rattle.sexpr_text.proofs.OneValue.{Cut, cut, IsBehind, simple_first}
 
 -- ---- a length ends in one way
 

@@ -4,28 +4,22 @@ use Rattle.std.proofs.lemmas.List.{length-replicate, drop-append-le, drop-drop, 
 use Rattle.std.specs.List.{AllByRecursion}
 use Rattle.sexpr_core.specs.declared.fault.FormFault.{FormFault}
 use Rattle.sexpr_core.specs.declared.fault.FormFault.TheVariants.{Short, Bad}
-use Rattle.sexpr_core.specs.Gathering.{Passed, IsBodyEnd, is_body_octet}
-use Rattle.sexpr_core.specs.Prefix.{Begins}
-use Rattle.sexpr_core.specs.Bounds.{RefusesPart}
-use Rattle.sexpr_core.specs.Reading.{StandsAt}
+use Rattle.sexpr_core.specs.Reading.{Passed, IsBodyEnd, is_body_octet, Begins, RefusesPart, StandsAt}
 use Rattle.sexpr_core.specs.Value.{decimal}
-use Rattle.sexpr_core.proofs.Agreeing.{Agree, agree, stands_too, long_too, stops_here}
-use Rattle.sexpr_core.proofs.Base64Laws.{body_octets}
-use Rattle.sexpr_core.proofs.Decimal.{IsDigit, decimal_starts}
-use Rattle.sexpr_core.proofs.Gathered.{end_is}
-use Rattle.sexpr_core.proofs.Texts.{verbatim_is}
-use Rattle.sexpr_text.specs.Strings.{is_digit, IsCount, pieces_text, IsQuoted, IsMarked}
-use Rattle.sexpr_text.specs.Reads.{Reads, ReadsCount, is_hexadecimal_octet, Stops, IsTooFew}
-use Rattle.sexpr_text.specs.Stands.{Stands}
-use Rattle.sexpr_text.specs.Unclosed.{OpensQuoted, IsUnclosed, IsUnclosedString}
+use Rattle.sexpr_core.proofs.Spans.{Agree, agree, stands_too, long_too, stops_here, end_is}
+use Rattle.sexpr_core.proofs.BraceLaws.{body_octets}
+use Rattle.sexpr_core.proofs.Texts.{IsDigit, decimal_starts, verbatim_is}
+use Rattle.sexpr_text.specs.AdvancedForm.{is_digit, IsCount, pieces_text, IsQuoted, IsMarked}
+use Rattle.sexpr_text.specs.Reads.{Reads, ReadsCount, is_hexadecimal_octet, Stops, IsTooFew, Stands}
+use Rattle.sexpr_text.specs.Refusal.{OpensQuoted, IsUnclosed, IsUnclosedString}
 use Rattle.sexpr_text.specs.Inner.Begun.{Begun, From, IsPartEnd, IsFrontEnd, GoesMarked, IsStringPart, GoesString}
 use Rattle.sexpr_text.proofs.Beginnings.{count_begins}
 use Rattle.sexpr_text.proofs.CountedLaws.{count_once, ends_written}
 use Rattle.sexpr_text.proofs.Marked.{is_mark, hexadecimal_octets}
-use Rattle.sexpr_text.proofs.RefusedStrings.{marked_too, count_too, ends_too, no_mark}
-use Rattle.sexpr_text.proofs.UnclosedLaws.{unclosed_marked, unclosed_first, cut_open}
-use Rattle.sexpr_text.proofs.OneString.{mark_no_digit}
-use Rattle.sexpr_core.proofs.OneFault.{begins_front}
+use Rattle.sexpr_text.proofs.RefusedParts.{marked_too, count_too, ends_too, no_mark}
+use Rattle.sexpr_text.proofs.Unfinished.{unclosed_marked, unclosed_first, cut_open}
+use Rattle.sexpr_text.proofs.OneValue.{mark_no_digit}
+use Rattle.sexpr_core.proofs.Refusals.{begins_front}
 use Rattle.sexpr_text.proofs.StringEnds.{nothing_begun, part_later, body_fails, quoted_is, digits_are, symbols_are}
 
 -- ---- between marks

@@ -3,16 +3,13 @@ use Rattle.std.proofs.Common.{◌≡◌, Result, Ok, Err, IfErr, ℕ, ◌+◌, �
 use Rattle.std.specs.List.{AllByRecursion}
 use Rattle.sexpr_core.specs.declared.fault.FormFault.{FormFault}
 use Rattle.sexpr_core.specs.declared.fault.FormFault.TheVariants.{Short, Bad}
-use Rattle.sexpr_core.specs.Gathering.{Passed, is_body_octet}
-use Rattle.sexpr_core.specs.Reading.{StandsAt}
-use Rattle.sexpr_core.proofs.Agreeing.{Agree, spelled_too, stands_too, stops_later}
-use Rattle.sexpr_core.proofs.Gathered.{end_is}
-use Rattle.sexpr_text.specs.Strings.{Piece, octal, hexadecimal, escaped, piece_text, pieces_text, pieces_octets, StartsOther, IsPiece, ArePieces, line, line_pair, raw}
+use Rattle.sexpr_core.specs.Reading.{Passed, is_body_octet, StandsAt, StopsAt}
+use Rattle.sexpr_core.proofs.Spans.{Agree, spelled_too, stands_too, stops_later, end_is}
+use Rattle.sexpr_text.specs.AdvancedForm.{Piece, octal, hexadecimal, escaped, piece_text, pieces_text, pieces_octets, StartsOther, IsPiece, ArePieces, line, line_pair, raw}
 use Rattle.sexpr_text.specs.Reads.{ReadsDigit, is_hexadecimal_octet}
-use Rattle.sexpr_text.specs.Unclosed.{OpensQuoted, IsUnclosed}
+use Rattle.sexpr_text.specs.Refusal.{OpensQuoted, IsUnclosed}
 use Rattle.sexpr_text.specs.Inner.Begun.{Begun, From, IsPartEnd, IsFrontEnd, GoesPiece, GoesDigit}
-use Rattle.sexpr_core.proofs.Runs.{fails_among, head_is, tail_is}
-use Rattle.sexpr_core.specs.Prefix.{StopsAt}
+use Rattle.sexpr_core.proofs.Texts.{fails_among, head_is, tail_is}
 use Rattle.sexpr_text.proofs.StringLaws.{ReadsPieces, last_text, are_more}
 
 -- what two clauses say of one fault

@@ -1,25 +1,59 @@
--- Values and lists, from one offset of a text to another.
-use Rattle.std.proofs.Common.{◌≡◌, ℕ, suc, ◌+◌, ◌<◌, ◌≤◌, max, false, List, [], ◌∷◌, ◌++◌, length, map, drop, Some, None, Vec, Global, refl, sym, ap, subst, ◌∙◌, append_assoc, arith, rules}
+-- Values and lists, from one offset of a text to another. They are read in the same way of each other text that goes
+-- on so far, and one octet further, in the same way.
+use Rattle.std.proofs.Common.{ℕ, ◌≤◌, Bool, true, false, List, drop, sym, subst, arith, ◌≡◌, suc, ◌+◌, ◌<◌, max, [], ◌∷◌, ◌++◌, length, map, Some, None, Vec, Global, refl, ap, ◌∙◌, append_assoc, rules}
+use Rattle.sexpr_core.specs.Value.{Value, sexp_value, Values, string, list, none, more, values, depth, depths}
+use Rattle.sexpr_core.proofs.Spans.{Agree, SameHead, spelled_too, same_head, long_too, one_end, stands_too, skips_too}
+use Rattle.sexpr_text.specs.AdvancedForm.{IsApart, SpellsMembers}
+use Rattle.sexpr_text.specs.Reads.{ReadsString, ReadsValue, StringAt, ValueAt, MembersAt, ReadsMembers}
 use Rattle.std.proofs.lemmas.List.{map-append}
 use Rattle.sexpr_core.specs.declared.tree.Sexp.{Sexp}
 use Rattle.sexpr_core.specs.declared.tree.Sexp.TheVariants.{List as Branch}
-use Rattle.sexpr_core.specs.Tree.{sexp_value}
-use Rattle.sexpr_core.proofs.Written.{sexp_list}
-use Rattle.sexpr_core.specs.Value.{Value, Values, string, list, none, more, values, depth, depths}
-use Rattle.sexpr_core.specs.Reading.{StandsAt}
-use Rattle.sexpr_core.specs.Spaces.{StartsVisible, Skips}
-use Rattle.sexpr_core.proofs.SpaceLaws.{one_end}
-use Rattle.sexpr_core.proofs.Agreeing.{Agree, stands_too, skips_too, same_head}
+use Rattle.sexpr_core.proofs.TreeLaws.{sexp_list}
+use Rattle.sexpr_core.specs.Reading.{StandsAt, StartsVisible, Skips}
 use Rattle.sexpr_core.proofs.ListTexts.{join}
-use Rattle.sexpr_text.specs.Strings.{IsApart}
-use Rattle.sexpr_text.specs.Unclosed.{UnclosedMembers, UnclosedValue}
+use Rattle.sexpr_text.specs.Refusal.{UnclosedMembers, UnclosedValue}
 use Rattle.sexpr_text.specs.Inner.Begun.{AreUnclosedMembers, GoesMembers}
-use Rattle.sexpr_text.specs.Spelling.{SpellsMembers}
-use Rattle.sexpr_text.specs.Reads.{StringAt, ValueAt, ReadsValue, MembersAt, ReadsMembers}
 use Rattle.sexpr_text.proofs.Beginnings.{goes_spaces, goes_first}
-use Rattle.sexpr_text.proofs.Elsewhere.{value_too}
 use Rattle.sexpr_text.proofs.OneValue.{value_first, value_visible, simple_differs, hinted_text, list_text, member_text, apart_append, apart_front, one_spelling, spaces_members}
-use Rattle.sexpr_text.proofs.UnclosedLaws.{unclosed_value, unclosed_value_visible}
+use Rattle.sexpr_text.proofs.Unfinished.{unclosed_value, unclosed_value_visible}
+
+-- ---- strings and values, read of longer texts
+
+-- A string or a value that was read of a text was read of each other text that goes on so far, and one octet further,
+-- in the same way.
+
+apart_too : (ends : Bool) (x y : List ℕ) → SameHead x y → IsApart ends x → IsApart ends y
+apart_too false x y h s = tt
+apart_too true x y h s = subst (IsApart true) (sym h.second_is) (subst (IsApart true) h.first_is s)
+
+pub string_too : (text other : List ℕ) (n at to : ℕ) (octets : List ℕ) → Agree text other n → to ≤ n → ReadsString text at octets to → ReadsString other at octets to
+string_too text other n at to octets a le r = record {
+  stands = record {
+    ends_token = r.stands.ends_token;
+    spelling = r.stands.spelling;
+    spelled = spelled_too text other n at to r.stands.spelling a (omega (arith, r.forward)) (omega arith) r.stands.spelled;
+    meant = r.stands.meant;
+    apart = apart_too r.stands.ends_token (drop to text) (drop to other) (same_head text other n to a le) r.stands.apart;
+  };
+  forward = r.forward;
+  within = omega (arith, long_too text other n a);
+}
+
+pub value_too : (room : ℕ) (text other : List ℕ) (n at to : ℕ) (v : Value) → Agree text other n → to ≤ n → ReadsValue room text at v to → ReadsValue room other at v to
+value_too room text other n at to v a le r = record {
+  stands = record {
+    ends_token = r.stands.ends_token;
+    spelling = r.stands.spelling;
+    spelled = spelled_too text other n at to r.stands.spelling a (omega (arith, r.forward)) (omega arith) r.stands.spelled;
+    meant = r.stands.meant;
+    apart = apart_too r.stands.ends_token (drop to text) (drop to other) (same_head text other n to a le) r.stands.apart;
+    fits = r.stands.fits;
+  };
+  forward = r.forward;
+  within = omega (arith, long_too text other n a);
+}
+
+-- ---- values and lists, from one offset of a text to another
 
 -- ---- which sort of value begins with an octet
 

@@ -1,19 +1,194 @@
--- What stands in front of a string that isn't closed, and that what goes on goes on at each octet before.
-use Rattle.std.proofs.Common.{◌≡◌, ℕ, ◌≤◌, max, Bool, true, false, inl, inr, List, [], ◌∷◌, ◌++◌, refl, sym, ap, subst, ◌∙◌, append_assoc, append-nil, length-append, arith, rules}
+-- Strings and values that end inside a string between marks: none stands where a whole one stands, and what goes on
+-- goes on at each octet before.
+use Rattle.std.proofs.Common.{◌≡◌, ℕ, ◌<◌, Bool, true, false, ◌⊎◌, inl, inr, List, [], ◌∷◌, ◌++◌, length, Some, None, refl, sym, ap, subst, ◌∙◌, append_assoc, append-nil, length-append, arith, rules, ◌≤◌, max}
+use Rattle.sexpr_core.specs.Value.{Value, Values, string, list, none, more, depths}
+use Rattle.sexpr_core.specs.Reading.{is_body_octet, StartsVisible, Begins, AreSpaces}
+use Rattle.sexpr_core.proofs.Texts.{IsDigit, parts_agree, head_is, fails_among, tail_is, all_front}
+use Rattle.sexpr_core.proofs.Spans.{one_end}
+use Rattle.sexpr_text.specs.Reads.{is_hexadecimal_octet}
+use Rattle.sexpr_text.specs.AdvancedForm.{IsToken, IsCount, IsMarked, Simple, IsHinted, SpellsAs, SpellsMembers, is_token_octet, IsApart, IsQuoted}
+use Rattle.sexpr_text.specs.Refusal.{IsUnclosed, IsUnclosedString, IsUnclosedAtom, UnclosedMembers, UnclosedValue, depth_open, IsUnclosedText, IsSpelling, IsSpellingWithin, GoesOn, GoesOnWithin}
+use Rattle.sexpr_text.proofs.Marked.{is_mark, one_quoted, closed}
+use Rattle.sexpr_text.proofs.OneValue.{is_string_start, IsBehind, Cut, cut, one_simple, count_digits, either_starts, token_other, string_first, mark_no_digit, is_value_start, value_differs, value_visible, simple_visible, simple_differs, hinted_text, list_text, member_text, apart_append, spaces_apart, one_spelling, start_visible, string_start}
 use Rattle.std.proofs.lemmas.Bool.Decides.{nat_tests}
-use Rattle.sexpr_core.specs.Prefix.{Begins}
-use Rattle.sexpr_core.specs.Spaces.{AreSpaces}
-use Rattle.sexpr_core.specs.Value.{Values, none, more, depths}
-use Rattle.sexpr_text.specs.Strings.{is_token_octet, IsApart, IsQuoted}
-use Rattle.sexpr_text.specs.Unclosed.{IsUnclosed, IsUnclosedString, IsUnclosedAtom, UnclosedMembers, UnclosedValue, depth_open, IsUnclosedText}
 use Rattle.sexpr_text.specs.Inner.Begun.{IsStringPart, IsValuePart, IsMembersPart}
-use Rattle.sexpr_text.specs.Refusal.{IsSpelling, IsSpellingWithin, GoesOn, GoesOnWithin}
-use Rattle.sexpr_text.proofs.Marked.{is_mark}
-use Rattle.sexpr_text.proofs.UnclosedLaws.{unclosed_first}
-use Rattle.sexpr_core.proofs.Runs.{head_is, tail_is, all_front}
 use Rattle.sexpr_core.proofs.BraceRefusals.{two_cuts}
-use Rattle.sexpr_core.proofs.OneFault.{begins_front}
+use Rattle.sexpr_core.proofs.Refusals.{begins_front}
 use Rattle.sexpr_text.proofs.Beginnings.{count_begins, string_part, hint_part, body_part, list_part, member_part, spaces_part, first_part, hinted_unclosed}
+
+-- ---- where a string or a value stands whole, none stands that ends inside a string between marks
+
+-- ---- between marks
+
+inside_mark : (m : ℕ) (s body r t zs : List ℕ) → s ≡ m ∷ (body ++ m ∷ []) → t ≡ m ∷ zs → s ++ r ≡ t → body ++ m ∷ r ≡ zs
+inside_mark m s body r t zs e f h =
+    let q : m ∷ (body ++ m ∷ r) ≡ m ∷ zs = sym (closed m s body r e) ∙ h ∙ f in cc
+
+differs : (m n : ℕ) (s body r t zs : List ℕ) → s ≡ m ∷ (body ++ m ∷ []) → t ≡ n ∷ zs → s ++ r ≡ t → m ≡ n
+differs m n s body r t zs e f h = head_is m n (body ++ m ∷ r) zs (sym (closed m s body r e) ∙ h ∙ f)
+
+pub unclosed_marked : (s r a t : List ℕ) → IsMarked s a → IsUnclosed t → s ++ r ≡ t → ⊥
+unclosed_marked s r a t (inl h) (inl k) e =
+    let some : 0 < length k.more = k.some in
+    let p = one_quoted s (r ++ k.more) a (t ++ k.more) [] k.octets h k.whole (sym (append_assoc s r k.more) ∙ ap (λ x. x ++ k.more) e ∙ sym (append-nil (t ++ k.more))) in
+    omega (arith, ap length p.1, length-append r k.more)
+unclosed_marked s r a t (inl h) (inr (inl k)) e = let q = differs 34 35 s _ r t k.body h.spelled k.spelled e in absurd (omega (arith, q))
+unclosed_marked s r a t (inl h) (inr (inr k)) e = let q = differs 34 124 s _ r t k.body h.spelled k.spelled e in absurd (omega (arith, q))
+unclosed_marked s r a t (inr (inl h)) (inl k) e = let q = differs 35 34 s _ r t k.body h.spelled k.spelled e in absurd (omega (arith, q))
+unclosed_marked s r a t (inr (inl h)) (inr (inl k)) e =
+    fails_among is_hexadecimal_octet h.body 35 r k.body refl k.digits (inside_mark 35 s h.body r t k.body h.spelled k.spelled e)
+unclosed_marked s r a t (inr (inl h)) (inr (inr k)) e = let q = differs 35 124 s _ r t k.body h.spelled k.spelled e in absurd (omega (arith, q))
+unclosed_marked s r a t (inr (inr h)) (inl k) e = let q = differs 124 34 s _ r t k.body h.spelled k.spelled e in absurd (omega (arith, q))
+unclosed_marked s r a t (inr (inr h)) (inr (inl k)) e = let q = differs 124 35 s _ r t k.body h.spelled k.spelled e in absurd (omega (arith, q))
+unclosed_marked s r a t (inr (inr h)) (inr (inr k)) e =
+    fails_among is_body_octet h.body 124 r k.body refl k.symbols (inside_mark 124 s h.body r t k.body h.spelled k.spelled e)
+
+pub unclosed_first : (t : List ℕ) → IsUnclosed t → (c : ℕ) × (cs : List ℕ) × (t ≡ c ∷ cs) × (is_mark c ≡ true)
+unclosed_first t (inl h) = (34, h.body, h.spelled, refl)
+unclosed_first t (inr (inl h)) = (35, h.body, h.spelled, refl)
+unclosed_first t (inr (inr h)) = (124, h.body, h.spelled, refl)
+
+-- ---- with a length in front, or without
+
+-- a string that isn't closed, cut behind the digits with which it begins
+pub record CutOpen (text : List ℕ) : Type 0 where
+  pub digits : List ℕ
+  pub number : ℕ
+  pub mark : ℕ
+  pub tail : List ℕ
+  pub spelled : text ≡ digits ++ mark ∷ tail
+  pub counts : IsCount digits number
+  pub marks : is_mark mark ≡ true
+  pub unclosed : IsUnclosed (mark ∷ tail)
+
+pub cut_open : (t : List ℕ) → IsUnclosedString t → CutOpen t
+cut_open t h = search (rules, unclosed_first)
+
+unclosed_string_first : (t : List ℕ) → IsUnclosedString t → (c : ℕ) × (cs : List ℕ) × (t ≡ c ∷ cs) × (IsDigit c ⊎ (is_mark c ≡ true))
+unclosed_string_first t h = let k = cut_open t h in string_first k.digits k.number k.mark k.tail t k.counts k.marks k.spelled
+
+unclosed_token : (a r t : List ℕ) → IsToken a → IsUnclosedString t → a ++ r ≡ t → ⊥
+unclosed_token [] r t h k e = absurd h
+unclosed_token (c ∷ cs) r t h k e =
+    let f = unclosed_string_first t k in
+    let q : c ∷ (cs ++ r) ≡ f.0 ∷ f.1 = e ∙ f.2 in
+    let s : f.0 ≡ c = cc in
+    token_other c h.0 h.1.0 (subst (λ d. IsDigit d ⊎ (is_mark d ≡ true)) s f.3)
+
+unclosed_behind : (c d : ℕ) (ds x r a y : List ℕ) → IsBehind ds c x a → is_mark d ≡ true → IsUnclosed (d ∷ y) → c ≡ d → x ++ r ≡ y → ⊥
+unclosed_behind c d ds x r a y (inl h) m k e f =
+    let t : is_mark 58 ≡ true = ap is_mark (sym h.0 ∙ e) ∙ m in cc
+unclosed_behind c d ds x r a y (inr h) m k e f =
+    unclosed_marked (c ∷ x) r a (d ∷ y) h.2 k cc
+
+unclosed_cut : (s r a t : List ℕ) → Cut s a → CutOpen t → s ++ r ≡ t → ⊥
+unclosed_cut s r a t h k e =
+    let l : h.digits ++ h.mark ∷ (h.tail ++ r) ≡ k.digits ++ k.mark ∷ k.tail =
+    sym (append_assoc h.digits (h.mark ∷ h.tail) r) ∙ ap (λ u. u ++ r) (sym h.spelled) ∙ e ∙ k.spelled in
+    let p = parts_agree h.digits k.digits (h.tail ++ r) k.tail h.mark k.mark h.are_digits
+    (count_digits k.digits k.number k.counts) h.other (mark_no_digit k.mark k.marks) l in
+    unclosed_behind h.mark k.mark h.digits h.tail r a k.tail h.behind k.marks k.unclosed p.marks p.tails
+
+pub unclosed_simple : (ends : Bool) (s r a t : List ℕ) → Simple ends s a → IsUnclosedString t → s ++ r ≡ t → ⊥
+unclosed_simple true s r a t h k e = unclosed_token a r t h.1 k (ap (λ u. u ++ r) (sym h.0) ∙ e)
+unclosed_simple false s r a t h k e = unclosed_cut s r a t (cut s a h) (cut_open t k) e
+
+-- ---- with a hint, and in lists
+
+unclosed_start : (t : List ℕ) → IsUnclosedString t → (c : ℕ) × (cs : List ℕ) × (t ≡ c ∷ cs) × (is_string_start c ≡ true)
+unclosed_start t h = let f = unclosed_string_first t h in (f.0, f.1, f.2, either_starts f.0 f.3)
+
+pub unclosed_visible : (t : List ℕ) → IsUnclosedString t → StartsVisible t
+unclosed_visible t h =
+    let f = unclosed_start t h in subst StartsVisible (sym f.2) (start_visible f.0 (string_start f.0 f.3))
+
+atom_first : (t : List ℕ) → IsUnclosedAtom t → (c : ℕ) × (cs : List ℕ) × (t ≡ c ∷ cs) × (is_value_start c ≡ true)
+atom_first t (inl h) = let f = unclosed_start t h in (f.0, f.1, f.2, string_start f.0 f.3)
+atom_first t (inr (inl h)) = (91, _, h.spelled, refl)
+atom_first t (inr (inr h)) = (91, _, h.spelled, refl)
+
+unclosed_value_first : (lists : List Values) (t : List ℕ) → UnclosedValue lists t → (c : ℕ) × (cs : List ℕ) × (t ≡ c ∷ cs) × (is_value_start c ≡ true)
+unclosed_value_first [] t h = atom_first t h
+unclosed_value_first (vs ∷ inner) t h = (40, h.0, h.1, refl)
+
+pub unclosed_value_visible : (lists : List Values) (t : List ℕ) → UnclosedValue lists t → StartsVisible t
+unclosed_value_visible lists t h =
+    let f = unclosed_value_first lists t h in subst StartsVisible (sym f.2) (start_visible f.0 f.3)
+
+-- an octet that begins no string begins none that isn't closed
+pub unclosed_string_differs : (t x : List ℕ) (d : ℕ) → IsUnclosedString t → is_string_start d ≡ false → t ≡ d ∷ x → ⊥
+unclosed_string_differs t x d h other e =
+    let f = unclosed_start t h in
+    let q : f.0 ∷ f.1 ≡ d ∷ x = sym f.2 ∙ e in
+    let k : f.0 ≡ d = cc in
+    let g : false ≡ true = sym other ∙ ap is_string_start (sym k) ∙ f.3 in
+    cc
+
+unclosed_value_differs : (lists : List Values) (t x : List ℕ) (d : ℕ) → UnclosedValue lists t → is_value_start d ≡ false → t ≡ d ∷ x → ⊥
+unclosed_value_differs lists t x d h other e = search (rules, unclosed_value_first, is_value_start)
+
+unclosed_hinted : (ends : Bool) (s r g a t : List ℕ) → IsHinted ends s g a → IsUnclosedAtom t → s ++ r ≡ t → ⊥
+unclosed_hinted ends s r g a t m (inl k) e = unclosed_string_differs t _ 91 k refl (sym e ∙ hinted_text ends s g a r m)
+unclosed_hinted ends s r g a t m (inr (inl k)) e =
+    let w1 = tail_is 91 91 _ _ (sym (hinted_text ends s g a r m) ∙ e ∙ k.spelled) in
+    let p = one_end m.inside k.inside _ k.last m.spaces_inside k.spaces_inside (simple_visible _ m.hint_text g _ m.hint_meant) (unclosed_visible k.last k.unclosed) w1 in
+    unclosed_simple m.as_token m.hint_text _ g k.last m.hint_meant k.unclosed p.1
+unclosed_hinted ends s r g a t m (inr (inr k)) e =
+    let c = m.octets_text ++ r in
+    let w1 = tail_is 91 91 _ _ (sym (hinted_text ends s g a r m) ∙ e ∙ k.spelled) in
+    let p1 = one_end m.inside k.inside _ _ m.spaces_inside k.spaces_inside (simple_visible _ m.hint_text g _ m.hint_meant) (simple_visible _ k.hint_text k.hint _ k.hint_meant) w1 in
+    let p2 = one_simple m.as_token k.as_token m.hint_text _ g k.hint_text _ k.hint m.hint_meant
+    (apart_append m.as_token m.behind_hint (m.behind ++ c) 93 (spaces_apart m.as_token m.behind_hint m.spaces_behind_hint) refl) k.hint_meant
+    (apart_append k.as_token k.behind_hint (k.behind ++ k.last) 93 (spaces_apart k.as_token k.behind_hint k.spaces_behind_hint) refl) p1.1 in
+    let p3 = one_end m.behind_hint k.behind_hint (93 ∷ (m.behind ++ c)) (93 ∷ (k.behind ++ k.last)) m.spaces_behind_hint k.spaces_behind_hint refl refl p2.1 in
+    let w3 = tail_is 93 93 _ _ p3.1 in
+    let p4 = one_end m.behind k.behind c k.last m.spaces_behind k.spaces_behind (simple_visible ends m.octets_text a r m.octets_meant) (unclosed_visible k.last k.unclosed) w3 in
+    unclosed_simple ends m.octets_text r a k.last m.octets_meant k.unclosed p4.1
+
+not_bracket : (x y : List ℕ) → ◌≡◌ {A = List ℕ} (40 ∷ x) (91 ∷ y) → ⊥
+not_bracket x y e = let q : ◌≡◌ {A = ℕ} 40 91 = cc in omega arith
+
+atom_string : (ends : Bool) (s r a t : List ℕ) → Simple ends s a → IsUnclosedAtom t → s ++ r ≡ t → ⊥
+atom_string ends s r a t m (inl k) e = unclosed_simple ends s r a t m k e
+atom_string ends s r a t m (inr (inl k)) e = simple_differs ends s a r _ 91 m refl (e ∙ k.spelled)
+atom_string ends s r a t m (inr (inr k)) e = simple_differs ends s a r _ 91 m refl (e ∙ k.spelled)
+
+list_atom : (x t : List ℕ) → IsUnclosedAtom t → t ≡ 40 ∷ x → ⊥
+list_atom x t (inl k) e = unclosed_string_differs t x 40 k refl e
+list_atom x t (inr (inl k)) e = not_bracket x _ (sym e ∙ k.spelled)
+list_atom x t (inr (inr k)) e = not_bracket x _ (sym e ∙ k.spelled)
+
+unclosed_inside : (s i r t j : List ℕ) → s ≡ 40 ∷ (i ++ 41 ∷ []) → t ≡ 40 ∷ j → s ++ r ≡ t → i ++ 41 ∷ r ≡ j
+unclosed_inside s i r t j e f eq = let x : 40 ∷ (i ++ 41 ∷ r) ≡ 40 ∷ j = sym (list_text s i r e) ∙ eq ∙ f in cc
+
+mutual
+  pub unclosed_value : (ends : Bool) (s r : List ℕ) (v : Value) (lists : List Values) (t : List ℕ) → SpellsAs ends s v → UnclosedValue lists t → s ++ r ≡ t → ⊥
+  unclosed_value ends s r (string None a) [] t m k e = atom_string ends s r a t m k e
+  unclosed_value ends s r (string None a) (ws ∷ inner) t m k e = simple_differs ends s a r k.0 40 m refl (e ∙ k.1)
+  unclosed_value ends s r (string (Some g) a) [] t m k e = unclosed_hinted ends s r g a t m k e
+  unclosed_value ends s r (string (Some g) a) (ws ∷ inner) t m k e = not_bracket k.0 _ (sym k.1 ∙ sym e ∙ hinted_text ends s g a r m)
+  unclosed_value ends s r (list vs) [] t m k e = list_atom _ t k (sym e ∙ list_text s m.0 r m.2)
+  unclosed_value ends s r (list vs) (ws ∷ inner) t m k e = unclosed_members m.0 r vs ws inner k.0 m.3 k.2 (unclosed_inside s m.0 r t k.0 m.2 k.1 e)
+
+  pub unclosed_members : (s r : List ℕ) (vs ws : Values) (inner : List Values) (t : List ℕ) → SpellsMembers s vs → UnclosedMembers (UnclosedValue inner) ws t
+      → s ++ 41 ∷ r ≡ t → ⊥
+  unclosed_members s r none none inner t m k e =
+      let p = one_end s k.0 (41 ∷ r) k.1 m k.3 refl (unclosed_value_visible inner k.1 k.4) (e ∙ k.2) in
+      unclosed_value_differs inner k.1 r 41 k.4 refl (sym p.1)
+  unclosed_members s r none (more w ws) inner t m k e =
+      let p = one_end s k.0 (41 ∷ r) (k.2 ++ k.3) m k.5 refl (value_visible k.1 k.2 k.3 w k.6) (e ∙ k.4) in
+      value_differs k.1 k.2 k.3 r w 41 k.6 refl (sym p.1)
+  unclosed_members s r (more v vs) none inner t m k e =
+      let p = one_end m.0 k.0 (m.2 ++ (m.3 ++ 41 ∷ r)) k.1 m.5 k.3 (value_visible m.1 m.2 _ v m.6) (unclosed_value_visible inner k.1 k.4)
+      (sym (member_text s m.0 m.2 m.3 (41 ∷ r) m.4) ∙ e ∙ k.2) in
+      unclosed_value m.1 m.2 (m.3 ++ 41 ∷ r) v inner k.1 m.6 k.4 p.1
+  unclosed_members s r (more v vs) (more w ws) inner t m k e =
+      let p = one_end m.0 k.0 (m.2 ++ (m.3 ++ 41 ∷ r)) (k.2 ++ k.3) m.5 k.5 (value_visible m.1 m.2 _ v m.6) (value_visible k.1 k.2 k.3 w k.6)
+      (sym (member_text s m.0 m.2 m.3 (41 ∷ r) m.4) ∙ e ∙ k.4) in
+      let o = one_spelling m.1 k.1 m.2 (m.3 ++ 41 ∷ r) k.2 k.3 v w m.6 (apart_append m.1 m.3 r 41 m.7 refl) k.6 k.7 p.1 in
+      unclosed_members m.3 r vs ws inner k.3 m.8 k.8 o.1
+
+-- ---- what stands in front of a string that isn't closed, and that what goes on goes on at each octet before
 
 -- ---- what stands in front of the string that isn't closed
 

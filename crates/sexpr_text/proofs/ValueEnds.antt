@@ -3,28 +3,20 @@ use Rattle.std.proofs.Common.{◌≡◌, ◌≢◌, ℕ, suc, ◌+◌, ◌-◌, 
 use Rattle.std.proofs.lemmas.List.{take_at}
 use Rattle.sexpr_core.specs.declared.fault.FormFault.{FormFault}
 use Rattle.sexpr_core.specs.declared.fault.FormFault.TheVariants.{TooDeep, Short, Bad, Memory}
-use Rattle.sexpr_core.specs.Prefix.{StopsAt}
-use Rattle.sexpr_core.specs.Bounds.{RefusesPart}
-use Rattle.sexpr_core.specs.Reading.{StandsAt}
-use Rattle.sexpr_core.specs.Spaces.{Skips, AreSpaces, StartsVisible}
+use Rattle.sexpr_core.specs.Reading.{StopsAt, RefusesPart, StandsAt, Skips, AreSpaces, StartsVisible}
 use Rattle.sexpr_core.specs.Value.{Values, none, more, depth, depths}
-use Rattle.sexpr_core.proofs.Agreeing.{Agree, stands_too, skips_too, stops_here, stops_later}
-use Rattle.sexpr_core.proofs.Gathered.{end_is}
-use Rattle.sexpr_core.proofs.SpaceLaws.{one_end}
-use Rattle.sexpr_text.specs.Strings.{Simple}
-use Rattle.sexpr_text.specs.Reads.{ReadsString, StringAt, IsValueFault}
-use Rattle.sexpr_text.specs.Stands.{StringStands, ValueStands}
-use Rattle.sexpr_text.specs.Unclosed.{IsUnclosedString, IsUnclosedHint, IsUnclosedHinted, UnclosedMembers, UnclosedValue, depth_open}
+use Rattle.sexpr_core.proofs.Spans.{Agree, stands_too, skips_too, stops_here, stops_later, end_is, one_end}
+use Rattle.sexpr_text.specs.AdvancedForm.{Simple}
+use Rattle.sexpr_text.specs.Reads.{ReadsString, StringAt, IsValueFault, StringStands, ValueStands}
+use Rattle.sexpr_text.specs.Refusal.{IsUnclosedString, IsUnclosedHint, IsUnclosedHinted, UnclosedMembers, UnclosedValue, depth_open}
 use Rattle.sexpr_text.specs.Inner.Begun.{Begun, From, IsPartEnd, GoesString, GoesValue, GoesMembers, IsUnclosedValue, AreUnclosedMembers, ValueStandsIn, MembersStandIn, Anywhere, IsDeepAt, IsValueEnd, IsValuePart}
 use Rattle.sexpr_text.proofs.Beginnings.{goes_string, goes_hint, goes_body, goes_list, goes_member, no_member, hinted_value}
-use Rattle.sexpr_text.proofs.Elsewhere.{string_too}
-use Rattle.sexpr_text.proofs.OneString.{one_simple}
-use Rattle.sexpr_text.proofs.OneValue.{simple_visible, apart_append, spaces_apart, value_visible}
+use Rattle.sexpr_text.proofs.Trees.{string_too, HasMembers, inside_list, filled_at, visible_too}
+use Rattle.sexpr_text.proofs.OneValue.{one_simple, simple_visible, apart_append, spaces_apart, value_visible}
 use Rattle.sexpr_text.proofs.StringEnds.{begun_later, end_later}
 use Rattle.sexpr_text.proofs.MarkedEnds.{none_string}
-use Rattle.sexpr_text.proofs.Trees.{HasMembers, inside_list, filled_at, visible_too}
-use Rattle.sexpr_core.proofs.Runs.{head_is, tail_is}
-use Rattle.sexpr_text.proofs.UnclosedLaws.{unclosed_simple, unclosed_visible, unclosed_string_differs, unclosed_value_visible}
+use Rattle.sexpr_core.proofs.Texts.{head_is, tail_is}
+use Rattle.sexpr_text.proofs.Unfinished.{unclosed_simple, unclosed_visible, unclosed_string_differs, unclosed_value_visible}
 
 -- a text that goes on so far in the same way has no such part
 stops_other : (T : List ℕ → Type 0) (text : List ℕ) (at k : ℕ) (other : List ℕ) → Agree text other k → StopsAt T text at k → T other → ⊥

@@ -1,11 +1,5 @@
-pub mod Strings
-pub mod Spelling
+pub mod AdvancedForm
 pub mod Refusal
-pub mod Printed
 pub mod Reads
-pub mod Unclosed
-pub mod Stands
-pub mod Written
 pub mod Sinks
-pub mod SinkLaws
 pub mod Inner

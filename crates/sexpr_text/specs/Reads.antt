@@ -1,19 +1,18 @@
--- What a step of the reader of advanced form has read of a text, from offset `at` to offset `to`.
-use Rattle.std.specs.Prelude.{◌≡◌, ◌≢◌, ℕ, ◌+◌, ◌<◌, ◌≤◌, min, Bool, true, false, ◌||◌, List, [], ◌∷◌, ◌++◌, length, drop, Option, Some, None, ◌⊎◌}
+-- Parts of a spelling at an offset of a text: what a step of the reader of advanced form has read there, and what
+-- stands there whatever follows it.
+use Rattle.std.specs.Prelude.{◌≡◌, ◌≢◌, ℕ, ◌+◌, ◌<◌, ◌≤◌, min, Bool, true, false, ◌||◌, List, [], ◌∷◌, ◌++◌, length, drop, Option, Some, None, ◌⊎◌, Ok}
 use Rattle.std.specs.List.{AllByRecursion}
 use Rattle.hex.specs.declared.error.FromHexError.{FromHexError}
 use Rattle.hex.specs.declared.error.FromHexError.TheVariants.{OutOfMemory}
-use Rattle.hex.specs.Hex.{hex_digit_value, is_hex_digit}
+use Rattle.hex.specs.Hex.{hex_digit_value, is_hex_digit, decode_of}
 use Rattle.sexpr_core.specs.Characters.{char}
-use Rattle.sexpr_core.specs.Reading.{StandsAt}
+use Rattle.sexpr_core.specs.Reading.{StandsAt, StopsAt, is_whitespace, visible}
 use Rattle.sexpr_core.specs.declared.fault.FormFault.{FormFault}
 use Rattle.sexpr_core.specs.declared.fault.FormFault.TheVariants.{TooLong, Short, Bad, Trailing, Memory}
-use Rattle.sexpr_core.specs.Limits.{octet_limit}
-use Rattle.sexpr_core.specs.Prefix.{StopsAt}
-use Rattle.sexpr_core.specs.Value.{Value, Values, decimal, depth, depths}
-use Rattle.sexpr_core.specs.Spaces.{is_whitespace, visible}
-use Rattle.sexpr_text.specs.Strings.{IsToken, escape_value, Piece, piece_text, piece_octets, IsPiece, Simple, IsApart}
-use Rattle.sexpr_text.specs.Spelling.{SpellsAs, SpellsMembers}
+use Rattle.sexpr_core.specs.Value.{octet_limit, Value, Values, decimal, depth, depths}
+use Rattle.sexpr_text.specs.AdvancedForm.{IsToken, escape_value, Piece, piece_text, piece_octets, IsPiece, Simple, IsApart, SpellsAs, SpellsMembers}
+
+-- ---- what a step of the reader of advanced form has read of a text, from offset `at` to offset `to`
 
 -- a spelling of the octets, of the kind P
 pub record Reads (P : List ℕ → List ℕ → Type 0) (text : List ℕ) (at : ℕ) (octets : List ℕ) (to : ℕ) : Type 0 where
@@ -179,3 +178,63 @@ IsValueFault T text at TooLong = ⊥
 IsValueFault T text at (Bad k) = StopsAt T text at k
 IsValueFault T text at (Trailing k) = ⊥
 IsValueFault T text at _ = Unit {0}
+
+-- ---- a part of a spelling is at an offset of a text, whatever follows it
+
+-- a spelling of the kind P
+pub record Stands (P : List ℕ → List ℕ → Type 0) (at : ℕ) (text : List ℕ) : Type 0 where
+  pub spelling : List ℕ
+  pub octets : List ℕ
+  pub rest : List ℕ
+  pub meant : P spelling octets
+  pub spelled : drop at text ≡ spelling ++ rest
+
+-- a piece of a quoted string; the octets `front` come before it
+pub record PieceStands (front : List ℕ) (at : ℕ) (text : List ℕ) : Type 0 where
+  pub piece : Piece
+  pub rest : List ℕ
+  pub right : IsPiece piece rest
+  pub spelled : front ++ drop at text ≡ piece_text piece ++ rest
+
+-- a hexadecimal digit
+pub record DigitStands (at : ℕ) (text : List ℕ) : Type 0 where
+  pub octet : ℕ
+  pub value : ℕ
+  pub rest : List ℕ
+  pub valued : hex_digit_value octet ≡ Some value
+  pub spelled : drop at text ≡ octet ∷ rest
+
+-- an octal digit
+pub record OctalStands (at : ℕ) (text : List ℕ) : Type 0 where
+  pub value : ℕ
+  pub rest : List ℕ
+  pub low : value < 8
+  pub spelled : drop at text ≡ (char "0" + value) ∷ rest
+
+-- a hexadecimal body and the mark after it
+pub record DigitsStand (at : ℕ) (text : List ℕ) : Type 0 where
+  pub body : List ℕ
+  pub octets : List ℕ
+  pub rest : List ℕ
+  pub packed : decode_of (visible body) ≡ Ok octets
+  pub spelled : drop at text ≡ body ++ char "#" ∷ rest
+
+-- a string without a hint
+pub record StringStands (at : ℕ) (text : List ℕ) : Type 0 where
+  pub octets : List ℕ
+  pub rest : List ℕ
+  pub stands : StringAt text at octets rest
+
+-- a value of any depth
+pub record ValueStands (at : ℕ) (text : List ℕ) : Type 0 where
+  pub room : ℕ
+  pub value : Value
+  pub rest : List ℕ
+  pub stands : ValueAt room text at value rest
+
+-- members of any depth, and a closing parenthesis
+pub record MembersStand (at : ℕ) (text : List ℕ) : Type 0 where
+  pub room : ℕ
+  pub items : Values
+  pub rest : List ℕ
+  pub stands : MembersAt room text at items rest

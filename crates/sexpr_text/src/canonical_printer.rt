@@ -2,7 +2,7 @@
 
 ghost use Rattle.std.specs.Prelude.{◌≡◌, ℕ, List, ◌∷◌, ◌++◌};
 ghost use Rattle.sexpr_core.specs.Value.{Value, Values, list, verbatim, canon, canons};
-ghost use Rattle.sexpr_text.specs.Printed.{printed_string, adv};
+ghost use Rattle.sexpr_text.specs.AdvancedForm.{printed_string, adv};
 
 use crate::printer::{print_gap, print_hint, print_octets};
 use crate::sinks::Sink;

@@ -2,20 +2,12 @@
 
 ghost use Rattle.std.specs.Prelude.{◌≡◌, ℕ, List, ◌<◌, ◌≤◌, ◌↔◌, [], ◌∷◌, ◌++◌, true, false, length, drop, IfOk, IfErr, OnOk, IsErrOf, IsOkUnless};
 ghost use Rattle.std.specs.Option.{option_to_list};
-ghost use Rattle.sexpr_core.specs.BraceRefusal.{RefusesBraces};
-ghost use Rattle.sexpr_core.specs.Bounds.{RefusesPart};
-ghost use Rattle.sexpr_core.specs.Braces.{IsBracedWithin};
-ghost use Rattle.sexpr_core.specs.Reading.{StandsAt};
+ghost use Rattle.sexpr_core.specs.Reading.{RefusesBraces, RefusesPart, IsBracedWithin, StandsAt};
 ghost use Rattle.sexpr_core.specs.Value.{Value, Values, canon, IsWithinLimits};
-ghost use Rattle.sexpr_text.specs.Printed.{adv};
-ghost use Rattle.sexpr_text.specs.Reads.{ReadsString, StringAt, ReadsValue, ValueAt, ReadsMembers, MembersAt, IsValueFault};
-ghost use Rattle.sexpr_text.specs.Stands.{StringStands, ValueStands, MembersStand};
-ghost use Rattle.sexpr_text.specs.Strings.{is_digit, is_token_octet, IsToken};
+ghost use Rattle.sexpr_text.specs.AdvancedForm.{adv, is_digit, is_token_octet, IsToken, IsSpelledWithin, IsTextWithin, written, written_all, written_string, gap_of};
+ghost use Rattle.sexpr_text.specs.Reads.{ReadsString, StringAt, ReadsValue, ValueAt, ReadsMembers, MembersAt, IsValueFault, StringStands, ValueStands, MembersStand};
 ghost use Rattle.sexpr_text.specs.Inner.Begun.{IsPartEnd, GoesString, GoesValue, GoesMembers, Anywhere, IsUnclosedValue, AreUnclosedMembers, IsValueEnd, ValueStandsIn, MembersStandIn};
-ghost use Rattle.sexpr_text.specs.Unclosed.{IsUnclosedString};
-ghost use Rattle.sexpr_text.specs.Refusal.{RefusesSpelling, RefusesText};
-ghost use Rattle.sexpr_text.specs.Spelling.{IsSpelledWithin, IsTextWithin};
-ghost use Rattle.sexpr_text.specs.Written.{written, written_all, written_string, gap_of};
+ghost use Rattle.sexpr_text.specs.Refusal.{IsUnclosedString, RefusesSpelling, RefusesText};
 
 use crate::hinted_strings::read_hinted_string;
 use crate::opening_brace::opens_braces;

@@ -2,13 +2,9 @@
 
 ghost use Rattle.std.specs.Prelude.{◌≡◌, ℕ, ◌+◌, ◌≤◌, true, Ok, List, [], ◌∷◌, ◌++◌, length, drop, IfOk, IfErr, OnOk, IsOkUnless};
 ghost use Rattle.hex.specs.Hex.{decode_of};
-ghost use Rattle.sexpr_core.specs.Reading.{StandsAt};
-ghost use Rattle.sexpr_core.specs.Bounds.{IsFaultAt, RefusesPart};
-ghost use Rattle.sexpr_core.specs.Gathering.{IsBodyEnd};
-ghost use Rattle.sexpr_text.specs.Reads.{Reads, Keeps, is_hexadecimal_octet, IsNoHexadecimalOctet, IsDigitsFault};
-ghost use Rattle.sexpr_text.specs.Stands.{Stands, DigitsStand};
-ghost use Rattle.sexpr_text.specs.Strings.{IsHexadecimal};
-ghost use Rattle.sexpr_core.specs.Spaces.{visible};
+ghost use Rattle.sexpr_core.specs.Reading.{StandsAt, IsFaultAt, RefusesPart, IsBodyEnd, visible};
+ghost use Rattle.sexpr_text.specs.Reads.{Reads, Keeps, is_hexadecimal_octet, IsNoHexadecimalOctet, IsDigitsFault, Stands, DigitsStand};
+ghost use Rattle.sexpr_text.specs.AdvancedForm.{IsHexadecimal};
 
 use crate::strings::MarkedString;
 use hex::FromHexError;

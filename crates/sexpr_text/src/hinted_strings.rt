@@ -2,11 +2,9 @@
 
 ghost use Rattle.std.specs.Prelude.{◌≡◌, ℕ, List, Some, ◌≤◌, length, IfOk, IfErr, IsOkUnless};
 ghost use Rattle.std.specs.Cow.{cow_slice_items};
-ghost use Rattle.sexpr_core.specs.Bounds.{RefusesPart};
-ghost use Rattle.sexpr_core.specs.Reading.{StandsAt};
+ghost use Rattle.sexpr_core.specs.Reading.{RefusesPart, StandsAt};
 ghost use Rattle.sexpr_core.specs.Value.{Value, string};
-ghost use Rattle.sexpr_text.specs.Reads.{ReadsValue, ValueAt};
-ghost use Rattle.sexpr_text.specs.Stands.{ValueStands};
+ghost use Rattle.sexpr_text.specs.Reads.{ReadsValue, ValueAt, ValueStands};
 ghost use Rattle.sexpr_text.specs.Inner.Begun.{IsPartEnd, GoesValue, Anywhere, IsUnclosedValue};
 
 use crate::strings::read_string;

@@ -3,14 +3,11 @@
 
 ghost use Rattle.std.specs.Prelude.{◌≡◌, ℕ, List, ◌+◌, ◌<◌, length, take};
 ghost use Rattle.sexpr_core.specs.declared.fault.FormFault.{FormFault};
-ghost use Rattle.sexpr_core.specs.Refusal.{IsOfForm};
+ghost use Rattle.sexpr_core.specs.Reading.{IsOfForm, Begins};
 ghost use Rattle.sexpr_core.specs.declared.fault.FormFault.TheVariants.{Bad};
-ghost use Rattle.sexpr_core.specs.Prefix.{Begins};
 ghost use Rattle.sexpr_text.specs.Refusal.{RefusesSpelling, RefusesText, IsSomeText};
-ghost use Rattle.sexpr_core.specs.Value.{Value, canon};
-ghost use Rattle.sexpr_core.specs.Octets.{HasOctets};
-ghost use Rattle.sexpr_text.specs.Spelling.{Spells, IsText, IsSpelledWithin, IsTextWithin};
-ghost use Rattle.sexpr_text.specs.Printed.{adv};
+ghost use Rattle.sexpr_core.specs.Value.{Value, canon, HasOctets};
+ghost use Rattle.sexpr_text.specs.AdvancedForm.{Spells, IsText, IsSpelledWithin, IsTextWithin, adv};
 
 /// A text spells (in advanced form) or braces (in transport form) at most one value.
 pub fn one_value()

@@ -1,15 +1,24 @@
--- The answer to a question has the status of its query.
-use Rattle.std.proofs.Common.{◌≡◌, ◌⊎◌, ℕ, List, [], ◌∷◌, Bool, Some, slice_get, refl, sym, ap, ◌∙◌, subst, inl, inr, rules}
-use Rattle.spki_service.specs.Held.{Held}
+-- Questions of a C program: their parts, also if there is no memory for the strings, and the status of an answer.
+use Rattle.std.proofs.Common.{◌≡◌, ◌⊎◌, ℕ, List, [], ◌∷◌, Bool, Some, slice_get, refl, sym, ap, ◌∙◌, subst, inl, inr, rules, map, true, false, Bor}
+use Rattle.spki_service.specs.AccessLists.{Held}
 use Rattle.spki_service.specs.declared.question.Question.{Question}
 use Rattle.spki_guard.specs.declared.answers.Verdict.{Verdict}
 use Rattle.spki_guard.specs.declared.answers.Verdict.TheVariants.{Refused}
 use Rattle.spki_guard.specs.declared.question_answers.Query.{Query}
 use Rattle.spki_guard.specs.declared.question_answers.Query.TheVariants.{Decide, Explain, Reduce}
-use Rattle.spki_guard.specs.Held.{IsAnswerHeld}
+use Rattle.spki_guard.specs.HeldQuestions.{IsAnswerHeld}
 use Rattle.spki_guard.specs.Lines.{refused_memory}
 use Rattle.spki_c.specs.Guards.{query_number, status_for, IsAnswered}
-use Rattle.spki_c.specs.Handed.{IsHanded}
+use Rattle.spki_c.specs.Results.{IsHanded}
+use Rattle.std.specs.Prelude.{ℤ}
+use Rattle.spki_service.specs.declared.question.RequestInput.{RequestInput}
+use Rattle.spki_service.specs.declared.question.RequestInput.TheVariants as wanted
+use Rattle.spki_service.specs.declared.question.Moment.{Moment}
+use Rattle.spki_service.specs.declared.question.Moment.TheVariants as moments
+use Rattle.spki_c.specs.declared.parts.Parts.{Parts}
+use Rattle.spki_c.specs.Asking.{IsQuestionBy, IsRequestBy, IsMomentBy}
+
+-- ---- the answer to a question has the status of its query
 
 abbrev all : List Query
 all = Decide ∷ Decide ∷ Decide ∷ Decide ∷ Reduce ∷ Decide ∷ Explain ∷ []
@@ -44,3 +53,53 @@ pub no_memory : (w : Query) (guard : Held) (q : Question) (marks : List Bool) (o
     → IsAnswered w guard q marks old new needed status
 no_memory w guard q marks output old new needed status (inl line) handed = search (rules, refused_status)
 no_memory w guard q marks output old new needed status (inr line) handed = search (rules, refused_status)
+
+-- ---- the parts of a question are those of a question, also where there is no memory for its strings
+
+lent : {X : Type 0} → X → Bor X
+lent x = record { ref_ptr = (0, 0); now = x }
+
+all_lent : (words : List (List ℕ)) → map (λ (w : Bor (List ℕ)). w.now) (map lent words) ≡ words
+unfolding lent
+all_lent [] = refl
+all_lent (w ∷ words) = ap (λ (ws : List (List ℕ)). w ∷ ws) (all_lent words)
+
+request_by : Bool → List ℕ → List (List ℕ) → RequestInput
+request_by true text words = wanted.Words (lent (map lent words))
+request_by false text words = wanted.Text (lent text)
+
+is_request_by : (is_worded : Bool) (text : List ℕ) (words : List (List ℕ)) → IsRequestBy is_worded text words (request_by is_worded text words)
+unfolding lent request_by
+is_request_by true text words = (refl, all_lent words)
+is_request_by false text words = (refl, refl)
+
+moment_by : List ℕ → List ℤ → Moment
+moment_by text [] = moments.Text (lent text)
+moment_by text (first ∷ others) = moments.Seconds first
+
+is_moment_by : (text : List ℕ) (seconds : List ℤ) → IsMomentBy text seconds (moment_by text seconds)
+unfolding lent moment_by
+is_moment_by text [] = refl
+is_moment_by text (first ∷ others) = refl
+
+module _ (parts : Parts) (words : List (List ℕ)) (seconds : List ℤ) where
+  pub question_by : Question
+  question_by = record {
+    sequence = lent parts.sequence.octets;
+    key = lent parts.key.octets;
+    request = request_by parts.is_worded parts.request.octets words;
+    moment = moment_by parts.moment.octets seconds;
+  }
+
+  pub is_question_by : IsQuestionBy parts words seconds question_by
+  unfolding lent question_by
+  is_question_by = record {
+    sequence_is = refl;
+    key_is = refl;
+    request_is = is_request_by parts.is_worded parts.request.octets words;
+    moment_is = is_moment_by parts.moment.octets seconds;
+  }
+
+pub one_line : {output line : List ℕ} → (output ≡ line) ⊎ (output ≡ line) → output ≡ line
+one_line (inl e) = e
+one_line (inr e) = e

@@ -3,7 +3,7 @@ use Rattle.std.proofs.Common.{◌≡◌, List, [], ◌∷◌, Some, refl, sym, a
 use Rattle.std.specs.Prelude.{slice_get}
 use Rattle.spki_words.specs.declared.commands.Command.{Command}
 use Rattle.spki_words.specs.declared.commands.Command.TheVariants.{Canonical, Advanced, Transport, Intersect, Reduce, Check, Explain}
-use Rattle.spki_c.specs.Numbers.{number_of}
+use Rattle.spki_c.specs.Results.{number_of}
 
 abbrev all : List Command
 all = Canonical ∷ Advanced ∷ Transport ∷ Intersect ∷ Reduce ∷ Check ∷ Explain ∷ []

@@ -1,7 +1,9 @@
--- What a C program receives from the questions that it opens.
-use Rattle.std.specs.Prelude.{◌≡◌, ◌≢◌, ◌⊎◌, ◌==◌, ℕ, ℤ, List, [], ◌∷◌, map, Bool, true, false, Option, Some}
-use Rattle.spki_service.specs.Held.{Held}
-use Rattle.spki_service.specs.Opened.{IsOpened}
+-- Questions of a C program: the texts that it lends, what it receives, and the signatures that it reads.
+use Rattle.std.specs.Prelude.{◌≡◌, List, length, All, ◌≢◌, ◌⊎◌, ◌==◌, ℕ, ℤ, [], ◌∷◌, map, Bool, true, false, Option, Some, None}
+use Rattle.spki_c.specs.declared.text.Text.{Text}
+use Rattle.spki_c.specs.declared.parts.Parts.{Parts}
+use Rattle.spki_service.specs.AccessLists.{Held}
+use Rattle.spki_service.specs.GuardQuestions.{IsOpened}
 use Rattle.spki_service.specs.declared.opened.Opened.{Opened}
 use Rattle.spki_service.specs.declared.question.Question.{Question}
 use Rattle.spki_service.specs.declared.question.RequestInput.{RequestInput}
@@ -9,10 +11,26 @@ use Rattle.spki_service.specs.declared.question.RequestInput.TheVariants as want
 use Rattle.spki_service.specs.declared.question.Moment.{Moment}
 use Rattle.spki_service.specs.declared.question.Moment.TheVariants as moments
 use Rattle.spki_guard.specs.declared.answers.Verdict.{Verdict}
-use Rattle.spki_guard.specs.Held.{IsUnreadQuestion}
-use Rattle.spki_c.specs.Handed.{IsHanded}
-use Rattle.spki_c.specs.declared.parts.Parts.{Parts}
-use Rattle.spki_c.specs.declared.text.Text.{Text}
+use Rattle.spki_guard.specs.HeldQuestions.{IsUnreadQuestion}
+use Rattle.spki_c.specs.Results.{IsHanded}
+use Rattle.std.specs.Borrow.{Bor}
+use Rattle.sexpr_core.specs.Value.{Value, canon, IsWithinLimits}
+use Rattle.spki_decision.specs.Standing.{Signed}
+use Rattle.spki_c.specs.Strings.{octets_of}
+use Rattle.spki_c.specs.declared.signatures.SignatureTexts.{SignatureTexts}
+
+-- ---- texts that are lent whole
+
+-- As many octets are lent as the count says: no null pointer has a count, and no count is more than memory can have.
+abbrev pub IsLent : Text → Type 0
+IsLent t = length t.octets ≡ t.count
+
+-- The texts of a question are lent whole.
+abbrev pub AreLent : Parts → List Text → Type 0
+AreLent parts words =
+    IsLent parts.sequence × IsLent parts.key × IsLent parts.request × IsLent parts.moment × All IsLent words
+
+-- ---- what a C program receives from the questions that it opens
 
 -- the marks of octets: 1 is true, and every other number is false
 abbrev pub marks_from : List ℕ → List Bool
@@ -69,3 +87,26 @@ pub record IsUnheld {H : Type 0} (guard : Held) (q : Question) (before after : H
   pub output : List ℕ
   pub unread : IsUnreadQuestion guard q verdict output
   pub handed : IsHanded old new needed status 2 output
+
+-- ---- the texts of a signature that a verifier is asked about, as C reads them
+
+-- the octets that are returned, if there are any
+abbrev pub octets_in : Option (Bor (List ℕ)) → Option (List ℕ)
+octets_in None = None
+octets_in (Some octets) = Some octets.now
+
+-- if the text is that of a value, these are the octets of this string, or there are none
+abbrev pub IsStringOf : List ℕ → Option (Bor (List ℕ)) → Type 0
+IsStringOf text found = (v : Value) → IsWithinLimits v → text ≡ canon v → octets_in found ≡ octets_of v
+
+-- the octets of a value that is one string, or that there are none
+abbrev pub AreOctets : Option (List ℕ) → List ℕ → Bool → Type 0
+AreOctets (Some octets) found is_string = (found ≡ octets) × (is_string ≡ true)
+AreOctets None found is_string = (found ≡ []) × (is_string ≡ false)
+
+-- The texts are those of the signature.
+pub record IsSignature (s : Signed) (t : SignatureTexts) : Type 0 where
+  pub key_is : t.key.now ≡ s.key
+  pub message_is : t.message.now ≡ s.message
+  pub value_is : t.value.now ≡ s.value
+  pub octets_are : (v : Value) → IsWithinLimits v → s.value ≡ canon v → AreOctets (octets_of v) t.octets.now t.is_string

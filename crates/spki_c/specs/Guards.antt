@@ -2,20 +2,17 @@
 use Rattle.std.specs.Prelude.{◌≡◌, ◌⊎◌, ℕ, ◌≤◌, List, [], ◌∷◌, Bool, Option, Some}
 use Rattle.spki_cert.specs.declared.principal.Policy.{Policy}
 use Rattle.spki_cert.specs.declared.principal.Policy.TheVariants.{Open, Strict}
-use Rattle.spki_service.specs.Held.{Held, HoldsList}
-use Rattle.spki_service.specs.Lists.{IsNoAccessList}
+use Rattle.spki_service.specs.AccessLists.{Held, HoldsList, IsNoAccessList}
 use Rattle.spki_service.specs.declared.limits.Limits.{Limits}
 use Rattle.spki_service.specs.declared.list_fault.AclFault.{AclFault}
 use Rattle.spki_service.specs.declared.question.Question.{Question}
 use Rattle.spki_guard.specs.declared.answers.Verdict.{Verdict}
 use Rattle.spki_guard.specs.declared.question_answers.Query.{Query}
 use Rattle.spki_guard.specs.declared.question_answers.Query.TheVariants.{Decide, Explain, Reduce}
-use Rattle.spki_guard.specs.Held.{IsAnswerHeld, HasOtherCount}
-use Rattle.spki_guard.specs.HeldLines.{refused_list}
+use Rattle.spki_guard.specs.HeldQuestions.{IsAnswerHeld, HasOtherCount, refused_list}
 use Rattle.spki_guard.specs.Lines.{refused_memory}
-use Rattle.spki_c.specs.Handed.{IsHanded, IsMisuse}
+use Rattle.spki_c.specs.Results.{IsHanded, IsMisuse, decided, written}
 use Rattle.spki_c.specs.declared.limits.LimitParts.{LimitParts}
-use Rattle.spki_c.specs.Numbers.{decided, written}
 
 -- ---- numbers
 

@@ -1,10 +1,5 @@
 pub mod Asking
 pub mod Guards
-pub mod Handed
-pub mod Holding
-pub mod Lent
-pub mod Numbers
+pub mod Results
 pub mod Pointers
-pub mod Signatures
 pub mod Strings
-pub mod Texts

@@ -1,7 +1,7 @@
 //! Writes answers into the buffers of a caller.
 ghost use Rattle.std.specs.Prelude.{◌≡◌};
-ghost use Rattle.spki_guard.specs.Answer.{written_by};
-ghost use Rattle.spki_c.specs.Handed.{IsHanded};
+ghost use Rattle.spki_guard.specs.TextAnswers.{written_by};
+ghost use Rattle.spki_c.specs.Results.{IsHanded};
 
 use crate::numbers::{MISUSED, TOO_SMALL};
 use spki_guard::Answer;

@@ -3,9 +3,8 @@ ghost use Rattle.std.specs.Prelude.{◌≡◌, ◌≢◌, ◌<◌, ◌⊎◌, �
 ghost use Rattle.sexpr_core.specs.Value.{Value, canon, IsWithinLimits};
 ghost use Rattle.spki_words.specs.declared.commands.Command.{Command};
 ghost use Rattle.spki_guard.specs.declared.answers.Verdict.{Verdict};
-ghost use Rattle.spki_c.specs.Numbers.{number_of, status_of, decided};
-ghost use Rattle.spki_c.specs.Handed.{IsHanded, IsMisuse, AnswersText, AnswersApart};
-ghost use Rattle.spki_c.specs.Lent.{IsLent};
+ghost use Rattle.spki_c.specs.Results.{number_of, status_of, decided, IsHanded, IsMisuse, AnswersText, AnswersApart};
+ghost use Rattle.spki_c.specs.Asking.{IsLent};
 ghost use Rattle.spki_c.specs.Strings.{IsFound, IsNotThere};
 
 use crate::buffer::{hand_over, misused};

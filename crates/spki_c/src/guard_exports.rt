@@ -2,8 +2,8 @@
 ghost use Rattle.std.specs.Prelude.{◌≡◌, ◌≢◌, ◌⊎◌, None, IsSome, length};
 ghost use Rattle.spki_cert.specs.declared.principal.Policy.{Policy};
 ghost use Rattle.spki_c.specs.Guards.{policy_number, numbers_in, AreAllowed, IsOpened, IsUnopened};
-ghost use Rattle.spki_c.specs.Handed.{IsMisuse};
-ghost use Rattle.spki_c.specs.Lent.{IsLent};
+ghost use Rattle.spki_c.specs.Results.{IsMisuse};
+ghost use Rattle.spki_c.specs.Asking.{IsLent};
 
 use crate::box_pointer::BoxPointer;
 use crate::buffer::{hand_over, misused};

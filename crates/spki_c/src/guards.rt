@@ -1,7 +1,6 @@
 //! Guards on the heap, and what a caller may set for them.
 ghost use Rattle.std.specs.Prelude.{◌≡◌, ◌≢◌, IfOk, IfErr, MatchOption};
-ghost use Rattle.spki_service.specs.Held.{HasLimits, HoldsList};
-ghost use Rattle.spki_service.specs.Lists.{IsNoAccessList};
+ghost use Rattle.spki_service.specs.AccessLists.{HasLimits, HoldsList, IsNoAccessList};
 ghost use Rattle.spki_c.specs.Guards.{policy_number};
 
 use spki_cert::Policy;

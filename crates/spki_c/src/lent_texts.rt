@@ -1,6 +1,6 @@
 //! The octets of texts that C passes.
 ghost use Rattle.std.specs.Prelude.{◌≡◌, ◌↔◌, IsTrue, IfOk, All, map};
-ghost use Rattle.spki_c.specs.Lent.{IsLent};
+ghost use Rattle.spki_c.specs.Asking.{IsLent};
 
 use crate::text::Text;
 use std::alloc::{AllocError, Global};

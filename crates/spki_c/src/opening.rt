@@ -1,8 +1,8 @@
 //! Opened questions on the heap.
 ghost use Rattle.std.specs.Prelude.{IfOk, IfErr};
-ghost use Rattle.spki_service.specs.Opened.{IsOpened};
-ghost use Rattle.spki_guard.specs.Answer.{written_by};
-ghost use Rattle.spki_guard.specs.Held.{IsUnreadQuestion};
+ghost use Rattle.spki_service.specs.GuardQuestions.{IsOpened};
+ghost use Rattle.spki_guard.specs.TextAnswers.{written_by};
+ghost use Rattle.spki_guard.specs.HeldQuestions.{IsUnreadQuestion};
 
 use spki_guard::{AclFault, Answer, Opened, Question, SharedGuard, open_question, refused_list};
 use std::alloc::Global;

@@ -1,14 +1,12 @@
 //! The exported functions for opened questions that a caller holds.
 ghost use Rattle.std.specs.Prelude.{◌≡◌, ◌≢◌, ◌⊎◌, None, Some, IsSome, length, slice_get};
-ghost use Rattle.spki_decision.specs.Asked.{Signed};
+ghost use Rattle.spki_decision.specs.Standing.{Signed};
 ghost use Rattle.spki_service.specs.declared.question.Question.{Question};
-ghost use Rattle.spki_service.specs.Opened.{IsOpened};
+ghost use Rattle.spki_service.specs.GuardQuestions.{IsOpened};
 ghost use Rattle.spki_guard.specs.declared.question_answers.Query.{Query};
-ghost use Rattle.spki_c.specs.Asking.{IsAmbiguous, IsQuestionOf, IsHeldQuestion, IsUnheld, marks_from};
+ghost use Rattle.spki_c.specs.Asking.{IsAmbiguous, IsQuestionOf, IsHeldQuestion, IsUnheld, marks_from, IsLent, AreLent, IsSignature};
 ghost use Rattle.spki_c.specs.Guards.{query_number, IsAsked};
-ghost use Rattle.spki_c.specs.Handed.{IsMisuse};
-ghost use Rattle.spki_c.specs.Lent.{IsLent, AreLent};
-ghost use Rattle.spki_c.specs.Signatures.{IsSignature};
+ghost use Rattle.spki_c.specs.Results.{IsMisuse};
 
 use crate::box_pointer::BoxPointer;
 use crate::buffer::{hand_over, misused};

@@ -2,8 +2,7 @@
 ghost use Rattle.std.specs.Prelude.{◌≡◌, Some, None, IsSome};
 ghost use Rattle.std.specs.declared.option.Option.{Option};
 ghost use Rattle.std.specs.Coded.{coded_option};
-ghost use Rattle.spki_c.specs.Holding.{KeptQuestion, question_code, question_row, held_owns};
-ghost use Rattle.spki_c.specs.Pointers.{held_lent};
+ghost use Rattle.spki_c.specs.Pointers.{KeptQuestion, question_code, question_row, held_owns, held_lent};
 
 use crate::box_pointer::BoxPointer;
 use spki_guard::Opened;

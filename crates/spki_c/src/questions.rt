@@ -1,7 +1,6 @@
 //! Questions from the parts that C passes, and marks from octets.
 ghost use Rattle.std.specs.Prelude.{◌≡◌, ◌↔◌, IsTrue, IfOk, map};
-ghost use Rattle.spki_c.specs.Asking.{IsAmbiguous, IsQuestionBy, IsRequestBy, IsMomentBy, marks_from};
-ghost use Rattle.spki_c.specs.Lent.{IsLent, AreLent};
+ghost use Rattle.spki_c.specs.Asking.{IsAmbiguous, IsQuestionBy, IsRequestBy, IsMomentBy, marks_from, IsLent, AreLent};
 
 use crate::lent_texts::are_lent;
 use crate::parts::Parts;

@@ -1,6 +1,6 @@
 //! The texts of signatures that a verifier is asked about, as C reads them.
 ghost use Rattle.std.specs.Prelude.{◌≡◌, IfOk};
-ghost use Rattle.spki_c.specs.Signatures.{IsStringOf, IsSignature};
+ghost use Rattle.spki_c.specs.Asking.{IsStringOf, IsSignature};
 
 use crate::strings::place_in;
 use sexpr_core::{Doc, FormFault};

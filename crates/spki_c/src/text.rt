@@ -1,7 +1,7 @@
 //! Texts that C passes.
 ghost use Rattle.std.specs.Prelude.{◌≡◌, ◌↔◌, ℕ, ◌<◌, List, length, IsTrue};
 ghost use denote.RawPtr.{null_ptr};
-ghost use Rattle.spki_c.specs.Texts.{text_owns, lent_count};
+ghost use Rattle.spki_c.specs.Pointers.{text_owns, lent_count};
 
 use std::marker::Model;
 

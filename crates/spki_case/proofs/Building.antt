@@ -2,12 +2,12 @@
 use Rattle.std.proofs.Common.{◌≡◌, ◌≢◌, ℕ, List, [], ◌∷◌, Option, Some, None, MatchOption, refl, sym, ap, ◌∙◌, rules}
 use Rattle.std.specs.Prelude.{codes}
 use Rattle.sexpr_core.specs.Value.{Value, string, list, none, more, members, plain}
-use Rattle.sexpr_core.specs.Labels.{members-values}
-use Rattle.spki_case.specs.CaseForm as spec
+use Rattle.sexpr_core.specs.Nodes.{members-values}
+use Rattle.spki_case.specs.Case as spec
 use Rattle.spki_cert.specs.declared.principal.Policy.{Policy}
 use Rattle.spki_cert.specs.declared.principal.Policy.TheVariants.{Open, Strict}
-use Rattle.spki_case.specs.CaseForm.{headed, part_values, case_value, policy_values}
-use Rattle.spki_case.specs.Parts.{IsPart, ArePartsOf}
+use Rattle.spki_case.specs.Case.{headed, part_values, case_value, policy_values}
+use Rattle.spki_case.specs.View.{IsPart, ArePartsOf}
 use Rattle.spki_case.specs.declared.parts.Parts.{Parts}
 use Rattle.spki_case.specs.declared.parts.TakenPart.{TakenPart}
 

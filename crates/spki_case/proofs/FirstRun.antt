@@ -3,7 +3,7 @@ use Rattle.std.proofs.Common.{◌≡◌, [], ◌∷◌, ◌++◌, refl}
 use Rattle.std.specs.Prelude.{codes}
 use Rattle.sexpr_core.specs.Value.{Value, plain, canon, verbatim, decimal, depth}
 use Rattle.spki_cert.specs.declared.principal.Policy.TheVariants.{Open}
-use Rattle.spki_case.specs.CaseForm.{Parts, headed, case_value}
+use Rattle.spki_case.specs.Case.{Parts, headed, case_value}
 
 key_a : Value
 key_a = headed (codes "public-key") (headed (codes "test") (plain (codes "a") ∷ []) ∷ [])

@@ -1,12 +1,6 @@
 pub mod Building
 pub mod FirstRun
 pub mod Signed
-pub mod Lacking
 pub mod OneCase
-pub mod ByDigest
-pub mod Searched
-pub mod LackingRow
-pub mod Unrefused
-pub mod RowFaultLaws
-pub mod RowFaultNone
-pub mod OneFault
+pub mod Lookups
+pub mod RowFaults

@@ -1,21 +1,41 @@
--- A value is one case.
-use Rattle.std.proofs.Common.{◌≡◌, ℕ, List, [], ◌∷◌, ◌++◌, refl, sym, ap, subst, ◌∙◌, rules}
+-- A value is at most one case or accepted list. It is refused for at most one fault, and is never both read and
+-- refused.
+use Rattle.std.proofs.Common.{◌≡◌, inl, inr, ℕ, List, [], ◌∷◌, ◌++◌, refl, sym, ap, subst, ◌∙◌, rules, Option, Some, ◌≢◌, arith}
 use Rattle.std.specs.Prelude.{codes}
+use Rattle.sexpr_core.specs.Value.{Value, canon, IsWithinLimits}
+use Rattle.spki_case.specs.declared.cases.CaseFault.{CaseFault}
+use Rattle.spki_case.specs.declared.cases.CaseFault.TheVariants as faults
+use Rattle.spki_case.specs.Case.{Parts, case_value, PartRefused, ValueRefused, IsOuter, Case, Row, RowOf, headed, acl_value, sequence_value, policy_values, part_values, RequestOf, CaseOf, IsCaseText, rows_fault, TextRefused}
 use Rattle.std.specs.List.{AllZip}
-use Rattle.sexpr_core.specs.Value.{Value}
 use Rattle.sexpr_core.proofs.Texts.{canon_one}
 use Rattle.spki_tag.specs.Request.{Request}
-use Rattle.spki_tag.proofs.Requests.{request_only}
+use Rattle.spki_tag.proofs.RequestReading.{request_only}
 use Rattle.spki_cert.specs.declared.principal.Policy.{Policy}
 use Rattle.spki_cert.specs.declared.principal.Policy.TheVariants.{Open, Strict}
 use Rattle.spki_cert.specs.Readings.{KeyOf, DateOf}
-use Rattle.spki_cert.specs.Entries.{AclOf}
-use Rattle.spki_cert.specs.Sequences.{SeqOf}
+use Rattle.spki_cert.specs.Structures.{AclOf, SeqOf}
 use Rattle.spki_cert.proofs.OneReading.{key-one, hash-one, date-one, acl-one, sequence-one}
-use Rattle.spki_case.specs.Case.{Case, Row}
-use Rattle.spki_case.specs.Rows.{RowOf}
-use Rattle.spki_case.specs.CaseForm.{Parts, headed, acl_value, sequence_value, policy_values, part_values, case_value, RequestOf, CaseOf, IsCaseText}
 use Rattle.spki_case.proofs.Building.{behind_head}
+use Rattle.spki_cert.specs.declared.fault.CertFault.{CertFault}
+use Rattle.spki_case.specs.declared.rows.RowsFault.{RowsFault}
+use Rattle.spki_case.specs.declared.rows.RowsFault.TheVariants as rows_faults
+use Rattle.spki_case.specs.RowsForm.{NoRows, RowsOf, IsRowsText, RowsTextRefused}
+use Rattle.sexpr_core.specs.declared.fault.FormFault.{FormFault}
+use Rattle.sexpr_core.specs.declared.fault.FormFault.TheVariants.{TooLong, TooDeep, Short, Memory}
+use Rattle.sexpr_core.specs.Reading.{Refused}
+use Rattle.sexpr_core.proofs.Refusals.{no_refusal}
+
+-- ---- the fault of a part as the case's
+
+lacking : (v : Value) (p : Parts) (named outer : CaseFault) → v ≡ case_value p → outer ≡ named → PartRefused p named → ValueRefused v outer
+lacking v p named outer e is r = rw is (inr (record { parts = p; written = e; refused = r }))
+
+pub lacks : (v : Value) (p : Parts) (inside : Type 0) (named outer : CaseFault) → v ≡ case_value p
+    → IsOuter inside faults.Memory named outer → (¬ inside → PartRefused p named) → outer ≢ faults.Memory → ValueRefused v outer
+lacks v p inside named outer e (inl h) r other = absurd (other h.1)
+lacks v p inside named outer e (inr h) r other = lacking v p named outer e h.1 (r h.0)
+
+-- ---- a value is one case
 
 -- ---- rows
 
@@ -90,3 +110,102 @@ text-one text c d read other =
     let same : read.value ≡ other.value =
     (canon_one read.value other.value [] [] (ap (λ (octets : List ℕ). octets ++ []) (sym read.written ∙ other.written))).0 in
     case-one other.value c d (subst (λ (w : Value). CaseOf w c) same read.is) other.is
+
+-- ---- a value that is no case, or no accepted list, has one fault
+
+some-one : {A : Type 0} {found : Option A} {a b : A} → found ≡ Some a → found ≡ Some b → a ≡ b
+some-one e f = cc
+
+at-zero : {a b : CertFault} → a.item ≡ 0 → b.item ≡ 0 → a.kind ≡ b.kind → a ≡ b
+at-zero e f g = λ i. record { item = (e ∙ sym f) i; kind = g i }
+
+-- of two parts that are refused the earlier has a reading in what is said of the later
+one-part : (p : Parts) (f g : CaseFault) → PartRefused p f → PartRefused p g → f ≡ g
+one-part p (faults.Acl x) (faults.Acl y) a b = ap faults.Acl (some-one a.named b.named)
+one-part p (faults.Accepted x) (faults.Accepted y) a b = ap faults.Accepted (some-one a.named b.named)
+one-part p (faults.Sequence x) (faults.Sequence y) a b = ap faults.Sequence (some-one a.named b.named)
+one-part p (faults.Key x) (faults.Key y) a b = ap faults.Key (at-zero a.outer b.outer (some-one a.named b.named))
+one-part p (faults.Request x) (faults.Request y) a b = ap faults.Request (some-one a.named b.named)
+one-part p (faults.At x) (faults.At y) a b = ap faults.At (a.no_date ∙ sym b.no_date)
+one-part p faults.Shape g a b = absurd a
+one-part p faults.Memory g a b = absurd a
+one-part p (faults.Form x) g a b = absurd a
+one-part p f faults.Shape a b = absurd b
+one-part p f faults.Memory a b = absurd b
+one-part p f (faults.Form y) a b = absurd b
+one-part p f g a b = absurd (search (rules, a.none, b.none))
+
+parts-same : (p q : Parts) → SameParts p q → p ≡ q
+parts-same p q same = search (rules, behind_head)
+
+pub one-fault : (v : Value) (f g : CaseFault) → ValueRefused v f → ValueRefused v g → f ≡ g
+one-fault v f g (inl a) (inl b) = a.named ∙ sym b.named
+one-fault v f g (inl a) (inr b) = absurd (a.none b.parts b.written)
+one-fault v f g (inr a) (inl b) = absurd (b.none a.parts a.written)
+one-fault v f g (inr a) (inr b) =
+    let same : a.parts ≡ b.parts = parts-same a.parts b.parts (parts-one a.parts b.parts (sym a.written ∙ b.written)) in
+    one-part b.parts f g (subst (λ (p : Parts). PartRefused p f) same a.refused) b.refused
+
+pub one-rows_fault : (v : Value) (f g : RowsFault) → NoRows v f → NoRows v g → f ≡ g
+one-rows_fault v f g (inl a) (inl b) = a.named ∙ sym b.named
+one-rows_fault v f g (inl a) (inr b) = absurd (a.none b.members b.written)
+one-rows_fault v f g (inr a) (inl b) = absurd (b.none a.members a.written)
+one-rows_fault v f g (inr a) (inr b) =
+    let same : a.members ≡ b.members = behind_head (codes "accepted") a.members b.members (sym a.written ∙ b.written) in
+    let one : a.lacking ≡ b.lacking = some-one (ap rows_fault (sym same) ∙ a.first) b.first in
+    a.named ∙ ap rows_faults.Row one ∙ sym b.named
+
+-- ---- a text that is a case's, or an accepted list's, is refused by no fault
+
+-- ---- forms
+
+too_long : (v : Value) → IsWithinLimits v → ¬ Refused (canon v) TooLong
+too_long v within long = let short = within.short in omega arith
+
+pub well_formed : (text : List ℕ) (v : Value) (form : FormFault) → IsWithinLimits v → text ≡ canon v → form ≢ Memory → ¬ Refused text form
+well_formed text v TooLong within written found refused = too_long v within (subst (λ (octets : List ℕ). Refused octets TooLong) written refused)
+well_formed text v TooDeep within written found refused = no_refusal text TooDeep v tt refused within written
+well_formed text v Short within written found refused = no_refusal text Short v tt refused within written
+well_formed text v Memory within written found refused = found refl
+well_formed text v form within written found refused = no_refusal text form v tt refused within written
+
+-- a canonical text is that of one value
+pub one_text : (text : List ℕ) (v w : Value) → text ≡ canon v → text ≡ canon w → v ≡ w
+one_text text v w e f = (canon_one v w [] [] (ap (λ (octets : List ℕ). octets ++ []) (sym e ∙ f))).0
+
+-- ---- cases
+
+no_part : (p : Parts) (c : Case) (v : Value) (fault : CaseFault) (read : CaseOf v c) → SameParts p read.parts → ¬ PartRefused p fault
+no_part p c v (faults.Acl fault) read same refused =
+    refused.none c.entries (subst (λ (w : Value). AclOf w c.entries) (sym same.acl) read.acl)
+no_part p c v (faults.Sequence fault) read same refused =
+    refused.none c.items (subst (λ (w : Value). SeqOf w c.items) (sym same.sequence) read.sequence)
+no_part p c v (faults.Key fault) read same refused =
+    refused.none c.key (subst (λ (w : Value). KeyOf w c.key) (sym same.key) read.key)
+no_part p c v fault read same refused = search rules
+
+no_fault : (v : Value) (c : Case) (fault : CaseFault) → CaseOf v c → ¬ ValueRefused v fault
+no_fault v c fault read (inl misbuilt) = misbuilt.none read.parts read.written
+no_fault v c fault read (inr lacks) =
+    no_part lacks.parts c v fault read (parts-one lacks.parts read.parts (sym lacks.written ∙ read.written)) lacks.refused
+
+pub case_unrefused : (text : List ℕ) (c : Case) (fault : CaseFault) → IsCaseText text c → ¬ TextRefused text fault
+case_unrefused text c fault read (inl bad) = well_formed text read.value bad.form read.within read.written bad.found bad.refused
+case_unrefused text c fault read (inr other) =
+    no_fault other.value c fault (subst (λ (v : Value). CaseOf v c) (one_text text read.value other.value read.written other.written) read.is) other.is
+
+-- ---- accepted lists
+
+no_row : (v : Value) (rows : List Row) (fault : RowsFault) → RowsOf v rows → ¬ NoRows v fault
+no_row v rows fault read (inl misbuilt) = misbuilt.none read.members read.written
+no_row v rows fault read (inr lacks) =
+    let same : read.members ≡ lacks.members = behind_head (codes "accepted") read.members lacks.members (sym read.written ∙ lacks.written) in
+    lacks.none rows (subst (λ (vs : List Value). AllZip RowOf vs rows) same read.read)
+
+pub rows_unrefused : (text : List ℕ) (rows : List Row) (fault : RowsFault) → IsRowsText text rows → ¬ RowsTextRefused text fault
+rows_unrefused text rows fault read (inl bad) = well_formed text read.value bad.form read.within read.written bad.found bad.refused
+rows_unrefused text rows fault read (inr other) =
+    no_row other.value rows fault (subst (λ (v : Value). RowsOf v rows) (one_text text read.value other.value read.written other.written) read.is) other.is
+
+pub one_list : (text : List ℕ) (rows others : List Row) → IsRowsText text rows → IsRowsText text others → rows ≡ others
+one_list text rows others read other = search (rules, one_text, behind_head, rows-one)

@@ -7,8 +7,8 @@ use Rattle.sexpr_core.specs.Value.{Value}
 use Rattle.spki_cert.specs.declared.certificate.SeqItem.{SeqItem}
 use Rattle.spki_cert.specs.declared.certificate.SeqItem.TheVariants.{Key, DoHash, Auth, Name, Signature}
 use Rattle.spki_cert.specs.Fields.{is_headed}
-use Rattle.spki_cert.specs.Sequences.{ItemOf, waits_behind, waits_after, IsInPlace, AreInPlace, SeqOf}
-use Rattle.spki_case.specs.Sequence.{signature_in, certificates_from, are_signed}
+use Rattle.spki_cert.specs.Structures.{ItemOf, waits_behind, waits_after, IsInPlace, AreInPlace, SeqOf}
+use Rattle.spki_case.specs.Case.{signature_in, certificates_from, are_signed}
 
 -- where a certificate waits, what is neither do nor signature isn't in place
 stray : (v : Value) → is_headed (codes "do") v ≡ false → is_headed (codes "signature") v ≡ false → IsInPlace true v → ⊥

@@ -1,11 +1,4 @@
 pub mod Case
-pub mod Texts
-pub mod ByDigest
-pub mod SortedRows
+pub mod Lookups
 pub mod View
-pub mod RowFaults
-pub mod Rows
-pub mod CaseForm
 pub mod RowsForm
-pub mod Parts
-pub mod Sequence

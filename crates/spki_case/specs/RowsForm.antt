@@ -4,11 +4,7 @@ use Rattle.std.specs.List.{AllZip}
 use Rattle.sexpr_core.specs.Value.{Value}
 use Rattle.spki_cert.specs.declared.fault.CertFault.{CertFault}
 use Rattle.spki_cert.specs.declared.fault.CertFaultKind.TheVariants as kinds
-use Rattle.spki_case.specs.Case.{Row, Verified, accepts}
-use Rattle.spki_case.specs.CaseForm.{headed}
-use Rattle.spki_case.specs.Rows.{RowOf}
-use Rattle.spki_case.specs.RowFaults.{rows_fault}
-use Rattle.spki_case.specs.Texts.{IsTextOf, IsMalformed}
+use Rattle.spki_case.specs.Case.{Row, Verified, accepts, headed, RowOf, rows_fault, IsTextOf, IsMalformed}
 use Rattle.spki_case.specs.declared.rows.RowsFault.{RowsFault}
 use Rattle.spki_case.specs.declared.rows.RowsFault.TheVariants as faults
 

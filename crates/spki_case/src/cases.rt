@@ -1,9 +1,7 @@
 //! Cases: an access list, accepted rows, a sequence, and a question.
 
 ghost use Rattle.std.specs.Prelude.{◌≡◌, ◌≢◌, [], ◌<◌, ◌≤◌, ◌↔◌, Some, length, IfOk, IfErr, IsErrOf};
-ghost use Rattle.spki_case.specs.CaseForm.{CaseOf, ValueRefused, IsCaseText, TextRefused};
-ghost use Rattle.spki_case.specs.Sequence.{AreSigned};
-ghost use Rattle.spki_case.specs.Texts.{IsOuter};
+ghost use Rattle.spki_case.specs.Case.{CaseOf, ValueRefused, IsCaseText, TextRefused, AreSigned, IsOuter};
 
 use crate::digests::{asking_key, digested_items, entry_algorithms};
 use crate::parts::parts_of;

@@ -3,19 +3,14 @@
 
 ghost use Rattle.std.specs.Prelude.{◌≡◌, ◌↔◌, ℕ, List, None};
 ghost use Rattle.std.specs.List.{AllZip};
-ghost use Rattle.sexpr_core.specs.Octets.{HasOctets};
-ghost use Rattle.sexpr_core.specs.Value.{Value};
-ghost use Rattle.spki_tag.specs.FaultOf.{request_fault};
-ghost use Rattle.spki_cert.specs.FixedFaults.{key_fault, date_fault};
-ghost use Rattle.spki_cert.specs.EntryFaults.{acl_fault};
-ghost use Rattle.spki_cert.specs.SequenceFaults.{sequence_fault};
-ghost use Rattle.spki_case.specs.Case.{Case, Row};
-ghost use Rattle.spki_case.specs.CaseForm.{Parts, acl_value, sequence_value, case_value, CaseOf, ValueRefused, IsCaseText, TextRefused};
+ghost use Rattle.sexpr_core.specs.Value.{HasOctets, Value};
+ghost use Rattle.spki_tag.specs.Faults.{request_fault};
+ghost use Rattle.spki_cert.specs.FieldFaults.{key_fault, date_fault};
+ghost use Rattle.spki_cert.specs.StructureFaults.{acl_fault, sequence_fault};
+ghost use Rattle.spki_case.specs.Case.{Case, Row, Parts, acl_value, sequence_value, case_value, CaseOf, ValueRefused, IsCaseText, TextRefused, RowOf, row_fault, rows_fault};
 ghost use Rattle.spki_case.specs.RowsForm.{NoRows, IsRowsText, RowsTextRefused};
 ghost use Rattle.spki_case.specs.declared.cases.CaseFault.{CaseFault};
 ghost use Rattle.spki_case.specs.declared.rows.RowsFault.{RowsFault};
-ghost use Rattle.spki_case.specs.Rows.{RowOf};
-ghost use Rattle.spki_case.specs.RowFaults.{row_fault, rows_fault};
 
 /// A value has at most one reading as a row of an accepted list.
 pub fn one_row()

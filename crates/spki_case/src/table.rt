@@ -1,7 +1,7 @@
 //! Signatures that the service has verified, which are found by their digests, values and keys.
 
 ghost use Rattle.std.specs.Prelude.{◌≡◌, IfOk};
-ghost use Rattle.spki_case.specs.SortedRows.{AreSorted};
+ghost use Rattle.spki_case.specs.Lookups.{AreSorted};
 
 use spki_cert::{Key, Octets};
 use std::alloc::{AllocError, Global};

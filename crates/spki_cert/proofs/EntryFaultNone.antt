@@ -5,8 +5,8 @@ use Rattle.std.specs.List.{AllZip}
 use Rattle.std.proofs.Math.Bool.{and-false}
 use Rattle.std.proofs.lemmas.Bool.{not-true}
 use Rattle.sexpr_core.specs.Value.{Value, plain, group}
-use Rattle.spki_tag.specs.Read.{ReadsAs}
-use Rattle.spki_tag.specs.FirstFault.{first_fault, unless}
+use Rattle.spki_tag.specs.Reading.{ReadsAs}
+use Rattle.spki_tag.specs.Faults.{first_fault, unless}
 use Rattle.spki_cert.specs.declared.fault.CertFault.{CertFault}
 use Rattle.spki_cert.specs.declared.fault.CertFaultKind.{CertFaultKind}
 use Rattle.spki_cert.specs.declared.fault.CertFaultKind.TheVariants.{Shape}
@@ -14,21 +14,14 @@ use Rattle.spki_cert.specs.declared.window.Window.{Window}
 use Rattle.spki_cert.specs.declared.entry.Entry.{Entry}
 use Rattle.spki_cert.specs.Readings.{DateOf}
 use Rattle.spki_cert.specs.Fields.{is_headed, behind_head, Sole, Given, ValidOf, IsTimeField, IsField, propagate, tag, time, comment, AreFields, propagates, WindowOf, directly, in_valid}
-use Rattle.spki_cert.specs.Refusals.{IsRefusedAt}
-use Rattle.spki_cert.specs.Entries.{EntryOf, AclOf, IsVersion, BeginsWell}
-use Rattle.spki_cert.specs.EntryFaults.{behind_version}
-use Rattle.spki_cert.specs.Places.{sole_fault}
-use Rattle.spki_cert.specs.SubjectFaults.{entry_subject_fault}
-use Rattle.spki_cert.specs.FieldFaults.{has, fields_fault, version_fault, entry_field_fault, is_both_ways}
-use Rattle.spki_cert.specs.EntryFaults.{entry_fault, at_item, each_looked, acl_version_fault, outer_fault, entries_fault, acl_fault}
+use Rattle.spki_cert.specs.StructureFaults.{IsRefusedAt, behind_version, entry_fault, at_item, each_looked, acl_version_fault, outer_fault, entries_fault, acl_fault}
+use Rattle.spki_cert.specs.Structures.{EntryOf, AclOf, IsVersion, BeginsWell}
+use Rattle.spki_cert.specs.FieldFaults.{sole_fault, entry_subject_fault, has, fields_fault, version_fault, entry_field_fault, is_both_ways}
 use Rattle.spki_cert.specs.Inner.Gathering.{is_word_among}
-use Rattle.spki_cert.proofs.Groups.{behind-group}
-use Rattle.spki_cert.proofs.Looking.{unless-none, none-found, sole-read}
-use Rattle.spki_cert.proofs.KnownLaws.{none-headed, headed-none}
-use Rattle.spki_cert.proofs.FieldLaws.{other-word, time-first, time-last, time-valid, field-tag}
-use Rattle.spki_cert.proofs.EntryLaws.{entries-behind, entry-unversioned, acl-read}
+use Rattle.spki_cert.proofs.Looking.{behind-group, unless-none, none-found, sole-read}
+use Rattle.spki_cert.proofs.FieldLaws.{none-headed, headed-none, other-word, time-first, time-last, time-valid, field-tag}
+use Rattle.spki_cert.proofs.EntryFaultLaws.{entries-behind, entry-unversioned, acl-read, entry-form, entry-parts, parts_looked, entry-looked, outer-form, acl-entries}
 use Rattle.spki_cert.proofs.FieldFaultLaws.{is-headed, has-given, version-faultless}
-use Rattle.spki_cert.proofs.EntryFaultLaws.{entry-form, entry-parts, parts_looked, entry-looked, outer-form, acl-entries}
 use Rattle.spki_cert.proofs.SubjectFaultNone.{entry_subject-none}
 use Rattle.spki_cert.proofs.FieldFaultNone.{given-read, entry_fields-none, version-read}
 

@@ -3,10 +3,9 @@ use Rattle.std.proofs.Common.{◌≡◌, ℕ, true, false, List, [], ◌∷◌, 
 use Rattle.std.specs.Prelude.{codes}
 use Rattle.sexpr_core.specs.Value.{Value, plain, group, verbatim, decimal}
 use Rattle.spki_tag.specs.Tag as tags
-use Rattle.spki_tag.specs.Read.{ReadsAs}
-use Rattle.spki_tag.proofs.OneTag.{apart}
-use Rattle.spki_tag.proofs.NormalOf.{normal-of}
-use Rattle.spki_tag.specs.Time.{is_time, is_date}
+use Rattle.spki_tag.specs.Reading.{ReadsAs}
+use Rattle.spki_tag.proofs.TagReading.{apart, normal-of}
+use Rattle.spki_tag.specs.Tag.{is_time, is_date}
 use Rattle.spki_cert.specs.declared.hash.HashAlg.TheVariants.{Sha1}
 use Rattle.spki_cert.specs.declared.principal.Policy.TheVariants.{Strict}
 use Rattle.spki_cert.specs.declared.principal.Principal.TheVariants.{Key, Hash}
@@ -14,11 +13,9 @@ use Rattle.spki_cert.specs.declared.window.Window.{Window}
 use Rattle.spki_cert.specs.Naming.{names}
 use Rattle.spki_cert.specs.Time.{within, meet_of}
 use Rattle.spki_cert.specs.Readings.{KeyOf, DateOf}
-use Rattle.spki_cert.specs.Subjects.{NameOf}
-use Rattle.spki_cert.specs.Fields.{WindowOf, IsAbsent, IsOnce, directly, in_valid, tag}
-use Rattle.spki_cert.specs.Entries.{EntryOf}
-use Rattle.spki_cert.specs.Sequences.{AreInPlace, waits_after}
-use Rattle.spki_cert.proofs.GivenLaws.{once-push}
+use Rattle.spki_cert.specs.Fields.{NameOf, WindowOf, IsAbsent, IsOnce, directly, in_valid, tag}
+use Rattle.spki_cert.specs.Structures.{EntryOf, AreInPlace, waits_after}
+use Rattle.spki_cert.proofs.FieldLaws.{once-push}
 
 -- (public-key (test a))
 abbrev ka_body : Value

@@ -3,28 +3,22 @@ use Rattle.std.proofs.Common.{◌≡◌, ◌≢◌, ℕ, List, [], ◌∷◌, �
 use Rattle.std.specs.Prelude.{codes, not, is_some, if◌then◌else◌, ◌||◌, ◌&&◌}
 use Rattle.std.specs.List.{AllByRecursion}
 use Rattle.std.proofs.lemmas.Slice.Eq.{bytes_eq-Decides}
-use Rattle.sexpr_core.specs.Value.{Value, plain, group, members}
-use Rattle.sexpr_core.specs.Labels.{values-members}
+use Rattle.sexpr_core.specs.Value.{Value, plain, group, members, IsNotHeaded}
+use Rattle.sexpr_core.specs.Nodes.{values-members}
 use Rattle.sexpr_core.specs.Value as sexpr
-use Rattle.sexpr_core.specs.Shapes.{IsNotHeaded}
-use Rattle.spki_tag.specs.FirstFault.{first_fault, unless}
+use Rattle.spki_tag.specs.Faults.{first_fault, unless, tag_fault, IsNamed}
 use Rattle.spki_cert.specs.declared.window.Window.{Window}
 use Rattle.spki_cert.specs.declared.fault.CertFaultKind.{CertFaultKind}
 use Rattle.spki_cert.specs.declared.fault.CertFaultKind.TheVariants.{Shape, Online, Memory}
-use Rattle.spki_tag.specs.Read.{ReadsAs}
+use Rattle.spki_tag.specs.Reading.{ReadsAs}
 use Rattle.spki_cert.specs.Fields.{is_headed, behind_head, contents, Given, Sole, IsLimitField, ValidOf, IsUnread, display, issuer_info, subject_info}
-use Rattle.spki_cert.specs.Places.{sole_fault, unless_none}
+use Rattle.spki_cert.specs.FieldFaults.{sole_fault, unless_none, subject_fault, issuer_fault, date_fault, head_of, has, has_head, is_again, fields_looked, fields_fault, version_fault, limit_fault, time_fault, as_tag, kind_of_tag, entry_field_fault, is_unread, cert_field_fault, is_both_ways}
 use Rattle.spki_tag.specs.declared.fault.TagFault.{TagFault}
-use Rattle.spki_tag.specs.FaultOf.{tag_fault, IsNamed}
 use Rattle.spki_cert.specs.declared.fields.Known.{Known}
 use Rattle.spki_cert.specs.declared.fields.Place.{Place}
 use Rattle.spki_cert.specs.declared.fields.Place.TheVariants as places
-use Rattle.spki_cert.specs.SubjectFaults.{subject_fault, issuer_fault}
 use Rattle.spki_cert.specs.Inner.Gathering.{IsTagKind, is_word_among, IsNew, AreRead, KnownOf, IsOneWay, IsBothWays, fault_in, IssuerAt, WhoAt}
-use Rattle.spki_cert.specs.FixedFaults.{date_fault}
-use Rattle.spki_cert.specs.FieldFaults.{head_of, has, has_head, is_again, fields_looked, fields_fault, version_fault, limit_fault, time_fault, as_tag, kind_of_tag, entry_field_fault, is_unread, cert_field_fault, is_both_ways}
-use Rattle.spki_cert.proofs.Groups.{headed-by, not-headed, behind-group}
-use Rattle.spki_cert.proofs.Looking.{of-form, first-of, one-look}
+use Rattle.spki_cert.proofs.Looking.{headed-by, not-headed, behind-group, of-form, first-of, one-look}
 use Rattle.spki_cert.proofs.SubjectFaultLaws.{headed-else}
 
 -- ---- versions

@@ -7,34 +7,25 @@ use Rattle.std.proofs.lemmas.Bool.{not-true}
 use Rattle.sexpr_core.specs.Value.{Value, plain, group}
 use Rattle.sexpr_core.specs.Value as sexpr
 use Rattle.spki_tag.specs.Tag as tags
-use Rattle.spki_tag.specs.Read.{ReadsAs}
-use Rattle.spki_tag.specs.FirstFault.{first_fault, unless}
+use Rattle.spki_tag.specs.Reading.{ReadsAs}
+use Rattle.spki_tag.specs.Faults.{first_fault, unless}
 use Rattle.spki_tag.proofs.Faultless.{tag_none_exactly}
-use Rattle.spki_tag.proofs.NormalOf.{normal-of}
+use Rattle.spki_tag.proofs.TagReading.{normal-of}
 use Rattle.spki_cert.specs.declared.fault.CertFaultKind.{CertFaultKind}
 use Rattle.spki_cert.specs.declared.fault.CertFaultKind.TheVariants.{Shape, Online}
 use Rattle.spki_cert.specs.declared.principal.Principal.{Principal}
 use Rattle.spki_cert.specs.declared.window.Window.{Window}
 use Rattle.spki_cert.specs.Readings.{DateOf}
-use Rattle.spki_cert.specs.Subjects.{WhoOf, IssuerOf}
-use Rattle.spki_cert.specs.Fields.{is_headed, behind_head, contents, Sole, Given, IsLimitField, ValidOf, IsTimeField, limit, valid, IsField, propagate, tag, time, comment, IsUnread, display, issuer_info, subject_info, IsCertField, common, version, issuer, subject, unread, AreFields}
-use Rattle.spki_cert.specs.Places.{sole_fault, unless_none}
-use Rattle.spki_cert.specs.FixedFaults.{date_fault}
-use Rattle.spki_cert.specs.SubjectFaults.{subject_fault, issuer_fault}
-use Rattle.spki_cert.specs.FieldFaults.{is_again, fields_looked, fields_fault, version_fault, limit_fault, time_fault, kind_of_tag, entry_field_fault, is_unread, cert_field_fault}
+use Rattle.spki_cert.specs.Fields.{WhoOf, IssuerOf, is_headed, behind_head, contents, Sole, Given, IsLimitField, ValidOf, IsTimeField, limit, valid, IsField, propagate, tag, time, comment, IsUnread, display, issuer_info, subject_info, IsCertField, common, version, issuer, subject, unread, AreFields}
+use Rattle.spki_cert.specs.FieldFaults.{sole_fault, unless_none, date_fault, subject_fault, issuer_fault, is_again, fields_looked, fields_fault, version_fault, limit_fault, time_fault, kind_of_tag, entry_field_fault, is_unread, cert_field_fault}
 use Rattle.spki_cert.specs.declared.fields.Place.{Place}
 use Rattle.spki_cert.specs.declared.fields.Place.TheVariants as places
 use Rattle.spki_cert.specs.Inner.Gathering.{is_word_among, fault_in, IsFieldOf}
-use Rattle.spki_cert.proofs.Groups.{headed-by, behind-group}
-use Rattle.spki_cert.proofs.Looking.{unless-none, none-found, sole-read, sole-one}
-use Rattle.spki_cert.proofs.GivenLaws.{each-push, each-at, contents-headed, contents-other, once-before, once-new}
-use Rattle.spki_cert.proofs.KnownLaws.{none-headed, headed-none}
-use Rattle.spki_cert.proofs.FieldLaws.{HasHead, field-word, cert-word, HeadAmong, other-word, time_words, field_words, time-head, field-head}
-use Rattle.spki_cert.proofs.ValidLaws.{first-limit, last-limit}
+use Rattle.spki_cert.proofs.Looking.{headed-by, behind-group, unless-none, none-found, sole-read, sole-one}
+use Rattle.spki_cert.proofs.FieldLaws.{each-push, each-at, contents-headed, contents-other, once-before, once-new, none-headed, headed-none, HasHead, field-word, cert-word, HeadAmong, other-word, time_words, field_words, time-head, field-head, first-limit, last-limit}
 use Rattle.spki_cert.proofs.FieldFaultLaws as faults
 use Rattle.spki_cert.proofs.FieldFaultLaws.{is-headed, again-headed, version-faultless, limit-first, limit-last, entry-tag_field, entry-propagate, entry-comment, entry-else, cert-issuer_field, cert-subject_field, cert-version_field, cert-unread, cert-else}
-use Rattle.spki_cert.proofs.FaultNone.{date-none}
-use Rattle.spki_cert.proofs.SubjectFaultNone.{subject-none, issuer-none}
+use Rattle.spki_cert.proofs.SubjectFaultNone.{date-none, subject-none, issuer-none}
 
 -- ---- one value behind a head
 

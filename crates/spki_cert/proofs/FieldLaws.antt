@@ -1,16 +1,142 @@
--- Which fields there are, by their heads.
-use Rattle.std.proofs.Common.{◌≡◌, ℕ, true, false, List, [], ◌∷◌, Option, refl, subst, rules}
-use Rattle.std.specs.Prelude.{codes}
+-- What fields and limits say that were read one after the other.
+use Rattle.std.proofs.Common.{◌≡◌, ℕ, ◌+◌, ◌≤◌, Bool, true, false, cond, List, [], ◌∷◌, ◌++◌, length, Option, Some, None, refl, ap, ◌∙◌, arith, append-nil, length-append, rules, inl, inr, sym, subst}
+use Rattle.std.specs.List.{AllByRecursion, list_any}
 use Rattle.sexpr_core.specs.Value.{Value, plain, group}
-use Rattle.spki_tag.specs.Tag as tags
-use Rattle.spki_tag.specs.Read.{ReadsAs}
-use Rattle.spki_cert.specs.declared.principal.Principal.{Principal}
+use Rattle.spki_cert.specs.Fields.{is_headed, behind_head, contents, AreOnce, Given, Sole, IsLimitField, ValidOf, IsTimeField, limit, valid, IsField, propagate, tag, time, comment, IssuerIn, WhoIn, IsUnread, IsCertField, common, version, issuer, subject, unread}
+use Rattle.spki_cert.proofs.Looking.{head-same, same_others, apart, headed-by, behind-group}
+use Rattle.std.specs.Prelude.{codes}
 use Rattle.spki_cert.specs.declared.window.Window.{Window}
 use Rattle.spki_cert.specs.Readings.{DateOf}
-use Rattle.spki_cert.specs.Fields.{Sole, IsLimitField, ValidOf, IsTimeField, limit, valid, IsField, propagate, tag, time, comment, IssuerIn, WhoIn, IsUnread, IsCertField, common, version, issuer, subject, unread}
-use Rattle.spki_cert.specs.Inner.Gathering.{is_word_among}
-use Rattle.spki_cert.proofs.Groups.{same_others, apart, headed-by, head-same}
-use Rattle.spki_cert.proofs.ValidLaws.{first-limit, last-limit}
+use Rattle.spki_cert.specs.Inner.Gathering.{Headed, AddsLimit, first, last, is_word_among, IsSilent, Says, gather, KnownOf, IsNew, AreRead}
+use Rattle.spki_cert.proofs.SubjectFaultLaws.{headed-else}
+use Rattle.spki_tag.specs.Tag as tags
+use Rattle.spki_tag.specs.Reading.{ReadsAs}
+use Rattle.spki_cert.specs.declared.principal.Principal.{Principal}
+use Rattle.std.proofs.lemmas.List.Folds.{list_any-append}
+use Rattle.spki_cert.specs.declared.fields.Known.{Known}
+use Rattle.spki_cert.specs.declared.fields.Said.{Said}
+use Rattle.spki_cert.specs.declared.fields.Said.TheVariants as said
+
+-- ---- what fields say, one field after the other
+
+-- ---- lists
+
+pub each-push : (P : Value → Type 0) (xs : List Value) (v : Value) → AllByRecursion P xs → P v → AllByRecursion P (xs ++ v ∷ [])
+each-push P [] v all this = (this, tt)
+each-push P (x ∷ xs) v all this = (all.0, each-push P xs v all.1 this)
+
+pub each-at : (P : Value → Type 0) (xs : List Value) (v : Value) (ys : List Value) → AllByRecursion P (xs ++ v ∷ ys) → P v
+each-at P [] v ys all = all.0
+each-at P (x ∷ xs) v ys all = each-at P xs v ys all.1
+
+-- ---- contents
+
+cond-append : (b : Bool) (c : List Value) (xs ys : List (List Value)) → cond b (c ∷ (xs ++ ys)) (xs ++ ys) ≡ cond b (c ∷ xs) xs ++ ys
+cond-append true c xs ys = refl
+cond-append false c xs ys = refl
+
+pub contents-append : (word : List ℕ) (xs ys : List Value) → contents word (xs ++ ys) ≡ contents word xs ++ contents word ys
+contents-append word [] ys = refl
+contents-append word (x ∷ xs) ys = search (rules, cond-append, contents-append word xs ys)
+
+pub contents-headed : (word : List ℕ) (v : Value) (vs : List Value) → is_headed word v ≡ true → contents word (v ∷ vs) ≡ behind_head v ∷ contents word vs
+contents-headed word v vs e = ap (λ (b : Bool). cond b (behind_head v ∷ contents word vs) (contents word vs)) e
+
+pub contents-other : (word : List ℕ) (v : Value) (vs : List Value) → is_headed word v ≡ false → contents word (v ∷ vs) ≡ contents word vs
+contents-other word v vs e = ap (λ (b : Bool). cond b (behind_head v ∷ contents word vs) (contents word vs)) e
+
+-- a field with another head adds nothing
+pub contents-kept : (word : List ℕ) (xs : List Value) (v : Value) → is_headed word v ≡ false → contents word (xs ++ v ∷ []) ≡ contents word xs
+contents-kept word xs v e = search (rules, contents-append word xs (v ∷ []), contents-other word v [] e, append-nil (contents word xs))
+
+-- the first field with a head
+pub contents-first : (word : List ℕ) (xs : List Value) (v : Value) → is_headed word v ≡ true → contents word xs ≡ [] → contents word (xs ++ v ∷ []) ≡ behind_head v ∷ []
+contents-first word xs v e none = search (rules, contents-append word xs (v ∷ []))
+
+-- ---- each at most once
+
+no-length : (xs : List (List Value)) → length xs ≤ 0 → xs ≡ []
+no-length [] h = refl
+no-length (x ∷ xs) h = absurd (omega arith)
+
+-- before a field with this head there is no other
+pub once-before : (word : List ℕ) (xs : List Value) (v : Value) (ys : List Value) → AreOnce (xs ++ v ∷ ys) → is_headed word v ≡ true → contents word xs ≡ []
+once-before word xs v ys once e =
+    let all : contents word (xs ++ v ∷ ys) ≡ contents word xs ++ (behind_head v ∷ contents word ys) =
+    contents-append word xs (v ∷ ys) ∙ ap (λ (zs : List (List Value)). contents word xs ++ zs) (contents-headed word v ys e) in
+    let long : length (contents word (xs ++ v ∷ ys)) ≡ length (contents word xs) + length (behind_head v ∷ contents word ys) =
+    ap length all ∙ length-append (contents word xs) (behind_head v ∷ contents word ys) in
+    let most = once word in
+    no-length (contents word xs) (omega arith)
+
+pub once-push : (xs : List Value) (v : Value) → AreOnce xs → ((word : List ℕ) → is_headed word v ≡ true → contents word xs ≡ []) → AreOnce (xs ++ v ∷ [])
+once-push xs v once new word = search (rules, contents-first, contents-kept)
+
+-- one more field, with a head that none of them has
+pub once-new : (xs : List Value) (v : Value) (head : List ℕ) (rest : List Value) → v ≡ group (plain head ∷ rest) → AreOnce xs → contents head xs ≡ []
+    → AreOnce (xs ++ v ∷ [])
+once-new xs v head rest e once fresh = search (rules, once-push, head-same)
+
+-- ---- what is given
+
+pub given-kept : {A : Type 0} (word : List ℕ) (R : List Value → A → Type 0) (xs : List Value) (v : Value) (o : Option A)
+    → is_headed word v ≡ false → Given word R xs o → Given word R (xs ++ v ∷ []) o
+given-kept word R xs v None e given = contents-kept word xs v e ∙ given
+given-kept word R xs v (Some a) e given = (given.0, contents-kept word xs v e ∙ given.1, given.2)
+
+pub given-first : {A : Type 0} (word : List ℕ) (R : List Value → A → Type 0) (xs : List Value) (v : Value) (rest : List Value) (a : A)
+    → is_headed word v ≡ true → behind_head v ≡ rest → R rest a → contents word xs ≡ [] → Given word R (xs ++ v ∷ []) (Some a)
+given-first word R xs v rest a e f read none = (rest, contents-first word xs v e none ∙ ap (λ (c : List Value). c ∷ []) f, read)
+
+-- where nothing stands, nothing is given
+pub given-none : {A : Type 0} (word : List ℕ) (R : List Value → A → Type 0) (xs : List Value) (o : Option A)
+    → Given word R xs o → o ≡ None → contents word xs ≡ []
+given-none word R xs None given e = given
+given-none word R xs (Some a) given e = absurd cc
+
+-- what isn't given isn't there
+pub given-else : {A : Type 0} (word : List ℕ) (R : List Value → A → Type 0) (xs : List Value) (a : A) → Given word R xs (Some a) → contents word xs ≡ [] → ⊥
+given-else word R xs a given e = absurd (let f = given.1 in cc)
+
+-- ---- limits and versions that were read, and those that are none
+
+-- ---- one limit
+
+-- what is read behind the head of a limit
+pub first-limit : (v : Value) (rest : List Value) → v ≡ group (plain (codes "not-before") ∷ rest) → IsLimitField v → (date : List ℕ) × Sole DateOf rest date
+first-limit v rest e (word, behind, date, inl is, written, read) =
+    (date, subst (λ (vs : List Value). Sole DateOf vs date) (same_others v (codes "not-before") behind rest (written ∙ ap (λ (w : List ℕ). group (plain w ∷ behind)) is) e) read)
+first-limit v rest e (word, behind, date, inr is, written, read) = absurd (search (rules, apart))
+
+pub last-limit : (v : Value) (rest : List Value) → v ≡ group (plain (codes "not-after") ∷ rest) → IsLimitField v → (date : List ℕ) × Sole DateOf rest date
+last-limit v rest e (word, behind, date, inr is, written, read) =
+    (date, subst (λ (vs : List Value). Sole DateOf vs date) (same_others v (codes "not-after") behind rest (written ∙ ap (λ (w : List ℕ). group (plain w ∷ behind)) is) e) read)
+last-limit v rest e (word, behind, date, inl is, written, read) = absurd (search (rules, apart))
+
+-- ---- several limits
+
+pub valid-none : ValidOf [] (record { not_before = None; not_after = None })
+valid-none = record { each = tt; once = (λ word. omega arith); limits_are = (refl, refl) }
+
+valid-first : (xs : List Value) (v : Value) (w : Window) (date : List ℕ) → ValidOf xs w → Headed (codes "not-before") (Sole DateOf) v date → w.not_before ≡ None
+    → ValidOf (xs ++ v ∷ []) (record { not_before = Some date; not_after = w.not_after })
+valid-first xs v w date read says none =
+    let this : IsLimitField v = (codes "not-before", says.0, date, inl refl, says.1, says.2) in
+    let fresh : contents (codes "not-before") xs ≡ [] = given-none (codes "not-before") (Sole DateOf) xs w.not_before read.limits_are.0 none in
+    search (rules, each-push, once-new, headed-by, headed-else, behind-group, given-first, given-kept)
+
+valid-last : (xs : List Value) (v : Value) (w : Window) (date : List ℕ) → ValidOf xs w → Headed (codes "not-after") (Sole DateOf) v date → w.not_after ≡ None
+    → ValidOf (xs ++ v ∷ []) (record { not_before = w.not_before; not_after = Some date })
+valid-last xs v w date read says none =
+    let this : IsLimitField v = (codes "not-after", says.0, date, inr refl, says.1, says.2) in
+    let fresh : contents (codes "not-after") xs ≡ [] = given-none (codes "not-after") (Sole DateOf) xs w.not_after read.limits_are.1 none in
+    search (rules, each-push, once-new, headed-by, headed-else, behind-group, given-first, given-kept)
+
+pub valid-more : (xs : List Value) (v : Value) (w after : Window) → ValidOf xs w → AddsLimit v w after → ValidOf (xs ++ v ∷ []) after
+valid-more xs v w after read (first date says none is) = subst (ValidOf (xs ++ v ∷ [])) (sym is) (valid-first xs v w date read says none)
+valid-more xs v w after read (last date says none is) = subst (ValidOf (xs ++ v ∷ [])) (sym is) (valid-last xs v w date read says none)
+
+-- ---- which fields there are, by their heads
 
 -- ---- heads
 
@@ -101,3 +227,52 @@ cert-word v (version written) = (codes "version", plain (codes "0") ∷ [], writ
 cert-word v (issuer rest i written read) = (codes "issuer", rest, written)
 cert-word v (subject rest s written read) = (codes "subject", rest, written)
 cert-word v (unread u) = (let h = unread-head v u in (h.0, h.1, h.2))
+
+-- ---- what is known of fields that were read one after the other
+
+-- ---- whether a head was met
+
+pub none-headed : (word : List ℕ) (xs : List Value) → list_any (is_headed word) xs ≡ false → contents word xs ≡ []
+none-headed word [] e = refl
+none-headed word (x ∷ xs) e = search (rules, contents-other, none-headed word xs)
+
+pub headed-none : (word : List ℕ) (xs : List Value) → contents word xs ≡ [] → list_any (is_headed word) xs ≡ false
+headed-none word [] e = refl
+headed-none word (x ∷ xs) e = search (rules, contents-headed, contents-other, headed-none word xs)
+
+-- the head of a new field wasn't met
+pub new-first : (xs : List Value) (heads : List (List ℕ)) (k : Known) (v : Value) (head : List ℕ) → AreRead xs heads k → IsNew v heads head
+    → (word : List ℕ) → is_headed word v ≡ true → contents word xs ≡ []
+new-first xs heads k v head read new word e =
+    let same : head ≡ word = head-same v head word new.rest new.written e in
+    none-headed word xs (sym (read.heads_are word) ∙ ap (is_word_among heads) (sym same) ∙ new.fresh)
+
+heads-push : (xs : List Value) (heads : List (List ℕ)) (v : Value) (head : List ℕ) (rest : List Value) → v ≡ group (plain head ∷ rest)
+    → ((word : List ℕ) → is_word_among heads word ≡ list_any (is_headed word) xs)
+    → (word : List ℕ) → is_word_among (heads ++ head ∷ []) word ≡ list_any (is_headed word) (xs ++ v ∷ [])
+heads-push xs heads v head rest e are word = search (rules, list_any-append)
+
+-- ---- what one more field says
+
+silent-more : (xs : List Value) (v : Value) (k : Known) → KnownOf xs k → IsSilent v → KnownOf (xs ++ v ∷ []) k
+silent-more xs v k known says = search (rules, given-kept)
+
+abbrev Fresh : List Value → Value → Type 0
+Fresh xs v = (word : List ℕ) → is_headed word v ≡ true → contents word xs ≡ []
+
+-- the field with this head is the first with it
+filled : {A : Type 0} (word : List ℕ) (R : List Value → A → Type 0) (xs : List Value) (v : Value) (a : A) → Headed word R v a → Fresh xs v → Given word R (xs ++ v ∷ []) (Some a)
+filled word R xs v a says fresh = search (rules, headed-by, given-first, behind-group)
+
+gather-more : (xs : List Value) (v : Value) (k : Known) (s : Said) → KnownOf xs k → Says v s → Fresh xs v → KnownOf (xs ++ v ∷ []) (gather k s)
+gather-more xs v k said.Nothing known says fresh = silent-more xs v k known says
+gather-more xs v k s known says fresh = search (rules, filled, given-kept, headed-else)
+
+-- ---- all fields
+
+pub read-none : AreRead [] [] (record { issuer = None; subject = None; tag = None; limits = record { not_before = None; not_after = None }; valid = None })
+read-none = search rules
+
+pub read-more : (xs : List Value) (heads : List (List ℕ)) (k : Known) (v : Value) (head : List ℕ) (s : Said)
+    → AreRead xs heads k → IsNew v heads head → Says v s → AreRead (xs ++ v ∷ []) (heads ++ head ∷ []) (gather k s)
+read-more xs heads k v head s read new says = search (rules, heads-push, gather-more, new-first)

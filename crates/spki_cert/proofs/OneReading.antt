@@ -4,8 +4,8 @@ use Rattle.std.specs.Prelude.{codes}
 use Rattle.std.specs.List.{AllZip}
 use Rattle.sexpr_core.specs.Value.{Value, plain, group}
 use Rattle.spki_tag.specs.Tag as tags
-use Rattle.spki_tag.specs.Read.{ReadsAs}
-use Rattle.spki_tag.proofs.NormalOf.{reading-one}
+use Rattle.spki_tag.specs.Reading.{ReadsAs}
+use Rattle.spki_tag.proofs.TagReading.{reading-one}
 use Rattle.spki_cert.specs.declared.hash.HashAlg.{HashAlg}
 use Rattle.spki_cert.specs.declared.principal.Principal.{Principal}
 use Rattle.spki_cert.specs.declared.principal.Principal.TheVariants.{Key, Hash}
@@ -18,21 +18,17 @@ use Rattle.spki_cert.specs.declared.certificate.Signature.{Signature}
 use Rattle.spki_cert.specs.declared.certificate.SeqItem.{SeqItem}
 use Rattle.spki_cert.specs.declared.certificate.SeqItem.TheVariants as items
 use Rattle.spki_cert.specs.Readings.{KeyOf, HashOf, DateOf, alg_name}
-use Rattle.spki_cert.specs.Subjects.{PrincipalOf, plains, NameOf, IsWho, SubjectOf, IssuedTo, IssuerOf}
-use Rattle.spki_cert.specs.Fields.{Sole, Given, LimitsAre, WindowOf, directly, in_valid, TagOf, propagates, IssuerIn}
-use Rattle.spki_cert.specs.Entries.{EntryOf, AclOf}
-use Rattle.spki_cert.specs.EntryFaults.{behind_version}
-use Rattle.spki_cert.specs.Certificates.{IssuedFor, AuthCertOf, NameCertOf, SignatureOf, DoHashOf}
-use Rattle.spki_cert.specs.Sequences.{ItemOf, SeqOf}
-use Rattle.spki_cert.proofs.Groups.{same_others, same_second, same_rest, apart}
-use Rattle.spki_cert.specs.FixedFaults.{alg_named}
-use Rattle.spki_cert.proofs.FixedLaws.{named-alg}
-use Rattle.spki_cert.proofs.GivenLaws.{given-else}
-use Rattle.spki_cert.proofs.SubjectLaws.{name-is_no_principal}
-use Rattle.spki_cert.proofs.EntryLaws.{relative-is_no_subject, entries-behind}
+use Rattle.spki_cert.specs.Fields.{PrincipalOf, plains, NameOf, IsWho, SubjectOf, IssuedTo, IssuerOf, Sole, Given, LimitsAre, WindowOf, directly, in_valid, TagOf, propagates, IssuerIn}
+use Rattle.spki_cert.specs.Structures.{EntryOf, AclOf, IssuedFor, AuthCertOf, NameCertOf, SignatureOf, DoHashOf, ItemOf, SeqOf}
+use Rattle.spki_cert.specs.StructureFaults.{behind_version}
+use Rattle.spki_cert.proofs.Looking.{same_others, same_second, same_rest, apart}
+use Rattle.spki_cert.specs.FieldFaults.{alg_named}
+use Rattle.spki_cert.proofs.SubjectFaultLaws.{named-alg, name-is_no_principal}
+use Rattle.spki_cert.proofs.FieldLaws.{given-else}
+use Rattle.spki_cert.proofs.EntryFaultLaws.{relative-is_no_subject, entries-behind}
 use Rattle.spki_cert.specs.declared.certificate_reader.CertParts.{CertParts}
 use Rattle.spki_cert.specs.Inner.Gathering.{PartsOf}
-use Rattle.spki_cert.proofs.CertLaws.{auth_parts, auth-parts, name_parts, name-parts}
+use Rattle.spki_cert.proofs.SequenceFaultLaws.{auth_parts, auth-parts, name_parts, name-parts}
 
 -- ---- keys, hashes and dates
 

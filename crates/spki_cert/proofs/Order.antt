@@ -9,7 +9,7 @@ use Rattle.std.proofs.lemmas.Cmp.{nat_list_cmp_total, upto as goes_on, tied_itse
 use Rattle.std.proofs.Math.Bool.{and-true, and_comm}
 use Rattle.std.proofs.lemmas.Bool.{and_parts}
 use Rattle.spki_cert.specs.declared.window.Window.{Window}
-use Rattle.spki_tag.specs.Time.{is_time, is_date}
+use Rattle.spki_tag.specs.Tag.{is_time, is_date}
 use Rattle.spki_cert.specs.Time.{upto, is_from, is_until, within, later, earlier, in_order, IsLimit, IsMeet, Overlap, AreApart}
 
 le_or_gt : (o : Ordering) → is_le o ≡ true → is_gt o ≡ false

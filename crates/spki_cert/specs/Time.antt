@@ -3,7 +3,7 @@ use Rattle.std.specs.Prelude.{◌≡◌, ℕ, Bool, true, false, ◌&&◌, List,
 use Rattle.std.specs.Cmp.Lexicographic.{slice_cmp}
 use Rattle.std.specs.Ordering.{nat_cmp, is_le}
 use Rattle.spki_cert.specs.declared.window.Window.{Window}
-use Rattle.spki_tag.specs.Time.{is_date}
+use Rattle.spki_tag.specs.Tag.{is_date}
 
 -- whether a moment is not after another, by octets
 abbrev pub upto : List ℕ → List ℕ → Bool

@@ -5,10 +5,10 @@ ghost use Rattle.std.specs.List.{AllZip};
 ghost use Rattle.sexpr_core.specs.Value.{Value, node, plain, group};
 ghost use Rattle.spki_cert.specs.declared.entry.Entry as spec;
 ghost use Rattle.spki_cert.specs.declared.entry.Subject as subjects;
-ghost use Rattle.spki_cert.specs.Subjects.{SubjectOf};
-ghost use Rattle.spki_cert.specs.SubjectFaults.{entry_subject_fault};
-ghost use Rattle.spki_cert.specs.EntryFaults.{entry_fault, entries_fault, outer_fault, acl_fault, behind_version};
-ghost use Rattle.spki_cert.specs.Entries.{EntryOf, AclOf, BeginsWell};
+ghost use Rattle.spki_cert.specs.Fields.{SubjectOf};
+ghost use Rattle.spki_cert.specs.FieldFaults.{entry_subject_fault};
+ghost use Rattle.spki_cert.specs.StructureFaults.{entry_fault, entries_fault, outer_fault, acl_fault, behind_version};
+ghost use Rattle.spki_cert.specs.Structures.{EntryOf, AclOf, BeginsWell};
 
 use crate::entry::{Entry, Subject};
 use crate::fault::{CertFault, CertFaultKind};

@@ -1,7 +1,7 @@
 //! Dates.
 
 ghost use Rattle.std.specs.Prelude.{◌≡◌, ℕ, List, true, MatchOption, IsTrue, false};
-ghost use Rattle.spki_tag.specs.Time.{is_date};
+ghost use Rattle.spki_tag.specs.Tag.{is_date};
 
 use spki_tag::is_date;
 use std::marker::Model;
@@ -15,7 +15,7 @@ pub struct Date {
 
 impl Model for Date {
     ghost use Rattle.std.specs.Prelude.{◌≡◌, ℕ, List, true};
-    ghost use Rattle.spki_tag.specs.Time.{is_date};
+    ghost use Rattle.spki_tag.specs.Tag.{is_date};
 
     ghost Value = { List ℕ };
 
@@ -30,7 +30,7 @@ impl Date {
     ghost use Rattle.spki_cert.specs.Time.{upto};
 
     /// The date with these 19 octets. None if they are no date. Allocates nothing.
-    #[tactic(auto, unfolding(spki_tag::specs::Time::is_date))]
+    #[tactic(auto, unfolding(spki_tag::specs::Tag::is_date))]
     pub fn of(octets: &[u8]) -> Option<Date>
         ensures { MatchOption result (is_date octets.now ≡ false)
             (λ date. (date ≡ octets.now) × (is_date date ≡ true)) }

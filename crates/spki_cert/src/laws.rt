@@ -13,18 +13,10 @@ ghost use Rattle.spki_cert.specs.declared.certificate.NameCert.{NameCert};
 ghost use Rattle.spki_cert.specs.declared.certificate.SeqItem.{SeqItem};
 ghost use Rattle.spki_cert.specs.declared.certificate.Signature.{Signature};
 ghost use Rattle.spki_cert.specs.Readings.{KeyOf, HashOf, DateOf};
-ghost use Rattle.spki_cert.specs.Subjects.{PrincipalOf, WhoOf, SubjectOf, IssuerOf};
-ghost use Rattle.spki_cert.specs.FixedFaults.{key_fault, hash_fault, date_fault};
-ghost use Rattle.spki_cert.specs.SubjectFaults.{principal_fault, subject_fault, entry_subject_fault, issuer_fault};
-ghost use Rattle.spki_cert.specs.Fields.{AreFields, IsLimitField, IsField, IsCertField};
-ghost use Rattle.spki_cert.specs.FieldFaults.{fields_fault, limit_fault, entry_field_fault, cert_field_fault};
-ghost use Rattle.spki_cert.specs.EntryFaults.{entry_fault, entries_fault, acl_fault};
-ghost use Rattle.spki_cert.specs.Entries.{EntryOf, AclOf};
-ghost use Rattle.spki_cert.specs.Refusals.{IsRefusedAt};
-ghost use Rattle.spki_cert.specs.Certificates.{AuthCertOf, NameCertOf, SignatureOf, DoHashOf};
-ghost use Rattle.spki_cert.specs.ItemFaults.{signature_fault, do_fault, cert_fault, item_fault};
-ghost use Rattle.spki_cert.specs.Sequences.{ItemOf, SeqOf};
-ghost use Rattle.spki_cert.specs.SequenceFaults.{sequence_fault};
+ghost use Rattle.spki_cert.specs.Fields.{PrincipalOf, WhoOf, SubjectOf, IssuerOf, AreFields, IsLimitField, IsField, IsCertField};
+ghost use Rattle.spki_cert.specs.FieldFaults.{key_fault, hash_fault, date_fault, principal_fault, subject_fault, entry_subject_fault, issuer_fault, fields_fault, limit_fault, entry_field_fault, cert_field_fault};
+ghost use Rattle.spki_cert.specs.StructureFaults.{entry_fault, entries_fault, acl_fault, IsRefusedAt, signature_fault, do_fault, cert_fault, item_fault, sequence_fault};
+ghost use Rattle.spki_cert.specs.Structures.{EntryOf, AclOf, AuthCertOf, NameCertOf, SignatureOf, DoHashOf, ItemOf, SeqOf};
 
 /// A value has at most one reading as a key.
 pub fn one_key()

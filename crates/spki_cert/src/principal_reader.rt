@@ -3,10 +3,10 @@
 ghost use Rattle.std.specs.Prelude.{◌≡◌, ◌≢◌, false, ◌∷◌, ◌++◌, [], ℕ, List, Option, Some, None, codes, IfOk, IfErr};
 ghost use Rattle.sexpr_core.specs.Value.{Value, plain, group};
 ghost use Rattle.spki_cert.specs.declared.principal.Principal.{Principal};
-ghost use Rattle.spki_cert.specs.Subjects.{PrincipalOf, IsWho, WhoOf, IssuerOf, plains};
+ghost use Rattle.spki_cert.specs.Fields.{PrincipalOf, IsWho, WhoOf, IssuerOf, plains};
 ghost use Rattle.std.specs.List.{list_all};
-ghost use Rattle.spki_tag.specs.FirstFault.{unless};
-ghost use Rattle.spki_cert.specs.SubjectFaults.{principal_fault, is_name, names_fault, subject_fault, issuer_fault};
+ghost use Rattle.spki_tag.specs.Faults.{unless};
+ghost use Rattle.spki_cert.specs.FieldFaults.{principal_fault, is_name, names_fault, subject_fault, issuer_fault};
 ghost use Rattle.spki_cert.specs.Inner.Gathering.{NamesWho};
 
 use crate::fault::CertFaultKind;

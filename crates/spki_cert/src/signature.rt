@@ -3,8 +3,8 @@
 ghost use Rattle.std.specs.Prelude.{◌≡◌, ◌≢◌, Some, None, IfOk, IfErr};
 ghost use Rattle.spki_cert.specs.declared.certificate.Signature as spec;
 ghost use Rattle.spki_cert.specs.declared.hash.HashAlg.{HashAlg};
-ghost use Rattle.spki_cert.specs.ItemFaults.{signature_fault, do_fault};
-ghost use Rattle.spki_cert.specs.Certificates.{SignatureOf, DoHashOf};
+ghost use Rattle.spki_cert.specs.StructureFaults.{signature_fault, do_fault};
+ghost use Rattle.spki_cert.specs.Structures.{SignatureOf, DoHashOf};
 
 use crate::certificate::Signature;
 use crate::fault::CertFaultKind;

@@ -2,8 +2,7 @@
 
 ghost use Rattle.std.specs.Prelude.{◌≡◌, ◌≢◌, ◌∷◌, [], Some, None, codes, IfOk, IfErr};
 ghost use Rattle.sexpr_core.specs.Value.{plain, group};
-ghost use Rattle.spki_cert.specs.Places.{sole_fault};
-ghost use Rattle.spki_cert.specs.FieldFaults.{version_fault};
+ghost use Rattle.spki_cert.specs.FieldFaults.{sole_fault, version_fault};
 
 use crate::fault::CertFaultKind;
 use sexpr_core::syntax::{Members, NodeKind};

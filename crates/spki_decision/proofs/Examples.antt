@@ -13,14 +13,11 @@ use Rattle.spki_cert.specs.declared.certificate.Signature as signature
 use Rattle.spki_cert.specs.declared.certificate.SeqItem.{SeqItem}
 use Rattle.spki_cert.specs.declared.certificate.SeqItem.TheVariants.{Auth, DoHash, Signature}
 use Rattle.spki_cert.specs.Naming.{digest_of, is_digest, names}
-use Rattle.spki_reduce.specs.Tuples.{FiveTuple, Tuple, five}
-use Rattle.spki_reduce.specs.Views.{entry_tuple, auth_tuple}
-use Rattle.spki_reduce.specs.Rules.{Joins, delegated as delegated_to}
-use Rattle.spki_case.specs.Case.{Case, Verified}
-use Rattle.spki_case.specs.Sequence.{auth, certificates}
+use Rattle.spki_reduce.specs.Reduction.{FiveTuple, Tuple, five, entry_tuple, auth_tuple, Joins, delegated as delegated_to}
+use Rattle.spki_case.specs.Case.{Case, Verified, auth, certificates}
 use Rattle.spki_decision.specs.Standing.{AreShown, issuer_key}
 use Rattle.spki_decision.specs.Granted.{Granted}
-use Rattle.spki_decision.proofs.Granting.{granted_alone, alone_granted, from_left_granted, granted_from_left}
+use Rattle.spki_decision.proofs.KeptEntries.{granted_alone, alone_granted, from_left_granted, granted_from_left}
 
 abbrev ka : List ℕ
 ka = codes "(10:public-key(4:test1:a))"

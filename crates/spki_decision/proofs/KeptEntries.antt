@@ -1,17 +1,69 @@
--- The decision of a part of an access list is that of the list, if only entries are missing that are left out.
-use Rattle.std.proofs.Common.{◌≡◌, ℕ, zero, suc, ◌+◌, ◌<◌, ◌≤◌, List, [], ◌∷◌, Some, map, slice_get, sym, ap, ◌∙◌, subst, arith, inl, inr, rules}
-use Rattle.std.proofs.lemmas.Option.{none-some}
+-- What a grant is in the bracketing from the left, and in a part of an access list from which only entries are
+-- missing that are left out.
+use Rattle.std.proofs.Common.{◌≡◌, ℕ, suc, List, [], Some, slice_get, refl, rules, ◌∷◌, sym, subst, zero, ◌+◌, ◌<◌, ◌≤◌, map, ap, ◌∙◌, arith, inl, inr}
 use Rattle.spki_cert.specs.declared.entry.Entry.{Entry}
-use Rattle.spki_reduce.specs.Tuples.{Tuple}
+use Rattle.spki_reduce.specs.Reduction.{Tuple, five, entry_tuple, from_left, Grants, Supports, Issuer, FiveTuple, four, Joins}
+use Rattle.spki_reduce.proofs.Derivations.{supported, from_left-leaves}
 use Rattle.spki_case.specs.Case.{Case, Verified}
+use Rattle.spki_decision.specs.Standing.{AreShown}
+use Rattle.spki_decision.specs.Granted.{Granted, Supported, IsDecision}
+use Rattle.spki_decision.proofs.Standing.{one_list, granted, some_same}
+use Rattle.spki_decision.proofs.Memberships.{five_same, first_step}
+use Rattle.spki_cert.specs.declared.principal.Policy.{Policy}
+use Rattle.spki_decision.specs.Requirements.{key_of, first_key, IsOf, IsLeftOut, IsKept, AreKept, second, kept_case, IsRenumbered}
+use Rattle.std.proofs.lemmas.Option.{none-some}
 use Rattle.spki_decision.specs.declared.decision.Decision.{Decision}
 use Rattle.spki_decision.specs.declared.decision.Decision.TheVariants.{Yes, No}
-use Rattle.spki_decision.specs.Standing.{AreShown}
-use Rattle.spki_decision.specs.Granted.{Granted}
-use Rattle.spki_decision.specs.Decision.{IsDecision}
-use Rattle.spki_decision.specs.LeftOut.{IsLeftOut, IsKept, AreKept, second, kept_case, IsRenumbered}
-use Rattle.spki_decision.proofs.Finding.{some_same}
-use Rattle.spki_decision.proofs.LeftOut.{supported_named}
+
+-- ---- what a grant is in the bracketing from the left, and without certificates
+
+module _ (c : Case) (verified : Verified) where
+  -- the tree from the left supports what is asked
+  pub granted_from_left : (n : ℕ) (tuples : List Tuple) → AreShown c.policy verified c.items tuples → (g : Granted n c verified)
+      → Supports c.policy (from_left (five (entry_tuple g.entry)) tuples) c.key c.request c.moment
+  granted_from_left n tuples shown g = search (rules, one_list, supported)
+
+  pub from_left_granted : (place : ℕ) (entry : Entry) (tuples : List Tuple)
+      → slice_get c.entries place ≡ Some entry → AreShown c.policy verified c.items tuples
+      → Supports c.policy (from_left (five (entry_tuple entry)) tuples) c.key c.request c.moment
+      → Granted (suc place) c verified
+  from_left_granted place entry tuples stands shown s = search (rules, granted, from_left-leaves)
+
+  -- where nothing is shown, the entry's own tuple grants or doesn't
+  pub granted_alone : (n : ℕ) → AreShown c.policy verified c.items [] → (g : Granted n c verified)
+      → Grants c.policy (entry_tuple g.entry) c.key c.request c.moment
+  granted_alone n shown g =
+      let s = granted_from_left n [] shown g in
+      let e : s.root ≡ entry_tuple g.entry = five_same s.root (entry_tuple g.entry) s.derived in
+      let grants = s.grants in
+      rw e at grants
+
+  pub alone_granted : (place : ℕ) (entry : Entry) → slice_get c.entries place ≡ Some entry → AreShown c.policy verified c.items []
+      → Grants c.policy (entry_tuple entry) c.key c.request c.moment → Granted (suc place) c verified
+  alone_granted place entry stands shown grants =
+      from_left_granted place entry [] stands shown (record { root = entry_tuple entry; derived = refl; grants = grants })
+
+-- ---- an entry whose principal doesn't name the first key grants nothing
+
+joined : (policy : Policy) (asker : List ℕ) (e : Entry) (t : Tuple) (others : List Tuple) (m : FiveTuple)
+    → Joins policy (five (entry_tuple e)) t (five m) → IsOf policy e (first_key asker (t ∷ others))
+joined policy asker e (five right) others m j =
+    subst (λ (issuer : Issuer). IsOf policy e (key_of issuer)) (sym j.issues.issued) j.issues.is_for.named
+joined policy asker e (four right) others m j = j.begins.named
+
+-- an entry that supports what is asked isn't left out
+pub supported_named : (c : Case) (tuples : List Tuple) (e : Entry) → Supported c tuples e → IsOf c.policy e (first_key c.key tuples)
+supported_named c [] e s =
+    let from = supported c.policy s.tree c.key c.request c.moment (five (entry_tuple e)) [] s.supports s.leaves_are in
+    let same : from.root ≡ entry_tuple e = five_same from.root (entry_tuple e) from.derived in
+    let named = from.grants.named in
+    rw same at named
+supported_named c (t ∷ others) e s =
+    let from = supported c.policy s.tree c.key c.request c.moment (five (entry_tuple e)) (t ∷ others) s.supports s.leaves_are in
+    let begun = first_step c.policy (entry_tuple e) t others (five from.root) from.derived in
+    joined c.policy c.key e t others begun.0 begun.1
+
+-- ---- the decision of a part of an access list is that of the list, if only entries are missing that are left out
 
 -- ---- places
 

@@ -6,10 +6,14 @@ use Rattle.spki_decision.specs.declared.fault.GuardFault.{GuardFault}
 use Rattle.spki_decision.specs.declared.fault.GuardFault.TheVariants.{TooLarge, Memory}
 use Rattle.spki_decision.specs.declared.explanation.Explanation.{Explanation}
 use Rattle.spki_decision.specs.declared.reduction.Reduction.{Reduction}
-use Rattle.spki_decision.specs.Decision.{IsDecision, IsUnrefused}
-use Rattle.spki_decision.specs.Granted.{IsTooLarge}
+use Rattle.spki_decision.specs.Granted.{IsDecision, IsUnrefused, IsTooLarge, IsReduction, AreDated, SomeTooLarge}
 use Rattle.spki_decision.specs.Explained.{IsExplanation}
-use Rattle.spki_decision.specs.Reduced.{IsReduction, AreDated, SomeTooLarge}
+use Rattle.spki_reduce.specs.declared.fault.ReduceFault.{ReduceFault}
+use Rattle.spki_reduce.specs.declared.fault.ReduceFault.TheVariants as reduce
+
+-- ---- answers apart from Memory
+
+-- The answer to a case, apart from Memory: what decide, explain and reduce_case promise of each answer except Memory.
 
 abbrev pub IsDecided : Case → Verified → Result Decision GuardFault → Type 0
 IsDecided c verified (Ok decision) = IsDecision c verified decision × IsUnrefused c verified decision
@@ -33,3 +37,9 @@ AreSame IsSame (Ok a) (Ok b) = IsSame a b
 AreSame IsSame (Ok a) (Err fault) = ⊥
 AreSame IsSame (Err fault) (Ok b) = ⊥
 AreSame IsSame (Err fault) (Err other) = fault ≡ other
+
+-- ---- why a case is not decided if a reduction is refused
+
+abbrev pub guard_fault : ReduceFault → GuardFault
+guard_fault reduce.TooLarge = TooLarge
+guard_fault reduce.Memory = Memory

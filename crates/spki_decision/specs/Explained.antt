@@ -1,16 +1,13 @@
--- Why each entry of a case grants the request or does not (RFC 2693, section 6.3).
-use Rattle.std.specs.Prelude.{◌≡◌, ◌≢◌, ◌↔◌, ℕ, suc, ◌<◌, List, [], ◌∷◌, Option, Some, None, slice_get}
+-- Why each entry of a case grants the request or does not (RFC 2693, section 6.3), and the sinks that take what its
+-- entries become and the reasons.
+use Rattle.std.specs.Prelude.{◌≢◌, ◌↔◌, ℕ, suc, ◌<◌, ◌∷◌, Option, Some, None, slice_get}
 use Rattle.std.specs.List.{AllZip}
 use Rattle.spki_tag.specs.Tag.{set, none}
 use Rattle.spki_cert.specs.declared.entry.Entry.{Entry}
 use Rattle.spki_reduce.specs.declared.last_tests.Denial.{Denial}
 use Rattle.spki_reduce.specs.declared.last_tests.Denial.TheVariants as denial
-use Rattle.spki_reduce.specs.Tuples.{FiveTuple, Tuple, five}
-use Rattle.spki_reduce.specs.Views.{entry_tuple}
-use Rattle.spki_reduce.specs.Derivation.{Derives, from_left}
-use Rattle.spki_reduce.specs.Restrictions.{SomeMoment, met}
+use Rattle.spki_reduce.specs.Reduction.{FiveTuple, Tuple, five, entry_tuple, Derives, from_left, SomeMoment, met, IsFirstDenial}
 use Rattle.spki_reduce.specs.Chain.{all_tags}
-use Rattle.spki_reduce.specs.LastTests.{IsFirstDenial}
 use Rattle.spki_case.specs.Case.{Case, Verified}
 use Rattle.spki_decision.specs.declared.decision.Decision.{Decision}
 use Rattle.spki_decision.specs.declared.decision.Decision.TheVariants.{Yes, No}
@@ -18,10 +15,14 @@ use Rattle.spki_decision.specs.declared.explanation.Explanation.{Explanation}
 use Rattle.spki_decision.specs.declared.explanation.Explanation.TheVariants.{Evidence, Entries}
 use Rattle.spki_decision.specs.declared.explanation.Reason.{Reason}
 use Rattle.spki_decision.specs.declared.explanation.Reason.TheVariants.{Grants, NotTheKey, TagLacks, WindowLacks, Stopped}
-use Rattle.spki_decision.specs.Standing.{AreShown}
-use Rattle.spki_decision.specs.Supported.{Supported, AllSmall}
-use Rattle.spki_decision.specs.Granted.{Granted}
-use Rattle.spki_decision.specs.Reduced.{IsFailure, StopsAtItem, IsWithinWork}
+use Rattle.spki_decision.specs.Standing.{AreShown, with_entries}
+use Rattle.spki_decision.specs.Granted.{Supported, AllSmall, Granted, IsFailure, StopsAtItem, IsWithinWork, IsEntryFold}
+use Rattle.std.proofs.Common.{◌≡◌, List, [], ◌++◌, Vec, Global, sym, refl, append-nil}
+use Rattle.spki_case.specs.View.{model}
+use Rattle.spki_decision.specs.declared.explanation.ReasonSink.{ReasonSink}
+use Rattle.spki_decision.specs.declared.reduction.EntryFold.{EntryFold}
+
+-- ---- why each entry of a case grants the request or does not (RFC 2693, section 6.3)
 
 -- The tuples of an entry and of the certificates have a derivation. If there is a certificate, some moment is within all its
 -- windows. The intersection of their tags, one after another, is not (* set), unless no certificate has a tag. `denial` is the
@@ -83,3 +84,28 @@ pub record IsFirstGrant (reasons : List Reason) (n : ℕ) : Type 0 where
 abbrev pub Agrees : Explanation → Decision → Type 0
 Agrees (Evidence item stop) d = d ≡ No
 Agrees (Entries reasons) d = (n : ℕ) → (d ≡ Yes n) ↔ IsFirstGrant reasons.items n
+
+-- ---- sinks that take what the entries of an access list become
+
+-- ---- a vector keeps them
+
+abbrev pub TakesFolds : Vec EntryFold Global → List EntryFold → Vec EntryFold Global → Type 0
+TakesFolds old folds new = new.items ≡ old.items ++ folds
+
+pub no_folds : (v : Vec EntryFold Global) → TakesFolds v [] v
+no_folds v = sym (append-nil v.items)
+
+-- ---- only the reasons are kept
+
+-- the reason of every entry that becomes this with all certificates
+abbrev pub IsReasonFor : Case → EntryFold → Reason → Type 0
+IsReasonFor c fold reason =
+    (es : List Entry) (tuples : List Tuple) (e : Entry) → IsEntryFold (with_entries c es) tuples e fold → IsReason (with_entries c es) tuples e reason
+
+-- If there were no reasons yet, there is now one for each of these, in order.
+abbrev pub TakesReasons : ReasonSink → List EntryFold → ReasonSink → Type 0
+TakesReasons start folds sink = start.reasons.items ≡ []
+    → (sink.case ≡ start.case) × AllZip (IsReasonFor (model start.case.now)) folds sink.reasons.items
+
+pub no_reasons : (sink : ReasonSink) → TakesReasons sink [] sink
+no_reasons sink none = (refl, rw none tt)

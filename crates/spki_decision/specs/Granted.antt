@@ -1,14 +1,70 @@
--- What a case grants, in the model.
-use Rattle.std.specs.Prelude.{◌≡◌, ℕ, suc, ◌<◌, List, ◌∷◌, Some, slice_get}
-use Rattle.spki_cert.specs.declared.principal.Policy.TheVariants.{Open, Strict}
+-- The entries of a case, each with all certificates: which are granted, what each becomes, and what a decision and a
+-- reduction mean (RFC 2693, section 6.3).
+use Rattle.std.specs.Prelude.{◌≡◌, ℕ, suc, ◌<◌, List, Some, length, slice_get, ◌∷◌, ◌⊎◌, zero, ◌+◌, ◌≤◌, []}
 use Rattle.spki_cert.specs.declared.entry.Entry.{Entry}
-use Rattle.spki_reduce.specs.Tuples.{Tuple, five}
-use Rattle.spki_reduce.specs.Restrictions.{nodes_product}
-use Rattle.spki_reduce.specs.Chain.{all_tags, TooLargeAt}
-use Rattle.spki_reduce.specs.Views.{entry_tuple}
-use Rattle.spki_case.specs.Case.{Case, Verified}
-use Rattle.spki_decision.specs.Standing.{AreShown}
-use Rattle.spki_decision.specs.Supported.{Supported}
+use Rattle.spki_reduce.specs.Reduction.{Tuple, five, entry_tuple, IsSupported, nodes_product, own, five_tuple, issuer_of}
+use Rattle.spki_reduce.specs.Chain.{TooLargeAt, all_tags, FoldsTo, HasMet, StopsAt, Excludes, IsWork, IsWorkOf, IsOver}
+use Rattle.spki_case.specs.Case.{Case, Verified, Shown, certificates}
+use Rattle.spki_decision.specs.declared.decision.Decision.{Decision}
+use Rattle.spki_decision.specs.declared.decision.Decision.TheVariants.{Yes, No}
+use Rattle.spki_cert.specs.declared.principal.Policy.TheVariants.{Open, Strict}
+use Rattle.spki_decision.specs.Standing.{AreShown, FailsAt}
+use Rattle.std.specs.List.{AllZip, AllByRecursion}
+use Rattle.spki_cert.specs.Time.{IsLimit}
+use Rattle.spki_reduce.specs.declared.fold.Cause.{Cause}
+use Rattle.spki_decision.specs.declared.evidence.Stop.{Stop}
+use Rattle.spki_decision.specs.declared.reduction.EntryFold.{EntryFold}
+use Rattle.spki_decision.specs.declared.reduction.EntryFold.TheVariants.{Done, Stopped}
+use Rattle.spki_decision.specs.declared.reduction.Reduction.{Reduction}
+use Rattle.spki_decision.specs.declared.reduction.Reduction.TheVariants.{Evidence, Entries}
+
+-- ---- which entries support the request, if the tuples of the certificates are known
+
+-- some derivation from an entry and the certificates, in any bracketing, supports the key, the request and the moment
+abbrev pub Supported : Case → List Tuple → Entry → Type 0
+Supported c tuples e = IsSupported c.policy (five (entry_tuple e)) tuples c.key c.request c.moment
+
+-- no entry before a place does
+abbrev pub NoneBefore : Case → List Tuple → ℕ → Type 0
+NoneBefore c tuples place = (k : ℕ) (e : Entry) → k < place → slice_get c.entries k ≡ Some e → ¬ Supported c tuples e
+
+-- entry number n, from 1, is the first that does
+pub record IsFirstSupported (c : Case) (tuples : List Tuple) (n : ℕ) : Type 0 where
+  pub place : ℕ
+  pub numbered : n ≡ suc place
+  pub entry : Entry
+  pub stands : slice_get c.entries place ≡ Some entry
+  pub supported : Supported c tuples entry
+  pub none_before : NoneBefore c tuples place
+
+-- a decision names this entry, or no entry does
+abbrev pub Names : Case → List Tuple → Decision → Type 0
+Names c tuples (Yes n) = IsFirstSupported c tuples n
+Names c tuples No = (k : ℕ) (e : Entry) → slice_get c.entries k ≡ Some e → ¬ Supported c tuples e
+
+-- no entry before a place has a chain that is too large at a step
+abbrev pub SmallBefore : Case → List Tuple → ℕ → Type 0
+SmallBefore c tuples place =
+    (k : ℕ) (e : Entry) → k < place → slice_get c.entries k ≡ Some e → ¬ TooLargeAt c.most_nodes c.policy (five (entry_tuple e)) tuples
+
+-- no entry has one
+abbrev pub AllSmall : Case → List Tuple → Type 0
+AllSmall c tuples = SmallBefore c tuples (length c.entries)
+
+-- no entry up to the one that a decision names has one, or no entry at all
+abbrev pub SmallUpTo : Case → List Tuple → Decision → Type 0
+SmallUpTo c tuples (Yes n) = SmallBefore c tuples n
+SmallUpTo c tuples No = AllSmall c tuples
+
+-- the chain of an entry is too large at a step, and no entry before it supports the request
+pub record HasLarge (c : Case) (tuples : List Tuple) : Type 0 where
+  pub place : ℕ
+  pub entry : Entry
+  pub stands : slice_get c.entries place ≡ Some entry
+  pub none_before : NoneBefore c tuples place
+  pub at : TooLargeAt c.most_nodes c.policy (five (entry_tuple entry)) tuples
+
+-- ---- what a case grants, in the model
 
 -- Entry number n, from 1, is granted (RFC 2693, section 6.3). Every certificate stands. Some derivation from the entry and
 -- all certificates in their order, in any bracketing, supports the key, the request and the moment.
@@ -53,3 +109,141 @@ opened c = record c { policy = Open }
 
 abbrev pub strict : Case → Case
 strict c = record c { policy = Strict }
+
+-- ---- what a decision means in the model
+
+-- the entry with this number is the first that is granted, or no entry is granted
+abbrev pub IsDecision : Case → Verified → Decision → Type 0
+IsDecision c verified (Yes n) = IsFirstGranted n c verified
+IsDecision c verified No = IsNoneGranted c verified
+
+-- No refusal was skipped. If every certificate stands, no entry up to the one that is named has a chain that is too large
+-- at a step. If every certificate stands and none is named, no entry at all has one.
+abbrev pub IsUnrefused : Case → Verified → Decision → Type 0
+IsUnrefused c verified d = (tuples : List Tuple) → AreShown c.policy verified c.items tuples → SmallUpTo c tuples d
+
+-- ---- what the entries of a case become, each with all certificates (RFC 2693, section 6.3)
+
+-- Not all certificates stand. This item is the first certificate that does not, and this is the first of the four tests that
+-- it does not pass.
+pub record IsFailure (c : Case) (verified : Verified) (item : ℕ) (stop : Stop) : Type 0 where
+  pub fails : FailsAt c.policy verified c.items item stop
+  pub none_shown : (tuples : List Tuple) → ¬ AreShown c.policy verified c.items tuples
+
+-- The chain of an entry and the certificates stops at the step of this item, for a cause that excludes its other bracketings
+-- too.
+pub record StopsAtItem (c : Case) (tuples : List Tuple) (e : Entry) (item : ℕ) (cause : Cause) : Type 0 where
+  pub step : ℕ
+  pub stops : StopsAt c.policy (five (entry_tuple e)) tuples step cause
+  pub excludes : Excludes c.policy (five (entry_tuple e)) tuples step cause
+  pub certificate : Shown
+  pub there : slice_get (certificates c.items) stops.place ≡ Some certificate
+  pub item_is : item ≡ certificate.item
+
+-- An entry and the certificates become this authorization, which is the entry's own if there are no certificates. Or they
+-- stop at this item, for this cause.
+abbrev pub IsEntryFold : Case → List Tuple → Entry → EntryFold → Type 0
+IsEntryFold c tuples e (Done f) =
+    FoldsTo c.policy (five (entry_tuple e)) tuples f × HasMet (five (entry_tuple e)) tuples f
+    × (tuples ≡ [] → five_tuple f ≡ entry_tuple e)
+IsEntryFold c tuples e (Stopped item cause) = StopsAtItem c tuples e item cause
+
+-- the result of an entry is issued by the owner of the access list
+abbrev pub IsOwn : EntryFold → Type 0
+IsOwn (Done f) = issuer_of f.issuer ≡ own
+IsOwn (Stopped item cause) = Unit {0}
+
+-- ---- work
+
+-- the work of so many entries, each with all certificates: the sum of the products of nodes of all tags that are intersected
+abbrev pub IsEntryWork : Case → List Tuple → ℕ → ℕ → Type 0
+IsEntryWork c tuples zero n = n ≡ 0
+IsEntryWork c tuples (suc place) n =
+    (before : ℕ) × (here : ℕ) × (e : Entry) × IsEntryWork c tuples place before × (slice_get c.entries place ≡ Some e)
+    × IsWork c.policy (five (entry_tuple e)) tuples here × (n ≡ before + here)
+
+-- The work of all entries is within the case's limit.
+pub record IsWithinWork (c : Case) (tuples : List Tuple) : Type 0 where
+  pub work : ℕ
+  pub is : IsEntryWork c tuples (length c.entries) work
+  pub within : ¬ IsOver c.most_work work
+
+-- The work of some entries, and of some steps of the chain of the next entry, is over the case's limit.
+pub record HasMuchWork (c : Case) (tuples : List Tuple) : Type 0 where
+  pub place : ℕ
+  pub entry : Entry
+  pub stands : slice_get c.entries place ≡ Some entry
+  pub before : ℕ
+  pub before_is : IsEntryWork c tuples place before
+  pub steps : ℕ
+  pub within : steps ≤ length tuples
+  pub here : ℕ
+  pub here_is : IsWorkOf c.policy (five (entry_tuple entry)) tuples steps here
+  pub over : IsOver c.most_work (before + here)
+
+-- ---- reductions
+
+-- For each entry, in order, this is what it becomes with the tuples of certificates. No chain is too large at a step, and the work of all is
+-- within the limit.
+pub record AreFoldsOf (c : Case) (tuples : List Tuple) (folds : List EntryFold) : Type 0 where
+  pub each : AllZip (IsEntryFold c tuples) c.entries folds
+  pub within_limit : AllSmall c tuples
+  pub worked : IsWithinWork c tuples
+
+-- Every certificate stands, and for each entry, in order, this is what it becomes with them. No chain is too large at a
+-- step, and the work of all is within the limit.
+pub record AreFolds (c : Case) (verified : Verified) (folds : List EntryFold) : Type 0 where
+  pub tuples : List Tuple
+  pub shown : AreShown c.policy verified c.items tuples
+  pub each : AllZip (IsEntryFold c tuples) c.entries folds
+  pub within_limit : AllSmall c tuples
+  pub worked : IsWithinWork c tuples
+
+-- the first certificate that does not stand, or what the entries become
+abbrev pub IsReduction : Case → Verified → Reduction → Type 0
+IsReduction c verified (Evidence item stop) = IsFailure c verified item stop
+IsReduction c verified (Entries folds) = AreFolds c verified folds.items
+
+-- ---- reductions of one case
+
+-- the same certificate and test, or the same results of all entries
+abbrev pub IsSameReduction : Reduction → Reduction → Type 0
+IsSameReduction (Evidence item stop) (Evidence other last) = (item ≡ other) × (stop ≡ last)
+IsSameReduction (Evidence item stop) (Entries folds) = ⊥
+IsSameReduction (Entries folds) (Evidence item stop) = ⊥
+IsSameReduction (Entries folds) (Entries others) = folds.items ≡ others.items
+
+-- the limit at which a window begins is a date, like that of every value
+abbrev pub IsDated : EntryFold → Type 0
+IsDated (Done f) = IsLimit f.window.not_before
+IsDated (Stopped item cause) = Unit {0}
+
+abbrev pub AreDated : Reduction → Type 0
+AreDated (Evidence item stop) = Unit {0}
+AreDated (Entries folds) = AllByRecursion IsDated folds.items
+
+-- the limit at which it ends is a date too
+abbrev pub EndsAtDate : EntryFold → Type 0
+EndsAtDate (Done f) = IsLimit f.window.not_after
+EndsAtDate (Stopped item cause) = Unit {0}
+
+abbrev pub EndAtDates : Reduction → Type 0
+EndAtDates (Evidence item stop) = Unit {0}
+EndAtDates (Entries folds) = AllByRecursion EndsAtDate folds.items
+
+-- ---- limits
+
+-- the chain of some entry and these tuples is too large at a step
+pub record HasLargeTags (c : Case) (tuples : List Tuple) : Type 0 where
+  pub place : ℕ
+  pub entry : Entry
+  pub stands : slice_get c.entries place ≡ Some entry
+  pub at : TooLargeAt c.most_nodes c.policy (five (entry_tuple entry)) tuples
+  pub large : c.most_nodes < nodes_product (all_tags (five (entry_tuple entry) ∷ tuples))
+
+-- Every certificate stands. Either the chain of some entry is too large at a step, so the product of the nodes of its tag and of the
+-- tags of all certificates is over the case's limit. Or the work of the entries is over its limit.
+pub record SomeTooLarge (c : Case) (verified : Verified) : Type 0 where
+  pub tuples : List Tuple
+  pub shown : AreShown c.policy verified c.items tuples
+  pub large : HasLargeTags c tuples ⊎ HasMuchWork c tuples

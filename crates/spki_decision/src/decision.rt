@@ -2,13 +2,10 @@
 
 ghost use Rattle.std.specs.Prelude.{IfOk, IsErrOf};
 ghost use Rattle.spki_case.specs.View.{model};
-ghost use Rattle.spki_reduce.specs.Tuples.{five};
+ghost use Rattle.spki_reduce.specs.Reduction.{five, entry_tuple};
 ghost use Rattle.spki_reduce.specs.Chain.{tuples_of, TooLargeAt};
-ghost use Rattle.spki_reduce.specs.Views.{entry_tuple};
-ghost use Rattle.spki_decision.specs.Supported.{Names, HasLarge, SmallUpTo};
-ghost use Rattle.spki_decision.specs.Granted.{IsTooLarge};
-ghost use Rattle.spki_decision.specs.Decision.{IsDecision, IsUnrefused};
-ghost use Rattle.spki_decision.specs.Sizes.{AreSizes};
+ghost use Rattle.spki_decision.specs.Granted.{Names, HasLarge, SmallUpTo, IsTooLarge, IsDecision, IsUnrefused};
+ghost use Rattle.spki_decision.specs.Requirements.{AreSizes};
 
 use crate::entry_chain::fold_entry;
 use crate::evidence::{Evidence, judge};

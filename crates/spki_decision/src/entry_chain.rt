@@ -1,10 +1,8 @@
 //! Joins an entry and the steps after it (RFC 2693, section 6.3).
 
 ghost use Rattle.std.specs.Prelude.{◌≡◌, ◌≤◌, ◌⊎◌, ℕ, [], IfOk, OnOk, IsErrOf};
-ghost use Rattle.spki_reduce.specs.Tuples.{five, own};
-ghost use Rattle.spki_reduce.specs.Views.{entry_tuple, five_tuple, issuer_of};
-ghost use Rattle.spki_reduce.specs.Chain.{tuples_of, FoldsTo, StopsAt, HasMet, TooLargeAt, Excludes, MatchFold};
-ghost use Rattle.spki_reduce.specs.Work.{left_of, Takes, IsWork, IsOverworked};
+ghost use Rattle.spki_reduce.specs.Reduction.{five, own, entry_tuple, five_tuple, issuer_of};
+ghost use Rattle.spki_reduce.specs.Chain.{tuples_of, FoldsTo, StopsAt, HasMet, TooLargeAt, Excludes, MatchFold, left_of, Takes, IsWork, IsOverworked};
 
 use spki_cert::{Entry, Policy};
 use spki_reduce::{Five, Fold, Issuer, ReduceFault, Step, Work, fold_owned};

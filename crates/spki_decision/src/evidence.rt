@@ -1,9 +1,8 @@
 //! The evidence of a sequence: the four tests of each certificate.
 
 ghost use Rattle.std.specs.Prelude.{◌↔◌, map, IfOk, IsTrue};
-ghost use Rattle.spki_case.specs.Sequence.{AreSigned};
-ghost use Rattle.spki_decision.specs.Views.{signed_of};
-ghost use Rattle.spki_decision.specs.Asked.{IsAccepted, IsFirstRefused};
+ghost use Rattle.spki_case.specs.Case.{AreSigned};
+ghost use Rattle.spki_decision.specs.Standing.{signed_of, IsAccepted, IsFirstRefused};
 ghost use Rattle.spki_decision.specs.Judged.{IsEvidence};
 
 use crate::examination::examine;

@@ -2,11 +2,9 @@
 //! asked about.
 
 ghost use Rattle.std.specs.Prelude.{◌≡◌, map, IfOk, OnOk, IsSome};
-ghost use Rattle.spki_case.specs.Sequence.{AreSigned, certificates, keys_of};
-ghost use Rattle.spki_decision.specs.Views.{shown_of, signed_of};
-ghost use Rattle.spki_decision.specs.Asked.{asked_in, every};
-ghost use Rattle.spki_decision.specs.Judged.{IsEvidence};
-ghost use Rattle.spki_decision.specs.Steps.{IsTested};
+ghost use Rattle.spki_case.specs.Case.{AreSigned, certificates, keys_of};
+ghost use Rattle.spki_decision.specs.Standing.{shown_of, signed_of, asked_in, every};
+ghost use Rattle.spki_decision.specs.Judged.{IsEvidence, IsTested};
 
 use crate::certificates::{ShownCert, certificates_of};
 use crate::evidence::{Evidence, Stop};

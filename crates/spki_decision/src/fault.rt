@@ -39,7 +39,7 @@ impl<T: Drop> From<AllocFailed<T>> for GuardFault {
 }
 
 impl From<ReduceFault> for GuardFault {
-    ghost use Rattle.spki_decision.specs.Refusal.{guard_fault};
+    ghost use Rattle.spki_decision.specs.Answered.{guard_fault};
 
     ghost from_gives = { λ fault outer. outer ≡ guard_fault fault };
 

@@ -2,7 +2,7 @@
 
 ghost use Rattle.std.specs.Prelude.{◌≡◌, ◌∷◌, [], ◌++◌, suc, List, length, OnOk};
 ghost use Rattle.spki_decision.specs.declared.reduction.EntryFold.{EntryFold};
-ghost use Rattle.spki_decision.specs.Taken.{TakesFolds, no_folds};
+ghost use Rattle.spki_decision.specs.Explained.{TakesFolds, no_folds};
 
 use crate::reduction::EntryFold;
 use std::alloc::{AllocError, Global};

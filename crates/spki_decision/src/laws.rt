@@ -2,23 +2,19 @@
 //! Each function is a law: it does nothing, and its contract is the fact.
 
 ghost use Rattle.std.specs.Prelude.{◌≡◌, ◌⊎◌, ℕ, List, Result, Ok, Err, Some, slice_get};
-ghost use Rattle.spki_case.specs.Case.{Case, accepted_by};
-ghost use Rattle.spki_case.specs.CaseForm.{IsCaseText};
+ghost use Rattle.spki_case.specs.Case.{Case, accepted_by, IsCaseText};
 ghost use Rattle.spki_decision.specs.declared.decision.Decision.{Decision};
 ghost use Rattle.spki_decision.specs.declared.decision.Decision.TheVariants.{No};
 ghost use Rattle.spki_decision.specs.declared.fault.GuardFault.{GuardFault};
 ghost use Rattle.spki_decision.specs.declared.explanation.Explanation.{Explanation};
 ghost use Rattle.spki_decision.specs.declared.reduction.Reduction.{Reduction};
-ghost use Rattle.spki_decision.specs.Granted.{Granted, IsTooLarge, strict, opened};
-ghost use Rattle.spki_decision.specs.Decision.{IsDecision, IsUnrefused};
-ghost use Rattle.spki_decision.specs.Reduced.{IsSameReduction};
+ghost use Rattle.spki_decision.specs.Granted.{Granted, IsTooLarge, strict, opened, IsDecision, IsUnrefused, IsSameReduction, Supported};
 ghost use Rattle.spki_decision.specs.Explained.{IsExplanation, IsSameExplanation, Agrees};
 ghost use Rattle.spki_decision.specs.Answered.{IsDecided, IsExplained, IsReduced, AreSame};
 ghost use Rattle.spki_cert.specs.declared.entry.Entry.{Entry};
-ghost use Rattle.spki_reduce.specs.Tuples.{Tuple};
-ghost use Rattle.spki_decision.specs.Supported.{Supported};
-ghost use Rattle.spki_decision.specs.Asked.{Signed, asked, IsAccepted, AgreeOn};
-ghost use Rattle.spki_decision.specs.LeftOut.{IsLeftOut, IsKept, kept_case, IsRenumbered};
+ghost use Rattle.spki_reduce.specs.Reduction.{Tuple};
+ghost use Rattle.spki_decision.specs.Standing.{Signed, asked, IsAccepted, AgreeOn};
+ghost use Rattle.spki_decision.specs.Requirements.{IsLeftOut, IsKept, kept_case, IsRenumbered};
 
 use spki_case::Verifier;
 

@@ -6,12 +6,10 @@
 
 ghost use Rattle.std.specs.Prelude.{◌≡◌, ◌↔◌, true, List, IsTrue, IfOk};
 ghost use Rattle.spki_case.specs.View.{model};
-ghost use Rattle.spki_reduce.specs.Tuples.{Tuple, tags_of, windows_of};
-ghost use Rattle.spki_reduce.specs.Views.{step_tuple};
+ghost use Rattle.spki_reduce.specs.Reduction.{Tuple, tags_of, windows_of, step_tuple, in_each, within_each};
 ghost use Rattle.spki_reduce.specs.Chain.{tuples_of, all_tags, all_windows};
-ghost use Rattle.spki_reduce.specs.Restrictions.{in_each, within_each};
-ghost use Rattle.spki_decision.specs.Supported.{Supported};
-ghost use Rattle.spki_decision.specs.Membership.{IsMembership};
+ghost use Rattle.spki_decision.specs.Granted.{Supported};
+ghost use Rattle.spki_decision.specs.Requirements.{IsMembership};
 
 use crate::required_subject::{RequiredSubject, required_subject};
 use spki_case::Case;

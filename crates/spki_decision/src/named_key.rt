@@ -1,8 +1,8 @@
 //! The keys of a sequence, and the first of them that a principal names.
 
 ghost use Rattle.std.specs.Prelude.{◌≡◌, [], ◌∷◌, ◌++◌, IfOk, OnOk, Contains, MatchOption};
-ghost use Rattle.spki_case.specs.Sequence.{keys_of};
-ghost use Rattle.spki_decision.specs.FirstNamed.{NamesNone, IsFirstNamed};
+ghost use Rattle.spki_case.specs.Case.{keys_of};
+ghost use Rattle.spki_decision.specs.Judged.{NamesNone, IsFirstNamed};
 
 use spki_cert::{Key, Principal, SeqItem};
 use std::alloc::{AllocError, Global};

@@ -3,15 +3,13 @@
 ghost use Rattle.std.specs.Prelude.{◌≡◌, List, map, length, IfOk, OnOk, IsErrOf, ◌⊎◌, ℕ};
 ghost use Rattle.std.specs.List.{AllByRecursion};
 ghost use Rattle.spki_case.specs.View.{model};
-ghost use Rattle.spki_decision.specs.Views.{shown_of, with_entries};
-ghost use Rattle.spki_case.specs.Sequence.{certificates};
+ghost use Rattle.spki_decision.specs.Standing.{shown_of, with_entries};
+ghost use Rattle.spki_case.specs.Case.{certificates};
 ghost use Rattle.spki_cert.specs.declared.entry.Entry.{Entry};
-ghost use Rattle.spki_reduce.specs.Tuples.{five};
-ghost use Rattle.spki_reduce.specs.Chain.{tuples_of, TooLargeAt};
-ghost use Rattle.spki_reduce.specs.Work.{left_of, Takes, IsWork, IsOverworked};
-ghost use Rattle.spki_reduce.specs.Views.{entry_tuple};
+ghost use Rattle.spki_reduce.specs.Reduction.{five, entry_tuple};
+ghost use Rattle.spki_reduce.specs.Chain.{tuples_of, TooLargeAt, left_of, Takes, IsWork, IsOverworked};
 ghost use Rattle.spki_decision.specs.declared.reduction.EntryFold.{EntryFold};
-ghost use Rattle.spki_decision.specs.Reduced.{IsEntryFold, IsOwn, IsReduction, IsDated, EndsAtDate, AreDated, EndAtDates, AreFoldsOf, HasLargeTags, HasMuchWork, SomeTooLarge};
+ghost use Rattle.spki_decision.specs.Granted.{IsEntryFold, IsOwn, IsReduction, IsDated, EndsAtDate, AreDated, EndAtDates, AreFoldsOf, HasLargeTags, HasMuchWork, SomeTooLarge};
 
 use crate::certificates::{ShownCert, certificates_of};
 use crate::entry_chain::fold_entry;

@@ -1,10 +1,9 @@
 //! The subject that certificates require of an entry, whatever their tags and windows are (RFC 2693, sections 6.3 and 6.4).
 
 ghost use Rattle.std.specs.Prelude.{◌≡◌, ◌≢◌, ◌↔◌, ◌∷◌, ◌++◌, ℕ, List, drop, IsTrue, IfOk, IfNone, IfSome};
-ghost use Rattle.spki_reduce.specs.Tuples.{five, four};
-ghost use Rattle.spki_reduce.specs.Views.{five_tuple, four_tuple, step_tuple};
+ghost use Rattle.spki_reduce.specs.Reduction.{five, four, five_tuple, four_tuple, step_tuple};
 ghost use Rattle.spki_reduce.specs.Chain.{tuples_of};
-ghost use Rattle.spki_decision.specs.Membership.{Meets, IsRequiredBefore, IsRequiredBy};
+ghost use Rattle.spki_decision.specs.Requirements.{Meets, IsRequiredBefore, IsRequiredBy};
 
 use spki_cert::{Key, Names, Octets, Policy, Subject};
 use spki_reduce::{Five, Four, Issuer, Step};

@@ -5,8 +5,8 @@ ghost use Rattle.std.specs.Option.{option_or};
 ghost use Rattle.spki_cert.specs.declared.hash.HashAlg.{HashAlg};
 ghost use Rattle.spki_cert.specs.Naming.{digest_of, is_digest};
 ghost use Rattle.spki_decision.specs.Standing.{issuer_key};
-ghost use Rattle.spki_case.specs.ByDigest.{at_digest};
-ghost use Rattle.spki_decision.specs.ByDigest.{HasFirstKeys};
+ghost use Rattle.spki_case.specs.Lookups.{at_digest};
+ghost use Rattle.spki_decision.specs.Judged.{HasFirstKeys};
 
 use spki_cert::{HashAlg, Key, Policy, Principal};
 use std::alloc::{AllocError, Global};

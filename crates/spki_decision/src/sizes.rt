@@ -2,11 +2,9 @@
 
 ghost use Rattle.std.specs.Prelude.{◌≡◌, ◌≤◌, false, List, IsTrue, IfSome};
 ghost use Rattle.spki_tag.specs.Tag.{tags, nodes_all, some_nests_set};
-ghost use Rattle.spki_reduce.specs.Tuples.{Tuple, tags_of};
-ghost use Rattle.spki_reduce.specs.Views.{step_tuple};
-ghost use Rattle.spki_reduce.specs.Restrictions.{nodes_product};
+ghost use Rattle.spki_reduce.specs.Reduction.{Tuple, tags_of, step_tuple, nodes_product};
 ghost use Rattle.spki_reduce.specs.Chain.{tuples_of, all_tags};
-ghost use Rattle.spki_decision.specs.Sizes.{AreSizes, ArePlain, IsSmallFor};
+ghost use Rattle.spki_decision.specs.Requirements.{AreSizes, ArePlain, IsSmallFor};
 
 use spki_reduce::Step;
 use spki_tag::Tag;

@@ -3,9 +3,9 @@ use Rattle.std.proofs.Common.{◌≡◌, ℕ, suc, ◌+◌, ◌<◌, List, [], �
 use Rattle.std.specs.Prelude.{codes}
 use Rattle.std.proofs.lemmas.List.{take_more, map-append}
 use Rattle.sexpr_core.specs.Value.{Value, plain, values}
-use Rattle.sexpr_text.specs.Printed.{printed_string, adv, adv_all}
-use Rattle.sexpr_text.proofs.PrintLaws.{adv_all-append, past_first}
-use Rattle.spki_tag.proofs.Spelling.{tag_values-tags}
+use Rattle.sexpr_text.specs.AdvancedForm.{printed_string, adv, adv_all}
+use Rattle.sexpr_text.proofs.Printed.{adv_all-append, past_first}
+use Rattle.spki_tag.proofs.TagReading.{tag_values-tags}
 use Rattle.spki_tag.specs.Tag.{Tag, Limit, Ordering, tags, star, prefix, range, list, set, ordering_name, limit_values, tag_value, tag_values}
 
 -- members with a space before each

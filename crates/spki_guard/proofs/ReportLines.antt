@@ -1,11 +1,16 @@
--- The lines of entries' chains and reasons, one behind another.
-use Rattle.std.proofs.Common.{◌≡◌, ℕ, suc, ◌+◌, ◌<◌, ◌==◌, false, Vec, Global, Option, Some, None, IfSome, List, [], ◌∷◌, ◌++◌, length, take, get_or, length-take-le, refl, sym, ap, subst, ◌∙◌, append_assoc, append-nil, arith}
+-- The lines of entries: their numbers and words, one line behind another, and what a printer of folds has of them.
+use Rattle.std.proofs.Common.{◌≡◌, ℕ, zero, suc, ◌<◌, ◌^◌, [], ◌∷◌, refl, sym, ◌∙◌, arith, ◌+◌, List, ◌++◌, length, take, get_or, ap, append_assoc, append-nil, length-take-le, rules, ◌==◌, false, Vec, Global, Option, Some, None, IfSome, subst, Bool, true, ◌||◌, true≢false}
+use Rattle.std.proofs.lemmas.Fmt.{decimal-digits_of}
+use Rattle.std.specs.Fmt.{digits}
+use Rattle.std.specs.Fmt as std_fmt
+use Rattle.sexpr_core.proofs.Texts.{decimal_zero, decimal_suc}
+use Rattle.sexpr_core.specs.Value.{decimal, Value}
 use Rattle.std.specs.Prelude.{codes}
+use Rattle.std.proofs.lemmas.List.{take_more, length-append}
+use Rattle.spki_guard.specs.Lines.{line, entry_line, reason_line, verdict_of, IsFoldLine, AreFoldLines, ReportsFolds, IsReductionReport, some_done, reason_lines, no_entries, is_done}
 use Rattle.std.proofs.lemmas.Bool.Decides.{nat_tests}
-use Rattle.std.proofs.lemmas.List.{take_more}
-use Rattle.sexpr_core.specs.Value.{Value, decimal}
-use Rattle.sexpr_text.specs.Printed.{adv}
-use Rattle.spki_reduce.proofs.OneFive.{written_one}
+use Rattle.sexpr_text.specs.AdvancedForm.{adv}
+use Rattle.spki_reduce.proofs.Uniqueness.{written_one}
 use Rattle.spki_decision.specs.declared.reduction.EntryFold.{EntryFold}
 use Rattle.spki_decision.specs.declared.reduction.EntryFold.TheVariants as folded
 use Rattle.spki_decision.specs.declared.reduction.Reduction.{Reduction}
@@ -14,10 +19,49 @@ use Rattle.spki_decision.specs.declared.explanation.Reason.{Reason}
 use Rattle.spki_guard.specs.declared.answers.Verdict.{Verdict}
 use Rattle.spki_guard.specs.declared.replies.Reply.{Reply}
 use Rattle.spki_guard.specs.declared.replies.Reply.TheVariants.{Whole, Octets, Line, Tag, Item, NoEntries, Folds, Reasons}
-use Rattle.spki_guard.specs.Lines.{entry_line, reason_line}
-use Rattle.spki_guard.specs.Reports.{verdict_of, IsFoldLine, AreFoldLines, ReportsFolds, IsReductionReport, some_done, reason_lines}
-use Rattle.spki_guard.specs.Inner.Replies.{Prints, PrintsAs}
-use Rattle.spki_guard.proofs.EntryLines.{line_at, entry_whole}
+use Rattle.spki_guard.specs.Inner.Replies.{Prints, PrintsAs, HasPrinted, AreLongFolds}
+use Rattle.spki_guard.specs.declared.fold_printer.FoldPrinter.{FoldPrinter}
+use Rattle.spki_guard.specs.declared.answers.Verdict.TheVariants.{No}
+
+-- ---- decimal numbers, as the definition has them and as std writes them
+
+zero_written : std_fmt.decimal zero ≡ 48 ∷ []
+unfolding digits
+zero_written = refl
+
+pub decimal_written : (n : ℕ) → n < 2 ^ 64 → std_fmt.decimal n ≡ decimal n
+decimal_written zero h = zero_written ∙ sym decimal_zero
+decimal_written (suc n) h = decimal-digits_of (suc n) (omega arith) h ∙ sym (decimal_suc n)
+
+-- ---- the lines of entries, piece by piece
+
+pub item_whole : (item : ℕ) (word : List ℕ)
+    → ((codes "item " ++ decimal item) ++ 32 ∷ []) ++ line (word ∷ []) ≡ line (codes "item" ∷ decimal item ∷ word ∷ [])
+item_whole item word = ap (λ s. codes "item " ++ s) (append_assoc (decimal item) (32 ∷ []) (word ++ 10 ∷ []))
+
+pub entry_whole : (n : ℕ) (word : List ℕ) (words : List (List ℕ))
+    → (codes "entry " ++ (decimal n ++ 32 ∷ [])) ++ line (word ∷ words) ≡ entry_line n (word ∷ words)
+entry_whole n word words = ap (λ s. codes "entry " ++ s) (append_assoc (decimal n) (32 ∷ []) (line (word ∷ words)))
+
+-- ---- lines one behind another
+
+module _ {A : Type 0} (one : ℕ → A → List ℕ) (all : ℕ → List A → List ℕ) (none : (n : ℕ) → all n [] ≡ [])
+    (more : (n : ℕ) (x : A) (xs : List A) → all n (x ∷ xs) ≡ one n x ++ all (suc n) xs) where
+  lines_append : (n : ℕ) (xs : List A) (x : A) → all n (xs ++ x ∷ []) ≡ all n xs ++ one (n + length xs) x
+  lines_append n [] x = search (rules, append-nil)
+  lines_append n (y ∷ ys) x =
+      let e : suc n + length ys ≡ n + suc (length ys) = omega arith in
+      more n y (ys ++ x ∷ []) ∙ ap (λ s. one n y ++ s) (lines_append (suc n) ys x)
+      ∙ sym (append_assoc (one n y) (all (suc n) ys) (one (suc n + length ys) x))
+      ∙ ap (λ s. s ++ one (suc n + length ys) x) (sym (more n y ys)) ∙ ap (λ m. all n (y ∷ ys) ++ one m x) e
+
+  pub line_at : (xs : List A) (k : ℕ) (d : A) → k < length xs → all 1 (take k xs) ++ one (k + 1) (get_or xs k d) ≡ all 1 (take (k + 1) xs)
+  line_at xs k d lt =
+      let count : 1 + length (take k xs) ≡ k + 1 = omega (arith, length-take-le k xs (omega arith)) in
+      ap (λ m. all 1 (take k xs) ++ one m (get_or xs k d)) (sym count) ∙ sym (lines_append 1 (take k xs) (get_or xs k d))
+      ∙ ap (all 1) (sym (take_more xs k d lt))
+
+-- ---- the lines of entries' chains and reasons, one behind another
 
 pub fold_whole : (n : ℕ) (text : List ℕ)
     → ((codes "entry " ++ (decimal n ++ 32 ∷ [])) ++ text) ++ 10 ∷ [] ≡ entry_line n (text ∷ [])
@@ -89,3 +133,56 @@ pub counted_once : (reply : Reply) (octets : List ℕ) (more : ℕ) (sum : Optio
     → IfSome sum (λ n. (others : List ℕ) → Prints reply others → n ≡ length others + more)
 counted_once reply octets more None printed e = tt
 counted_once reply octets more (Some n) printed e = λ others also. e ∙ ap (λ o. length o + more) (prints_once reply octets others printed also)
+
+-- ---- what a printer has printed with one fold more
+
+or_false : (b : Bool) → (b || false) ≡ b
+or_false true = refl
+or_false false = refl
+
+or_behind : (a b c : Bool) → ((a || b) || c) ≡ (a || (b || c))
+or_behind true b c = refl
+or_behind false b c = refl
+
+some_more : (folds : List EntryFold) (fold : EntryFold) → some_done (folds ++ fold ∷ []) ≡ (some_done folds || is_done fold)
+some_more [] fold = or_false (is_done fold)
+some_more (f ∷ folds) fold =
+    ap (λ s. is_done f || s) (some_more folds fold) ∙ sym (or_behind (is_done f) (some_done folds) (is_done fold))
+
+module _ (most : ℕ) (folds : List EntryFold) (fold : EntryFold) (entry : ℕ) (numbered : entry ≡ suc (length folds))
+    (old new : FoldPrinter) (before : HasPrinted most folds old) (line : List ℕ) (is : IsFoldLine entry fold line)
+    (counted : new.count ≡ entry) (done : new.some_done ≡ (old.some_done || is_done fold)) where
+  with_line : (new.is_long ≡ false → (new.lines.items ≡ before.lines ++ line) × (length (before.lines ++ line) + new.room ≡ most))
+      → (new.is_long ≡ true → most < length (before.lines ++ line)) → HasPrinted most (folds ++ fold ∷ []) new
+  with_line kept long =
+      let here : entry ≡ 1 + length folds = omega (arith, numbered) in
+      record {
+        lines = before.lines ++ line;
+        are = lines_after 1 folds fold before.lines line before.are (subst (λ m. IsFoldLine m fold line) here is);
+        kept = kept;
+        long = long;
+        done = done ∙ ap (λ s. s || is_done fold) before.done ∙ sym (some_more folds fold);
+        counted = omega (arith, length-append folds (fold ∷ []), counted, numbered);
+      }
+
+  pub printed : old.is_long ≡ false → new.is_long ≡ false → new.lines.items ≡ old.lines.items ++ line → length line + new.room ≡ old.room
+      → HasPrinted most (folds ++ fold ∷ []) new
+  printed was now text room =
+      let (same, sum) = before.kept was in
+      with_line (λ _. (text ∙ ap (λ s. s ++ line) same, omega (arith, length-append before.lines line, sum, room)))
+      (λ long. absurd (true≢false (sym long ∙ now)))
+
+  pub longer : old.is_long ≡ false → new.is_long ≡ true → old.room < length line → HasPrinted most (folds ++ fold ∷ []) new
+  longer was now less =
+      let (same, sum) = before.kept was in
+      with_line (λ short. absurd (true≢false (sym now ∙ short))) (λ _. omega (arith, length-append before.lines line, sum, less))
+
+  pub still_long : old.is_long ≡ true → new.is_long ≡ true → HasPrinted most (folds ++ fold ∷ []) new
+  still_long was now =
+      with_line (λ short. absurd (true≢false (sym now ∙ short)))
+      (λ _. let long = before.long was in omega (arith, length-append before.lines line, long))
+
+pub none_long : (most : ℕ) (folds : List EntryFold) (p : FoldPrinter) → HasPrinted most folds p → p.count ≡ 0 → most < length no_entries
+    → AreLongFolds folds most
+none_long most [] p h none less = (No, no_entries, (refl, refl), less)
+none_long most (fold ∷ folds) p h none less = let counted = h.counted in absurd (omega (arith, counted, none))

@@ -8,10 +8,9 @@ use Rattle.spki_tag.specs.declared.fault.MeetFault.TheVariants as meet_faults
 use Rattle.spki_tag.specs.Request.{Request, IsRequest}
 use Rattle.spki_tag.specs.Tag.{Tag, IsNormalTag, contains, nodes, ldepth}
 use Rattle.spki_tag.specs.Meet.{meet}
-use Rattle.spki_tag.specs.FaultOf.{tag_fault}
-use Rattle.spki_tag.specs.Read.{ReadsAs, IsNoTag}
-use Rattle.spki_case.specs.CaseForm.{headed}
-use Rattle.spki_case.specs.Texts.{IsTextOf, IsMalformed}
+use Rattle.spki_tag.specs.Faults.{tag_fault}
+use Rattle.spki_tag.specs.Reading.{ReadsAs, IsNoTag}
+use Rattle.spki_case.specs.Case.{headed, IsTextOf, IsMalformed}
 use Rattle.spki_guard.specs.declared.intersection.IntersectFault.{IntersectFault}
 use Rattle.spki_guard.specs.declared.intersection.IntersectFault.TheVariants as faults
 

@@ -1,11 +1,6 @@
-pub mod Status
+pub mod Program
 pub mod Lines
 pub mod Intersect
-pub mod Reports
-pub mod Answer
-pub mod Run
-pub mod Program
-pub mod Apart
-pub mod HeldLines
-pub mod Held
+pub mod TextAnswers
+pub mod HeldQuestions
 pub mod Inner

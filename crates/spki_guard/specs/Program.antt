@@ -1,21 +1,38 @@
--- The program: the result for the words of a command line, for what is read and for what is written.
-use Rattle.std.specs.Prelude.{◌≡◌, ◌≢◌, ◌⊎◌, ℕ, ◌≤◌, List, [], ◌∷◌, ◌++◌, length, codes, string_bytes, Option, Some, Result, Ok, Err, IfOk, MatchResult, IsTrue}
+-- The program: the exit statuses, and the result for a command line, for what is read and for what is written.
+use Rattle.std.specs.Prelude.{ℕ, ◌≡◌, ◌≢◌, ◌⊎◌, ◌≤◌, List, [], ◌∷◌, ◌++◌, length, codes, string_bytes, Option, Some, Result, Ok, Err, IfOk, MatchResult, IsTrue}
+use Rattle.spki_guard.specs.declared.answers.Verdict.{Verdict}
+use Rattle.spki_guard.specs.declared.answers.Verdict.TheVariants as verdict
+use Rattle.spki_guard.specs.declared.statuses.Status.{Status}
+use Rattle.spki_guard.specs.declared.statuses.Status.TheVariants.{Done, No, Refused, ReadFault, WriteFault}
 use Rattle.std.specs.declared.io.ErrorKind.{ErrorKind}
 use Rattle.std.specs.declared.io.ErrorKind.TheVariants.{InvalidData}
 use Rattle.metered_io.specs.declared.meters.Metered.{Metered}
-use Rattle.metered_io.specs.Metered.{inner_of, asks_of, faults_of, ended_of, Gives, GivesNone, TakesNone}
+use Rattle.metered_io.specs.MeteredCalls.{inner_of, asks_of, faults_of, ended_of, Gives, GivesNone, TakesNone}
 use Rattle.spki_words.specs.declared.commands.Command.{Command}
 use Rattle.spki_words.specs.declared.words.WordsFault.{WordsFault}
 use Rattle.spki_words.specs.declared.words.WordsFault.TheVariants as words
-use Rattle.spki_words.specs.Command.{word_of}
-use Rattle.spki_words.specs.Words.{subcommand_in, IsFaultOf}
+use Rattle.spki_words.specs.Words.{word_of, subcommand_in, IsFaultOf}
 use Rattle.spki_words.specs.Words as of_words
-use Rattle.spki_guard.specs.declared.answers.Verdict.{Verdict}
-use Rattle.spki_guard.specs.declared.statuses.Status.{Status}
-use Rattle.spki_guard.specs.declared.statuses.Status.TheVariants.{Done, No, Refused, ReadFault, WriteFault}
-use Rattle.spki_guard.specs.Status.{answer_status, exit_code}
 use Rattle.spki_guard.specs.Lines.{refused_memory}
-use Rattle.spki_guard.specs.Run.{IsReply, IsFaulty, IsWritten, IsCutOff}
+use Rattle.spki_guard.specs.TextAnswers.{IsReply, IsFaulty, IsWritten, IsCutOff}
+
+-- ---- how a run ends, and the exit statuses
+
+-- the status of a run that was not cut off
+abbrev pub answer_status : Verdict → Status
+answer_status verdict.Done = Done
+answer_status verdict.No = No
+answer_status verdict.Refused = Refused
+
+-- the exit status
+abbrev pub exit_code : Status → ℕ
+exit_code Done = 0
+exit_code No = 1
+exit_code Refused = 2
+exit_code ReadFault = 3
+exit_code WriteFault = 3
+
+-- ---- the program: the result for the words of a command line, for what is read and for what is written
 
 -- ---- the command
 

@@ -1,13 +1,11 @@
 //! The answer to a text: its verdict and its output.
 ghost use Rattle.std.specs.Prelude.{◌≡◌, ℕ, List, [], ◌∷◌, ◌++◌, ◌⊎◌, ◌<◌, length, IfOk, IfErr};
 ghost use Rattle.sexpr_core.specs.Value.{Value, canon};
-ghost use Rattle.sexpr_text.specs.Written.{written};
-ghost use Rattle.spki_case.specs.CaseForm.{IsCaseText};
-ghost use Rattle.spki_case.specs.Texts.{IsOuter};
+ghost use Rattle.sexpr_text.specs.AdvancedForm.{written};
+ghost use Rattle.spki_case.specs.Case.{IsCaseText, IsOuter};
 ghost use Rattle.spki_case.specs.View.{model};
-ghost use Rattle.spki_guard.specs.Answer.{form_of, IsAnswer, AnswersValue, RefusesValue, AnswersRead, RefusesAnswer, RefusesAsLong, Decides, Reduces, Explains, IsLineOf, refused_line, output_octets, written_by};
+ghost use Rattle.spki_guard.specs.TextAnswers.{form_of, IsAnswer, AnswersValue, RefusesValue, AnswersRead, RefusesAnswer, RefusesAsLong, Decides, Reduces, Explains, IsLineOf, refused_line, output_octets, written_by, RefusesForMemory};
 ghost use Rattle.spki_guard.specs.Lines.{refused_memory};
-ghost use Rattle.spki_guard.specs.Run.{RefusesForMemory};
 ghost use Rattle.spki_guard.specs.Inner.Replies.{reply_verdict, Prints, PrintsAs, command_of, IsSourceOf};
 
 use crate::intersection::{IntersectFault, intersect};

@@ -1,8 +1,7 @@
 //! A sink that keeps at most so many octets.
 ghost use Rattle.std.specs.Prelude.{◌≡◌, ◌-◌, ◌^◌, ◌<◌, ◌≤◌, false, OnOk, IsErrOf};
 ghost use Rattle.sexpr_text.specs.Sinks.{count_of};
-ghost use Rattle.spki_guard.specs.Inner.Capped.{lender_of, kept_by, most_of, counter_of, has_failed, is_over, CappedTakes};
-ghost use Rattle.spki_guard.specs.Inner.CappedLaws.{capped_takes_nothing, capped_takes_both, capped_stays};
+ghost use Rattle.spki_guard.specs.Inner.Capped.{lender_of, kept_by, most_of, counter_of, has_failed, is_over, CappedTakes, capped_takes_nothing, capped_takes_both, capped_stays};
 
 use sexpr_text::{Counter, Sink};
 use spki_decision::GuardFault;

@@ -34,7 +34,7 @@ fn stop_name(stop: Stop) -> &'static str
 }
 
 /// Prints a number in decimal.
-#[tactic(auto, using(crate::proofs::Decimals::decimal_written))]
+#[tactic(auto, using(crate::proofs::ReportLines::decimal_written))]
 fn print_number<S: Sink>(number: usize, sink: &mut S)
     ensures { S.takes sink.old (decimal number) sink.new }
 {

@@ -1,10 +1,9 @@
 //! The lines of what a guard's entries become, printed one after another.
 ghost use Rattle.std.specs.Prelude.{◌≡◌, ◌++◌, ◌+◌, ◌<◌, ◌≤◌, false, ℕ, List, length, IfOk, IsErrOf};
 ghost use Rattle.spki_decision.specs.declared.reduction.EntryFold.{EntryFold};
-ghost use Rattle.spki_guard.specs.Answer.{written_by};
-ghost use Rattle.spki_guard.specs.Reports.{IsFoldLine, ReportsFolds};
-ghost use Rattle.spki_guard.specs.Inner.Printing.{HasPrinted, PrintsFolds, IsUnused, room_of, nothing_printed};
-ghost use Rattle.spki_guard.specs.Inner.Replies.{AreLongFolds};
+ghost use Rattle.spki_guard.specs.TextAnswers.{written_by};
+ghost use Rattle.spki_guard.specs.Lines.{IsFoldLine, ReportsFolds};
+ghost use Rattle.spki_guard.specs.Inner.Replies.{HasPrinted, PrintsFolds, IsUnused, room_of, nothing_printed, AreLongFolds};
 
 use crate::answers::{Answer, Output};
 use crate::capped_sink::CappedSink;

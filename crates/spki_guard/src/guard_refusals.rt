@@ -1,6 +1,6 @@
 //! The lines of refusals of access lists that are held, and of questions about them.
 ghost use Rattle.std.specs.Prelude.{◌≡◌, ◌++◌, OnOk, OnErr};
-ghost use Rattle.spki_guard.specs.HeldLines.{part_word, refused_list, refused_question};
+ghost use Rattle.spki_guard.specs.HeldQuestions.{part_word, refused_list, refused_question};
 
 use crate::lines::{
     kind_name, push_refused_form, push_refused_in, push_refused_memory, push_refused_part,

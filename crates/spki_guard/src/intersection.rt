@@ -2,7 +2,7 @@
 
 ghost use Rattle.std.specs.Prelude.{◌≡◌, ◌≢◌, ◌<◌, ◌↔◌, [], ◌∷◌, length, MatchOption, IfOk, IfErr, IsErrOf};
 ghost use Rattle.sexpr_core.specs.Value.{Value};
-ghost use Rattle.spki_case.specs.Texts.{IsOuter};
+ghost use Rattle.spki_case.specs.Case.{IsOuter};
 ghost use Rattle.spki_guard.specs.Intersect.{intersect_value, intersect_fault, Intersects, ValueNotMet, IsMetText, TextNotMet};
 
 use sexpr_core::syntax::{Members, Node};

@@ -4,16 +4,15 @@
 ghost use Rattle.std.specs.Prelude.{◌≡◌, ◌≢◌, ℕ, List, Bool};
 ghost use Rattle.spki_cert.specs.declared.entry.Entry.{Entry};
 ghost use Rattle.spki_decision.specs.declared.fault.GuardFault.TheVariants as guard;
-ghost use Rattle.spki_service.specs.Held.{Held, AreEntries};
+ghost use Rattle.spki_service.specs.AccessLists.{Held, AreEntries};
 ghost use Rattle.spki_service.specs.declared.question.Question.{Question};
 ghost use Rattle.spki_guard.specs.declared.answers.Refusal.{Refusal};
 ghost use Rattle.spki_guard.specs.declared.answers.Refusal.TheVariants as refusals;
 ghost use Rattle.spki_guard.specs.declared.answers.Verdict.{Verdict};
 ghost use Rattle.spki_guard.specs.declared.question_answers.Query.{Query};
 ghost use Rattle.spki_guard.specs.declared.intersection.IntersectFault.TheVariants as intersect;
-ghost use Rattle.spki_guard.specs.Answer.{AnswersRead, RefusesAnswer};
-ghost use Rattle.spki_guard.specs.Held.{IsAnswerHeld, HasOtherCount, IsUnreadQuestion};
-ghost use Rattle.spki_guard.specs.Run.{RefusesForMemory};
+ghost use Rattle.spki_guard.specs.TextAnswers.{AnswersRead, RefusesAnswer, RefusesForMemory};
+ghost use Rattle.spki_guard.specs.HeldQuestions.{IsAnswerHeld, HasOtherCount, IsUnreadQuestion};
 ghost use Rattle.spki_words.specs.declared.commands.Command.{Command};
 
 /// A text has one answer of a command, unless memory ran out. It has at most one output and verdict and no refusal, or one refusal,

@@ -15,7 +15,7 @@ use std::alloc::{AllocError, Global};
 /// # Errors
 ///
 /// `AllocError` if memory ran out. Then the output does not change.
-#[tactic(auto, using(crate::proofs::Decimals::decimal_written))]
+#[tactic(auto, using(crate::proofs::ReportLines::decimal_written))]
 pub fn push_yes_entry(alloc: Global, out: &mut Vec<u8>, entry: usize) -> Result<(), AllocError>
     ensures ok { OnOk result (out.new.items ≡ out.old.items ++ yes_entry entry) }
     ensures err { OnErr result (out.new.items ≡ out.old.items) }
@@ -84,7 +84,7 @@ pub fn push_refused_part(
 
 /// Appends `refused PART N KIND` and a line feed to the output; `item` is N, counted from 1, or 0 for the whole part.
 /// Err if memory ran out; then the output does not change.
-#[tactic(auto, using(crate::proofs::Decimals::decimal_written))]
+#[tactic(auto, using(crate::proofs::ReportLines::decimal_written))]
 pub fn push_refused_item(
     alloc: Global,
     out: &mut Vec<u8>,
@@ -103,7 +103,7 @@ pub fn push_refused_item(
 
 /// Appends `refused PART N Tag KIND` and a line feed to the output, for a tag in item N; `item` is counted from 1. Err
 /// if memory ran out; then the output does not change.
-#[tactic(auto, using(crate::proofs::Decimals::decimal_written))]
+#[tactic(auto, using(crate::proofs::ReportLines::decimal_written))]
 pub fn push_refused_tag(
     alloc: Global,
     out: &mut Vec<u8>,
@@ -263,7 +263,7 @@ pub fn push_refused_intersect(
 
 /// Appends `refused TEXT KIND AT` and a line feed to the output; `at` is an offset in the text, from 0. Err if memory
 /// ran out; then the output does not change.
-#[tactic(auto, using(crate::proofs::Decimals::decimal_written))]
+#[tactic(auto, using(crate::proofs::ReportLines::decimal_written))]
 fn push_refused_at(
     alloc: Global,
     out: &mut Vec<u8>,

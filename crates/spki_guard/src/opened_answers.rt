@@ -1,9 +1,9 @@
 //! The answers to questions that were opened for a guard, as lines.
 ghost use Rattle.std.specs.Prelude.{◌≡◌, ◌⊎◌, IfOk, IfErr, IfSome, IsNone};
-ghost use Rattle.spki_service.specs.Opened.{IsOpened};
+ghost use Rattle.spki_service.specs.GuardQuestions.{IsOpened};
 ghost use Rattle.spki_service.specs.declared.question.Question.{Question};
-ghost use Rattle.spki_guard.specs.Answer.{written_by};
-ghost use Rattle.spki_guard.specs.Held.{IsAnswerHeld, HasOtherCount, IsUnreadQuestion};
+ghost use Rattle.spki_guard.specs.TextAnswers.{written_by};
+ghost use Rattle.spki_guard.specs.HeldQuestions.{IsAnswerHeld, HasOtherCount, IsUnreadQuestion};
 
 use crate::answers::{Answer, decision_line, out_of_memory};
 use crate::question_answers::{Query, answer_asked, refuse_question};

@@ -1,8 +1,7 @@
 //! Writes octets to a writer, a page at a time.
 ghost use Rattle.std.specs.Prelude.{◌≡◌, ℕ, ◌≤◌, ◌⊎◌, List, [], ◌∷◌, ◌++◌, false, IsTrue, max, OnOk, OnErr};
-ghost use Rattle.metered_io.specs.Metered.{asks_of, faults_of, flushed_of, Takes};
-ghost use Rattle.spki_guard.specs.Inner.Pages.{lender_of, writer_of, page_of, most_of, has_failed, IsPassedOn, IsCutAfter, PageTakes};
-ghost use Rattle.spki_guard.specs.Inner.PageLaws.{page_takes_nothing, page_takes_both, page_stays};
+ghost use Rattle.metered_io.specs.MeteredCalls.{asks_of, faults_of, flushed_of, Takes};
+ghost use Rattle.spki_guard.specs.Inner.Pages.{lender_of, writer_of, page_of, most_of, has_failed, IsPassedOn, IsCutAfter, PageTakes, page_takes_nothing, page_takes_both, page_stays};
 
 use arrayvec::ArrayVec;
 use metered_io::{Metered, WriteFault, flush_writer, write_octets};

@@ -1,11 +1,9 @@
 //! The answers to questions that are asked of a guard, as lines.
 ghost use Rattle.std.specs.Prelude.{◌≡◌, ◌≢◌, ◌⊎◌, length, IfOk, IfSome, IsNone, IsErrOf};
-ghost use Rattle.spki_decision.specs.Asked.{asked};
-ghost use Rattle.spki_guard.specs.Answer.{written_by};
-ghost use Rattle.spki_guard.specs.Held.{IsAnswerHeld, HasOtherCount, AnswersAsked, WritesAsked, IsTooLargeFor, marked};
-ghost use Rattle.spki_guard.specs.HeldLines.{refused_list, refused_question};
+ghost use Rattle.spki_decision.specs.Standing.{asked};
+ghost use Rattle.spki_guard.specs.TextAnswers.{written_by, RefusesForMemory};
+ghost use Rattle.spki_guard.specs.HeldQuestions.{IsAnswerHeld, HasOtherCount, AnswersAsked, WritesAsked, IsTooLargeFor, marked, refused_list, refused_question};
 ghost use Rattle.spki_guard.specs.Lines.{refused_memory};
-ghost use Rattle.spki_guard.specs.Run.{RefusesForMemory};
 
 use crate::answers::{Answer, Output, Refusal, Verdict, decision_line, out_of_memory, refuse};
 use crate::fold_printer::FoldPrinter;

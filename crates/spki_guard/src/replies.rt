@@ -1,9 +1,9 @@
 //! Replies: all that is printed for a text or a question, before it is printed.
 ghost use Rattle.std.specs.Prelude.{◌≡◌, ℕ, List, [], ◌∷◌, ◌++◌, ◌+◌, ◌<◌, ◌≤◌, length, IfOk, IfSome, IsErrOf};
-ghost use Rattle.sexpr_text.specs.Printed.{adv};
+ghost use Rattle.sexpr_text.specs.AdvancedForm.{adv};
 ghost use Rattle.spki_tag.specs.Tag.{tag_value};
-ghost use Rattle.spki_guard.specs.Answer.{written_by};
-ghost use Rattle.spki_guard.specs.Reports.{IsReductionReport, IsExplanationReport};
+ghost use Rattle.spki_guard.specs.TextAnswers.{written_by};
+ghost use Rattle.spki_guard.specs.Lines.{IsReductionReport, IsExplanationReport};
 ghost use Rattle.spki_guard.specs.Inner.Replies.{reply_verdict, Prints, PrintsAs};
 
 use crate::answers::{Answer, Output, Verdict};

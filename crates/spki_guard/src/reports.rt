@@ -1,10 +1,9 @@
 //! The lines of a case's reduction and explanation: one for each entry. Printing them allocates nothing.
 ghost use Rattle.std.specs.Prelude.{◌≡◌, ℕ, List, [], ◌∷◌};
 ghost use Rattle.sexpr_core.specs.Value.{Value};
-ghost use Rattle.sexpr_text.specs.Printed.{adv};
+ghost use Rattle.sexpr_text.specs.AdvancedForm.{adv};
 ghost use Rattle.spki_reduce.specs.Written.{IsWrittenFive};
-ghost use Rattle.spki_guard.specs.Lines.{entry_line};
-ghost use Rattle.spki_guard.specs.Reports.{verdict_of, IsFoldLine, AreFoldLines, is_done, some_done, is_grant, some_grant, reason_lines};
+ghost use Rattle.spki_guard.specs.Lines.{entry_line, verdict_of, IsFoldLine, AreFoldLines, is_done, some_done, is_grant, some_grant, reason_lines};
 
 use crate::answers::Verdict;
 use crate::entry_lines::{print_entry, print_reason, print_stopped};

@@ -1,9 +1,8 @@
 //! Runs a command, from the octets that are read to those that are written.
 ghost use Rattle.std.specs.Prelude.{◌≡◌, ℕ, ◌+◌, ◌<◌, ◌≤◌, ◌⊎◌, List, length, max, Option, Bool, IsTrue, IfNone, IfSome, OnSome, OnOk, OnErr};
-ghost use Rattle.metered_io.specs.Metered.{inner_of, asks_of, faults_of, ended_of, Gives, TakesNone};
-ghost use Rattle.spki_guard.specs.Answer.{IsAnswer, output_octets};
-ghost use Rattle.spki_guard.specs.Status.{answer_status};
-ghost use Rattle.spki_guard.specs.Run.{IsReply, IsFaulty, IsWritten, IsCutOff, RefusesForMemory};
+ghost use Rattle.metered_io.specs.MeteredCalls.{inner_of, asks_of, faults_of, ended_of, Gives, TakesNone};
+ghost use Rattle.spki_guard.specs.TextAnswers.{IsAnswer, output_octets, IsReply, IsFaulty, IsWritten, IsCutOff, RefusesForMemory};
+ghost use Rattle.spki_guard.specs.Program.{answer_status};
 ghost use Rattle.spki_guard.specs.Inner.Replies.{reply_verdict, Prints, IsSourceOf, IsTextRead, Sends};
 
 use crate::answers::{Answer, Output, Verdict, out_of_memory, refuse, reply_to};

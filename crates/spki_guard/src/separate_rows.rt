@@ -1,10 +1,9 @@
 //! Decisions on cases by separate accepted lists.
 ghost use Rattle.std.specs.Prelude.{◌≡◌, ◌≢◌, ◌<◌, ℕ, List, length, IfOk, IfErr, IsErrOf};
 ghost use Rattle.sexpr_core.specs.Value.{Value, canon};
-ghost use Rattle.sexpr_text.specs.Spelling.{IsTextWithin};
+ghost use Rattle.sexpr_text.specs.AdvancedForm.{IsTextWithin};
 ghost use Rattle.spki_case.specs.View.{model};
-ghost use Rattle.spki_guard.specs.Answer.{RefusesAsLong, written_by};
-ghost use Rattle.spki_guard.specs.Apart.{IsAnswerApart, DecidesApart, DecidesBy, RefusesApart, RefusesBy, RefusesRowsForm};
+ghost use Rattle.spki_guard.specs.TextAnswers.{RefusesAsLong, written_by, IsAnswerApart, DecidesApart, DecidesBy, RefusesApart, RefusesBy, RefusesRowsForm};
 ghost use Rattle.spki_guard.specs.declared.answers.Refusal.{Refusal};
 ghost use Rattle.spki_guard.specs.declared.answers.Verdict.{Verdict};
 

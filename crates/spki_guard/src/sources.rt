@@ -1,12 +1,10 @@
 //! What a command reads of a text.
 ghost use Rattle.std.specs.Prelude.{◌≡◌, ◌≢◌, ◌↔◌, ◌<◌, length, IsTrue, IfOk, IfErr, IfSome, IsNone, IsOkAnd, IsErrOf, MatchOption};
 ghost use Rattle.sexpr_core.specs.Value.{Value};
-ghost use Rattle.sexpr_text.specs.Spelling.{IsTextWithin};
-ghost use Rattle.sexpr_text.specs.Written.{written};
-ghost use Rattle.spki_case.specs.CaseForm.{IsCaseText, ValueRefused};
-ghost use Rattle.spki_case.specs.Texts.{IsTextOf};
+ghost use Rattle.sexpr_text.specs.AdvancedForm.{IsTextWithin, written};
+ghost use Rattle.spki_case.specs.Case.{IsCaseText, ValueRefused, IsTextOf};
 ghost use Rattle.spki_case.specs.View.{model};
-ghost use Rattle.spki_guard.specs.Answer.{form_of, IsOnCase, RefusesAnswer};
+ghost use Rattle.spki_guard.specs.TextAnswers.{form_of, IsOnCase, RefusesAnswer};
 ghost use Rattle.spki_guard.specs.Inner.Replies.{command_of, IsSourceOf};
 ghost use Rattle.spki_guard.specs.declared.answers.Refusal.{Refusal};
 

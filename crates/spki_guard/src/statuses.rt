@@ -1,7 +1,7 @@
 //! How a run ends.
 
 ghost use Rattle.std.specs.Prelude.{◌≡◌};
-ghost use Rattle.spki_guard.specs.Status.{answer_status, exit_code};
+ghost use Rattle.spki_guard.specs.Program.{answer_status, exit_code};
 
 use crate::answers::Verdict;
 

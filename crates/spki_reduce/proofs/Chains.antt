@@ -9,24 +9,19 @@ use Rattle.std.proofs.lemmas.Option.{slice_get_within, get_or_from_slice_get, sl
 use Rattle.spki_cert.specs.declared.principal.Policy.{Policy}
 use Rattle.spki_cert.specs.Time.{within}
 use Rattle.spki_tag.specs.Tag.{Tag, contains, set, none}
-use Rattle.spki_tag.proofs.Bounds.{nodes-some}
+use Rattle.spki_tag.proofs.MeetSizes.{nodes-some}
 use Rattle.spki_reduce.specs.declared.fold.Cause.{Cause}
 use Rattle.spki_reduce.specs.declared.fold.Cause.TheVariants.{NotIssuer, NotTheName, NoDelegation, NoValidity, NoTag}
 use Rattle.spki_reduce.specs.declared.tuple.Five.{Five}
 use Rattle.spki_reduce.specs.declared.tuple.Step.{Step}
-use Rattle.spki_reduce.specs.Tuples.{FiveTuple, Tuple, five, four, tags_of, windows_of}
-use Rattle.spki_reduce.specs.Rules.{Joins}
+use Rattle.spki_reduce.specs.Reduction.{FiveTuple, Tuple, five, four, tags_of, windows_of, Joins, Tree, leaf, join, leaves, Derives, from_left, NoMoment, NoRequest, met, nodes_product, five_tuple, step_tuple}
 use Rattle.std.specs.List.{list_all}
-use Rattle.spki_reduce.specs.Derivation.{Tree, leaf, join, leaves, Derives, from_left}
-use Rattle.spki_reduce.specs.Restrictions.{NoMoment, NoRequest, met, nodes_product}
-use Rattle.spki_reduce.specs.Stops.{Stops, TooLargeFor}
-use Rattle.spki_reduce.specs.Views.{five_tuple, step_tuple}
-use Rattle.spki_reduce.specs.Reduced.{BecomesFive}
+use Rattle.spki_reduce.specs.Joining.{Stops, TooLargeFor, BecomesFive}
 use Rattle.spki_reduce.specs.Chain.{tuples_of, FoldsTo, GoesThrough, StopsAt, HasMet, TooLargeAt, NoDerivation, Excludes, SupportsNothing, all_tags, all_windows}
-use Rattle.spki_reduce.proofs.Bracketing.{from_left-more, from_left-leaves, front, one_root}
-use Rattle.spki_reduce.proofs.Parts as parts
-use Rattle.spki_reduce.proofs.Folding as folding
-use Rattle.spki_reduce.proofs.Folding.{nodes_product-append, met_more, stops, grown}
+use Rattle.spki_reduce.proofs.Derivations.{from_left-more, from_left-leaves, front, one_root}
+use Rattle.spki_reduce.proofs.Derivations as parts
+use Rattle.spki_reduce.proofs.ReducedForms as folding
+use Rattle.spki_reduce.proofs.ReducedForms.{nodes_product-append, met_more, stops, grown}
 
 -- ---- lists
 

@@ -5,13 +5,10 @@ use Rattle.spki_cert.specs.declared.principal.Principal.TheVariants.{Key}
 use Rattle.spki_tag.specs.Tag.{star}
 use Rattle.spki_tag.specs.Request.{Request}
 use Rattle.spki_cert.specs.declared.window.Window.{Window}
-use Rattle.spki_reduce.specs.Tuples.{FiveTuple, FourTuple, Tuple, own, key, five, four}
-use Rattle.spki_reduce.specs.Rules.{Joins, Delegate, delegated}
-use Rattle.spki_reduce.specs.Derivation.{Tree, leaf, join, leaves, Derives, from_left}
-use Rattle.spki_reduce.specs.Supports.{Supports}
+use Rattle.spki_reduce.specs.Reduction.{FiveTuple, FourTuple, Tuple, own, key, five, four, Joins, Delegate, delegated, Tree, leaf, join, leaves, Derives, from_left, Supports}
 use Rattle.spki_reduce.specs.declared.fold.Cause.TheVariants.{NotTheName, NoDelegation}
-use Rattle.spki_reduce.specs.Stops.{Stops}
-use Rattle.spki_reduce.proofs.Bracketing.{bracketed}
+use Rattle.spki_reduce.specs.Joining.{Stops}
+use Rattle.spki_reduce.proofs.Derivations.{bracketed}
 
 -- the keys a, b and c
 abbrev ka : List ℕ

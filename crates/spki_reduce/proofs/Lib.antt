@@ -1,14 +1,8 @@
-pub mod Bracketing
+pub mod Derivations
 pub mod Examples
-pub mod Between
-pub mod Parts
-pub mod Policies
-pub mod Pairs
-pub mod Folding
+pub mod ReducedForms
 pub mod Chains
 pub mod Through
 pub mod Working
-pub mod Lacking
-pub mod OneFive
-pub mod OneFold
+pub mod Uniqueness
 pub mod WrittenNames

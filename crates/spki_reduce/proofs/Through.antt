@@ -16,14 +16,11 @@ use Rattle.spki_reduce.specs.declared.fold.Cause.TheVariants.{NotIssuer, NotTheN
 use Rattle.spki_reduce.specs.declared.tuple.Five.{Five}
 use Rattle.spki_reduce.specs.declared.tuple.Step.{Step}
 use Rattle.spki_reduce.specs.declared.tuple.Step.TheVariants.{Auth, Name}
-use Rattle.spki_reduce.specs.Views.{five_tuple, four_tuple, step_tuple}
-use Rattle.spki_reduce.specs.Tuples.{FiveTuple, Tuple, five, four, tags_of, windows_of}
-use Rattle.spki_reduce.specs.Derivation.{Derives, from_left}
-use Rattle.spki_reduce.specs.Restrictions.{within_each, SomeMoment, NoMoment, met}
-use Rattle.spki_reduce.specs.Stops.{Stops, TooLargeFor}
+use Rattle.spki_reduce.specs.Reduction.{five_tuple, four_tuple, step_tuple, FiveTuple, Tuple, five, four, tags_of, windows_of, Derives, from_left, within_each, SomeMoment, NoMoment, met}
+use Rattle.spki_reduce.specs.Joining.{Stops, TooLargeFor}
 use Rattle.spki_reduce.specs.Chain.{tuples_of, FoldsTo, HasMet, GoesThrough, StopsAt, TooLargeAt, all_tags, all_windows}
-use Rattle.spki_reduce.proofs.Bracketing.{from_left-leaves, one_root}
-use Rattle.spki_reduce.proofs.Folding.{too_large_back}
+use Rattle.spki_reduce.proofs.Derivations.{from_left-leaves, one_root}
+use Rattle.spki_reduce.proofs.ReducedForms.{too_large_back}
 use Rattle.spki_reduce.proofs.Chains.{IsMisfit, never, first_false, up_to, windows_so_far, underivable, excluded, one_more}
 
 -- ---- tags

@@ -5,13 +5,10 @@ use Rattle.spki_cert.specs.declared.principal.Policy.{Policy}
 use Rattle.spki_reduce.specs.declared.fold.Cause.{Cause}
 use Rattle.spki_reduce.specs.declared.tuple.Five.{Five}
 use Rattle.spki_reduce.specs.declared.tuple.Step.{Step}
-use Rattle.spki_reduce.specs.Tuples.{Tuple, tags_of}
-use Rattle.spki_reduce.specs.Views.{five_tuple, step_tuple}
-use Rattle.spki_reduce.specs.Restrictions.{nodes_product}
-use Rattle.spki_reduce.specs.Chain.{tuples_of, FoldsTo, HasMet, StopsAt}
-use Rattle.spki_reduce.specs.Work.{Reaches, ReachedAt, IsCost, IsWorkOf, IsCostOf, Takes, IsOver, IsOverworked}
-use Rattle.spki_reduce.proofs.Bracketing.{one_root}
-use Rattle.spki_reduce.proofs.Folding.{reaches, reaches_back}
+use Rattle.spki_reduce.specs.Reduction.{Tuple, tags_of, five_tuple, step_tuple, nodes_product}
+use Rattle.spki_reduce.specs.Chain.{tuples_of, FoldsTo, HasMet, StopsAt, Reaches, ReachedAt, IsCost, IsWorkOf, IsCostOf, Takes, IsOver, IsOverworked}
+use Rattle.spki_reduce.proofs.Derivations.{one_root}
+use Rattle.spki_reduce.proofs.ReducedForms.{reaches, reaches_back}
 use Rattle.spki_reduce.proofs.Chains.{step_stands, through}
 use Rattle.spki_reduce.proofs.Through.{AreTagged, unstopped}
 

@@ -3,10 +3,9 @@ use Rattle.std.proofs.Common.{◌≡◌, ℕ, ◌+◌, ◌<◌, List, [], ◌∷
 use Rattle.std.proofs.lemmas.List.{take_more}
 use Rattle.std.proofs.lemmas.Option.{slice_get-get_or, slice_get_within}
 use Rattle.sexpr_core.specs.declared.tree.Sexp.{Sexp}
-use Rattle.sexpr_core.specs.Tree.{sexp_value}
-use Rattle.sexpr_core.specs.Value.{Value, plain}
-use Rattle.spki_cert.specs.Subjects.{plains}
-use Rattle.spki_cert.proofs.SubjectLaws.{plains-push}
+use Rattle.sexpr_core.specs.Value.{sexp_value, Value, plain}
+use Rattle.spki_cert.specs.Fields.{plains}
+use Rattle.spki_cert.proofs.SubjectFaultLaws.{plains-push}
 
 map_push : (ts : List Sexp) (t : Sexp) → map sexp_value (ts ++ t ∷ []) ≡ map sexp_value ts ++ sexp_value t ∷ []
 map_push [] t = refl

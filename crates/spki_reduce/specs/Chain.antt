@@ -1,5 +1,6 @@
--- What a chain of tuples becomes when it is joined from the left (RFC 2693, section 6.3).
-use Rattle.std.specs.Prelude.{◌≡◌, ◌≢◌, ℕ, ◌<◌, suc, List, [], ◌∷◌, Some, map, take, flat_map, slice_get}
+-- Chains of tuples that are joined from the left (RFC 2693, section 6.3): what a chain becomes, where and why it
+-- stops, and the work of folding it.
+use Rattle.std.specs.Prelude.{◌≡◌, ◌≢◌, ℕ, ◌<◌, suc, List, [], ◌∷◌, Some, map, take, flat_map, slice_get, ◌⊎◌, zero, ◌+◌, ◌≤◌, ◌++◌, length, Option, None}
 use Rattle.spki_cert.specs.declared.principal.Policy.{Policy}
 use Rattle.spki_tag.specs.Request.{Request, IsRequest}
 use Rattle.spki_tag.specs.Tag.{Tag, set, none}
@@ -10,13 +11,11 @@ use Rattle.spki_reduce.specs.declared.fold.Fold.{Fold}
 use Rattle.spki_reduce.specs.declared.fold.Fold.TheVariants.{Done, Stopped}
 use Rattle.spki_reduce.specs.declared.tuple.Five.{Five}
 use Rattle.spki_reduce.specs.declared.tuple.Step.{Step}
-use Rattle.spki_reduce.specs.Tuples.{FiveTuple, Tuple, five, tags_of, windows_of}
-use Rattle.spki_reduce.specs.Derivation.{Tree, leaves, Derives, from_left}
-use Rattle.spki_reduce.specs.Supports.{Supports}
-use Rattle.spki_reduce.specs.Views.{step_tuple}
-use Rattle.spki_reduce.specs.Restrictions.{SomeMoment, NoMoment, NoRequest, met, nodes_product}
-use Rattle.spki_reduce.specs.Stops.{Stops, TooLargeFor}
-use Rattle.spki_reduce.specs.Reduced.{ReducesToFive}
+use Rattle.spki_reduce.specs.Reduction.{FiveTuple, Tuple, five, tags_of, windows_of, Tree, leaves, Derives, from_left, Supports, step_tuple, SomeMoment, NoMoment, NoRequest, met, nodes_product, FourTuple, four, Begins}
+use Rattle.spki_reduce.specs.Joining.{Stops, TooLargeFor, ReducesToFive, JoinButForTags}
+use Rattle.spki_reduce.specs.declared.work.Work.{Work}
+
+-- ---- what a chain of tuples becomes when it is joined from the left (RFC 2693, section 6.3)
 
 -- the tuples of some steps
 abbrev pub tuples_of : List Step → List Tuple
@@ -99,3 +98,78 @@ SupportsNothing policy tuples =
 abbrev pub MatchFold : Fold → (Five → Type 0) → (ℕ → Cause → Type 0) → Type 0
 MatchFold (Done f) P Q = P f
 MatchFold (Stopped step cause) P Q = Q step cause
+
+-- ---- the work of a chain
+
+-- The work of folding a chain: for each step that is reached, the product of the nodes of the intersection so far and
+-- of the step's tag (RFC 2693, section 6.3.1). A definition has no tag, and counts with the nodes of the intersection
+-- so far.
+
+-- A definition resolves the first name of an authorization's subject, and some moment is within all their windows.
+pub record ResolvesTimely (policy : Policy) (left : FiveTuple) (right : FourTuple) : Type 0 where
+  pub begins : Begins policy left.principal left.names right
+  pub timely : SomeMoment (left.windows ++ right.windows)
+
+-- a tuple joins an authorization, whatever their tags are
+abbrev pub Reaches : Policy → FiveTuple → Tuple → Type 0
+Reaches policy left (five right) = JoinButForTags policy left right
+Reaches policy left (four right) = ResolvesTimely policy left right
+
+-- A chain reaches a place, counted from 0: no step before it stops the chain, and its tuple joins, whatever its tag is.
+pub record ReachedAt (policy : Policy) (first : Tuple) (others : List Tuple) (place : ℕ) : Type 0 where
+  pub tuple : Tuple
+  pub stands : slice_get others place ≡ Some tuple
+  pub root : FiveTuple
+  pub before : GoesThrough policy first (take place others) root
+  pub joins : Reaches policy root tuple
+
+-- The cost of a place: the product of the nodes of its tag and of the intersection of the tags before it; nothing if it is not reached.
+abbrev pub IsCost : Policy → Tuple → List Tuple → ℕ → ℕ → Type 0
+IsCost policy first others place n =
+    ((at : ReachedAt policy first others place)
+    × (n ≡ nodes_product (met (all_tags (first ∷ take place others)) ∷ tags_of at.tuple)))
+    ⊎ ((ReachedAt policy first others place → ⊥) × (n ≡ 0))
+
+-- the work of so many steps of a chain: the sum of their costs
+abbrev pub IsWorkOf : Policy → Tuple → List Tuple → ℕ → ℕ → Type 0
+IsWorkOf policy first others zero n = n ≡ 0
+IsWorkOf policy first others (suc place) n =
+    (before : ℕ) × (here : ℕ) × IsWorkOf policy first others place before × IsCost policy first others place here × (n ≡ before + here)
+
+-- the work of a whole chain
+abbrev pub IsWork : Policy → Tuple → List Tuple → ℕ → Type 0
+IsWork policy first others n = IsWorkOf policy first others (length others) n
+
+-- ---- bounds
+
+-- how much work may still be done; None if there is no bound
+abbrev pub left_of : Work → Option ℕ
+left_of work = work.left
+
+-- work is taken from what may still be done
+abbrev pub Takes : Option ℕ → Option ℕ → ℕ → Type 0
+Takes None None n = Unit {0}
+Takes None (Some new) n = ⊥
+Takes (Some old) None n = ⊥
+Takes (Some old) (Some new) n = new + n ≡ old
+
+-- it is more than may still be done
+abbrev pub IsOver : Option ℕ → ℕ → Type 0
+IsOver None n = ⊥
+IsOver (Some left) n = left < n
+
+-- the work of some steps of a chain is more than may still be done
+pub record IsOverworked (left : Option ℕ) (policy : Policy) (first : Tuple) (others : List Tuple) : Type 0 where
+  pub steps : ℕ
+  pub within : steps ≤ length others
+  pub work : ℕ
+  pub is : IsWorkOf policy first others steps work
+  pub over : IsOver left work
+
+-- ---- one step
+
+-- the cost of joining an authorization that has this tag with a tuple
+abbrev pub IsCostOf : Policy → FiveTuple → Tag → Tuple → ℕ → Type 0
+IsCostOf policy left tag right n =
+    (Reaches policy left right × (n ≡ nodes_product (tag ∷ tags_of right)))
+    ⊎ ((Reaches policy left right → ⊥) × (n ≡ 0))

@@ -7,7 +7,7 @@ use Rattle.spki_cert.specs.declared.principal.Principal.{Principal}
 use Rattle.spki_cert.specs.declared.principal.Principal.TheVariants as principal
 use Rattle.spki_cert.specs.declared.window.Window.{Window}
 use Rattle.spki_cert.specs.Readings.{alg_name}
-use Rattle.spki_cert.specs.Subjects.{plains}
+use Rattle.spki_cert.specs.Fields.{plains}
 use Rattle.spki_reduce.specs.declared.tuple.Issuer.{Issuer}
 use Rattle.spki_reduce.specs.declared.tuple.Issuer.TheVariants as issuer
 use Rattle.spki_reduce.specs.declared.tuple.Five.{Five}

@@ -2,7 +2,7 @@
 
 ghost use Rattle.std.specs.Prelude.{◌≡◌};
 ghost use Rattle.spki_reduce.specs.declared.fault.ReduceFault.TheVariants.{Memory};
-ghost use Rattle.spki_reduce.specs.Refusal.{refusal};
+ghost use Rattle.spki_reduce.specs.Joining.{refusal};
 
 use spki_tag::MeetFault;
 use std::alloc::{AllocError, AllocFailed};

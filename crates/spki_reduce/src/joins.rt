@@ -5,12 +5,9 @@ ghost use Rattle.spki_cert.specs.Naming.{names};
 ghost use Rattle.spki_cert.specs.Time.{IsMeet, Overlap};
 ghost use Rattle.spki_tag.specs.Tag.{nodes, set, none};
 ghost use Rattle.spki_tag.specs.Meet.{meet};
-ghost use Rattle.spki_reduce.specs.Tuples.{five, four};
-ghost use Rattle.spki_reduce.specs.Views.{five_tuple, four_tuple};
-ghost use Rattle.spki_reduce.specs.Rules.{IsFor, Issues, Begins};
-ghost use Rattle.spki_reduce.specs.Stops.{Stops, JoinButForTags};
-ghost use Rattle.spki_reduce.specs.Work.{ResolvesTimely};
-ghost use Rattle.spki_reduce.specs.Reduced.{BecomesFive, BecomesFour, IsHandedOn, MatchJoined};
+ghost use Rattle.spki_reduce.specs.Reduction.{five, four, five_tuple, four_tuple, IsFor, Issues, Begins};
+ghost use Rattle.spki_reduce.specs.Joining.{Stops, JoinButForTags, BecomesFive, BecomesFour, IsHandedOn, MatchJoined};
+ghost use Rattle.spki_reduce.specs.Chain.{ResolvesTimely};
 
 use crate::fault::ReduceFault;
 use crate::fold::{Cause, Joined};

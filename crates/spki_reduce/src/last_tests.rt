@@ -1,12 +1,9 @@
 //! What an authorization lacks to grant a request (RFC 2693, section 6.3).
 
 ghost use Rattle.std.specs.Prelude.{◌≡◌, ◌↔◌, List, IsNone};
-ghost use Rattle.spki_reduce.specs.Tuples.{FiveTuple, Tuple, own};
-ghost use Rattle.spki_reduce.specs.Views.{issuer_of};
-ghost use Rattle.spki_reduce.specs.Supports.{Grants};
-ghost use Rattle.spki_reduce.specs.Reduced.{ReducesToFive};
+ghost use Rattle.spki_reduce.specs.Reduction.{FiveTuple, Tuple, own, issuer_of, Grants, IsFirstDenial, IsSupported};
+ghost use Rattle.spki_reduce.specs.Joining.{ReducesToFive};
 ghost use Rattle.spki_reduce.specs.Chain.{FoldsTo};
-ghost use Rattle.spki_reduce.specs.LastTests.{IsFirstDenial, IsSupported};
 
 use crate::tuple::Five;
 use spki_cert::{Date, Key, Policy};

@@ -2,7 +2,7 @@
 //! each definition of a name that is applied, the number of nodes of the tag before it.
 
 ghost use Rattle.std.specs.Prelude.{◌≡◌, OnOk, IfErr, OnErr};
-ghost use Rattle.spki_reduce.specs.Work.{left_of, Takes, IsOver};
+ghost use Rattle.spki_reduce.specs.Chain.{left_of, Takes, IsOver};
 
 use crate::fault::ReduceFault;
 

@@ -1,9 +1,8 @@
 //! Writes authorizations as S-expressions.
 
 ghost use Rattle.std.specs.Prelude.{◌≡◌, List, [], ◌∷◌, ◌++◌, IfOk, OnOk, map};
-ghost use Rattle.sexpr_core.specs.Value.{Value, canon, plain};
-ghost use Rattle.sexpr_core.specs.Tree.{sexp_value};
-ghost use Rattle.spki_cert.specs.Subjects.{plains};
+ghost use Rattle.sexpr_core.specs.Value.{Value, canon, plain, sexp_value};
+ghost use Rattle.spki_cert.specs.Fields.{plains};
 ghost use Rattle.spki_reduce.specs.Written.{headed, IsWrittenPrincipal, IsWrittenIssuer, named, delegation_values, limit_values, in_valid, window_limits, IsWrittenFive};
 
 use crate::tuple::{Five, Issuer};

@@ -13,8 +13,8 @@ use Rattle.jiff_core.proofs.MarchLemmas.{day_count-early}
 use Rattle.jiff_core.proofs.CalendarLemmas.{days_in_month_bounds, days_from_civil-day_count, day_count-day_of_year}
 use Rattle.jiff_core.proofs.DateLemmas.{civil, epoch_day_injective, epoch_day-lt}
 use Rattle.jiff_core.proofs.DateTimeLemmas.{civil_nanos-parts, civil_nanos_range, civil_nanos_injective, time_nanos_bound, time_nanos_injective}
-use Rattle.spki_tag.specs.Time.{is_digit, is_time, is_date}
-use Rattle.spki_service.specs.Moment.{date_octets, IsDateAt, IsAtNoDate}
+use Rattle.spki_tag.specs.Tag.{is_digit, is_time, is_date}
+use Rattle.spki_service.specs.Questions.{date_octets, IsDateAt, IsAtNoDate}
 
 -- ---- the moment as a date and a time of day
 

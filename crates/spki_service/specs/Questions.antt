@@ -1,10 +1,15 @@
--- The parts of a question, and why a question is refused.
-use Rattle.std.specs.Prelude.{◌≡◌, ◌≢◌, ℕ, ◌+◌, List, [], ◌∷◌, map, length, Some}
+-- The parts of a question in any of the three forms, the case that they are, and why a question is refused: a part
+-- cannot be read, or there are too many certificates or strings.
+use Rattle.std.specs.Prelude.{◌≡◌, ◌≢◌, ◌⊎◌, ◌↔◌, ℕ, ◌<◌, ◌≤◌, List, length, ◌+◌, ◌*◌, ◌/◌, ◌%◌, [], ◌∷◌, ◌++◌, ℤ, pos, neg_ℤ, ◌+ℤ◌, ◌*ℤ◌, ◌<ℤ◌, map, Some, Bool, IsTrue}
 use Rattle.sexpr_core.specs.declared.fault.FormFault.{FormFault}
-use Rattle.sexpr_core.specs.Value.{Value, plain, group, canon}
-use Rattle.sexpr_text.specs.Spelling.{IsTextWithin}
+use Rattle.sexpr_core.specs.declared.fault.FormFault.TheVariants as form
+use Rattle.sexpr_core.specs.Value.{Value, canon, plain, group, Values, string, list, none, more, IsWithinLimits}
+use Rattle.sexpr_text.specs.AdvancedForm.{IsTextWithin}
+use Rattle.sexpr_text.specs.Refusal.{RefusesText}
+use Rattle.jiff_core.specs.Calendar.{IsCivilDate, days_from_civil}
+use Rattle.sexpr_core.specs.Characters.{char}
 use Rattle.spki_tag.specs.Request.{Request}
-use Rattle.spki_tag.specs.FaultOf.{request_fault}
+use Rattle.spki_tag.specs.Faults.{request_fault}
 use Rattle.spki_tag.specs.declared.fault.TagFault.{TagFault}
 use Rattle.spki_tag.specs.declared.fault.TagFault.TheVariants as tag_faults
 use Rattle.spki_cert.specs.declared.fault.CertFault.{CertFault}
@@ -12,11 +17,10 @@ use Rattle.spki_cert.specs.declared.fault.CertFaultKind.{CertFaultKind}
 use Rattle.spki_cert.specs.declared.fault.CertFaultKind.TheVariants as kinds
 use Rattle.spki_cert.specs.declared.certificate.SeqItem.{SeqItem}
 use Rattle.spki_cert.specs.Readings.{KeyOf, DateOf}
-use Rattle.spki_cert.specs.Sequences.{SeqOf}
-use Rattle.spki_cert.specs.SequenceFaults.{sequence_fault}
-use Rattle.spki_cert.specs.FixedFaults.{key_fault}
-use Rattle.spki_case.specs.Case.{Case}
-use Rattle.spki_case.specs.CaseForm.{RequestOf}
+use Rattle.spki_cert.specs.Structures.{SeqOf}
+use Rattle.spki_cert.specs.StructureFaults.{sequence_fault}
+use Rattle.spki_cert.specs.FieldFaults.{key_fault}
+use Rattle.spki_case.specs.Case.{Case, RequestOf}
 use Rattle.spki_service.specs.declared.question.Question.{Question}
 use Rattle.spki_service.specs.declared.question.RequestInput as wanted
 use Rattle.spki_service.specs.declared.question.RequestInput.TheVariants as requests
@@ -26,8 +30,77 @@ use Rattle.spki_service.specs.declared.question.Part.{Part}
 use Rattle.spki_service.specs.declared.question.Part.TheVariants as parts
 use Rattle.spki_service.specs.declared.question.AskFault.{AskFault}
 use Rattle.spki_service.specs.declared.question.AskFault.TheVariants as faults
-use Rattle.spki_service.specs.Form.{RefusesForm, Reads, LacksForm}
-use Rattle.spki_service.specs.Moment.{IsDateAt, IsAtNoDate}
+use Rattle.spki_cert.specs.declared.certificate.SeqItem.TheVariants.{Auth, Name}
+use Rattle.spki_service.specs.declared.texts.PartText.{PartText}
+use Rattle.spki_service.specs.declared.texts.PartText.TheVariants.{Standing, Made, Malformed}
+
+-- ---- the value that a text in any of the three forms is read as, and why it is read as none
+
+-- The text spells and braces no value within the limits, and this is its fault. The fault is TooLong exactly if the text has more
+-- than 1,048,576 octets.
+pub record RefusesForm (text : List ℕ) (fault : FormFault) : Type 0 where
+  pub found : fault ≢ form.Memory
+  pub none : (v : Value) → ¬ IsTextWithin text v
+  pub long : (fault ≡ form.TooLong) ↔ (1048576 < length text)
+  pub refused : RefusesText text fault
+
+-- The part means a value for which the statement is true, and whose canonical form has at most 1,048,576 octets.
+pub record Reads (means said : Value → Type 0) : Type 0 where
+  pub value : Value
+  pub meant : means value
+  pub short : length (canon value) ≤ 1048576
+  pub is : said value
+
+-- The part means a value whose canonical form has more than 1,048,576 octets, and the fault is TooLong.
+pub record IsOverlong (means : Value → Type 0) (fault : FormFault) : Type 0 where
+  pub value : Value
+  pub meant : means value
+  pub long : 1048576 < length (canon value)
+  pub named : fault ≡ form.TooLong
+
+-- The part has no value that is read, and this is the fault of its form. Its text is refused, or it means a value that is too
+-- long.
+abbrev pub LacksForm : (means : Value → Type 0) → (refuses : FormFault → Type 0) → FormFault → Type 0
+LacksForm means refuses fault = refuses fault ⊎ IsOverlong means fault
+
+-- ---- the date of a number of seconds since 1970-01-01 00:00:00 UTC
+
+-- a number below 100, in two digits
+abbrev pub two_digits : ℕ → List ℕ
+two_digits n = (char "0" + n / 10) ∷ (char "0" + n % 10) ∷ []
+
+-- YYYY-MM-DD_HH:MM:SS
+abbrev pub date_octets : (year month day hour minute second : ℕ) → List ℕ
+date_octets year month day hour minute second =
+    two_digits (year / 100)
+    ++ (two_digits (year % 100)
+    ++ char "-" ∷ (two_digits month
+    ++ char "-" ∷ (two_digits day
+    ++ char "_" ∷ (two_digits hour
+    ++ char ":" ∷ (two_digits minute
+    ++ char ":" ∷ two_digits second)))))
+
+-- The seconds are those of this date, on a clock in UTC whose days have 86,400 seconds each. The year is from 0 to 9999,
+-- in the Gregorian calendar.
+pub record IsDateAt (seconds : ℤ) (octets : List ℕ) : Type 0 where
+  pub year : ℕ
+  pub month : ℕ
+  pub day : ℕ
+  pub hour : ℕ
+  pub minute : ℕ
+  pub second : ℕ
+  pub civil : IsCivilDate (pos year) month day
+  pub hours : hour < 24
+  pub minutes : minute < 60
+  pub whole : second < 60
+  pub counted : seconds ≡ days_from_civil (pos year) month day *ℤ pos 86400 +ℤ pos (hour * 3600 + minute * 60 + second)
+  pub written : octets ≡ date_octets year month day hour minute second
+
+-- They are before 0000-01-01 00:00:00 or after 9999-12-31 23:59:59, so no such date has them.
+abbrev pub IsAtNoDate : ℤ → Type 0
+IsAtNoDate seconds = (seconds <ℤ neg_ℤ (pos 62_167_219_200)) ⊎ (pos 253_402_300_799 <ℤ seconds)
+
+-- ---- the parts of a question, and why a question is refused
 
 -- ---- requests as strings
 
@@ -151,3 +224,69 @@ moment_octets (moments.Seconds seconds) = 22
 -- the octets of the four parts together
 abbrev pub asked_octets : Question → ℕ
 asked_octets q = length q.sequence.now + (length q.key.now + (wanted_octets q.request + moment_octets q.moment))
+
+-- ---- how many certificates and strings a question has
+
+-- ---- certificates
+
+-- 1 for a certificate, of either kind, and 0 for another item
+abbrev pub certificate_count : SeqItem → ℕ
+certificate_count (Auth cert) = 1
+certificate_count (Name cert) = 1
+certificate_count _ = 0
+
+-- how many of the items are certificates
+abbrev pub certificates_in : List SeqItem → ℕ
+certificates_in [] = 0
+certificates_in (item ∷ items) = certificate_count item + certificates_in items
+
+-- ---- strings
+
+abbrev mutual
+  -- how many strings a value has
+  pub strings_in : Value → ℕ
+  strings_in (string hint octets) = 1
+  strings_in (list vs) = strings_all vs
+
+  pub strings_all : Values → ℕ
+  strings_all none = 0
+  strings_all (more v vs) = strings_in v + strings_all vs
+
+-- whether a value has more strings than `most`
+abbrev pub TellsStrings : ℕ → Bool → Value → Type 0
+TellsStrings most has_more v = IsTrue has_more ↔ (most < strings_in v)
+
+-- the same for the value of a text
+abbrev pub TellsStringsOf : ℕ → Bool → PartText → Type 0
+TellsStringsOf most has_more (Standing document) = TellsStrings most has_more document
+TellsStringsOf most has_more (Made octets) = (v : Value) → IsWithinLimits v → octets.items ≡ canon v → TellsStrings most has_more v
+TellsStringsOf most has_more (Malformed fault) = Unit {0}
+
+-- the request has at most so many strings
+abbrev pub HasFewStrings : ℕ → Question → Type 0
+HasFewStrings most q = Reads (IsWanted q.request) (λ v. strings_in v ≤ most)
+
+-- ---- refusals
+
+-- The question is read, and has more certificates.
+pub record HasManyCertificates (most : ℕ) (q : Question) : Type 0 where
+  pub case_read : Case
+  pub is : IsAskedCase q case_read
+  pub many : most < certificates_in case_read.items
+
+-- The question is read, and its request has more strings. It does not have too many certificates.
+pub record HasManyStrings (certificates most : ℕ) (q : Question) : Type 0 where
+  pub case_read : Case
+  pub is : IsAskedCase q case_read
+  pub few : certificates_in case_read.items ≤ certificates
+  pub many : Reads (IsWanted q.request) (λ v. most < strings_in v)
+
+abbrev pub IsTooMany : (certificates words : ℕ) → Question → AskFault → Type 0
+IsTooMany certificates words q faults.TooManyCertificates = HasManyCertificates certificates q
+IsTooMany certificates words q faults.TooManyWords = HasManyStrings certificates words q
+IsTooMany certificates words q _ = ⊥
+
+-- What a fault means for a question and these limits, except for Memory and TooLong: a part cannot be read; or all are read, and there
+-- are too many certificates or strings.
+abbrev pub IsRefused : (certificates words : ℕ) → Question → AskFault → Type 0
+IsRefused certificates words q fault = IsNotAsked q fault ⊎ IsTooMany certificates words q fault

@@ -32,10 +32,9 @@ impl<'a> Model for Asked<'a> {
     ghost use Rattle.spki_tag.specs.contracts.tag.Tag as tag;
     ghost use Rattle.spki_tag.specs.contracts.request.Ground as ground;
     ghost use Rattle.spki_case.specs.View.{model};
-    ghost use Rattle.spki_decision.specs.Asked.{asked, every};
+    ghost use Rattle.spki_decision.specs.Standing.{asked, every, signed_of};
     ghost use Rattle.spki_decision.specs.Judged.{IsEvidence};
-    ghost use Rattle.spki_decision.specs.Views.{signed_of};
-    ghost use Rattle.spki_service.specs.Asking.{AskedOf};
+    ghost use Rattle.spki_service.specs.GuardQuestions.{AskedOf};
 
     ghost Value = { AskedOf };
 

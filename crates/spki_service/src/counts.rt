@@ -3,9 +3,8 @@
 ghost use Rattle.std.specs.Prelude.{◌≡◌, ◌≢◌, ◌↔◌, ◌<◌, ◌≤◌, ◌+◌, IsTrue, IfOk, IfErr, MatchOption};
 ghost use Rattle.sexpr_core.specs.Value.{values};
 ghost use Rattle.spki_case.specs.View.{model};
-ghost use Rattle.spki_service.specs.Counted.{certificate_count, certificates_in, strings_in, strings_all, TellsStrings, TellsStringsOf, HasFewStrings, IsTooMany};
-ghost use Rattle.spki_service.specs.Questions.{IsAskedCase};
-ghost use Rattle.spki_service.specs.Texts.{IsTextsOf};
+ghost use Rattle.spki_service.specs.Questions.{certificate_count, certificates_in, strings_in, strings_all, TellsStrings, TellsStringsOf, HasFewStrings, IsTooMany, IsAskedCase};
+ghost use Rattle.spki_service.specs.GuardQuestions.{IsTextsOf};
 ghost use Rattle.spki_service.specs.declared.question.Question.{Question};
 
 use crate::limits::Limits;

@@ -1,7 +1,7 @@
 //! Moments as seconds.
 
 ghost use Rattle.std.specs.Prelude.{◌≡◌, ◌<◌, ◌+◌, ◌/◌, ◌%◌, ◌≤ℤ◌, ◌*ℤ◌, pos, unsigned_abs, MatchOption};
-ghost use Rattle.spki_service.specs.Moment.{date_octets, IsDateAt, IsAtNoDate};
+ghost use Rattle.spki_service.specs.Questions.{date_octets, IsDateAt, IsAtNoDate};
 
 use jiff_core::civil::DateTime;
 use spki_cert::Date;

@@ -3,8 +3,8 @@
 ghost use Rattle.std.specs.Prelude.{◌≡◌, ◌<◌, ◌∷◌, ◌++◌, [], ℕ, List, codes, length, map, drop, ◌+◌, slice_get, Some, IfOk};
 ghost use Rattle.sexpr_core.specs.Value.{Value, canon, group, plain};
 ghost use Rattle.spki_cert.specs.declared.entry.Entry.{Entry};
-ghost use Rattle.spki_cert.specs.Entries.{IsVersion};
-ghost use Rattle.spki_service.specs.Held.{IsEntryText, octets_of_texts};
+ghost use Rattle.spki_cert.specs.Structures.{IsVersion};
+ghost use Rattle.spki_service.specs.AccessLists.{IsEntryText, octets_of_texts};
 
 use sexpr_core::Doc;
 use sexpr_core::syntax::{Members, Node};

@@ -4,10 +4,8 @@ ghost use Rattle.std.specs.Prelude.{List, length, IfOk};
 ghost use Rattle.spki_cert.specs.declared.entry.Entry.{Entry};
 ghost use Rattle.spki_reduce.specs.Chain.{tuples_of};
 ghost use Rattle.spki_case.specs.View.{model};
-ghost use Rattle.spki_decision.specs.Views.{with_entries};
-ghost use Rattle.spki_service.specs.Held.{AreEntries, octets_of_texts};
-ghost use Rattle.spki_service.specs.Partly.{NamesPicked};
-ghost use Rattle.spki_service.specs.Picked.{AreNumbers, ArePicked};
+ghost use Rattle.spki_decision.specs.Standing.{with_entries};
+ghost use Rattle.spki_service.specs.AccessLists.{AreEntries, octets_of_texts, NamesPicked, AreNumbers, ArePicked};
 
 use crate::entry_texts::entry_in;
 use spki_case::Case;

@@ -4,14 +4,10 @@ ghost use Rattle.std.specs.Prelude.{◌≡◌, ◌≢◌, ◌↔◌, ◌⊎◌, 
 ghost use Rattle.std.specs.Option.{option_copied};
 ghost use Rattle.sexpr_core.specs.Value.{Value, canon, IsShallow};
 ghost use Rattle.spki_cert.specs.declared.entry.Entry.{Entry};
-ghost use Rattle.spki_case.specs.Texts.{IsOuter};
-ghost use Rattle.spki_service.specs.Held.{AreEntries, HasLimits, HoldsList, HoldsValue};
-ghost use Rattle.spki_service.specs.Kept.{numbers_from};
-ghost use Rattle.spki_service.specs.Lists.{IsNoAccessList, IsNoAcl, ListRefused};
-ghost use Rattle.spki_service.specs.Partly.{is_of};
-ghost use Rattle.spki_service.specs.Counted.{certificates_in, HasFewStrings, IsRefused};
-ghost use Rattle.spki_service.specs.Questions.{IsAskedCase, asked_octets};
-ghost use Rattle.spki_service.specs.Texts.{IsTextsOf};
+ghost use Rattle.spki_case.specs.Case.{IsOuter};
+ghost use Rattle.spki_service.specs.AccessLists.{AreEntries, HasLimits, HoldsList, HoldsValue, numbers_from, IsNoAccessList, IsNoAcl, ListRefused, is_of};
+ghost use Rattle.spki_service.specs.Questions.{certificates_in, HasFewStrings, IsRefused, IsAskedCase, asked_octets};
+ghost use Rattle.spki_service.specs.GuardQuestions.{IsTextsOf};
 ghost use Rattle.spki_service.specs.declared.question.Question.{Question};
 
 use crate::asked::Asked;
@@ -46,8 +42,7 @@ pub struct Guard {
 impl Model for Guard {
     ghost use Rattle.std.specs.Prelude.{List};
     ghost use Rattle.spki_cert.specs.declared.entry.Entry.{Entry};
-    ghost use Rattle.spki_service.specs.Held.{Held, AreEntries, octets_of_texts};
-    ghost use Rattle.spki_service.specs.Indexed.{IsIndexOf};
+    ghost use Rattle.spki_service.specs.AccessLists.{Held, AreEntries, octets_of_texts, IsIndexOf};
 
     ghost Value = { Held };
 

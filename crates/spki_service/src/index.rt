@@ -4,9 +4,8 @@ ghost use Rattle.std.specs.Prelude.{◌≡◌, ◌+◌, ◌∷◌, ◌++◌, [],
 ghost use Rattle.spki_cert.specs.declared.entry.Entry.{Entry};
 ghost use Rattle.spki_cert.specs.declared.hash.HashAlg.{HashAlg};
 ghost use Rattle.spki_cert.specs.Naming.{names, admits, digest_of};
-ghost use Rattle.spki_service.specs.Kept.{numbers_from};
-ghost use Rattle.spki_tag.specs.Merged.{merge};
-ghost use Rattle.spki_service.specs.Indexed.{is_key, is_hash, numbers_at, numbers_of_key, by_algorithm, IsIndexOf};
+ghost use Rattle.spki_service.specs.AccessLists.{numbers_from, is_key, is_hash, numbers_at, numbers_of_key, by_algorithm, IsIndexOf};
+ghost use Rattle.spki_tag.specs.Places.{merge};
 
 use spki_cert::{Algorithms, Entry, HashAlg, Key, Policy, Principal};
 use spki_tag::merged;

@@ -1,10 +1,8 @@
 //! Marks by which a service says which of the listed signatures are valid.
 
 ghost use Rattle.std.specs.Prelude.{◌≡◌, ◌↔◌, List, map, true, slice_get, Some, IsTrue};
-ghost use Rattle.spki_decision.specs.Asked.{IsAccepted, IsFirstRefused};
-ghost use Rattle.spki_decision.specs.Views.{signed_of};
-ghost use Rattle.spki_service.specs.Asking.{MarksAccept};
-ghost use Rattle.spki_service.specs.Marks.{AskSame};
+ghost use Rattle.spki_decision.specs.Standing.{IsAccepted, IsFirstRefused, signed_of};
+ghost use Rattle.spki_service.specs.GuardQuestions.{MarksAccept, AskSame};
 
 use spki_decision::Signed;
 

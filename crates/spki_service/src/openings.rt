@@ -1,13 +1,9 @@
 //! Opening of questions, and the answers of those that were opened.
 
 ghost use Rattle.std.specs.Prelude.{◌≡◌, ◌≢◌, ◌↔◌, ◌<◌, List, IfOk, IfErr, IsErrOf};
-ghost use Rattle.spki_decision.specs.Asked.{asked};
-ghost use Rattle.spki_service.specs.Asking.{Decides, MarksAccept, AskedOf};
-ghost use Rattle.spki_service.specs.KeptOf.{IsReadFrom, IsKeptOf};
-ghost use Rattle.spki_service.specs.Opened.{IsOpened};
-ghost use Rattle.spki_service.specs.Counted.{IsRefused};
-ghost use Rattle.spki_service.specs.Questions.{asked_octets};
-ghost use Rattle.spki_service.specs.Texts.{IsTextsOf};
+ghost use Rattle.spki_decision.specs.Standing.{asked};
+ghost use Rattle.spki_service.specs.GuardQuestions.{Decides, MarksAccept, AskedOf, IsReadFrom, IsKeptOf, IsOpened, IsTextsOf};
+ghost use Rattle.spki_service.specs.Questions.{IsRefused, asked_octets};
 ghost use Rattle.spki_service.specs.declared.question.Question.{Question};
 
 use crate::asked::Asked;

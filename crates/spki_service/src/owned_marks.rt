@@ -1,8 +1,8 @@
 //! Marks for signatures with texts of their own.
 
 ghost use Rattle.std.specs.Prelude.{◌≡◌, ◌↔◌, IsTrue};
-ghost use Rattle.spki_decision.specs.Asked.{IsAccepted, IsFirstRefused};
-ghost use Rattle.spki_service.specs.Asking.{MarksAccept};
+ghost use Rattle.spki_decision.specs.Standing.{IsAccepted, IsFirstRefused};
+ghost use Rattle.spki_service.specs.GuardQuestions.{MarksAccept};
 
 use crate::marks::is_true_at;
 use crate::owned_signed::OwnedSigned;

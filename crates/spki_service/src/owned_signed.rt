@@ -1,8 +1,8 @@
 //! Signatures that a verifier is asked about, with texts of their own.
 
 ghost use Rattle.std.specs.Prelude.{◌≡◌, ◌↔◌, ◌≤◌, map, length, IsTrue, IfOk, IfErr};
-ghost use Rattle.spki_decision.specs.Views.{signed_of};
-ghost use Rattle.spki_service.specs.Marks.{AskSame};
+ghost use Rattle.spki_decision.specs.Standing.{signed_of};
+ghost use Rattle.spki_service.specs.GuardQuestions.{AskSame};
 
 use spki_cert::Key;
 use spki_decision::Signed;
@@ -25,7 +25,7 @@ pub struct OwnedSigned {
 }
 
 impl Model for OwnedSigned {
-    ghost use Rattle.spki_decision.specs.Asked.{Signed};
+    ghost use Rattle.spki_decision.specs.Standing.{Signed};
 
     ghost Value = { Signed };
 

@@ -1,7 +1,7 @@
 //! The canonical texts of a question's parts, in memory of their own.
 
 ghost use Rattle.std.specs.Prelude.{IfOk};
-ghost use Rattle.spki_service.specs.Copies.{IsCopyOf, IsMomentCopy, AreCopies};
+ghost use Rattle.spki_service.specs.GuardQuestions.{IsCopyOf, IsMomentCopy, AreCopies};
 
 use crate::texts::{MomentText, PartText, Texts};
 use std::alloc::{AllocError, Global};

@@ -3,13 +3,11 @@
 ghost use Rattle.std.specs.Prelude.{◌≡◌, ◌≢◌, Some, IfOk, IfErr};
 ghost use Rattle.sexpr_core.specs.Value.{Value, canon, IsWithinLimits};
 ghost use Rattle.spki_cert.specs.Readings.{KeyOf, DateOf};
-ghost use Rattle.spki_cert.specs.Sequences.{SeqOf};
-ghost use Rattle.spki_case.specs.CaseForm.{RequestOf};
-ghost use Rattle.spki_case.specs.Sequence.{AreSigned};
-ghost use Rattle.spki_case.specs.Texts.{IsOuter};
+ghost use Rattle.spki_cert.specs.Structures.{SeqOf};
+ghost use Rattle.spki_case.specs.Case.{RequestOf, AreSigned, IsOuter};
 ghost use Rattle.spki_case.specs.View.{model};
 ghost use Rattle.spki_service.specs.Questions.{IsAskedCase, IsNotAsked};
-ghost use Rattle.spki_service.specs.Texts.{IsTextsOf, OfText, HasDate, NamesPart, NamesSequence, NamesKey, NamesRequest, NamesMoment, NamesDate};
+ghost use Rattle.spki_service.specs.GuardQuestions.{IsTextsOf, OfText, HasDate, NamesPart, NamesSequence, NamesKey, NamesRequest, NamesMoment, NamesDate};
 ghost use Rattle.spki_service.specs.declared.question.Question.{Question};
 
 use crate::limits::Limits;

@@ -16,7 +16,7 @@ pub struct SharedGuard {
 }
 
 impl Model for SharedGuard {
-    ghost use Rattle.spki_service.specs.Held.{Held};
+    ghost use Rattle.spki_service.specs.AccessLists.{Held};
 
     ghost Value = { Held };
 

@@ -3,13 +3,13 @@
 ghost use Rattle.std.specs.Prelude.{◌≡◌, ◌⊎◌, List, length, OnOk, IsErrOf};
 ghost use Rattle.spki_cert.specs.declared.entry.Entry.{Entry};
 ghost use Rattle.spki_reduce.specs.Chain.{tuples_of};
-ghost use Rattle.spki_case.specs.Sequence.{certificates};
+ghost use Rattle.spki_case.specs.Case.{certificates};
 ghost use Rattle.spki_case.specs.View.{model};
 ghost use Rattle.spki_decision.specs.declared.reduction.EntryFold.{EntryFold};
-ghost use Rattle.spki_decision.specs.Reduced.{HasLargeTags, HasMuchWork};
-ghost use Rattle.spki_decision.specs.Views.{with_entries};
-ghost use Rattle.spki_service.specs.Folded.{AreTextFolds};
-ghost use Rattle.spki_service.specs.Held.{AreEntries, octets_of_texts};
+ghost use Rattle.spki_decision.specs.Granted.{HasLargeTags, HasMuchWork};
+ghost use Rattle.spki_decision.specs.Standing.{with_entries};
+ghost use Rattle.spki_service.specs.GuardQuestions.{AreTextFolds};
+ghost use Rattle.spki_service.specs.AccessLists.{AreEntries, octets_of_texts};
 
 use crate::entry_texts::entry_in;
 use spki_case::Case;

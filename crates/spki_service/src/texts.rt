@@ -2,10 +2,9 @@
 
 ghost use Rattle.std.specs.Prelude.{◌≡◌, ◌≢◌, ◌<◌, ◌⊎◌, ◌↔◌, map, length, IsTrue, IfOk, IfErr, IsErrOf};
 ghost use Rattle.sexpr_core.specs.Value.{Value, canon};
-ghost use Rattle.sexpr_text.specs.Spelling.{IsTextWithin};
-ghost use Rattle.spki_service.specs.Form.{RefusesForm};
-ghost use Rattle.spki_service.specs.Questions.{words_value, asked_octets, IsWanted, RefusesWanted};
-ghost use Rattle.spki_service.specs.Texts.{IsReadAs, IsTextsOf, IsMomentText, IsMade};
+ghost use Rattle.sexpr_text.specs.AdvancedForm.{IsTextWithin};
+ghost use Rattle.spki_service.specs.Questions.{RefusesForm, words_value, asked_octets, IsWanted, RefusesWanted};
+ghost use Rattle.spki_service.specs.GuardQuestions.{IsReadAs, IsTextsOf, IsMomentText, IsMade};
 
 use crate::date::date_at;
 use crate::measure::octets_within;

@@ -9,11 +9,10 @@ use Rattle.sexpr_core.specs.Value as value
 use Rattle.sexpr_core.specs.Value.{Value, Values, plain, members}
 use Rattle.spki_tag.specs.declared.fault.TagFault.{TagFault}
 use Rattle.spki_tag.specs.declared.fault.TagFault.TheVariants as faults
-use Rattle.spki_tag.specs.FirstFault.{first_fault}
-use Rattle.spki_tag.specs.FaultOf.{tags_in, tags_in_all, own_fault, star_fault, range_fault, limits_fault, looks}
+use Rattle.spki_tag.specs.Faults.{first_fault, tags_in, tags_in_all, own_fault, star_fault, range_fault, limits_fault, looks}
 use Rattle.spki_tag.specs.Request.{IsHead}
 use Rattle.spki_tag.specs.Tag.{Tag, Tags, Limit, Ordering, alpha, range, list, set, none, more, IsTag, AreTags, tag_value, tag_values, ordering_name, low_values, up_values, nodes, nodes_all}
-use Rattle.spki_tag.specs.Read.{most_read}
+use Rattle.spki_tag.specs.Reading.{most_read}
 
 -- ---- the first fault of two lists of looks
 

@@ -1,15 +1,64 @@
--- The places of members that pass a test, and those of two tests joined.
-use Rattle.std.proofs.Common.{◌≡◌, ℕ, suc, ◌+◌, ◌<◌, Bool, true, false, ◌||◌, ◌&&◌, List, [], ◌∷◌, ◌++◌, length, take, get_or, refl, sym, ap, ◌∙◌, subst, arith, length-take, rules}
-use Rattle.std.proofs.lemmas.List.{take_more}
-use Rattle.std.specs.Prelude.{if◌then◌else◌}
+-- The places in an index: those of the members that pass a test, two lists of places joined in one, what one more
+-- place changes, and what a tag leaves of the members at such places.
+use Rattle.std.proofs.Common.{◌≡◌, ℕ, ◌<◌, ◌≤◌, List, [], ◌∷◌, ◌++◌, length, take, drop, refl, sym, ap, ◌∙◌, arith, ◌-◌, append-nil, append_assoc, length-drop, ◌⊎◌, inl, inr, rules, suc, ◌+◌, Bool, true, false, ◌||◌, ◌&&◌, get_or, subst, length-take, Vec, Option, Some, None}
+use Rattle.std.proofs.lemmas.Bool.{lt-ltb, le-ltb}
+use Rattle.std.proofs.lemmas.List.{take_all, drop_all, take_more}
+use Rattle.spki_tag.specs.Places.{merge, is_any, has_many_strings, is_one, is_lists, has_strings, place_if, ArePlacesOf, IsAdded}
+use Rattle.std.specs.Prelude.{if◌then◌else◌, ◌≢◌, slice_index_or, All}
 use Rattle.std.specs.Str.{bytes_eq}
 use Rattle.std.proofs.Math.Bool.{and-false, or-false}
-use Rattle.spki_tag.specs.Tag.{Tag}
-use Rattle.spki_tag.specs.Index.{Kind, one, lists, kind, kinds_share, places_where}
-use Rattle.spki_tag.specs.Places.{is_any, has_many_strings, is_one, is_lists, has_strings, place_if, ArePlacesOf, IsAdded}
-use Rattle.spki_tag.specs.Merged.{merge}
-use Rattle.spki_tag.proofs.Merging.{StartsAbove, merge-left, merge-right}
+use Rattle.spki_tag.specs.Tag.{Tag, tags, star, string, prefix, range, list}
+use Rattle.spki_tag.specs.Meet.{Kind, one, lists, kind, kinds_share, places_where, nothing, meet, kept, row, listed, each_meet, may_share, tags_at}
 use Rattle.spki_tag.specs.declared.index.PlacesByKind.{PlacesByKind}
+use Rattle.std.specs.Borrow.{Bor}
+use Rattle.std.specs.BTreeMap.{is_at}
+use Rattle.std.specs.Cmp.Lexicographic.{slice_cmp, bytes_decides}
+use Rattle.std.specs.Map.{lookup, KeepsOthers}
+use Rattle.std.specs.Option.{option_map_or, UnwrapsOrElse}
+use Rattle.std.specs.Ordering.{nat_cmp, eq_by_cmp}
+use Rattle.std.specs.declared.alloc.Global.{Global}
+use Rattle.std.proofs.lemmas.Map.Text.{btree_map_str_after}
+use Rattle.std.proofs.lemmas.List.Elements.{All-cons}
+
+-- ---- two increasing lists in one
+
+-- the first of a list, if there is one, is above a number
+abbrev pub StartsAbove : ℕ → List ℕ → Type 0
+StartsAbove n [] = Unit {0}
+StartsAbove n (x ∷ xs) = n < x
+
+pub merge-left : (n : ℕ) (xs ys : List ℕ) → StartsAbove n ys → merge (n ∷ xs) ys ≡ n ∷ merge xs ys
+merge-left n xs [] h = refl
+merge-left n xs (y ∷ ys) h = search (rules, lt-ltb)
+
+pub merge-right : (n : ℕ) (xs ys : List ℕ) → StartsAbove n xs → merge xs (n ∷ ys) ≡ n ∷ merge xs ys
+merge-right n [] ys h = refl
+merge-right n (x ∷ xs) ys h = search (rules, le-ltb)
+
+-- ---- joining, step by step
+
+pub merge-nil : (xs : List ℕ) → merge xs [] ≡ xs
+merge-nil [] = refl
+merge-nil (x ∷ xs) = ap (λ ys. x ∷ ys) (merge-nil xs)
+
+take-rest : (i : ℕ) (xs : List ℕ) → take (length xs - i) (drop i xs) ≡ drop i xs
+take-rest i xs = take_all (length xs - i) (drop i xs) (omega (arith, length-drop i xs))
+
+-- an end is reached
+merge-end : (xs ys : List ℕ) (i j : ℕ) → (length xs ≤ i) ⊎ (length ys ≤ j)
+    → merge (drop i xs) (drop j ys) ≡ drop i xs ++ drop j ys
+merge-end xs ys i j (inl h) = rw (drop_all i xs h) refl
+merge-end xs ys i j (inr h) = rw (drop_all j ys h) (merge-nil (drop i xs) ∙ sym (append-nil (drop i xs)))
+
+-- what is left of both goes behind what is joined so far
+pub joined-end : (xs ys so_far with_xs with_both whole : List ℕ) (i j : ℕ) → (length xs ≤ i) ⊎ (length ys ≤ j)
+    → so_far ++ merge (drop i xs) (drop j ys) ≡ whole
+    → with_xs ≡ so_far ++ take (length xs - i) (drop i xs)
+    → with_both ≡ with_xs ++ take (length ys - j) (drop j ys)
+    → with_both ≡ whole
+joined-end xs ys so_far with_xs with_both whole i j h e f g = search (rules, take-rest, append_assoc, merge-end)
+
+-- ---- the places of members that pass a test, and those of two tests joined
 
 -- ---- one test
 
@@ -116,3 +165,106 @@ pub places-more : (old new : PlacesByKind) (ts : List Tag) (i : ℕ) (t : Tag) (
 places-more old new ts i t k h read same kept added =
     subst (ArePlacesOf new) (sym (take_more ts i t h ∙ ap (λ u. take i ts ++ u ∷ []) (sym read)))
     (places-push old new (take i ts) t (i + 1) (omega (arith, length-take i ts)) kept (subst (λ j. IsAdded old new j (i + 1)) same added))
+
+-- ---- what one more place changes on the places of an index
+
+abbrev Entries : Type 0
+Entries = List (Bor (List ℕ) × Vec ℕ Global)
+
+-- the value at a string
+abbrev value_at : Entries → List ℕ → Option (Vec ℕ Global)
+value_at es q = lookup (is_at (λ k. slice_cmp nat_cmp q k.now)) es
+
+-- the places at a string
+abbrev places_in : Entries → List ℕ → List ℕ
+places_in es q = option_map_or (λ places. places.items) (value_at es q) []
+
+-- the places that an entry begins with
+pub places-begun : (es : Entries) (key : List ℕ) (o : Option (Vec ℕ Global)) (v : Vec ℕ Global)
+    → o ≡ value_at es key → UnwrapsOrElse o (λ x. x.items ≡ []) v → v.items ≡ places_in es key
+places-begun es key None v e h = h ∙ ap (λ p. option_map_or (λ x. x.items) p []) e
+places-begun es key (Some x) v e h = ap (λ y. y.items) h ∙ ap (λ p. option_map_or (λ x. x.items) p []) e
+
+-- the places of each string, where one came to those of the string key
+pub places-put : (old mid new : Entries) (key : Bor (List ℕ)) (v : Vec ℕ Global) (place : ℕ)
+    → KeepsOthers (eq_by_cmp (λ x y. slice_cmp nat_cmp x.now y.now)) (is_at (λ k. slice_cmp nat_cmp key.now k.now)) old mid
+    → value_at mid key.now ≡ Some v
+    → new ≡ mid
+    → v.items ≡ places_in old key.now ++ place ∷ []
+    → (q : List ℕ) → places_in new q ≡ places_in old q ++ place_if (bytes_eq q key.now) place
+places-put old mid new key v place kept here same e q =
+    ap (λ es. places_in es q) same ∙ by (btree_map_str_after key q old mid kept).2
+  where
+    by : ((bytes_eq q key.now ≡ true) × (bytes_eq key.now q ≡ true) × (q ≡ key.now) × (value_at mid q ≡ value_at mid key.now) × (value_at old q ≡ value_at old key.now))
+        ⊎ ((bytes_eq q key.now ≡ false) × (bytes_eq key.now q ≡ false) × (q ≢ key.now) × (value_at mid q ≡ value_at old q))
+        → places_in mid q ≡ places_in old q ++ place_if (bytes_eq q key.now) place
+    by (inl h) =
+        ap (λ o. option_map_or (λ x. x.items) o []) (h.3 ∙ here) ∙ e
+        ∙ (λ i. option_map_or (λ x. x.items) (sym h.4 i) [] ++ place_if (sym h.0 i) place)
+    by (inr h) =
+        ap (λ o. option_map_or (λ x. x.items) o []) h.3 ∙ sym (append-nil (places_in old q))
+        ∙ ap (λ b. places_in old q ++ place_if b place) (sym h.0)
+
+-- ---- what a tag leaves of those that it can have a request in common with, and of the others
+
+bytes_eq_sym : (xs ys : List ℕ) → bytes_eq xs ys ≡ bytes_eq ys xs
+bytes_eq_sym xs ys = by (bytes_eq xs ys) (bytes_eq ys xs) refl refl
+  where
+    by : (a b : Bool) → bytes_eq xs ys ≡ a → bytes_eq ys xs ≡ b → a ≡ b
+    by true false e f = sym ((bytes_decides ys xs).1 (sym ((bytes_decides xs ys).0 e))) ∙ f
+    by false true e f = sym e ∙ (bytes_decides xs ys).1 (sym ((bytes_decides ys xs).0 f))
+    by a b e f = refl
+
+-- tags that can have no request in common leave nothing together
+pub meet-apart : (t u : Tag) → may_share t u ≡ false → meet t u ≡ nothing
+meet-apart (string octets) (string other) e = search (rules, bytes_eq_sym)
+meet-apart (string octets) (list head ts) e = refl
+meet-apart (prefix p) (list head ts) e = refl
+meet-apart (range o l u) (list head ts) e = refl
+meet-apart (list head ts) (string other) e = refl
+meet-apart (list head ts) (prefix q) e = refl
+meet-apart (list head ts) (range o l u) e = refl
+meet-apart (list head ts) (list other us) e = ap (λ b. if b then listed head (each_meet ts us) else nothing) e
+meet-apart t u e = absurd cc
+
+-- the tags at places, in a list and behind its first tag
+tags_at-behind : (t : Tag) (ts : List Tag) (p : Tag → Bool) (m n : ℕ) (us : List Tag) → m ≡ n + 1 → 0 < n
+    → tags_at (t ∷ ts) (places_where p m us) ≡ tags_at ts (places_where p n us)
+tags_at-behind t ts p m n [] e h = refl
+tags_at-behind t ts p m n (u ∷ us) e h = by (p u) (tags_at-behind t ts p (m + 1) (n + 1) us (omega arith) (omega arith))
+  where
+    here : slice_index_or (t ∷ ts) (m - 1) star ≡ slice_index_or ts (n - 1) star
+    here = let f : m - 1 ≡ suc (n - 1) = omega arith in ap (λ i. slice_index_or (t ∷ ts) i star) f
+
+    by : (b : Bool) → tags_at (t ∷ ts) (places_where p (m + 1) us) ≡ tags_at ts (places_where p (n + 1) us)
+        → tags_at (t ∷ ts) (if b then m ∷ places_where p (m + 1) us else places_where p (m + 1) us)
+        ≡ tags_at ts (if b then n ∷ places_where p (n + 1) us else places_where p (n + 1) us)
+    by true k = λ i. here i ∷ k i
+    by false k = k
+
+-- what a tag leaves of some tags is what it leaves of those that it can have a request in common with
+pub row-at_places : (t : Tag) (us : List Tag)
+    → row (meet t) (tags us) ≡ row (meet t) (tags (tags_at us (places_where (may_share t) 1 us)))
+row-at_places t [] = refl
+row-at_places t (u ∷ us) =
+    by (may_share t u) refl
+    (row-at_places t us ∙ ap (λ vs. row (meet t) (tags vs)) (sym (tags_at-behind u us (may_share t) 2 1 us refl (omega arith))))
+  where
+    by : (b : Bool) → may_share t u ≡ b
+        → row (meet t) (tags us) ≡ row (meet t) (tags (tags_at (u ∷ us) (places_where (may_share t) 2 us)))
+        → kept (meet t u) (row (meet t) (tags us))
+        ≡ row (meet t) (tags (tags_at (u ∷ us) (if b then 1 ∷ places_where (may_share t) 2 us else places_where (may_share t) 2 us)))
+    by true e k = ap (kept (meet t u)) k
+    by false e k = ap (λ v. kept v (row (meet t) (tags us))) (meet-apart t u e) ∙ k
+
+-- each place is that of a tag
+pub places_where-within : (p : Tag → Bool) (n : ℕ) (ts : List Tag)
+    → All (λ m. (n ≤ m) × (m < n + length ts)) (places_where p n ts)
+places_where-within p n [] = λ k d h. absurd (omega arith)
+places_where-within p n (t ∷ ts) = by (p t) (λ k d h. let w = places_where-within p (n + 1) ts k d h in (omega (arith, w.0), omega (arith, w.1)))
+  where
+    by : (b : Bool)
+        → All (λ m. (n ≤ m) × (m < n + suc (length ts))) (places_where p (n + 1) ts)
+        → All (λ m. (n ≤ m) × (m < n + suc (length ts))) (if b then n ∷ places_where p (n + 1) ts else places_where p (n + 1) ts)
+    by true w = All-cons (λ m. (n ≤ m) × (m < n + suc (length ts))) n _ (omega arith, omega arith) w
+    by false w = w

@@ -1,5 +1,5 @@
--- What an index of the members of a tag contains.
-use Rattle.std.specs.Prelude.{◌≡◌, ℕ, ◌++◌, Bool, true, false, if◌then◌else◌, List, [], ◌∷◌, Vec}
+-- What an index of the members of a tag contains, and how two increasing lists, such as its places, become one.
+use Rattle.std.specs.Prelude.{◌≡◌, ℕ, ◌++◌, Bool, true, false, if◌then◌else◌, List, [], ◌∷◌, Vec, nat_lt}
 use Rattle.std.specs.Borrow.{Bor}
 use Rattle.std.specs.BTreeMap.{BTreeMap, get_by}
 use Rattle.std.specs.Cmp.Lexicographic.{slice_cmp}
@@ -11,7 +11,9 @@ use Rattle.spki_tag.specs.declared.index.Kind.{Kind as KindSeen}
 use Rattle.spki_tag.specs.declared.index.Kind.TheVariants.{Any, Strings, One, Lists}
 use Rattle.spki_tag.specs.declared.index.PlacesByKind.{PlacesByKind}
 use Rattle.spki_tag.specs.Tag.{Tag}
-use Rattle.spki_tag.specs.Index.{Kind, any, strings, one, lists, kind, kinds_share, places_where}
+use Rattle.spki_tag.specs.Meet.{Kind, any, strings, one, lists, kind, kinds_share, places_where}
+
+-- ---- what an index of the members of a tag contains
 
 -- the kind that is represented
 abbrev pub kind_of : KindSeen → Kind
@@ -81,3 +83,15 @@ pub record IsAdded (old new : PlacesByKind) (k : Kind) (place : ℕ) : Type 0 wh
   pub with_strings : new.with_strings.items ≡ old.with_strings.items ++ place_if (has_strings k) place
   pub any : new.any.items ≡ old.any.items ++ place_if (is_any k) place
   pub all : new.all.items ≡ old.all.items ++ place ∷ []
+
+-- ---- two increasing lists in one
+
+-- x before the lists after it, merged with ys
+abbrev weave : ℕ → (List ℕ → List ℕ) → List ℕ → List ℕ
+weave x f [] = x ∷ f []
+weave x f (y ∷ ys) = if nat_lt x y then x ∷ f (y ∷ ys) else y ∷ weave x f ys
+
+-- two increasing lists, merged in increasing order
+abbrev pub merge : List ℕ → List ℕ → List ℕ
+merge [] ys = ys
+merge (x ∷ xs) ys = weave x (merge xs) ys

@@ -3,7 +3,7 @@
 
 ghost use Rattle.std.specs.Prelude.{◌≡◌, ◌++◌, [], ℕ, List, IfOk, OnOk};
 ghost use Rattle.std.specs.Str.{bytes_eq};
-ghost use Rattle.spki_tag.specs.Index.{kind, may_share, members, places_where};
+ghost use Rattle.spki_tag.specs.Meet.{kind, may_share, members, places_where};
 ghost use Rattle.spki_tag.specs.Places.{kind_of, found_at, place_if, ArePlacesOf, IsAdded};
 
 use crate::leaf::Leaf;

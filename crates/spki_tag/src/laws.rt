@@ -3,16 +3,11 @@
 
 ghost use Rattle.std.specs.Prelude.{◌≡◌, ◌*◌, ◌≤◌, ◌↔◌, ◌&&◌, ℕ, List, None, Some, true, false, length, nat_eq};
 ghost use Rattle.std.specs.List.{starts_with};
-ghost use Rattle.sexpr_core.specs.Octets.{HasOctets};
-ghost use Rattle.sexpr_core.specs.Value.{Value};
-ghost use Rattle.spki_tag.specs.FaultOf.{request_fault, tag_fault, tags_in};
+ghost use Rattle.sexpr_core.specs.Value.{HasOctets, Value};
+ghost use Rattle.spki_tag.specs.Faults.{request_fault, tag_fault, tags_in};
 ghost use Rattle.spki_tag.specs.declared.fault.TagFault.{TagFault};
-ghost use Rattle.spki_tag.specs.Index.{may_share, places_where, tags_at};
-ghost use Rattle.spki_tag.specs.Meet.{least_above, strict_limit, from, meet, nothing, row};
-ghost use Rattle.spki_tag.specs.MeetRules.{StarRule, SetRule, StringRule, PrefixRule, PrefixesApart, RangeRule, PrefixAsRange, OrderingRule, TimesAndDates, ListRule, HeadsApart, ListsAndStrings};
-ghost use Rattle.spki_tag.specs.Normal.{normal};
-ghost use Rattle.spki_tag.specs.NormalForm.{IsNormalOf};
-ghost use Rattle.spki_tag.specs.Read.{ReadsAs};
+ghost use Rattle.spki_tag.specs.Meet.{may_share, places_where, tags_at, least_above, strict_limit, from, meet, nothing, row, StarRule, SetRule, StringRule, PrefixRule, PrefixesApart, RangeRule, PrefixAsRange, OrderingRule, TimesAndDates, ListRule, HeadsApart, ListsAndStrings};
+ghost use Rattle.spki_tag.specs.Reading.{normal, IsNormalOf, ReadsAs};
 ghost use Rattle.spki_tag.specs.Request.{AreOctets, Request, IsRequest, request_value};
 ghost use Rattle.spki_tag.specs.Tag.{Tag, IsTag, tag_value, tags, contains, is_above, is_below, is_normal, nodes};
 

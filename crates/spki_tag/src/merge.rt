@@ -1,7 +1,7 @@
 //! Lists of places, in increasing order.
 
 ghost use Rattle.std.specs.Prelude.{◌≡◌, IfOk};
-ghost use Rattle.spki_tag.specs.Merged.{merge};
+ghost use Rattle.spki_tag.specs.Places.{merge};
 
 use std::alloc::{AllocError, Global};
 

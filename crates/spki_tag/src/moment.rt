@@ -1,7 +1,7 @@
 //! Times of day and moments, as octets.
 
 ghost use Rattle.std.specs.Prelude.{◌≡◌, ◌+◌, ◌<◌, length};
-ghost use Rattle.spki_tag.specs.Time as spec;
+ghost use Rattle.spki_tag.specs.Tag as spec;
 
 /// Whether an octet is a decimal digit.
 fn is_digit(octet: u8) -> bool
@@ -26,7 +26,7 @@ fn is_number_at(text: &[u8], i: usize, low: u8, high: u8) -> bool
 }
 
 /// Whether a text is `HH:MM:SS`: an hour from 00 to 23, a minute from 00 to 59 and a second from 00 to 60.
-#[tactic(auto, unfolding(crate::specs::Time::is_time))]
+#[tactic(auto, unfolding(crate::specs::Tag::is_time))]
 pub fn is_time(text: &[u8]) -> bool
     ensures { result ≡ spec.is_time text.now }
 {
@@ -40,7 +40,7 @@ pub fn is_time(text: &[u8]) -> bool
 
 /// Whether a text is `YYYY-MM-DD_HH:MM:SS`: any year of four digits, a month from 01 to 12, a day from 01 to 31, and a time.
 /// There is no calendar check, so `2024-02-31_00:00:00` is one.
-#[tactic(auto, unfolding(crate::specs::Time::is_date))]
+#[tactic(auto, unfolding(crate::specs::Tag::is_date))]
 pub fn is_date(text: &[u8]) -> bool
     ensures { result ≡ spec.is_date text.now }
 {

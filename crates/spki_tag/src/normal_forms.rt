@@ -4,10 +4,8 @@ ghost use Rattle.std.specs.Prelude.{◌≡◌, ◌≤◌, ◌++◌, IfOk, OnOk};
 ghost use Rattle.std.specs.Arc.{arc_slice_items};
 ghost use Rattle.spki_tag.specs.Request.{IsHead};
 ghost use Rattle.spki_tag.specs.Tag.{tags, list, set, nodes, most_nodes};
-ghost use Rattle.spki_tag.specs.NormalForm.{AreNormal};
-ghost use Rattle.spki_tag.specs.Normal.{spread, set_of};
-ghost use Rattle.spki_tag.specs.Meet.{listed};
-ghost use Rattle.spki_tag.specs.Index.{members as in_place};
+ghost use Rattle.spki_tag.specs.Reading.{AreNormal, spread, set_of};
+ghost use Rattle.spki_tag.specs.Meet.{listed, members as in_place};
 
 use crate::form::{has_everything, has_nothing};
 use crate::leaf::SharedOctets;

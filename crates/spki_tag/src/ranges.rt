@@ -5,8 +5,8 @@ ghost use Rattle.std.specs.List.{list_any};
 ghost use Rattle.sexpr_core.specs.Value.{Value, plain, values};
 ghost use Rattle.spki_tag.specs.Leaves.{ordering_of, limit_of, leaf_tag};
 ghost use Rattle.spki_tag.specs.Tag.{Ordering, tag_value, starred, ordering_name, limit_values};
-ghost use Rattle.spki_tag.specs.FaultOf.{IsNamed, is_hinted, limits_fault, range_fault};
-ghost use Rattle.spki_tag.specs.Steps.{AreLimits, AreNoLimits, IsNoLimit};
+ghost use Rattle.spki_tag.specs.Faults.{IsNamed, is_hinted, limits_fault, range_fault};
+ghost use Rattle.spki_tag.specs.Reading.{AreLimits, AreNoLimits, IsNoLimit};
 
 use crate::fault::TagFault;
 use crate::leaf::{Leaf, Limit, RangeOrdering};

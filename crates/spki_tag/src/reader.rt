@@ -5,9 +5,8 @@ ghost use Rattle.sexpr_core.specs.Value.{Value, plain, group, values, node};
 ghost use Rattle.spki_tag.specs.Leaves.{leaf_tag};
 ghost use Rattle.spki_tag.specs.Tag.{Tag, IsTag, tag_value, starred, nodes};
 ghost use Rattle.spki_tag.specs.Request.{IsHead};
-ghost use Rattle.spki_tag.specs.Read.{ReadsAs, IsNoTag, most_read};
-ghost use Rattle.spki_tag.specs.FaultOf.{IsNamed, group_fault, list_fault, prefix_fault, tag_fault};
-ghost use Rattle.spki_tag.specs.Steps.{IsRead, AreRead, fault_after, fault_after_all};
+ghost use Rattle.spki_tag.specs.Reading.{ReadsAs, IsNoTag, most_read, IsRead, AreRead, fault_after, fault_after_all};
+ghost use Rattle.spki_tag.specs.Faults.{IsNamed, group_fault, list_fault, prefix_fault, tag_fault};
 
 use crate::fault::TagFault;
 use crate::leaf::Leaf;

@@ -2,11 +2,10 @@
 
 ghost use Rattle.std.specs.Prelude.{◌≡◌, ◌∷◌, None, IfOk, IfErr, IfSome, IsSome};
 ghost use Rattle.sexpr_core.specs.Value.{plain, group, node};
-ghost use Rattle.spki_tag.specs.FaultOf.{IsNamed, request_fault};
-ghost use Rattle.spki_tag.specs.Read.{IsNoRequest};
+ghost use Rattle.spki_tag.specs.Faults.{IsNamed, request_fault};
+ghost use Rattle.spki_tag.specs.Reading.{IsNoRequest, AreReadRequests, fault_of_requests};
 ghost use Rattle.spki_tag.specs.Request as spec;
 ghost use Rattle.spki_tag.specs.Request.{IsHead, IsRequest, request_value};
-ghost use Rattle.spki_tag.specs.Steps.{AreReadRequests, fault_of_requests};
 
 use crate::fault::TagFault;
 use crate::reader::head_of;

@@ -1,8 +1,7 @@
 //! Writes tags as S-expressions.
 
 ghost use Rattle.std.specs.Prelude.{◌≡◌, ◌++◌, ◌∷◌, [], IfOk, OnOk, map, codes};
-ghost use Rattle.sexpr_core.specs.Value.{plain};
-ghost use Rattle.sexpr_core.specs.Tree.{sexp_value};
+ghost use Rattle.sexpr_core.specs.Value.{plain, sexp_value};
 ghost use Rattle.spki_tag.specs.Leaves.{ordering_of, limit_of, leaf_tag};
 ghost use Rattle.spki_tag.specs.Tag.{range, tag_value, ordering_name, limit_values};
 

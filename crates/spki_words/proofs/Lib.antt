@@ -1,4 +1,1 @@
-pub mod EachCommand
-pub mod Faults
-pub mod OneCommand
-pub mod OneWord
+pub mod CommandWords

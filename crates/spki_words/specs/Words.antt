@@ -1,15 +1,35 @@
--- How `clap` parses the words of a command line. The first word is the program's name.
-use Rattle.std.specs.Prelude.{◌≡◌, ◌≢◌, ℕ, ⊤, List, true, false, Option, codes, fold, option_map}
+-- The commands, and how `clap` parses the words of a command line. The first word is the program's name.
+use Rattle.std.specs.Prelude.{ℕ, List, [], ◌∷◌, codes, ◌≡◌, ◌≢◌, ⊤, true, false, Option, fold, option_map}
+use Rattle.spki_words.specs.declared.commands.Command.{Command}
+use Rattle.spki_words.specs.declared.commands.Command.TheVariants.{Canonical, Advanced, Transport, Intersect, Reduce, Check, Explain}
 use Rattle.clap.specs.Words.{App, Kinds, IsAmong, Text, new_app, with_subcommand, subcommand_of, fault_of, app_of}
 use Rattle.clap.specs.Simple.{on_top}
 use Rattle.clap.specs.declared.error.kind.ErrorKind.{ErrorKind}
 use Rattle.clap.specs.declared.error.kind.ErrorKind.TheVariants.{DisplayHelp, OutOfMemory}
 use Rattle.clap.specs.declared.builder.command.Command as clap
 use Rattle.clap.specs.declared.builder.command.Command.TheViews.{out-Command as fields_of}
-use Rattle.spki_words.specs.Command.{word_of, commands}
-use Rattle.spki_words.specs.declared.commands.Command.{Command}
 use Rattle.spki_words.specs.declared.words.WordsFault.{WordsFault}
 use Rattle.spki_words.specs.declared.words.WordsFault.TheVariants.{Refused, Help, Memory}
+
+-- ---- the commands and their words
+
+-- the word of a command
+abbrev pub word_of : Command → List ℕ
+word_of Canonical = codes "canonical"
+word_of Advanced = codes "advanced"
+word_of Transport = codes "transport"
+word_of Intersect = codes "intersect"
+word_of Reduce = codes "reduce"
+word_of Check = codes "check"
+word_of Explain = codes "explain"
+
+-- all commands, each once
+abbrev pub commands : List Command
+commands = Canonical ∷ Advanced ∷ Transport ∷ Intersect ∷ Reduce ∷ Check ∷ Explain ∷ []
+
+-- ---- how `clap` parses words
+
+-- How `clap` parses the words of a command line. The first word is the program's name.
 
 -- `spki` without its subcommands, one of which must be given; help is a flag and no subcommand
 abbrev pub bare : App

@@ -1,7 +1,7 @@
 //! The commands.
 
 ghost use Rattle.std.specs.Prelude.{◌≡◌, ◌≢◌, MatchOption};
-ghost use Rattle.spki_words.specs.Command.{word_of};
+ghost use Rattle.spki_words.specs.Words.{word_of};
 
 /// What is done with the value that is read.
 #[derive(Clone, Copy, Debug, PartialEq, Eq)]

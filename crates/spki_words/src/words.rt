@@ -2,8 +2,7 @@
 
 ghost use Rattle.std.specs.Prelude.{◌≡◌, ◌∷◌, [], ◌⊎◌, List, IfOk, IfErr, Ok, Err, Some, MatchResult, map, string_bytes};
 ghost use Rattle.clap.specs.Words.{Text, app_of, kind_of, subcommand_name_of};
-ghost use Rattle.spki_words.specs.Command.{word_of};
-ghost use Rattle.spki_words.specs.Words.{spki, bare, leaf, subcommand_in, faults_of, IsFaultOf, IsProgram, IsFault, code_of};
+ghost use Rattle.spki_words.specs.Words.{word_of, spki, bare, leaf, subcommand_in, faults_of, IsFaultOf, IsProgram, IsFault, code_of};
 
 use crate::commands::{COMMANDS, Command};
 use crate::help::{ABOUT, DETAILS, about, details};

@@ -4,9 +4,9 @@ use Rattle.sexpr_core.specs.Value.{Value}
 use Rattle.spki_tag.specs.declared.fault.MeetFault.{MeetFault}
 use Rattle.spki_tag.specs.declared.fault.MeetFault.TheVariants.{TooLarge, Memory}
 use Rattle.spki_tag.specs.Tag.{Tag, nodes}
-use Rattle.spki_tag.specs.Read.{ReadsAs}
+use Rattle.spki_tag.specs.Reading.{ReadsAs}
 use Rattle.test_callers.specs.declared.tags.NarrowFault.TheVariants as faults
-use Rattle.test_callers.specs.Narrowing.{IsNotNarrowed}
+use Rattle.test_callers.specs.Service.{IsNotNarrowed}
 
 -- two tags that are read and not met, where the fault of size says what it does
 pub not_met : (own : Tag) (v : Value) (t : Tag) (fault : MeetFault) → ReadsAs v t

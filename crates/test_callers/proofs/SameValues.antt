@@ -1,7 +1,7 @@
 -- Texts and their values.
 use Rattle.std.proofs.Common.{ℕ, List, inl, inr}
 use Rattle.sexpr_core.specs.Value.{Value}
-use Rattle.sexpr_text.specs.Spelling.{IsText, IsTextWithin}
+use Rattle.sexpr_text.specs.AdvancedForm.{IsText, IsTextWithin}
 
 -- a text within the limits is a text
 pub is_text : (text : List ℕ) (v : Value) → IsTextWithin text v → IsText text v

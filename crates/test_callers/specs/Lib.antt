@@ -1,4 +1,2 @@
 pub mod Asking
-pub mod Narrowing
-pub mod Revoking
-pub mod Serving
+pub mod Service

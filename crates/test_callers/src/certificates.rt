@@ -4,7 +4,7 @@ ghost use Rattle.std.specs.Prelude.{◌≡◌, ◌≢◌, ℕ, List, Some, IfOk,
 ghost use Rattle.spki_cert.specs.declared.hash.HashAlg.TheVariants.{Sha256};
 ghost use Rattle.spki_cert.specs.Naming.{digest_of};
 ghost use Rattle.spki_cert.specs.Readings.{KeyOf, IsNoKey};
-ghost use Rattle.spki_cert.specs.FixedFaults.{key_fault};
+ghost use Rattle.spki_cert.specs.FieldFaults.{key_fault};
 
 use sexpr_core::Doc;
 use spki_cert::{CertFaultKind, HashAlg, Key, key_of};

@@ -1,11 +1,8 @@
 //! A caller of `spki_reduce`.
 
 ghost use Rattle.std.specs.Prelude.{◌≡◌, ◌↔◌, ◌∷◌, ◌<◌, IsTrue, IfOk, IsErrOf};
-ghost use Rattle.spki_reduce.specs.Tuples.{own, five};
-ghost use Rattle.spki_reduce.specs.Views.{issuer_of, five_tuple};
-ghost use Rattle.spki_reduce.specs.Restrictions.{nodes_product};
+ghost use Rattle.spki_reduce.specs.Reduction.{own, five, issuer_of, five_tuple, nodes_product, IsSupported};
 ghost use Rattle.spki_reduce.specs.Chain.{tuples_of, all_tags};
-ghost use Rattle.spki_reduce.specs.LastTests.{IsSupported};
 
 use spki_cert::{Date, Key, Policy};
 use spki_reduce::{Five, Fold, ReduceFault, Step, fold_chain};

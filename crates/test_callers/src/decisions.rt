@@ -2,9 +2,8 @@
 
 ghost use Rattle.std.specs.Prelude.{◌≡◌, ◌↔◌, ℕ, Contains, IsTrue, IfOk, IsErrOf};
 ghost use Rattle.spki_case.specs.View.{model};
-ghost use Rattle.spki_decision.specs.Granted.{Granted, IsTooLarge};
-ghost use Rattle.spki_decision.specs.Decision.{IsDecision};
-ghost use Rattle.test_callers.specs.Revoking.{unrevoked};
+ghost use Rattle.spki_decision.specs.Granted.{Granted, IsTooLarge, IsDecision};
+ghost use Rattle.test_callers.specs.Service.{unrevoked};
 
 use spki_cert::Key;
 use spki_guard::{Case, Decision, GuardFault, Verifier, decide};

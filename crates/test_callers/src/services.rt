@@ -1,9 +1,8 @@
 //! Callers of `spki_guard` that hold an access list: one decides two questions, and one may share its guard among threads.
 
 ghost use Rattle.std.specs.Prelude.{◌≡◌, ℕ, List, IfOk};
-ghost use Rattle.spki_service.specs.Held.{HoldsList};
-ghost use Rattle.test_callers.specs.Revoking.{unrevoked};
-ghost use Rattle.test_callers.specs.Serving.{AnswersQuestion};
+ghost use Rattle.spki_service.specs.AccessLists.{HoldsList};
+ghost use Rattle.test_callers.specs.Service.{unrevoked, AnswersQuestion};
 
 use crate::decisions::Unrevoked;
 use spki_cert::{Key, Policy};

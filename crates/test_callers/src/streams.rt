@@ -1,7 +1,7 @@
 //! A caller of `metered_io`.
 
 ghost use Rattle.std.specs.Prelude.{◌≡◌, ◌<◌, ◌≤◌, length, vec_len, IfOk, IfSome, IsErrOf};
-ghost use Rattle.metered_io.specs.Metered.{inner_of, asks_of, faults_of};
+ghost use Rattle.metered_io.specs.MeteredCalls.{inner_of, asks_of, faults_of};
 
 use metered_io::{Metered, ReadFault, read_whole};
 use std::alloc::Global;

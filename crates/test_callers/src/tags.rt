@@ -3,8 +3,8 @@
 ghost use Rattle.std.specs.Prelude.{◌≡◌, ◌&&◌, IfOk, IfErr};
 ghost use Rattle.spki_tag.specs.Request.{Request, IsRequest};
 ghost use Rattle.spki_tag.specs.Tag.{Tag, contains};
-ghost use Rattle.spki_tag.specs.Read.{ReadsAs};
-ghost use Rattle.test_callers.specs.Narrowing.{IsNotNarrowed};
+ghost use Rattle.spki_tag.specs.Reading.{ReadsAs};
+ghost use Rattle.test_callers.specs.Service.{IsNotNarrowed};
 
 use sexpr_core::syntax::Node;
 use spki_tag::{MeetFault, Tag, TagFault};

@@ -3,8 +3,8 @@
 ghost use Rattle.std.specs.Prelude.{◌≡◌, IfOk, IfErr, IsOkUnless, option_map};
 ghost use Rattle.std.specs.Option.{option_copied};
 ghost use Rattle.sexpr_core.specs.Value.{Value, canon, IsWithinLimits};
-ghost use Rattle.sexpr_core.specs.Parts.{part_at};
-ghost use Rattle.sexpr_core.specs.Refusal.{Refused};
+ghost use Rattle.sexpr_core.specs.Nodes.{part_at};
+ghost use Rattle.sexpr_core.specs.Reading.{Refused};
 
 use sexpr_core::syntax::NodeKind;
 use sexpr_core::{Doc, FormFault};

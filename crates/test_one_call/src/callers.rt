@@ -1,8 +1,7 @@
 //! The calls of the callers in `test_callers`, which the pages `CALLING.md` quote.
 
 ghost use Rattle.std.specs.Prelude.{◌≡◌};
-ghost use Rattle.spki_reduce.specs.Tuples.{own};
-ghost use Rattle.spki_reduce.specs.Views.{issuer_of};
+ghost use Rattle.spki_reduce.specs.Reduction.{own, issuer_of};
 
 use metered_io::Metered;
 use sexpr_core::Doc;

@@ -1,8 +1,7 @@
 -- What is kept of a body in base64: everything except its whitespace.
 use Rattle.std.specs.Prelude.{◌≡◌, ℕ, ◌<◌, ◌≤◌, true, false, List, [], ◌∷◌, ◌++◌, length, drop}
 use Rattle.std.specs.List.{AllByRecursion}
-use Rattle.sexpr_core.specs.Spaces.{visible}
-use Rattle.sexpr_core.specs.Gathering.{is_symbol, AreBodyOctets}
+use Rattle.sexpr_core.specs.Reading.{visible, is_symbol, AreBodyOctets}
 
 -- the first octet, if there is one, is no symbol
 abbrev pub StartsNoSymbol : List ℕ → Type 0

@@ -3,11 +3,10 @@ use Rattle.std.specs.Prelude.{◌≡◌, ℕ, suc, ◌+◌, ◌≤◌, Bool, ◌
 use Rattle.sexpr_core.specs.Characters.{char}
 use Rattle.sexpr_core.specs.declared.fault.FormFault.{FormFault}
 use Rattle.sexpr_core.specs.declared.fault.FormFault.TheVariants.{TooDeep, Short, Bad, Memory}
-use Rattle.sexpr_core.specs.Prefix.{Begins, StopsAt}
+use Rattle.sexpr_core.specs.Reading.{Begins, StopsAt}
 use Rattle.sexpr_core.specs.Value.{Value, Values, depth, depths}
-use Rattle.sexpr_text.specs.Strings.{Simple, IsPiece, Piece, piece_text}
-use Rattle.sexpr_text.specs.Spelling.{SpellsAs, SpellsMembers}
-use Rattle.sexpr_text.specs.Unclosed.{IsUnclosed, IsUnclosedString, UnclosedMembers, UnclosedValue, depth_open}
+use Rattle.sexpr_text.specs.AdvancedForm.{Simple, IsPiece, Piece, piece_text, SpellsAs, SpellsMembers}
+use Rattle.sexpr_text.specs.Refusal.{IsUnclosed, IsUnclosedString, UnclosedMembers, UnclosedValue, depth_open}
 use Rattle.sexpr_text.specs.Reads.{ValueAt, MembersAt}
 
 -- the octets from one offset up to another are in G

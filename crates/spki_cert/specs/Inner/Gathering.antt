@@ -3,7 +3,7 @@ use Rattle.std.specs.Prelude.{◌≡◌, ◌≢◌, ℕ, ◌⊎◌, Bool, true, 
 use Rattle.std.specs.Str.{bytes_eq}
 use Rattle.std.specs.List.{list_any}
 use Rattle.sexpr_core.specs.Value.{Value, plain, group}
-use Rattle.spki_tag.specs.Read.{ReadsAs}
+use Rattle.spki_tag.specs.Reading.{ReadsAs}
 use Rattle.spki_cert.specs.declared.principal.Principal.{Principal}
 use Rattle.spki_cert.specs.declared.window.Window.{Window}
 use Rattle.spki_cert.specs.declared.principal_reader.Issuer.{Issuer}
@@ -21,15 +21,12 @@ use Rattle.spki_cert.specs.declared.entry.Subject.{Subject}
 use Rattle.spki_cert.specs.declared.certificate_reader.CertParts.{CertParts}
 use Rattle.spki_cert.specs.declared.certificate.SeqItem.{SeqItem}
 use Rattle.spki_cert.specs.declared.certificate.SeqItem.TheVariants as items
-use Rattle.spki_tag.specs.FirstFault.{first_fault, unless}
+use Rattle.spki_tag.specs.Faults.{first_fault, unless}
 use Rattle.spki_cert.specs.declared.hash.HashAlg.{HashAlg}
-use Rattle.spki_cert.specs.FixedFaults.{is_plain, any_octets, is_sized}
-use Rattle.spki_cert.specs.FieldFaults.{is_again, limit_fault, has, fields_fault, entry_field_fault, cert_field_fault, is_both_ways}
+use Rattle.spki_cert.specs.FieldFaults.{is_plain, any_octets, is_sized, is_again, limit_fault, has, fields_fault, entry_field_fault, cert_field_fault, is_both_ways}
 use Rattle.spki_cert.specs.Readings.{DateOf}
-use Rattle.spki_cert.specs.Subjects.{PrincipalOf, plains}
-use Rattle.spki_cert.specs.Fields.{is_headed, Sole, Given, IssuerIn, WhoIn, LimitsAre, ValidOf, IsField, IsCertField, AreFields, propagates, WindowOf}
-use Rattle.spki_cert.specs.Certificates.{IssuedBy, IssuedFor, AuthCertOf, NameCertOf}
-use Rattle.spki_cert.specs.Sequences.{waits_after}
+use Rattle.spki_cert.specs.Fields.{PrincipalOf, plains, is_headed, Sole, Given, IssuerIn, WhoIn, LimitsAre, ValidOf, IsField, IsCertField, AreFields, propagates, WindowOf}
+use Rattle.spki_cert.specs.Structures.{IssuedBy, IssuedFor, AuthCertOf, NameCertOf, waits_after}
 
 -- ---- subjects
 

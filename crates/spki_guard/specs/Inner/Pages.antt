@@ -1,10 +1,14 @@
--- What is written page by page.
-use Rattle.std.specs.Prelude.{◌≡◌, ◌⊎◌, ℕ, ◌<◌, ◌≤◌, max, List, ◌++◌, Option, Bool, true, false}
+-- What is written page by page, in one call and in several.
+use Rattle.std.specs.Prelude.{◌⊎◌, ◌<◌, ◌≤◌, max, false}
 use Rattle.std.specs.Borrow.{GName}
 use Rattle.metered_io.specs.declared.meters.Metered.{Metered}
-use Rattle.metered_io.specs.Metered.{asks_of, faults_of, Takes}
-use Rattle.metered_io.specs.Sent.{SendsFront}
+use Rattle.metered_io.specs.MeteredCalls.{asks_of, faults_of, Takes, SendsFront, inner_of}
 use Rattle.spki_guard.specs.declared.pages.PageSink.{PageSink}
+use Rattle.std.proofs.Common.{◌≡◌, ℕ, List, [], ◌++◌, Option, None, Some, Bool, true, true≢false, inl, inr, refl, sym, ap, ◌∙◌, append_assoc, append-nil, arith}
+use Rattle.std.proofs.KnownBytes.{Appends-trans}
+use Rattle.std.specs.Io.KnownBytes.{Appends}
+
+-- ---- what is written page by page
 
 -- ---- the parts of a sink
 
@@ -50,3 +54,81 @@ pub record PageTakes {W : Type 0} (contents : W → Option (List ℕ)) (old : Pa
       × (sent : List ℕ) × Takes contents (writer_of old) (writer_of new) sent × (sent ++ page_of new ≡ page_of old ++ octets)
   pub cut : has_failed new ≡ true
       → IsCutAfter contents (has_failed old) (writer_of old) (writer_of new) (page_of old ++ octets) (most_of old)
+
+-- ---- what is written page by page in several calls
+
+pub none_appended : (known : Option (List ℕ)) → Appends known known []
+none_appended None = tt
+none_appended (Some xs) = sym (append-nil xs)
+
+module _ {W : Type 0} (contents : W → Option (List ℕ)) where
+  pub page_takes_nothing : (s : PageSink W) → PageTakes contents s [] s
+  page_takes_nothing s = record {
+    same_lender = refl;
+    same_most = refl;
+    asks = omega arith;
+    whole = λ ok. (ok, refl, [], none_appended (contents (inner_of (writer_of s))), sym (append-nil (page_of s)));
+    cut = λ failed. inl (failed, refl);
+  }
+
+  pub page_stays : (s : PageSink W) → has_failed s ≡ true → (octets : List ℕ) → PageTakes contents s octets s
+  page_stays s failed octets = record {
+    same_lender = refl;
+    same_most = refl;
+    asks = omega arith;
+    whole = λ ok. absurd (true≢false (sym failed ∙ ok));
+    cut = λ _. inl (failed, refl);
+  }
+
+  -- what is sent of the second octets behind the first
+  sent_behind : (a b c : Metered W) (first page before second rest : List ℕ) → Takes contents a b first → first ++ page ≡ before
+      → SendsFront contents b c (page ++ second) rest → SendsFront contents a c (before ++ second) rest
+  sent_behind a b c first page before second rest f e g = record {
+    sent = first ++ g.sent;
+    whole = ap (λ s. s ++ second) (sym e) ∙ append_assoc first page second ∙ ap (λ s. first ++ s) g.whole
+        ∙ sym (append_assoc first g.sent rest);
+    taken = Appends-trans (contents (inner_of a)) (contents (inner_of b)) (contents (inner_of c)) first g.sent f g.taken;
+  }
+
+  -- a beginning of octets is one of more octets
+  front_longer : (a b : Metered W) (octets more rest : List ℕ) → SendsFront contents a b octets rest
+      → SendsFront contents a b (octets ++ more) (rest ++ more)
+  front_longer a b octets more rest f = record {
+    sent = f.sent;
+    whole = ap (λ s. s ++ more) f.whole ∙ append_assoc f.sent rest more;
+    taken = f.taken;
+  }
+
+  longer : (failed : Bool) (a b c : Metered W) (octets more : List ℕ) (most : ℕ) → c ≡ b → IsCutAfter contents failed a b octets most
+      → IsCutAfter contents failed a c (octets ++ more) most
+  longer failed a b c octets more most e (inl f) = inl (f.0, e ∙ f.1)
+  longer failed a b c octets more most e (inr (ok, rest, front, faulty)) =
+      rw e (inr (ok, rest ++ more, front_longer a b octets more rest front, faulty))
+
+  cut_both : (a b c : PageSink W) (x y : List ℕ) → PageTakes contents a x b → most_of b ≡ most_of a → has_failed c ≡ true
+      → IsCutAfter contents (has_failed b) (writer_of b) (writer_of c) (page_of b ++ y) (most_of b)
+      → IsCutAfter contents (has_failed a) (writer_of a) (writer_of c) (page_of a ++ (x ++ y)) (most_of a)
+  cut_both a b c x y f same failed (inl g) =
+      rw (← append_assoc (page_of a) x y) (longer (has_failed a) (writer_of a) (writer_of b) (writer_of c) (page_of a ++ x) y (most_of a) g.1 (f.cut g.0))
+  cut_both a b c x y f same failed (inr (ok, rest, front, faulty)) =
+      let (was, faults, sent, taken, e) = f.whole ok in
+      rw (← append_assoc (page_of a) x y)
+      (inr (was, rest, sent_behind (writer_of a) (writer_of b) (writer_of c) sent (page_of b) (page_of a ++ x) y rest taken e front, rw same at faulty))
+
+  pub page_takes_both : (a b c : PageSink W) (x y : List ℕ) → PageTakes contents a x b → PageTakes contents b y c → PageTakes contents a (x ++ y) c
+  page_takes_both a b c x y f g = record {
+    same_lender = g.same_lender ∙ f.same_lender;
+    same_most = g.same_most ∙ f.same_most;
+    asks = omega (arith, f.asks, g.asks, f.same_most);
+    whole = λ ok.
+        let (was, faults, sent, taken, e) = g.whole ok in
+        let (first, faults_first, sent_first, taken_first, e_first) = f.whole was in (
+          first,
+          faults ∙ faults_first,
+          sent_first ++ sent,
+          Appends-trans (contents (inner_of (writer_of a))) (contents (inner_of (writer_of b))) (contents (inner_of (writer_of c))) sent_first sent taken_first taken,
+          append_assoc sent_first sent (page_of c) ∙ ap (λ s. sent_first ++ s) e ∙ sym (append_assoc sent_first (page_of b) y)
+              ∙ ap (λ s. s ++ y) e_first ∙ append_assoc (page_of a) x y,
+        );
+    cut = λ failed. cut_both a b c x y f f.same_most failed (g.cut failed);
+  }

@@ -1,16 +1,17 @@
--- Replies, and what is printed of them.
-use Rattle.std.specs.Prelude.{◌≡◌, ◌⊎◌, ℕ, ◌<◌, ◌≤◌, List, [], ◌∷◌, ◌++◌, length, Option, IfSome, Bool, IsTrue, Result, Ok, Err, Vec}
+-- Replies, what is printed of them, and what a printer of folds has printed.
+use Rattle.std.proofs.Common.{◌≡◌, ℕ, ◌+◌, ◌<◌, List, [], length, true, false, true≢false, refl, sym, ◌∙◌, arith}
+use Rattle.spki_decision.specs.declared.reduction.EntryFold.{EntryFold}
+use Rattle.spki_guard.specs.declared.fold_printer.FoldPrinter.{FoldPrinter}
+use Rattle.spki_guard.specs.Lines.{AreFoldLines, some_done, item_line, no_entries, verdict_of, ReportsFolds, some_grant, reason_lines}
+use Rattle.std.specs.Prelude.{◌⊎◌, ◌≤◌, ◌∷◌, ◌++◌, Option, IfSome, Bool, IsTrue, Result, Ok, Err, Vec}
 use Rattle.std.specs.declared.alloc.Global.{Global}
 use Rattle.metered_io.specs.declared.meters.Metered.{Metered}
-use Rattle.metered_io.specs.Metered.{faults_of}
+use Rattle.metered_io.specs.MeteredCalls.{faults_of}
 use Rattle.sexpr_core.specs.Value.{Value}
-use Rattle.sexpr_text.specs.Printed.{adv}
-use Rattle.sexpr_text.specs.Spelling.{IsTextWithin}
-use Rattle.sexpr_text.specs.Written.{written}
+use Rattle.sexpr_text.specs.AdvancedForm.{adv, IsTextWithin, written}
 use Rattle.spki_tag.specs.Tag.{tag_value}
-use Rattle.spki_case.specs.CaseForm.{IsCaseText}
+use Rattle.spki_case.specs.Case.{IsCaseText}
 use Rattle.spki_case.specs.View.{model}
-use Rattle.spki_decision.specs.declared.reduction.EntryFold.{EntryFold}
 use Rattle.spki_words.specs.declared.commands.Command.{Command}
 use Rattle.spki_guard.specs.declared.answers.Verdict.{Verdict}
 use Rattle.spki_guard.specs.declared.answers.Verdict.TheVariants as verdict
@@ -24,11 +25,44 @@ use Rattle.spki_guard.specs.declared.sources.Source.TheVariants.{Standing, Conve
 use Rattle.spki_guard.specs.declared.statuses.Status.{Status}
 use Rattle.spki_guard.specs.declared.statuses.Status.TheVariants.{WriteFault}
 use Rattle.spki_guard.specs.declared.answers.Answer.{Answer}
-use Rattle.spki_guard.specs.Answer.{form_of, output_octets, written_by}
-use Rattle.spki_guard.specs.Lines.{item_line, no_entries}
-use Rattle.spki_guard.specs.Reports.{verdict_of, AreFoldLines, ReportsFolds, some_done, some_grant, reason_lines}
-use Rattle.spki_guard.specs.Run.{RefusesLong, RefusesForMemory, IsWritten, IsCutOff}
-use Rattle.spki_guard.specs.Status.{answer_status}
+use Rattle.spki_guard.specs.TextAnswers.{form_of, output_octets, written_by, RefusesLong, RefusesForMemory, IsWritten, IsCutOff}
+use Rattle.spki_guard.specs.Program.{answer_status}
+
+-- ---- what a printer of folds has printed
+
+abbrev pub room_of : FoldPrinter → ℕ
+room_of p = p.room
+
+-- nothing was put
+pub record IsUnused (p : FoldPrinter) : Type 0 where
+  pub empty : p.lines.items ≡ []
+  pub short : p.is_long ≡ false
+  pub none_done : p.some_done ≡ false
+  pub none_put : p.count ≡ 0
+
+-- All lines of these folds are kept, and there is room for what is left of so many octets. Or they are more.
+pub record HasPrinted (most : ℕ) (folds : List EntryFold) (p : FoldPrinter) : Type 0 where
+  pub lines : List ℕ
+  pub are : AreFoldLines 1 folds lines
+  pub kept : p.is_long ≡ false → (p.lines.items ≡ lines) × (length lines + p.room ≡ most)
+  pub long : p.is_long ≡ true → most < length lines
+  pub done : p.some_done ≡ some_done folds
+  pub counted : p.count ≡ length folds
+
+abbrev pub PrintsFolds : FoldPrinter → List EntryFold → FoldPrinter → Type 0
+PrintsFolds start folds p = IsUnused start → HasPrinted start.room folds p
+
+pub nothing_printed : (p : FoldPrinter) → PrintsFolds p [] p
+nothing_printed p unused = record {
+  lines = [];
+  are = refl;
+  kept = λ short. (unused.empty, omega arith);
+  long = λ long. absurd (true≢false (sym long ∙ unused.short));
+  done = unused.none_done;
+  counted = unused.none_put;
+}
+
+-- ---- replies, and what is printed of them
 
 -- ---- replies
 

@@ -1,6 +1,5 @@
 use Rattle.std.proofs.Common.{rules}
-use Rattle.spki_tag.proofs.Members.{nodes_le-of_read}
-use Rattle.spki_tag.proofs.Differing.{lengths_differ, member_differs}
+use Rattle.spki_tag.proofs.Members.{nodes_le-of_read, lengths_differ, member_differs}
 use Rattle.spki_tag.proofs.+same.Goals as goal
 
 pub equality::all_same-returns-then-ones-others : goal.equality::all_same-returns-then-ones-others

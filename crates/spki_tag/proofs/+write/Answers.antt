@@ -1,6 +1,6 @@
 use Rattle.std.proofs.Common.{rules}
 use Rattle.spki_tag.proofs.Members.{nodes_le-of_read}
-use Rattle.spki_tag.proofs.Spelling.{list_written, set_written}
+use Rattle.spki_tag.proofs.TagReading.{list_written, set_written}
 use Rattle.spki_tag.proofs.+write.Goals as goal
 
 pub tag::Tag::write-returns-in_ok-push_each-in-List : goal.tag::Tag::write-returns-in_ok-push_each-in-List

@@ -1,5 +1,5 @@
 use Rattle.std.proofs.Common.{◌≡◌, ◌+◌, ◌*◌, ◌++◌, map, take}
-use Rattle.sexpr_core.specs.Tree.{sexp_value}
+use Rattle.sexpr_core.specs.Value.{sexp_value}
 use Rattle.spki_tag.specs.Tag.{tags, tag_value, nodes, nodes_all}
 use Rattle.spki_tag.proofs.+write.Given as goal
 

@@ -1,5 +1,5 @@
 use Rattle.std.proofs.Common.{◌-◌, ◌≡◌, ◌≤◌, max, vec_len}
-use Rattle.metered_io.specs.Metered.{Gives}
+use Rattle.metered_io.specs.MeteredCalls.{Gives}
 use Rattle.metered_io.proofs.input.read_whole.Given as goal
 
 abbrev pub invariant-loop-buffer : goal.invariant-loop-buffer

@@ -1,5 +1,5 @@
 use Rattle.std.proofs.Common.{◌-◌, ◌≡◌, ◌≤◌, max}
-use Rattle.metered_io.specs.Metered.{TakesNone}
+use Rattle.metered_io.specs.MeteredCalls.{TakesNone}
 use Rattle.metered_io.proofs.output.flush_writer.Given as goal
 
 abbrev pub invariant-loop-writer : goal.invariant-loop-writer

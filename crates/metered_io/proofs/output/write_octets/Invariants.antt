@@ -1,5 +1,5 @@
 use Rattle.std.proofs.Common.{◌-◌, ◌≡◌, ◌≤◌, ◌+◌, length, max}
-use Rattle.metered_io.specs.Sent.{SendsFront}
+use Rattle.metered_io.specs.MeteredCalls.{SendsFront}
 use Rattle.metered_io.proofs.output.write_octets.Given as goal
 
 abbrev pub invariant-loop-rest : goal.invariant-loop-rest

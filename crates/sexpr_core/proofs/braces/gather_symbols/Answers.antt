@@ -1,6 +1,6 @@
 use Rattle.std.proofs.Common.{subst}
-use Rattle.sexpr_core.specs.Spaces.{Skips}
-use Rattle.sexpr_core.proofs.Gathered.{nothing_gathered, more_gathered, no_body_octet, gathered_mark, gathered_end, body_stops, body_short, body_bad}
+use Rattle.sexpr_core.specs.Reading.{Skips}
+use Rattle.sexpr_core.proofs.Spans.{nothing_gathered, more_gathered, no_body_octet, gathered_mark, gathered_end, body_stops, body_short, body_bad}
 use Rattle.sexpr_core.proofs.braces.gather_symbols.Goals as goal
 
 pub loop-octet-init : goal.loop-octet-init

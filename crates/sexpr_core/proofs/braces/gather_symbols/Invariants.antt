@@ -1,5 +1,5 @@
 use Rattle.std.proofs.Common.{◌-◌, length}
-use Rattle.sexpr_core.proofs.Gathered.{Gathers}
+use Rattle.sexpr_core.proofs.Spans.{Gathers}
 use Rattle.sexpr_core.proofs.braces.gather_symbols.Given as goal
 
 abbrev pub invariant-loop-octet : goal.invariant-loop-octet

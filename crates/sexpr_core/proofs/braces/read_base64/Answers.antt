@@ -1,8 +1,7 @@
 use Rattle.std.proofs.Common.{sym, subst}
-use Rattle.sexpr_core.specs.Braces.{IsBase64}
-use Rattle.sexpr_core.proofs.Base64Laws.{body_octets}
-use Rattle.sexpr_core.proofs.Gathered.{same_body, unpacked_end}
-use Rattle.sexpr_core.proofs.BraceLaws.{body_not_packed, packed_refused}
+use Rattle.sexpr_core.specs.Reading.{IsBase64}
+use Rattle.sexpr_core.proofs.BraceLaws.{body_octets, body_not_packed, packed_refused}
+use Rattle.sexpr_core.proofs.Spans.{same_body, unpacked_end}
 use Rattle.sexpr_core.proofs.Errors.{err_kept}
 use Rattle.sexpr_core.proofs.braces.read_base64.Goals as goal
 

@@ -1,5 +1,5 @@
 use Rattle.std.proofs.Common.{sym}
-use Rattle.sexpr_core.proofs.Gathered.{no_symbols, more_symbols, symbols_end, symbols_stop}
+use Rattle.sexpr_core.proofs.Spans.{no_symbols, more_symbols, symbols_end, symbols_stop}
 use Rattle.sexpr_core.proofs.braces.skip_symbols.Goals as goal
 
 pub loop-octet-init : goal.loop-octet-init

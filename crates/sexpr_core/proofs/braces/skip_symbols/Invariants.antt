@@ -1,5 +1,5 @@
 use Rattle.std.proofs.Common.{◌-◌, length}
-use Rattle.sexpr_core.proofs.Gathered.{SymbolsTo}
+use Rattle.sexpr_core.proofs.Spans.{SymbolsTo}
 use Rattle.sexpr_core.proofs.braces.skip_symbols.Given as goal
 
 abbrev pub invariant-loop-octet : goal.invariant-loop-octet

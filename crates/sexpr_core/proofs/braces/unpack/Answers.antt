@@ -1,5 +1,5 @@
 use Rattle.std.proofs.Common.{◌≡◌, length, ◌-◌, ◌%◌, refl, ◌∙◌, ap, arith}
-use Rattle.sexpr_core.proofs.Base64Laws.{missing_is, whole_is, no_failure}
+use Rattle.sexpr_core.proofs.BraceLaws.{missing_is, whole_is, no_failure}
 use Rattle.sexpr_core.proofs.braces.unpack.Goals as goal
 
 pub returns-then-missing-gt2-clause-only : goal.returns-then-missing-gt2-clause-only

@@ -1,6 +1,6 @@
 use Rattle.std.proofs.Common.{sym, subst, ◌∙◌}
 use Rattle.std.proofs.lemmas.Result.{err_from_is_err_and}
-use Rattle.sexpr_core.specs.BraceRefusal.{RefusesBraces}
+use Rattle.sexpr_core.specs.Reading.{RefusesBraces}
 use Rattle.sexpr_core.proofs.BraceLaws.{braced_limits}
 use Rattle.sexpr_core.proofs.braces.unwrap_braces.Goals as goal
 

@@ -1,4 +1,4 @@
-use Rattle.sexpr_core.proofs.Whole.{refused, trailing, only_memory}
+use Rattle.sexpr_core.proofs.Refusals.{refused, trailing, only_memory}
 use Rattle.sexpr_core.proofs.Errors.{err_kept}
 use Rattle.sexpr_core.proofs.checker.check_canonical.Goals as goal
 

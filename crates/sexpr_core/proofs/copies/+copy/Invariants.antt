@@ -1,5 +1,5 @@
 use Rattle.std.proofs.Common.{◌≡◌, map, take}
-use Rattle.sexpr_core.specs.Tree.{sexp_value}
+use Rattle.sexpr_core.specs.Value.{sexp_value}
 use Rattle.sexpr_core.proofs.copies.+copy.Given as goal
 
 abbrev pub invariant-copies_of-loop-tree : goal.invariant-copies_of-loop-tree

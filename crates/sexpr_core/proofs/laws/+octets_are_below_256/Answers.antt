@@ -1,5 +1,5 @@
-use Rattle.sexpr_core.specs.Tree.{sexp_value}
-use Rattle.sexpr_core.proofs.OctetLaws.{more_octets, list_octets}
+use Rattle.sexpr_core.specs.Value.{sexp_value}
+use Rattle.sexpr_core.proofs.TreeLaws.{more_octets, list_octets}
 use Rattle.sexpr_core.proofs.laws.+octets_are_below_256.Goals as goal
 
 pub loop-member-preserved : goal.loop-member-preserved

@@ -1,7 +1,5 @@
 use Rattle.std.proofs.Common.{map, take}
-use Rattle.sexpr_core.specs.Value.{values}
-use Rattle.sexpr_core.specs.Octets.{HaveOctets}
-use Rattle.sexpr_core.specs.Tree.{sexp_value}
+use Rattle.sexpr_core.specs.Value.{values, HaveOctets, sexp_value}
 use Rattle.sexpr_core.proofs.laws.+octets_are_below_256.Given as goal
 
 abbrev pub invariant-loop-member : goal.invariant-loop-member

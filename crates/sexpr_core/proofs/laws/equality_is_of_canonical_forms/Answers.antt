@@ -1,4 +1,4 @@
-use Rattle.sexpr_core.proofs.EqualityLaws.{same_decides}
+use Rattle.sexpr_core.proofs.TreeLaws.{same_decides}
 use Rattle.sexpr_core.proofs.laws.equality_is_of_canonical_forms.Goals as goal
 
 pub returns : goal.returns

@@ -1,6 +1,5 @@
 use Rattle.std.proofs.Common.{map, ap, arith}
-use Rattle.sexpr_core.specs.Value.{size, size_all}
-use Rattle.sexpr_core.specs.Tree.{sexp_value}
+use Rattle.sexpr_core.specs.Value.{size, size_all, sexp_value}
 use Rattle.sexpr_core.proofs.TreeLaws.{size_group, size_all-append}
 use Rattle.sexpr_core.proofs.owned_trees.+trees.Goals as goal
 

@@ -1,7 +1,6 @@
 -- A node has fewer nodes in it than the list that it is a member of.
 use Rattle.std.proofs.Common.{◌≡◌, ◌+◌, ◌*◌, ◌++◌, map}
-use Rattle.sexpr_core.specs.Value.{size, size_all}
-use Rattle.sexpr_core.specs.Tree.{sexp_value}
+use Rattle.sexpr_core.specs.Value.{size, size_all, sexp_value}
 use Rattle.sexpr_core.proofs.owned_trees.+trees.Given as goal
 
 abbrev pub decreases-tree_of : goal.decreases-tree_of

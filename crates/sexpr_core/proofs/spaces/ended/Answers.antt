@@ -1,4 +1,4 @@
-use Rattle.sexpr_core.proofs.SpaceLaws.{spaces_all}
+use Rattle.sexpr_core.proofs.Spans.{spaces_all}
 use Rattle.sexpr_core.proofs.spaces.ended.Goals as goal
 
 pub returns-then-end-text-clause-only : goal.returns-then-end-text-clause-only

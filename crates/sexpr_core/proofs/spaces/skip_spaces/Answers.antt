@@ -1,5 +1,5 @@
 use Rattle.std.proofs.Common.{sym}
-use Rattle.sexpr_core.proofs.SpaceLaws.{no_spaces, more_spaces, spaces_end, spaces_stop}
+use Rattle.sexpr_core.proofs.Spans.{no_spaces, more_spaces, spaces_end, spaces_stop}
 use Rattle.sexpr_core.proofs.spaces.skip_spaces.Goals as goal
 
 pub loop-octet-init : goal.loop-octet-init

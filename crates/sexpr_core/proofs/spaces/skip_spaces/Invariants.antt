@@ -1,5 +1,5 @@
 use Rattle.std.proofs.Common.{◌-◌, length}
-use Rattle.sexpr_core.proofs.SpaceLaws.{SpacesTo}
+use Rattle.sexpr_core.proofs.Spans.{SpacesTo}
 use Rattle.sexpr_core.proofs.spaces.skip_spaces.Given as goal
 
 abbrev pub invariant-loop-octet : goal.invariant-loop-octet

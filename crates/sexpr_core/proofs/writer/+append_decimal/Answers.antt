@@ -1,4 +1,4 @@
-use Rattle.sexpr_core.proofs.Written.{digit_written, digits_written}
+use Rattle.sexpr_core.proofs.TreeLaws.{digit_written, digits_written}
 use Rattle.sexpr_core.proofs.writer.+append_decimal.Goals as goal
 
 pub returns-then-number-lt10-clause-written : goal.returns-then-number-lt10-clause-written

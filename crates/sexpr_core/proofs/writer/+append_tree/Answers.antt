@@ -1,5 +1,5 @@
-use Rattle.sexpr_core.specs.Tree.{sexp_value}
-use Rattle.sexpr_core.proofs.Written.{nothing_written, member_written, list_written}
+use Rattle.sexpr_core.specs.Value.{sexp_value}
+use Rattle.sexpr_core.proofs.TreeLaws.{nothing_written, member_written, list_written}
 use Rattle.sexpr_core.proofs.writer.+append_tree.Goals as goal
 
 pub loop-member-init : goal.loop-member-init

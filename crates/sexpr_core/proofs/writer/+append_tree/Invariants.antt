@@ -1,6 +1,5 @@
 use Rattle.std.proofs.Common.{◌≡◌, ◌++◌, map, take}
-use Rattle.sexpr_core.specs.Value.{canons, values}
-use Rattle.sexpr_core.specs.Tree.{sexp_value}
+use Rattle.sexpr_core.specs.Value.{canons, values, sexp_value}
 use Rattle.sexpr_core.proofs.writer.+append_tree.Given as goal
 
 abbrev pub invariant-loop-member : goal.invariant-loop-member

@@ -1,4 +1,4 @@
-use Rattle.sexpr_core.proofs.Written.{digit_written}
+use Rattle.sexpr_core.proofs.TreeLaws.{digit_written}
 use Rattle.sexpr_core.proofs.writer.append_length.Goals as goal
 
 pub returns-then-octets-lt10-clause-written : goal.returns-then-octets-lt10-clause-written

@@ -1,4 +1,4 @@
-use Rattle.sexpr_core.proofs.Written.{one_written}
+use Rattle.sexpr_core.proofs.TreeLaws.{one_written}
 use Rattle.sexpr_core.proofs.writer.append_verbatim.Goals as goal
 
 pub returns-in-len1-clause-written : goal.returns-in-len1-clause-written

@@ -1,6 +1,6 @@
 use Rattle.std.proofs.Common.{[], ◌∷◌, ◌++◌, length, sym, ◌∙◌, ap, append_assoc, arith, rules}
-use Rattle.sexpr_text.proofs.CanonicalPrinting.{opens_list, opens_hint, opens_plain, value_shortens, member_next, member_printed, members_end}
-use Rattle.sexpr_text.proofs.SinkLaws.{in_two, in_three}
+use Rattle.sexpr_text.proofs.Converted.{opens_list, opens_hint, opens_plain, value_shortens, member_next, member_printed, members_end}
+use Rattle.sexpr_text.proofs.Printed.{in_two, in_three}
 use Rattle.sexpr_text.proofs.canonical_printer.+printing.Goals as goal
 
 pub print_first-returns-in_default : goal.print_first-returns-in_default

@@ -1,7 +1,7 @@
 -- Each call is given less text.
 use Rattle.std.proofs.Common.{◌≡◌, ◌≤◌, ℕ, ◌+◌, ◌*◌, List, ◌∷◌, ◌++◌, length}
 use Rattle.sexpr_core.specs.Value.{Values, canons}
-use Rattle.sexpr_text.proofs.CanonicalPrinting.{IsInMembers}
+use Rattle.sexpr_text.proofs.Converted.{IsInMembers}
 use Rattle.sexpr_text.proofs.canonical_printer.+printing.Given as goal
 
 abbrev pub decreases-print_first : goal.decreases-print_first

@@ -1,7 +1,7 @@
 use Rattle.std.proofs.Common.{[], ◌∷◌, ◌++◌, ◌∙◌, ap, append_assoc}
-use Rattle.sexpr_text.specs.Printed.{printed_string}
-use Rattle.sexpr_text.proofs.CanonicalPrinting.{behind_first}
-use Rattle.sexpr_text.proofs.SinkLaws.{in_two}
+use Rattle.sexpr_text.specs.AdvancedForm.{printed_string}
+use Rattle.sexpr_text.proofs.Converted.{behind_first}
+use Rattle.sexpr_text.proofs.Printed.{in_two}
 use Rattle.sexpr_text.proofs.canonical_printer.print_hinted.Goals as goal
 
 pub returns : goal.returns

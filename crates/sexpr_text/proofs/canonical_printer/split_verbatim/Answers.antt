@@ -1,5 +1,5 @@
 use Rattle.std.proofs.Common.{◌∙◌, ◌<◌, ◌^◌, length, length-append, ap, arith, rules}
-use Rattle.sexpr_text.proofs.CanonicalPrinting.{length_begins, length_goes_on, length_ends, length_within, split_there}
+use Rattle.sexpr_text.proofs.Converted.{length_begins, length_goes_on, length_ends, length_within, split_there}
 use Rattle.sexpr_text.proofs.canonical_printer.split_verbatim.Goals as goal
 
 pub loop-octet-init : goal.loop-octet-init

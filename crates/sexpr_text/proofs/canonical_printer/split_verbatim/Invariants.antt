@@ -1,6 +1,6 @@
 use Rattle.std.proofs.Common.{◌≡◌, ℕ, List, ◌++◌, length}
 use Rattle.sexpr_core.specs.Value.{verbatim}
-use Rattle.sexpr_text.proofs.CanonicalPrinting.{IsInLength}
+use Rattle.sexpr_text.proofs.Converted.{IsInLength}
 use Rattle.sexpr_text.proofs.canonical_printer.split_verbatim.Given as goal
 
 abbrev pub invariant-loop-octet : goal.invariant-loop-octet

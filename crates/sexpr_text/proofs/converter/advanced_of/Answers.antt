@@ -1,6 +1,6 @@
 use Rattle.std.proofs.Common.{◌∙◌, ap, inl}
 use Rattle.std.proofs.lemmas.Result.{IfOk-weaker}
-use Rattle.sexpr_text.specs.Printed.{adv}
+use Rattle.sexpr_text.specs.AdvancedForm.{adv}
 use Rattle.sexpr_text.proofs.OneValue.{one_value}
 use Rattle.sexpr_text.proofs.Converted.{canonical_within}
 use Rattle.sexpr_text.proofs.converter.advanced_of.Goals as goal

@@ -1,8 +1,7 @@
 use Rattle.std.proofs.Common.{sym, subst, arith}
-use Rattle.sexpr_core.specs.Spaces.{AreSpaces}
-use Rattle.sexpr_text.proofs.WholeEnds.{trailing_refused, value_refused}
+use Rattle.sexpr_core.specs.Reading.{AreSpaces}
+use Rattle.sexpr_text.proofs.WholeTexts.{trailing_refused, value_refused, whole_at}
 use Rattle.sexpr_text.proofs.Trees.{same_value}
-use Rattle.sexpr_text.proofs.WholeTrees.{whole_at}
 use Rattle.sexpr_core.proofs.Errors.{err_kept}
 use Rattle.sexpr_text.proofs.converter.convert_advanced.Goals as goal
 

@@ -1,7 +1,7 @@
 use Rattle.std.proofs.Common.{◌≡◌, ◌∙◌, ap, sym}
 use Rattle.std.proofs.lemmas.Result.{IfOk-weaker, IfErr-weaker, IfErr-at_err}
 use Rattle.sexpr_core.specs.declared.fault.FormFault.TheVariants as form
-use Rattle.sexpr_text.specs.Written.{written}
+use Rattle.sexpr_text.specs.AdvancedForm.{written}
 use Rattle.sexpr_core.proofs.BraceLaws.{braced_limits}
 use Rattle.sexpr_text.proofs.converter.convert_braces.Goals as goal
 

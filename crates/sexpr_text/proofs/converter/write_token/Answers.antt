@@ -1,6 +1,6 @@
 use Rattle.std.proofs.Common.{◌≡◌, ap, ◌∙◌, rules}
-use Rattle.sexpr_text.specs.Written.{written_string}
-use Rattle.sexpr_text.proofs.PrintLaws.{token_printed}
+use Rattle.sexpr_text.specs.AdvancedForm.{written_string}
+use Rattle.sexpr_text.proofs.Printed.{token_printed}
 use Rattle.sexpr_text.proofs.converter.write_token.Goals as goal
 
 pub returns-in-Advanced : goal.returns-in-Advanced

@@ -1,6 +1,5 @@
-use Rattle.sexpr_text.proofs.Marked.{hexadecimal_octets}
-use Rattle.sexpr_text.proofs.HexadecimalLaws.{nothing_kept, more_kept, kept_refused, kept_end}
-use Rattle.sexpr_text.proofs.RefusedDigits.{octet_refused}
+use Rattle.sexpr_text.proofs.Marked.{hexadecimal_octets, nothing_kept, more_kept, kept_refused, kept_end}
+use Rattle.sexpr_text.proofs.RefusedParts.{octet_refused}
 use Rattle.sexpr_core.proofs.Errors.{err_kept}
 use Rattle.sexpr_text.proofs.hexadecimal_strings.gather_digits.Goals as goal
 

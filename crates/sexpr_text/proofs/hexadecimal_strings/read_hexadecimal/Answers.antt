@@ -1,6 +1,5 @@
-use Rattle.sexpr_text.proofs.Marked.{behind_opening}
-use Rattle.sexpr_text.proofs.HexadecimalLaws.{hexadecimal_read, digits_refused}
-use Rattle.sexpr_text.proofs.RefusedDigits.{body_refused, mark_refused}
+use Rattle.sexpr_text.proofs.Marked.{behind_opening, hexadecimal_read, digits_refused}
+use Rattle.sexpr_text.proofs.RefusedParts.{body_refused, mark_refused}
 use Rattle.sexpr_core.proofs.Errors.{err_kept}
 use Rattle.sexpr_text.proofs.hexadecimal_strings.read_hexadecimal.Goals as goal
 

@@ -1,8 +1,8 @@
 use Rattle.std.proofs.Common.{subst}
 use Rattle.sexpr_core.specs.Reading.{StandsAt}
 use Rattle.sexpr_text.proofs.Trees.{nothing_at, octet_is}
-use Rattle.sexpr_text.proofs.WholeTrees.{hinted_at, hint_at, closing_at, body_at, hinted_read}
-use Rattle.sexpr_text.proofs.RefusedStrings.{hint_missed, closing_missed, body_missed}
+use Rattle.sexpr_text.proofs.WholeTexts.{hinted_at, hint_at, closing_at, body_at, hinted_read}
+use Rattle.sexpr_text.proofs.RefusedParts.{hint_missed, closing_missed, body_missed}
 use Rattle.sexpr_text.proofs.ValueEnds.{hint_ends, closing_short, closing_ends, body_ends}
 use Rattle.sexpr_core.proofs.Errors.{err_kept}
 use Rattle.sexpr_text.proofs.hinted_strings.read_hinted_string.Goals as goal

@@ -1,4 +1,4 @@
-use Rattle.sexpr_text.proofs.Openings.{one_of_any, none_of_any}
+use Rattle.sexpr_text.proofs.OneRefusal.{one_of_any, none_of_any}
 use Rattle.sexpr_text.proofs.laws.one_refusal_in_any_form.Goals as goal
 
 pub returns-clause-none : goal.returns-clause-none

@@ -1,4 +1,4 @@
-use Rattle.sexpr_text.proofs.PrintedSpelled.{printed_spelled}
+use Rattle.sexpr_text.proofs.Printed.{printed_spelled}
 use Rattle.sexpr_text.proofs.laws.printed_is_advanced.Goals as goal
 
 pub returns : goal.returns

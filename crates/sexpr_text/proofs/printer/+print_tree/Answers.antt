@@ -1,7 +1,6 @@
-use Rattle.sexpr_core.specs.Tree.{sexp_value}
-use Rattle.sexpr_core.proofs.OctetLaws.{more_octets, list_octets}
-use Rattle.sexpr_text.proofs.PrintLaws.{member_behind, list_between}
-use Rattle.sexpr_text.proofs.SinkLaws.{in_three}
+use Rattle.sexpr_core.specs.Value.{sexp_value}
+use Rattle.sexpr_core.proofs.TreeLaws.{more_octets, list_octets}
+use Rattle.sexpr_text.proofs.Printed.{member_behind, list_between, in_three}
 use Rattle.sexpr_text.proofs.printer.+print_tree.Goals as goal
 
 pub loop-i-init : goal.loop-i-init

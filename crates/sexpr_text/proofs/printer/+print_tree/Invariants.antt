@@ -1,8 +1,6 @@
 use Rattle.std.proofs.Common.{map, take}
-use Rattle.sexpr_core.specs.Value.{values}
-use Rattle.sexpr_core.specs.Octets.{HaveOctets}
-use Rattle.sexpr_core.specs.Tree.{sexp_value}
-use Rattle.sexpr_text.specs.Printed.{adv_all}
+use Rattle.sexpr_core.specs.Value.{values, HaveOctets, sexp_value}
+use Rattle.sexpr_text.specs.AdvancedForm.{adv_all}
 use Rattle.sexpr_text.proofs.printer.+print_tree.Given as goal
 
 abbrev pub invariant-loop-i : goal.invariant-loop-i

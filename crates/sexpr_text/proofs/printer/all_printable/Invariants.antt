@@ -1,5 +1,5 @@
 use Rattle.std.proofs.Common.{◌≡◌, true, take}
-use Rattle.sexpr_text.specs.Printed.{every, is_printable}
+use Rattle.sexpr_text.specs.AdvancedForm.{every, is_printable}
 use Rattle.sexpr_text.proofs.printer.all_printable.Given as goal
 
 abbrev pub invariant-loop-octet : goal.invariant-loop-octet

@@ -1,5 +1,5 @@
 use Rattle.std.proofs.Common.{[], refl, rules}
-use Rattle.sexpr_text.proofs.PrintedSpelled.{all_spelled}
+use Rattle.sexpr_text.proofs.Printed.{all_spelled}
 use Rattle.sexpr_text.proofs.printer.print_advanced.Goals as goal
 
 pub returns-clause-spells : goal.returns-clause-spells

@@ -1,5 +1,4 @@
-use Rattle.sexpr_text.proofs.PrintLaws.{hinted_whole}
-use Rattle.sexpr_text.proofs.SinkLaws.{in_two}
+use Rattle.sexpr_text.proofs.Printed.{hinted_whole, in_two}
 use Rattle.sexpr_text.proofs.printer.print_atom.Goals as goal
 
 pub returns-in-Some-clause-printed : goal.returns-in-Some-clause-printed

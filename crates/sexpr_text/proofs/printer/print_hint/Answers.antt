@@ -1,5 +1,5 @@
 use Rattle.std.proofs.Common.{refl}
-use Rattle.sexpr_text.proofs.SinkLaws.{in_three}
+use Rattle.sexpr_text.proofs.Printed.{in_three}
 use Rattle.sexpr_text.proofs.printer.print_hint.Goals as goal
 
 pub returns-clause-printed : goal.returns-clause-printed

@@ -1,5 +1,5 @@
 use Rattle.std.proofs.Common.{sym}
-use Rattle.sexpr_text.proofs.PrintLaws.{printed_token, printed_quoted, printed_packed}
+use Rattle.sexpr_text.proofs.Printed.{printed_token, printed_quoted, printed_packed}
 use Rattle.sexpr_text.proofs.printer.print_octets.Goals as goal
 
 pub returns-then-is_token_text-clause-printed : goal.returns-then-is_token_text-clause-printed

@@ -1,6 +1,5 @@
 use Rattle.std.proofs.Common.{[], ◌++◌, refl}
-use Rattle.sexpr_text.proofs.PrintLaws.{packed_one, packed_between}
-use Rattle.sexpr_text.proofs.SinkLaws.{in_two, in_three}
+use Rattle.sexpr_text.proofs.Printed.{packed_one, packed_between, in_two, in_three}
 use Rattle.sexpr_text.proofs.printer.print_packed.Goals as goal
 
 pub loop-rest-init : goal.loop-rest-init

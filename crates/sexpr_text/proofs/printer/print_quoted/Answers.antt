@@ -1,5 +1,4 @@
-use Rattle.sexpr_text.proofs.PrintLaws.{quoted_one, quoted_between}
-use Rattle.sexpr_text.proofs.SinkLaws.{in_two, in_three}
+use Rattle.sexpr_text.proofs.Printed.{quoted_one, quoted_between, in_two, in_three}
 use Rattle.sexpr_text.proofs.printer.print_quoted.Goals as goal
 
 pub loop-octet-init : goal.loop-octet-init

@@ -1,5 +1,5 @@
 use Rattle.std.proofs.Common.{take}
-use Rattle.sexpr_text.specs.Printed.{quoted_body}
+use Rattle.sexpr_text.specs.AdvancedForm.{quoted_body}
 use Rattle.sexpr_text.proofs.printer.print_quoted.Given as goal
 
 abbrev pub invariant-loop-octet : goal.invariant-loop-octet

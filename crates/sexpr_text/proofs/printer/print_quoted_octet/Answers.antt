@@ -1,4 +1,4 @@
-use Rattle.sexpr_text.proofs.PrintLaws.{quoted_plain, quoted_escaped}
+use Rattle.sexpr_text.proofs.Printed.{quoted_plain, quoted_escaped}
 use Rattle.sexpr_text.proofs.printer.print_quoted_octet.Goals as goal
 
 pub returns-then-is_escaped : goal.returns-then-is_escaped

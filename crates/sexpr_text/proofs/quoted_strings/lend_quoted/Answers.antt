@@ -1,7 +1,7 @@
 use Rattle.std.proofs.Common.{◌+◌, sym, subst}
 use Rattle.sexpr_core.proofs.Steps.{slice_read}
 use Rattle.sexpr_text.specs.Reads.{Reads}
-use Rattle.sexpr_text.specs.Strings.{IsQuoted}
+use Rattle.sexpr_text.specs.AdvancedForm.{IsQuoted}
 use Rattle.sexpr_text.proofs.StringLaws.{plain_quoted}
 use Rattle.sexpr_text.proofs.quoted_strings.lend_quoted.Goals as goal
 

@@ -1,5 +1,5 @@
 use Rattle.std.proofs.Common.{◌+◌}
-use Rattle.sexpr_text.proofs.QuotedLaws.{line_end_pair, line_end_alone, starts_seen, starts_ended}
+use Rattle.sexpr_text.proofs.StringLaws.{line_end_pair, line_end_alone, starts_seen, starts_ended}
 use Rattle.sexpr_text.proofs.quoted_strings.line_end.Goals as goal
 use Rattle.sexpr_text.proofs.quoted_strings.line_end.Goals.{in-Some+else-octet-second, in_default}
 

@@ -1,6 +1,6 @@
 use Rattle.std.proofs.Common.{arith}
 use Rattle.std.proofs.lemmas.Result.{IfErr-weaker}
-use Rattle.sexpr_text.proofs.RefusedPieces.{hexadecimal_refused, letter_refused}
+use Rattle.sexpr_text.proofs.RefusedParts.{hexadecimal_refused, letter_refused}
 use Rattle.sexpr_text.proofs.StringEnds.{nothing_left, letter_goes, hexadecimal_end}
 use Rattle.sexpr_text.proofs.quoted_strings.read_escape.Goals as goal
 use Rattle.sexpr_text.proofs.quoted_strings.read_escape.Goals.{in_default-octet-via-then-octet-lt48, in_default-octet-via-else-octet-lt48+else-octet-lt52}

@@ -1,5 +1,5 @@
 use Rattle.std.proofs.Common.{sym}
-use Rattle.sexpr_text.proofs.RefusedPieces.{digit_refused}
+use Rattle.sexpr_text.proofs.RefusedParts.{digit_refused}
 use Rattle.sexpr_text.proofs.quoted_strings.read_hexadecimal_digit.Goals as goal
 
 pub returns-in-None-clause-refused : goal.returns-in-None-clause-refused

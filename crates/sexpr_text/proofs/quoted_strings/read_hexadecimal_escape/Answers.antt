@@ -1,6 +1,6 @@
-use Rattle.sexpr_text.proofs.Escapes.{hexadecimal_piece}
-use Rattle.sexpr_text.proofs.QuotedLaws.{hexadecimal_escape, second_octet}
-use Rattle.sexpr_text.proofs.RefusedPieces.{high_refused, low_refused}
+use Rattle.sexpr_text.proofs.Marked.{hexadecimal_piece}
+use Rattle.sexpr_text.proofs.StringLaws.{hexadecimal_escape, second_octet}
+use Rattle.sexpr_text.proofs.RefusedParts.{high_refused, low_refused}
 use Rattle.sexpr_text.proofs.StringEnds.{high_end, low_end}
 use Rattle.sexpr_core.proofs.Errors.{err_kept}
 use Rattle.sexpr_text.proofs.quoted_strings.read_hexadecimal_escape.Goals as goal

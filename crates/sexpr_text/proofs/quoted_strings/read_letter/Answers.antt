@@ -1,6 +1,5 @@
-use Rattle.std.proofs.Common.{sym}
-use Rattle.sexpr_text.proofs.QuotedLaws.{letter_escape}
-use Rattle.std.proofs.Common.{arith}
+use Rattle.std.proofs.Common.{sym, arith}
+use Rattle.sexpr_text.proofs.StringLaws.{letter_escape}
 use Rattle.sexpr_text.proofs.StringEnds.{nothing_begun, letter_goes}
 use Rattle.sexpr_text.proofs.quoted_strings.read_letter.Goals as goal
 

@@ -1,5 +1,5 @@
 use Rattle.std.proofs.Common.{arith}
-use Rattle.sexpr_text.proofs.RefusedPieces.{octal_refused}
+use Rattle.sexpr_text.proofs.RefusedParts.{octal_refused}
 use Rattle.sexpr_text.proofs.quoted_strings.read_octal_digit.Goals as goal
 use Rattle.sexpr_text.proofs.quoted_strings.read_octal_digit.Goals.{then-octet-lt48-via-then-octet-lt48, then-octet-lt48-via-else-octet-lt48+then-octet-gt55}
 

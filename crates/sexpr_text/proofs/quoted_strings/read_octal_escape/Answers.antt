@@ -1,6 +1,6 @@
-use Rattle.sexpr_text.proofs.Escapes.{octal_piece}
-use Rattle.sexpr_text.proofs.QuotedLaws.{octal_escape, third_octet, octal_behind}
-use Rattle.sexpr_text.proofs.RefusedPieces.{second_refused, third_refused}
+use Rattle.sexpr_text.proofs.Marked.{octal_piece}
+use Rattle.sexpr_text.proofs.StringLaws.{octal_escape, third_octet, octal_behind}
+use Rattle.sexpr_text.proofs.RefusedParts.{second_refused, third_refused}
 use Rattle.sexpr_text.proofs.StringEnds.{second_end, third_end}
 use Rattle.sexpr_core.proofs.Errors.{err_kept}
 use Rattle.sexpr_text.proofs.quoted_strings.read_octal_escape.Goals as goal

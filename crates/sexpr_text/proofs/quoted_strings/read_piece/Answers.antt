@@ -1,5 +1,5 @@
-use Rattle.sexpr_text.proofs.QuotedLaws.{raw_piece}
-use Rattle.sexpr_text.proofs.RefusedPieces.{escape_refused}
+use Rattle.sexpr_text.proofs.StringLaws.{raw_piece}
+use Rattle.sexpr_text.proofs.RefusedParts.{escape_refused}
 use Rattle.sexpr_text.proofs.StringEnds.{escape_end}
 use Rattle.sexpr_core.proofs.Errors.{err_kept}
 use Rattle.sexpr_text.proofs.quoted_strings.read_piece.Goals as goal

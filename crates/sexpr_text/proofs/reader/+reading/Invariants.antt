@@ -1,7 +1,6 @@
 -- Each list that opens leaves room for one less.
 use Rattle.std.proofs.Common.{◌+◌, ◌*◌, ◌-◌, length, map}
-use Rattle.sexpr_core.specs.Value.{values}
-use Rattle.sexpr_core.specs.Tree.{sexp_value}
+use Rattle.sexpr_core.specs.Value.{values, sexp_value}
 use Rattle.sexpr_text.proofs.Trees.{HasMembers}
 use Rattle.sexpr_text.proofs.reader.+reading.Given as goal
 

@@ -1,9 +1,8 @@
 use Rattle.std.proofs.Common.{sym, arith}
-use Rattle.sexpr_text.proofs.CountedLaws.{marked_string, nothing_stands, uncounted_stands}
-use Rattle.sexpr_text.proofs.RefusedStrings.{uncounted_missed}
+use Rattle.sexpr_text.proofs.CountedLaws.{marked_string, nothing_stands, uncounted_stands, quoted_string}
+use Rattle.sexpr_text.proofs.RefusedParts.{uncounted_missed}
 use Rattle.sexpr_text.proofs.StringEnds.{nothing_left}
 use Rattle.sexpr_text.proofs.MarkedEnds.{none_string, uncounted_end}
-use Rattle.sexpr_text.proofs.CountedLaws.{quoted_string}
 use Rattle.sexpr_core.proofs.Errors.{err_kept}
 use Rattle.sexpr_text.proofs.strings.read_string.Goals as goal
 

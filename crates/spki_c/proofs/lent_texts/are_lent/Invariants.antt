@@ -1,5 +1,5 @@
 use Rattle.std.proofs.Common.{◌≡◌, ℕ, ◌<◌, slice_index_or}
-use Rattle.spki_c.specs.Lent.{IsLent}
+use Rattle.spki_c.specs.Asking.{IsLent}
 use Rattle.spki_c.specs.declared.text.Text.{Text}
 use Rattle.spki_c.proofs.lent_texts.are_lent.Given as goal
 

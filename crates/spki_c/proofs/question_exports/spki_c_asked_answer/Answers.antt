@@ -1,7 +1,7 @@
 use Rattle.std.proofs.Common.{inl, sym, ap, ◌∙◌, subst}
-use Rattle.spki_service.specs.Opened.{IsOpened}
+use Rattle.spki_service.specs.GuardQuestions.{IsOpened}
 use Rattle.spki_service.specs.declared.opened.Opened.{Opened}
-use Rattle.spki_guard.specs.Answer.{written_by}
+use Rattle.spki_guard.specs.TextAnswers.{written_by}
 use Rattle.spki_c.specs.Asking.{marks_from}
 use Rattle.spki_c.proofs.Answering.{answered, no_memory}
 use Rattle.spki_c.proofs.question_exports.spki_c_asked_answer.Goals as goal

@@ -1,12 +1,12 @@
 use Rattle.std.proofs.Common.{ℕ, List, map, inl, inr, ap, subst, ◌∙◌, Some, refl}
-use Rattle.spki_service.specs.Held.{Held}
-use Rattle.spki_service.specs.Opened.{IsOpened}
-use Rattle.spki_guard.specs.Answer.{written_by}
-use Rattle.spki_guard.specs.Held.{IsUnreadQuestion}
+use Rattle.spki_service.specs.AccessLists.{Held}
+use Rattle.spki_service.specs.GuardQuestions.{IsOpened}
+use Rattle.spki_guard.specs.TextAnswers.{written_by}
+use Rattle.spki_guard.specs.HeldQuestions.{IsUnreadQuestion}
 use Rattle.spki_c.specs.Asking.{IsQuestionBy}
 use Rattle.spki_c.specs.declared.parts.Parts.{Parts}
 use Rattle.spki_c.specs.declared.text.Text.{Text}
-use Rattle.spki_c.proofs.Unheld.{question_by, is_question_by, one_line}
+use Rattle.spki_c.proofs.Answering.{question_by, is_question_by, one_line}
 use Rattle.spki_c.proofs.question_exports.spki_c_guard_ask.Goals as goal
 
 pub returns-in_default-clause-asked : goal.returns-in_default-clause-asked

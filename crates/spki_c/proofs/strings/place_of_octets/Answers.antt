@@ -1,5 +1,5 @@
 use Rattle.std.specs.Option.{option_copied}
-use Rattle.spki_c.proofs.StringPlaces.{string_stands, string_short}
+use Rattle.spki_c.proofs.Places.{string_stands, string_short}
 use Rattle.spki_c.proofs.strings.place_of_octets.Goals as goal
 
 pub overflow_sub-result : goal.overflow_sub-result

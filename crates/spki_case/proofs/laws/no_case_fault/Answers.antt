@@ -1,4 +1,4 @@
-use Rattle.spki_case.proofs.RowFaultNone.{row-none, rows-none, case-none}
+use Rattle.spki_case.proofs.RowFaults.{row-none, rows-none, case-none}
 use Rattle.spki_case.proofs.laws.no_case_fault.Goals as goal
 
 pub returns-clause-row : goal.returns-clause-row

@@ -1,4 +1,4 @@
-use Rattle.spki_case.proofs.Unrefused.{case_unrefused, rows_unrefused}
+use Rattle.spki_case.proofs.OneCase.{case_unrefused, rows_unrefused}
 use Rattle.spki_case.proofs.laws.no_refusal.Goals as goal
 
 pub returns-clause-case : goal.returns-clause-case

@@ -1,4 +1,4 @@
-use Rattle.spki_case.proofs.OneFault.{one-fault, one-rows_fault}
+use Rattle.spki_case.proofs.OneCase.{one-fault, one-rows_fault}
 use Rattle.spki_case.proofs.laws.one_fault.Goals as goal
 
 pub returns-clause-case : goal.returns-clause-case

@@ -1,4 +1,4 @@
-use Rattle.spki_case.specs.CaseForm.{part_values}
+use Rattle.spki_case.specs.Case.{part_values}
 use Rattle.spki_case.proofs.Building.{lifted}
 use Rattle.spki_case.proofs.parts.parts_of.Goals as goal
 

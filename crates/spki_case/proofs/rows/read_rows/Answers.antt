@@ -2,14 +2,11 @@ use Rattle.std.proofs.Common.{◌≡◌, ◌∷◌, ◌++◌, [], List, map, ap,
 use Rattle.std.specs.List.{AllZip}
 use Rattle.std.proofs.lemmas.List.{map-append, length-map}
 use Rattle.std.proofs.lemmas.Slice.Zip.{AllZip-long}
-use Rattle.spki_cert.proofs.Groups.{split, moved}
-use Rattle.spki_cert.proofs.EntryLaws.{items-push}
-use Rattle.spki_case.specs.Case.{Row}
-use Rattle.spki_case.specs.Rows.{RowOf}
+use Rattle.spki_cert.proofs.Looking.{split, moved}
+use Rattle.spki_cert.proofs.EntryFaultLaws.{items-push, items-all, items-next}
+use Rattle.spki_case.specs.Case.{Row, RowOf, row_fault}
 use Rattle.spki_case.specs.View.{row_of}
-use Rattle.spki_cert.proofs.EntryFaultLaws.{items-all, items-next}
-use Rattle.spki_case.specs.RowFaults.{row_fault}
-use Rattle.spki_case.proofs.RowFaultLaws.{first-row}
+use Rattle.spki_case.proofs.RowFaults.{first-row}
 use Rattle.spki_case.proofs.rows.read_rows.Goals as goal
 
 pub returns-in-Err-clause-named : goal.returns-in-Err-clause-named

@@ -1,10 +1,9 @@
 use Rattle.std.proofs.Common.{◌≡◌, ◌++◌, List, map, length}
 use Rattle.std.specs.List.{AllZip}
 use Rattle.sexpr_core.specs.Value.{Value}
-use Rattle.spki_case.specs.Rows.{RowOf}
+use Rattle.spki_case.specs.Case.{RowOf, row_fault}
 use Rattle.spki_case.specs.View.{row_of}
 use Rattle.spki_cert.proofs.EntryFaultLaws.{LeftItems}
-use Rattle.spki_case.specs.RowFaults.{row_fault}
 use Rattle.spki_case.proofs.rows.read_rows.Given as goal
 
 abbrev pub invariant-loop-member : goal.invariant-loop-member

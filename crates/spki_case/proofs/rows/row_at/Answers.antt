@@ -1,8 +1,8 @@
 use Rattle.std.proofs.Common.{rules}
 use Rattle.spki_cert.proofs.Looking.{carried, none-some}
-use Rattle.spki_cert.proofs.Triples.{triple-unheaded, triple-form}
-use Rattle.spki_case.specs.RowFaults.{row_fault}
-use Rattle.spki_case.proofs.RowFaultLaws.{row-looks}
+use Rattle.spki_cert.proofs.SequenceFaultLaws.{triple-unheaded, triple-form}
+use Rattle.spki_case.specs.Case.{row_fault}
+use Rattle.spki_case.proofs.RowFaults.{row-looks}
 use Rattle.spki_case.proofs.rows.row_at.Goals as goal
 
 pub returns-in_default-clause-named : goal.returns-in_default-clause-named

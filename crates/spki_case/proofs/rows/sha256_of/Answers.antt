@@ -1,6 +1,6 @@
 use Rattle.std.proofs.Common.{rules}
 use Rattle.spki_cert.proofs.Looking.{carried}
-use Rattle.spki_case.proofs.RowFaultLaws.{sha256-hash, sha256-whole, sha256-other, not-sha256}
+use Rattle.spki_case.proofs.RowFaults.{sha256-hash, sha256-whole, sha256-other, not-sha256}
 use Rattle.spki_case.proofs.rows.sha256_of.Goals as goal
 
 pub returns-in_err-alg-clause-named : goal.returns-in_err-alg-clause-named

@@ -1,6 +1,6 @@
 -- The rows so far.
 use Rattle.std.proofs.Common.{◌≡◌, map, take}
-use Rattle.spki_case.specs.SortedRows.{row_of, sorted_row}
+use Rattle.spki_case.specs.Lookups.{row_of, sorted_row}
 use Rattle.spki_case.proofs.table.sorted_rows.Given as goal
 
 abbrev pub invariant-loop-row : goal.invariant-loop-row

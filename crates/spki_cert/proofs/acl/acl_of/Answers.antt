@@ -1,6 +1,5 @@
 use Rattle.std.proofs.Common.{rules}
-use Rattle.spki_cert.proofs.EntryLaws.{acl-read}
-use Rattle.spki_cert.proofs.EntryFaultLaws.{acl-entries, acl-outer}
+use Rattle.spki_cert.proofs.EntryFaultLaws.{acl-read, acl-entries, acl-outer}
 use Rattle.spki_cert.proofs.acl.acl_of.Goals as goal
 
 pub returns-in-Ok-clause-acl : goal.returns-in-Ok-clause-acl

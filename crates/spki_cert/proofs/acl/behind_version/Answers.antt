@@ -1,10 +1,8 @@
 use Rattle.sexpr_core.specs.Value.{plain}
 use Rattle.std.proofs.Common.{◌∙◌}
 use Rattle.std.specs.Prelude.{codes}
-use Rattle.spki_cert.proofs.Looking.{carried}
-use Rattle.spki_cert.proofs.Groups.{same_others, headed-by, not-headed, behind-group}
-use Rattle.spki_cert.proofs.EntryLaws.{unversioned}
-use Rattle.spki_cert.proofs.EntryFaultLaws.{outer-unheaded, outer-form}
+use Rattle.spki_cert.proofs.Looking.{carried, same_others, headed-by, not-headed, behind-group}
+use Rattle.spki_cert.proofs.EntryFaultLaws.{unversioned, outer-unheaded, outer-form}
 use Rattle.spki_cert.proofs.acl.behind_version.Goals as goal
 
 pub returns-in_default-headed-2-clause-found : goal.returns-in_default-headed-2-clause-found

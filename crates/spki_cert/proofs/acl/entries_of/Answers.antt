@@ -2,11 +2,10 @@ use Rattle.std.proofs.Common.{◌∷◌, ◌++◌, [], List, sym, subst, refl, r
 use Rattle.std.specs.List.{AllZip}
 use Rattle.std.proofs.lemmas.Slice.Zip.{AllZip-long}
 use Rattle.spki_cert.specs.declared.entry.Entry.{Entry}
-use Rattle.spki_cert.specs.Entries.{EntryOf}
-use Rattle.spki_cert.proofs.Groups.{split, moved}
-use Rattle.spki_cert.proofs.EntryLaws.{items-push}
-use Rattle.spki_cert.specs.EntryFaults.{entry_fault, entries_fault}
-use Rattle.spki_cert.proofs.EntryFaultLaws.{items-all, items-fault, items-next, items-none}
+use Rattle.spki_cert.specs.Structures.{EntryOf}
+use Rattle.spki_cert.proofs.Looking.{split, moved}
+use Rattle.spki_cert.proofs.EntryFaultLaws.{items-push, items-all, items-fault, items-next, items-none}
+use Rattle.spki_cert.specs.StructureFaults.{entry_fault, entries_fault}
 use Rattle.spki_cert.proofs.acl.entries_of.Goals as goal
 
 pub loop-member-preserved : goal.loop-member-preserved

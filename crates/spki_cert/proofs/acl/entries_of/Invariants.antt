@@ -1,8 +1,8 @@
 use Rattle.std.proofs.Common.{◌≡◌, ◌++◌, List, length}
 use Rattle.std.specs.List.{AllZip}
 use Rattle.sexpr_core.specs.Value.{Value}
-use Rattle.spki_cert.specs.Entries.{EntryOf}
-use Rattle.spki_cert.specs.EntryFaults.{entry_fault}
+use Rattle.spki_cert.specs.Structures.{EntryOf}
+use Rattle.spki_cert.specs.StructureFaults.{entry_fault}
 use Rattle.spki_cert.proofs.EntryFaultLaws.{LeftItems}
 use Rattle.spki_cert.proofs.acl.entries_of.Given as goal
 

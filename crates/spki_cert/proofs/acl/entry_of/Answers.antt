@@ -6,7 +6,7 @@ use Rattle.std.proofs.lemmas.Result.{IfErr-weaker}
 use Rattle.spki_cert.proofs.EntryFaultNone.{entry-refused}
 use Rattle.std.specs.Prelude.{is_some}
 use Rattle.spki_tag.specs.Tag as tags
-use Rattle.spki_cert.specs.EntryFaults.{entry_fault}
+use Rattle.spki_cert.specs.StructureFaults.{entry_fault}
 use Rattle.spki_cert.proofs.FieldFaultLaws.{both-ways, one-way, has-tag}
 use Rattle.spki_cert.proofs.EntryFaultLaws.{entry-unheaded, entry-form, entry-looked}
 use Rattle.spki_cert.proofs.acl.entry_of.Goals as goal

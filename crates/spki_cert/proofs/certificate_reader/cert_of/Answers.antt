@@ -4,7 +4,7 @@ use Rattle.spki_cert.specs.declared.fault.CertFaultKind.{CertFaultKind}
 use Rattle.spki_cert.specs.declared.fault.CertFaultKind.TheVariants.{Memory}
 use Rattle.spki_cert.proofs.Looking.{carried}
 use Rattle.std.specs.Prelude.{is_some}
-use Rattle.spki_cert.specs.ItemFaults.{cert_fault}
+use Rattle.spki_cert.specs.StructureFaults.{cert_fault}
 use Rattle.spki_cert.proofs.SequenceFaultLaws.{cert-unheaded, cert-looked, tagged-right}
 use Rattle.spki_cert.proofs.certificate_reader.cert_of.Goals as goal
 

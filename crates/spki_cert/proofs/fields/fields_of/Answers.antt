@@ -1,9 +1,8 @@
 use Rattle.std.proofs.Common.{◌≡◌, ◌∷◌, ◌++◌, [], ℕ, List, sym, ap, subst, ◌∙◌, rules}
 use Rattle.spki_cert.specs.declared.fields.Known.{Known}
 use Rattle.spki_cert.specs.Inner.Gathering.{AreRead, IsNew, gather, fault_in}
-use Rattle.spki_cert.proofs.Looking.{carried}
-use Rattle.spki_cert.proofs.Groups.{split, moved}
-use Rattle.spki_cert.proofs.KnownLaws.{read-none, read-more}
+use Rattle.spki_cert.proofs.Looking.{carried, split, moved}
+use Rattle.spki_cert.proofs.FieldLaws.{read-none, read-more}
 use Rattle.spki_cert.specs.declared.fault.CertFaultKind.TheVariants.{Shape}
 use Rattle.spki_cert.proofs.FieldFaultLaws.{left-all, left-fault, left-next, left-none, field-new, field-not_new, field-is_new}
 use Rattle.spki_cert.proofs.FieldFaultNone.{fields-read}

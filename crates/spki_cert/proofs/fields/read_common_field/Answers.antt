@@ -2,7 +2,7 @@ use Rattle.std.proofs.Common.{◌≡◌, ◌∙◌, [], List, ap, rules}
 use Rattle.spki_cert.proofs.Looking.{carried, none-some}
 use Rattle.sexpr_core.specs.Value.{Value}
 use Rattle.spki_cert.specs.declared.fault.CertFaultKind.TheVariants.{Shape}
-use Rattle.spki_cert.specs.Places.{unless_none}
+use Rattle.spki_cert.specs.FieldFaults.{unless_none}
 use Rattle.spki_cert.proofs.FieldFaultLaws.{entry-tag_field, entry-propagate, entry-comment, entry-time}
 use Rattle.spki_cert.proofs.fields.read_common_field.Goals as goal
 

@@ -1,4 +1,4 @@
-use Rattle.spki_cert.proofs.FaultNone.{key-none, hash-none, date-none}
+use Rattle.spki_cert.proofs.SubjectFaultNone.{key-none, hash-none, date-none}
 use Rattle.spki_cert.proofs.laws.no_fault.Goals as goal
 
 pub returns-clause-key : goal.returns-clause-key

@@ -1,5 +1,4 @@
-use Rattle.spki_cert.proofs.ItemFaultNone.{signature-none, do-none, cert-none}
-use Rattle.spki_cert.proofs.SequenceFaultNone.{item-none, sequence-none}
+use Rattle.spki_cert.proofs.SequenceFaultNone.{signature-none, do-none, cert-none, item-none, sequence-none}
 use Rattle.spki_cert.proofs.laws.no_sequence_fault.Goals as goal
 
 pub returns-clause-signature : goal.returns-clause-signature

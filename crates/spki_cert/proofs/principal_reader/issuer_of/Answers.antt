@@ -1,9 +1,8 @@
 use Rattle.spki_cert.specs.declared.fault.CertFaultKind.TheVariants.{Shape}
 use Rattle.spki_cert.proofs.Looking.{carried, no-plain, none-some}
 use Rattle.std.proofs.Common.{◌∙◌, arith, rules}
-use Rattle.spki_cert.specs.SubjectFaults.{issuer_fault}
+use Rattle.spki_cert.specs.FieldFaults.{issuer_fault, any_octets}
 use Rattle.spki_cert.proofs.SubjectFaultLaws.{issuer-principal, issuer-form}
-use Rattle.spki_cert.specs.FixedFaults.{any_octets}
 use Rattle.spki_cert.proofs.principal_reader.issuer_of.Goals as goal
 
 pub returns-in_err-principal-clause-named : goal.returns-in_err-principal-clause-named

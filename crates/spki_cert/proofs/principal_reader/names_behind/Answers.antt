@@ -1,5 +1,5 @@
 use Rattle.std.proofs.Common.{◌≡◌, ◌∷◌, [], ◌++◌, ℕ, List, ap, ◌∙◌, append_assoc, rules}
-use Rattle.spki_cert.proofs.SubjectLaws.{plains-push}
+use Rattle.spki_cert.proofs.SubjectFaultLaws.{plains-push}
 use Rattle.spki_cert.proofs.principal_reader.names_behind.Goals as goal
 
 -- one more name behind those that were seen

@@ -1,5 +1,5 @@
 use Rattle.std.proofs.Common.{◌≡◌, ◌++◌, ℕ, List, length}
-use Rattle.spki_cert.specs.Subjects.{plains}
+use Rattle.spki_cert.specs.Fields.{plains}
 use Rattle.spki_cert.proofs.principal_reader.names_behind.Given as goal
 
 abbrev pub invariant-loop-name : goal.invariant-loop-name

@@ -1,7 +1,6 @@
 use Rattle.spki_cert.proofs.Looking.{carried}
-use Rattle.spki_cert.proofs.SubjectLaws.{IsNoPrincipal, no-principal, unheaded-is_no_hash}
+use Rattle.spki_cert.proofs.SubjectFaultLaws.{IsNoPrincipal, no-principal, unheaded-is_no_hash, principal-hash, principal-key}
 use Rattle.std.proofs.Common.{rules}
-use Rattle.spki_cert.proofs.SubjectFaultLaws.{principal-hash, principal-key}
 use Rattle.spki_cert.proofs.principal_reader.principal_of.Goals as goal
 
 pub returns-in_err-key-in-None-clause-refused : goal.returns-in_err-key-in-None-clause-refused

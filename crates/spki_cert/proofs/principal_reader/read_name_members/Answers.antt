@@ -1,8 +1,7 @@
 use Rattle.spki_cert.proofs.Looking.{carried, no-plain}
-use Rattle.spki_cert.proofs.SubjectLaws.{principal-names}
+use Rattle.spki_cert.proofs.SubjectFaultLaws.{principal-names, some-names, are-plains}
 use Rattle.std.proofs.Common.{arith, ◌++◌, ◌∙◌, ap, List, ℕ, rules}
-use Rattle.spki_cert.specs.SubjectFaults.{names_fault}
-use Rattle.spki_cert.proofs.SubjectFaultLaws.{some-names, are-plains}
+use Rattle.spki_cert.specs.FieldFaults.{names_fault}
 use Rattle.spki_cert.proofs.principal_reader.read_name_members.Goals as goal
 
 pub returns-clause-found : goal.returns-clause-found

@@ -1,5 +1,5 @@
 use Rattle.std.proofs.Common.{sym}
-use Rattle.spki_cert.proofs.Groups.{not-headed}
+use Rattle.spki_cert.proofs.Looking.{not-headed}
 use Rattle.spki_cert.proofs.sequence.is_headed.Goals as goal
 
 pub returns-in-None : goal.returns-in-None

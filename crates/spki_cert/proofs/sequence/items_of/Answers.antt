@@ -2,14 +2,12 @@ use Rattle.std.proofs.Common.{◌≡◌, ◌∷◌, ◌++◌, [], ℕ, List, len
 use Rattle.std.specs.List.{AllZip}
 use Rattle.std.proofs.lemmas.Slice.Zip.{AllZip-long}
 use Rattle.spki_cert.specs.declared.certificate.SeqItem.{SeqItem}
-use Rattle.spki_cert.specs.Sequences.{ItemOf}
+use Rattle.spki_cert.specs.Structures.{ItemOf}
 use Rattle.spki_cert.specs.Inner.Gathering.{Waits}
-use Rattle.spki_cert.proofs.Groups.{split, moved}
-use Rattle.spki_cert.proofs.Looking.{carried}
-use Rattle.spki_cert.proofs.EntryLaws.{items-push}
-use Rattle.spki_cert.proofs.SeqLaws.{place-more, waits-more}
+use Rattle.spki_cert.proofs.Looking.{split, moved, carried}
+use Rattle.spki_cert.proofs.EntryFaultLaws.{items-push}
+use Rattle.spki_cert.proofs.SequenceFaultLaws.{place-more, waits-more, sequence-all, sequence-place, sequence-item, sequence-next, sequence-end}
 use Rattle.spki_cert.proofs.SequenceFaultNone.{item-none}
-use Rattle.spki_cert.proofs.SequenceFaultLaws.{sequence-all, sequence-place, sequence-item, sequence-next, sequence-end}
 use Rattle.spki_cert.proofs.sequence.items_of.Goals as goal
 
 pub loop-member-preserved : goal.loop-member-preserved

@@ -1,7 +1,7 @@
 use Rattle.std.proofs.Common.{◌≡◌, ◌++◌, List, length, false}
 use Rattle.std.specs.List.{AllZip}
 use Rattle.sexpr_core.specs.Value.{Value}
-use Rattle.spki_cert.specs.Sequences.{ItemOf, AreInPlace}
+use Rattle.spki_cert.specs.Structures.{ItemOf, AreInPlace}
 use Rattle.spki_cert.specs.Inner.Gathering.{Waits}
 use Rattle.spki_cert.proofs.SequenceFaultLaws.{LeftSequence}
 use Rattle.spki_cert.proofs.sequence.items_of.Given as goal

@@ -1,8 +1,8 @@
 use Rattle.std.proofs.Common.{arith}
 use Rattle.std.proofs.lemmas.Bool.{not-true}
-use Rattle.spki_cert.specs.ItemFaults.{do_fault}
+use Rattle.spki_cert.specs.StructureFaults.{do_fault}
 use Rattle.spki_cert.proofs.Looking.{carried, no-plain, none-some}
-use Rattle.spki_cert.proofs.ItemFaultLaws.{do-unheaded, do-form}
+use Rattle.spki_cert.proofs.SequenceFaultLaws.{do-unheaded, do-form}
 use Rattle.spki_cert.proofs.signature.do_hash_of.Goals as goal
 
 pub returns-in_default-clause-named : goal.returns-in_default-clause-named

@@ -1,8 +1,7 @@
 use Rattle.spki_cert.specs.declared.fault.CertFaultKind.TheVariants.{Shape}
 use Rattle.std.proofs.Common.{◌∙◌, rules}
 use Rattle.spki_cert.proofs.Looking.{carried, none-some}
-use Rattle.spki_cert.proofs.ItemFaultLaws.{signature-looks}
-use Rattle.spki_cert.proofs.Triples.{triple-unheaded, triple-form}
+use Rattle.spki_cert.proofs.SequenceFaultLaws.{signature-looks, triple-unheaded, triple-form}
 use Rattle.spki_cert.proofs.signature.signature_of.Goals as goal
 
 pub returns-in_default-clause-named : goal.returns-in_default-clause-named

@@ -1,12 +1,11 @@
 use Rattle.spki_cert.specs.declared.fault.CertFaultKind.{CertFaultKind}
 use Rattle.std.proofs.Common.{◌≡◌, List, ℕ, sym, refl, Option, Some, None, false, ◌∙◌, rules}
 use Rattle.std.specs.Prelude.{codes, is_some}
-use Rattle.spki_cert.specs.Inner.Gathering.{first, last}
+use Rattle.spki_cert.specs.Inner.Gathering.{first, last, LimitLook}
 use Rattle.spki_cert.proofs.Looking.{carried}
 use Rattle.spki_cert.specs.Readings.{DateOf}
 use Rattle.spki_cert.specs.Fields.{Sole}
 use Rattle.spki_cert.specs.FieldFaults.{limit_fault}
-use Rattle.spki_cert.specs.Inner.Gathering.{LimitLook}
 use Rattle.spki_cert.proofs.FieldFaultLaws.{limit-first as looked-first, limit-last as looked-last, limit-online, limit-other, field-again, field-new, field-misfit, again-limit, online-new}
 use Rattle.spki_cert.proofs.validity.with_limit.Goals as goal
 

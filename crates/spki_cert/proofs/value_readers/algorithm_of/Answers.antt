@@ -1,5 +1,5 @@
 use Rattle.std.proofs.Common.{rules}
-use Rattle.spki_cert.proofs.FixedLaws.{alg-list, alg-hinted, alg-other, alg-known}
+use Rattle.spki_cert.proofs.SubjectFaultLaws.{alg-list, alg-hinted, alg-other, alg-known}
 use Rattle.spki_cert.proofs.value_readers.algorithm_of.Goals as goal
 
 pub returns-in-List-clause-first : goal.returns-in-List-clause-first

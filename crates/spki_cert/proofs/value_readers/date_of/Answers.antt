@@ -1,4 +1,4 @@
-use Rattle.spki_cert.proofs.FixedLaws.{date-hinted, date-tested}
+use Rattle.spki_cert.proofs.SubjectFaultLaws.{date-hinted, date-tested}
 use Rattle.std.specs.Prelude.{true, false}
 use Rattle.spki_cert.proofs.value_readers.date_of.Goals as goal
 

@@ -1,7 +1,7 @@
 use Rattle.std.proofs.Common.{◌∷◌, [], rules}
-use Rattle.spki_cert.proofs.Groups.{headed-by, not-headed}
-use Rattle.spki_cert.proofs.FixedLaws.{key-unheaded, key-form, begins-plain, begins-other}
-use Rattle.spki_cert.specs.FixedFaults.{key_fault}
+use Rattle.spki_cert.proofs.Looking.{headed-by, not-headed}
+use Rattle.spki_cert.proofs.SubjectFaultLaws.{key-unheaded, key-form, begins-plain, begins-other}
+use Rattle.spki_cert.specs.FieldFaults.{key_fault}
 use Rattle.spki_cert.proofs.value_readers.key_of.Goals as goal
 
 pub returns-in_default-clause-refused : goal.returns-in_default-clause-refused

@@ -1,5 +1,5 @@
 use Rattle.std.proofs.Common.{◌≡◌, drop}
-use Rattle.spki_case.specs.Sequence.{signature_in}
+use Rattle.spki_case.specs.Case.{signature_in}
 use Rattle.spki_decision.proofs.certificates.signature_in.Given as goal
 
 abbrev pub invariant-loop-item : goal.invariant-loop-item

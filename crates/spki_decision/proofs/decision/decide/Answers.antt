@@ -2,11 +2,9 @@ use Rattle.std.proofs.lemmas.Result.{IfOk-weaker}
 use Rattle.std.proofs.Common.{rules}
 use Rattle.spki_reduce.specs.Chain.{tuples_of}
 use Rattle.spki_case.specs.View.{model}
-use Rattle.spki_decision.specs.Decision.{IsDecision, IsUnrefused}
-use Rattle.spki_decision.specs.Supported.{Names, HasLarge, SmallUpTo}
-use Rattle.spki_decision.proofs.Entries.{decided, unrefused, too_large}
-use Rattle.spki_decision.proofs.Evident.{none_shown}
-use Rattle.spki_decision.proofs.Stopping.{all_stand, one_fails}
+use Rattle.spki_decision.specs.Granted.{IsDecision, IsUnrefused, Names, HasLarge, SmallUpTo}
+use Rattle.spki_decision.proofs.Standing.{decided, unrefused, too_large, none_shown}
+use Rattle.spki_decision.proofs.EntryChains.{all_stand, one_fails}
 use Rattle.spki_decision.proofs.decision.decide.Goals as goal
 
 pub returns-in-Fails-clause-within_limit : goal.returns-in-Fails-clause-within_limit

@@ -2,8 +2,8 @@ use Rattle.std.proofs.Common.{rules}
 use Rattle.std.proofs.lemmas.Option.{slice_get_within}
 use Rattle.spki_case.specs.View.{model}
 use Rattle.spki_reduce.specs.Chain.{tuples_of}
-use Rattle.spki_decision.proofs.Entries.{not_yet, small_yet, found}
-use Rattle.spki_decision.proofs.Stopping.{stands}
+use Rattle.spki_decision.proofs.Standing.{not_yet, small_yet, found}
+use Rattle.spki_decision.proofs.EntryChains.{stands}
 use Rattle.spki_decision.proofs.decision.first_within_limit.Goals as goal
 
 pub returns-then-grants-clause-named : goal.returns-then-grants-clause-named

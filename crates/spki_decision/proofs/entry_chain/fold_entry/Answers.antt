@@ -1,6 +1,6 @@
 use Rattle.std.proofs.Common.{◌≡◌, List, [], ◌∷◌, refl, ap, rules}
 use Rattle.spki_reduce.specs.declared.tuple.Step.{Step}
-use Rattle.spki_reduce.specs.Tuples.{FiveTuple}
+use Rattle.spki_reduce.specs.Reduction.{FiveTuple}
 use Rattle.spki_reduce.specs.Chain.{tuples_of}
 use Rattle.spki_decision.proofs.entry_chain.fold_entry.Goals as goal
 

@@ -1,5 +1,5 @@
 use Rattle.std.proofs.Common.{rules}
-use Rattle.spki_decision.proofs.Answering.{refused_here, one_more}
+use Rattle.spki_decision.proofs.Asked.{refused_here, one_more}
 use Rattle.spki_decision.proofs.evidence.first_refused.Goals as goal
 
 pub returns-then-not-branch : goal.returns-then-not-branch

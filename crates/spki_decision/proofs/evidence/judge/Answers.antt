@@ -1,9 +1,7 @@
 use Rattle.std.proofs.Common.{ℕ, Some, map, ap, sym, ◌∙◌, subst, rules}
 use Rattle.spki_decision.specs.declared.evidence.Stop.TheVariants.{NotAccepted}
-use Rattle.spki_decision.specs.Standing.{FailsAt}
-use Rattle.spki_decision.specs.Views.{signed_of}
-use Rattle.spki_decision.specs.Asked.{IsFirstRefused, RefusedAt}
-use Rattle.spki_decision.proofs.Answering.{all_accepted, not_accepted, refused_within, refused_item}
+use Rattle.spki_decision.specs.Standing.{FailsAt, signed_of, IsFirstRefused, RefusedAt}
+use Rattle.spki_decision.proofs.Asked.{all_accepted, not_accepted, refused_within, refused_item}
 use Rattle.spki_decision.proofs.evidence.judge.Goals as goal
 
 pub returns-in-None : goal.returns-in-None

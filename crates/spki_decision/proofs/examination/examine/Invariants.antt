@@ -1,10 +1,8 @@
 use Rattle.std.proofs.Common.{◌≡◌, ◌++◌, map, take, drop}
 use Rattle.std.specs.List.{AllZip}
-use Rattle.spki_reduce.specs.Views.{step_tuple}
-use Rattle.spki_case.specs.Sequence.{keys_of}
-use Rattle.spki_decision.specs.Standing.{StandsAs}
-use Rattle.spki_decision.specs.Asked.{asked_in, every}
-use Rattle.spki_decision.specs.Views.{shown_of, signed_of}
+use Rattle.spki_reduce.specs.Reduction.{step_tuple}
+use Rattle.spki_case.specs.Case.{keys_of}
+use Rattle.spki_decision.specs.Standing.{StandsAs, asked_in, every, shown_of, signed_of}
 use Rattle.spki_decision.proofs.examination.examine.Given as goal
 
 abbrev pub invariant-loop-shown : goal.invariant-loop-shown

@@ -1,6 +1,6 @@
 use Rattle.std.proofs.Common.{◌≡◌, ap, rules, Some}
 use Rattle.std.specs.Option.{option_copied}
-use Rattle.spki_decision.specs.Views.{shown_of}
+use Rattle.spki_decision.specs.Standing.{shown_of}
 use Rattle.spki_decision.proofs.examination.test.Goals as goal
 
 pub returns-clause-tested : goal.returns-clause-tested

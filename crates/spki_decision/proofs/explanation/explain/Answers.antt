@@ -1,8 +1,8 @@
 use Rattle.std.proofs.Common.{rules}
 use Rattle.spki_reduce.specs.Chain.{tuples_of}
 use Rattle.spki_case.specs.View.{model}
-use Rattle.spki_decision.proofs.Reasons.{reasons_for}
-use Rattle.spki_decision.proofs.Stopping.{all_stand, one_fails, as_many, failure, are_folds}
+use Rattle.spki_decision.proofs.Explanations.{reasons_for}
+use Rattle.spki_decision.proofs.EntryChains.{all_stand, one_fails, as_many, failure, are_folds}
 use Rattle.spki_decision.proofs.explanation.explain.Goals as goal
 
 pub put_folds-requires : goal.put_folds-requires

@@ -1,4 +1,4 @@
-use Rattle.spki_decision.proofs.AskedWhole.{decided_by, decision_by, explained_by, reduced_by, no_by}
+use Rattle.spki_decision.proofs.Asked.{decided_by, decision_by, explained_by, reduced_by, no_by}
 use Rattle.spki_decision.proofs.laws.asks_whole.Goals as goal
 
 pub returns-clause-decision : goal.returns-clause-decision

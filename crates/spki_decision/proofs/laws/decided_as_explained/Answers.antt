@@ -1,4 +1,4 @@
-use Rattle.spki_decision.proofs.Reasons.{agrees}
+use Rattle.spki_decision.proofs.Explanations.{agrees}
 use Rattle.spki_decision.proofs.laws.decided_as_explained.Goals as goal
 
 pub returns : goal.returns

@@ -1,4 +1,4 @@
-use Rattle.spki_decision.proofs.LeftOut.{supported_named}
+use Rattle.spki_decision.proofs.KeptEntries.{supported_named}
 use Rattle.spki_decision.proofs.laws.left_out.Goals as goal
 
 pub returns : goal.returns

@@ -1,4 +1,4 @@
-use Rattle.spki_decision.proofs.Unrefused.{not_both}
+use Rattle.spki_decision.proofs.OneDecision.{not_both}
 use Rattle.spki_decision.proofs.laws.no_refusal.Goals as goal
 
 pub returns : goal.returns

@@ -1,4 +1,4 @@
-use Rattle.spki_decision.specs.Reduced.{IsSameReduction}
+use Rattle.spki_decision.specs.Granted.{IsSameReduction}
 use Rattle.spki_decision.specs.Answered.{IsReduced, AreSame}
 use Rattle.spki_decision.proofs.OneDecision.{reduced_one, of_text, own_of_text}
 use Rattle.spki_decision.proofs.laws.one_reduction.Goals as goal

@@ -1,4 +1,4 @@
-use Rattle.spki_decision.proofs.Policies.{granted_openly}
+use Rattle.spki_decision.proofs.Standing.{granted_openly}
 use Rattle.spki_decision.proofs.laws.strict_implies_open.Goals as goal
 
 pub returns : goal.returns

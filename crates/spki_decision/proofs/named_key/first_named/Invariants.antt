@@ -1,5 +1,5 @@
 use Rattle.std.proofs.Common.{◌≡◌, ℕ, ◌<◌, List, Some, slice_get, false}
-use Rattle.spki_decision.specs.FirstNamed.{Says}
+use Rattle.spki_decision.specs.Judged.{Says}
 use Rattle.spki_decision.proofs.named_key.first_named.Given as goal
 
 -- of no key so far it says so

@@ -1,9 +1,8 @@
 use Rattle.spki_case.specs.View.{model}
 use Rattle.std.proofs.Common.{rules}
-use Rattle.spki_reduce.specs.Tuples.{five}
-use Rattle.spki_reduce.specs.Views.{entry_tuple}
+use Rattle.spki_reduce.specs.Reduction.{five, entry_tuple}
 use Rattle.spki_reduce.specs.Chain.{tuples_of, StopsAt}
-use Rattle.spki_decision.proofs.Stopping.{stops_within, stops_at_item}
+use Rattle.spki_decision.proofs.EntryChains.{stops_within, stops_at_item}
 use Rattle.spki_decision.proofs.reduction.entry_fold.Goals as goal
 
 pub returns-in-Done-clause-exact : goal.returns-in-Done-clause-exact

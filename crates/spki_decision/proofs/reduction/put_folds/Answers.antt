@@ -1,9 +1,8 @@
 use Rattle.std.proofs.Common.{[], ◌∷◌, ◌++◌, refl, arith, rules}
 use Rattle.spki_case.specs.View.{model}
-use Rattle.spki_reduce.specs.Chain.{tuples_of}
-use Rattle.spki_reduce.specs.Work.{left_of}
-use Rattle.spki_decision.specs.Views.{with_entries}
-use Rattle.spki_decision.proofs.Stopping.{stands, one_put, none_folded, one_folded, too_large_here, all_folded}
+use Rattle.spki_reduce.specs.Chain.{tuples_of, left_of}
+use Rattle.spki_decision.specs.Standing.{with_entries}
+use Rattle.spki_decision.proofs.EntryChains.{stands, one_put, none_folded, one_folded, too_large_here, all_folded}
 use Rattle.spki_decision.proofs.reduction.put_folds.Goals as goal
 
 pub loop-place-init : goal.loop-place-init

@@ -1,11 +1,10 @@
 -- What the entries so far become.
 use Rattle.std.proofs.Common.{List}
 use Rattle.spki_case.specs.View.{model}
-use Rattle.spki_reduce.specs.Chain.{tuples_of}
-use Rattle.spki_reduce.specs.Work.{left_of}
-use Rattle.spki_decision.specs.Views.{with_entries}
+use Rattle.spki_reduce.specs.Chain.{tuples_of, left_of}
+use Rattle.spki_decision.specs.Standing.{with_entries}
 use Rattle.spki_decision.specs.declared.reduction.EntryFold.{EntryFold}
-use Rattle.spki_decision.proofs.Stopping.{ArePut, FoldedTo}
+use Rattle.spki_decision.proofs.EntryChains.{ArePut, FoldedTo}
 use Rattle.spki_decision.proofs.reduction.put_folds.Given as goal
 
 abbrev pub invariant-loop-place : goal.invariant-loop-place

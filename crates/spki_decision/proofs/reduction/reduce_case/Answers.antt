@@ -1,7 +1,7 @@
 use Rattle.std.proofs.Common.{◌++◌, ◌∙◌, ap, rules}
 use Rattle.spki_reduce.specs.Chain.{tuples_of}
 use Rattle.spki_case.specs.View.{model}
-use Rattle.spki_decision.proofs.Stopping.{all_stand, one_fails, as_many, failure, are_folds}
+use Rattle.spki_decision.proofs.EntryChains.{all_stand, one_fails, as_many, failure, are_folds}
 use Rattle.spki_decision.proofs.reduction.reduce_case.Goals as goal
 
 pub put_folds-requires : goal.put_folds-requires

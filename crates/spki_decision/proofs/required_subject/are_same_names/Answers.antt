@@ -1,5 +1,5 @@
 use Rattle.std.proofs.Common.{rules}
-use Rattle.spki_decision.proofs.RequiredSubjects.{same_more}
+use Rattle.spki_decision.proofs.Memberships.{same_more}
 use Rattle.spki_decision.proofs.required_subject.are_same_names.Goals as goal
 
 pub loop-place-preserved : goal.loop-place-preserved

@@ -1,5 +1,5 @@
 use Rattle.std.proofs.Common.{rules}
-use Rattle.spki_decision.proofs.RequiredSubjects.{begins_more, begins_not}
+use Rattle.spki_decision.proofs.Memberships.{begins_more, begins_not}
 use Rattle.spki_decision.proofs.required_subject.names_after.Goals as goal
 
 pub loop-place-preserved : goal.loop-place-preserved

@@ -1,5 +1,5 @@
 use Rattle.std.proofs.Common.{◌≡◌, ◌-◌, ◌+◌, Some, None, ap, ◌∙◌, refl, arith, length, take}
-use Rattle.spki_decision.proofs.RequiredSubjects.{begin_from, last_of, one_before, none_from, whole_from}
+use Rattle.spki_decision.proofs.Memberships.{begin_from, last_of, one_before, none_from, whole_from}
 use Rattle.spki_decision.proofs.required_subject.required_subject.Goals as goal
 
 pub loop-done-init : goal.loop-done-init

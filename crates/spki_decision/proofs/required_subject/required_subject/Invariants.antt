@@ -1,5 +1,5 @@
 use Rattle.std.proofs.Common.{Some, ◌-◌, length, take}
-use Rattle.spki_decision.proofs.RequiredSubjects.{IsRequiredFrom}
+use Rattle.spki_decision.proofs.Memberships.{IsRequiredFrom}
 use Rattle.spki_decision.proofs.required_subject.required_subject.Given as goal
 
 -- what is required before the steps that are done

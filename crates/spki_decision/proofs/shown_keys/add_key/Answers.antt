@@ -2,8 +2,8 @@ use Rattle.std.proofs.Common.{◌≡◌, ◌∙◌, false, rules, Some, None, co
 use Rattle.std.specs.Option.{is_some, option_or}
 use Rattle.std.specs.Str.{bytes_eq}
 use Rattle.spki_cert.specs.Naming.{digest_of}
-use Rattle.spki_case.specs.ByDigest.{at_digest}
-use Rattle.spki_case.proofs.ByDigest.{inserted, first_added}
+use Rattle.spki_case.specs.Lookups.{at_digest}
+use Rattle.spki_case.proofs.Lookups.{inserted, first_added}
 use Rattle.spki_decision.proofs.shown_keys.add_key.Goals as goal
 
 pub returns-in_ok-insert : goal.returns-in_ok-insert

@@ -1,5 +1,5 @@
 use Rattle.std.proofs.Common.{take}
-use Rattle.spki_decision.specs.ByDigest.{HasFirstKeys}
+use Rattle.spki_decision.specs.Judged.{HasFirstKeys}
 use Rattle.spki_decision.proofs.shown_keys.first_keys.Given as goal
 
 abbrev pub invariant-loop-key : goal.invariant-loop-key

@@ -1,13 +1,11 @@
 use Rattle.std.proofs.Common.{◌≡◌, ◌+◌, ◌≤◌, ◌∷◌, [], ◌++◌, All, take, false, ap, ◌∙◌, arith, rules}
 use Rattle.std.proofs.lemmas.List.Elements.{All-push, All-weaker}
 use Rattle.spki_tag.specs.Tag.{tags, nodes_all, some_nests_set}
-use Rattle.spki_tag.proofs.Bounds.{append-nodes}
-use Rattle.spki_reduce.specs.Tuples.{Tuple, tags_of}
-use Rattle.spki_reduce.specs.Views.{step_tuple}
-use Rattle.spki_reduce.specs.Restrictions.{nodes_product}
+use Rattle.spki_tag.proofs.MeetSizes.{append-nodes}
+use Rattle.spki_reduce.specs.Reduction.{Tuple, tags_of, step_tuple, nodes_product}
 use Rattle.spki_reduce.specs.Chain.{tuples_of, all_tags}
 use Rattle.spki_decision.proofs.Memberships.{more_tuples, more_tags}
-use Rattle.spki_decision.proofs.PlainChains.{append-sets, none_of}
+use Rattle.spki_decision.proofs.EntryChains.{append-sets, none_of}
 use Rattle.spki_decision.proofs.sizes.plain_of.Goals as goal
 
 -- one step more

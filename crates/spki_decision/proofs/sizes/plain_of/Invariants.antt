@@ -1,6 +1,6 @@
 use Rattle.std.proofs.Common.{take}
 use Rattle.spki_reduce.specs.Chain.{tuples_of}
-use Rattle.spki_decision.specs.Sizes.{ArePlain}
+use Rattle.spki_decision.specs.Requirements.{ArePlain}
 use Rattle.spki_decision.proofs.sizes.plain_of.Given as goal
 
 -- the nodes of the steps so far

@@ -1,9 +1,7 @@
 use Rattle.std.proofs.Common.{◌≡◌, ◌+◌, ◌*◌, take, sym, ap, ◌∙◌, arith}
-use Rattle.spki_reduce.specs.Tuples.{tags_of}
-use Rattle.spki_reduce.specs.Views.{step_tuple}
-use Rattle.spki_reduce.specs.Restrictions.{nodes_product}
+use Rattle.spki_reduce.specs.Reduction.{tags_of, step_tuple, nodes_product}
 use Rattle.spki_reduce.specs.Chain.{tuples_of, all_tags}
-use Rattle.spki_reduce.proofs.Folding.{nodes_product-append}
+use Rattle.spki_reduce.proofs.ReducedForms.{nodes_product-append}
 use Rattle.spki_decision.proofs.Memberships.{more_tags}
 use Rattle.spki_decision.proofs.sizes.product_of.Goals as goal
 

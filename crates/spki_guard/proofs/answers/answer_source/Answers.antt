@@ -1,4 +1,4 @@
-use Rattle.spki_guard.proofs.SentAnswers.{refusal_answers}
+use Rattle.spki_guard.proofs.Sending.{refusal_answers}
 use Rattle.spki_guard.proofs.answers.answer_source.Goals as goal
 
 pub returns-in-Err : goal.returns-in-Err

@@ -2,7 +2,7 @@ use Rattle.std.proofs.Common.{refl, ap, Err}
 use Rattle.sexpr_core.specs.Value.{canon}
 use Rattle.spki_case.specs.View.{model}
 use Rattle.spki_words.specs.declared.commands.Command.TheVariants.{Explain}
-use Rattle.spki_guard.proofs.Undecided.{err_lifted, undecided}
+use Rattle.spki_guard.proofs.AnswerLaws.{err_lifted, undecided}
 use Rattle.spki_guard.proofs.answers.explain_case.Goals as goal
 
 pub returns-clause-answered : goal.returns-clause-answered

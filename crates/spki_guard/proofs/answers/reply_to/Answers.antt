@@ -1,6 +1,6 @@
 use Rattle.spki_case.specs.View.{model}
 use Rattle.std.proofs.Common.{rules}
-use Rattle.spki_guard.proofs.Standing.{standing_answered, standing_refused, converted_answered, converted_refused}
+use Rattle.spki_guard.proofs.AnswerLaws.{standing_answered, standing_refused, converted_answered, converted_refused}
 use Rattle.spki_guard.specs.Inner.Replies.{command_of}
 use Rattle.spki_guard.proofs.answers.reply_to.Goals as goal
 

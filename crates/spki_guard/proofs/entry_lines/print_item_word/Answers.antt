@@ -1,6 +1,6 @@
 use Rattle.std.proofs.Common.{refl}
-use Rattle.sexpr_text.proofs.SinkLaws.{in_two, in_three}
-use Rattle.spki_guard.proofs.EntryLines.{item_whole}
+use Rattle.sexpr_text.proofs.Printed.{in_two, in_three}
+use Rattle.spki_guard.proofs.ReportLines.{item_whole}
 use Rattle.spki_guard.proofs.entry_lines.print_item_word.Goals as goal
 
 pub returns : goal.returns

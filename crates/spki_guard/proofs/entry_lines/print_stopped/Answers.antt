@@ -2,8 +2,8 @@ use Rattle.std.proofs.Common.{[], ◌∷◌}
 use Rattle.std.specs.Prelude.{codes}
 use Rattle.sexpr_core.specs.Value.{decimal}
 use Rattle.spki_guard.specs.Lines.{cause_name}
-use Rattle.sexpr_text.proofs.SinkLaws.{in_two}
-use Rattle.spki_guard.proofs.EntryLines.{entry_whole}
+use Rattle.sexpr_text.proofs.Printed.{in_two}
+use Rattle.spki_guard.proofs.ReportLines.{entry_whole}
 use Rattle.spki_guard.proofs.entry_lines.print_stopped.Goals as goal
 
 pub returns : goal.returns

@@ -1,6 +1,6 @@
 use Rattle.std.proofs.Common.{[]}
-use Rattle.sexpr_text.proofs.SinkLaws.{in_two}
-use Rattle.spki_guard.proofs.EntryLines.{entry_whole}
+use Rattle.sexpr_text.proofs.Printed.{in_two}
+use Rattle.spki_guard.proofs.ReportLines.{entry_whole}
 use Rattle.spki_guard.proofs.entry_lines.print_word.Goals as goal
 
 pub returns : goal.returns

@@ -1,10 +1,9 @@
 use Rattle.std.proofs.Common.{◌*◌, ◌<◌, ◌≤◌, arith, rules}
 use Rattle.sexpr_core.specs.Value.{Value}
-use Rattle.spki_tag.specs.Read.{ReadsAs}
+use Rattle.spki_tag.specs.Reading.{ReadsAs}
 use Rattle.spki_tag.specs.Tag.{Tag, nodes, IsNormalTag}
-use Rattle.spki_tag.proofs.Gathered.{IsNormalTag-of}
-use Rattle.spki_tag.proofs.NormalTag.{meet-normal_tag}
-use Rattle.spki_guard.proofs.Operands.{first_refused, second_refused}
+use Rattle.spki_tag.proofs.NormalForms.{IsNormalTag-of, meet-normal_tag}
+use Rattle.spki_guard.proofs.AnswerLaws.{first_refused, second_refused}
 use Rattle.spki_guard.proofs.intersection.meet_in.Goals as goal
 
 normal_read : (v : Value) (t : Tag) → ReadsAs v t → IsNormalTag t

@@ -1,5 +1,5 @@
 use Rattle.std.proofs.Common.{[], ◌∷◌}
-use Rattle.spki_guard.proofs.Operands.{lifted}
+use Rattle.spki_guard.proofs.AnswerLaws.{lifted}
 use Rattle.spki_guard.proofs.intersection.operands_of.Goals as goal
 
 pub returns-in_err-headed : goal.returns-in_err-headed

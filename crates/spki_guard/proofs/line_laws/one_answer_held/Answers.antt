@@ -1,4 +1,4 @@
-use Rattle.spki_guard.proofs.OneHeld.{answer_one, counted_or_not}
+use Rattle.spki_guard.proofs.HeldAnswers.{answer_one, counted_or_not}
 use Rattle.spki_guard.proofs.line_laws.one_answer_held.Goals as goal
 
 pub returns-clause-same : goal.returns-clause-same

@@ -1,4 +1,4 @@
-use Rattle.spki_guard.proofs.OneHeld.{unread_one}
+use Rattle.spki_guard.proofs.HeldAnswers.{unread_one}
 use Rattle.spki_guard.proofs.line_laws.one_refused_question.Goals as goal
 
 pub returns : goal.returns

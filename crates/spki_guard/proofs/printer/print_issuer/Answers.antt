@@ -1,5 +1,5 @@
 use Rattle.std.proofs.Common.{refl}
-use Rattle.sexpr_text.proofs.SinkLaws.{in_three}
+use Rattle.sexpr_text.proofs.Printed.{in_three}
 use Rattle.spki_guard.proofs.PrintedFives.{issuer_whole}
 use Rattle.spki_guard.proofs.printer.print_issuer.Goals as goal
 

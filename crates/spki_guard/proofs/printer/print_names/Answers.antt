@@ -1,4 +1,4 @@
-use Rattle.sexpr_text.proofs.SinkLaws.{in_three}
+use Rattle.sexpr_text.proofs.Printed.{in_three}
 use Rattle.spki_guard.proofs.PrintedFives.{name_behind}
 use Rattle.spki_guard.proofs.printer.print_names.Goals as goal
 

@@ -1,8 +1,8 @@
 -- The names so far, with a space before each.
 use Rattle.std.proofs.Common.{take}
 use Rattle.sexpr_core.specs.Value.{values}
-use Rattle.sexpr_text.specs.Printed.{adv_all}
-use Rattle.spki_cert.specs.Subjects.{plains}
+use Rattle.sexpr_text.specs.AdvancedForm.{adv_all}
+use Rattle.spki_cert.specs.Fields.{plains}
 use Rattle.spki_guard.proofs.printer.print_names.Given as goal
 
 abbrev pub invariant-loop-place : goal.invariant-loop-place

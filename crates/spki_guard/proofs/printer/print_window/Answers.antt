@@ -1,5 +1,5 @@
 use Rattle.std.proofs.Common.{◌≢◌, [], sym, codes, rules}
-use Rattle.sexpr_text.proofs.SinkLaws.{in_two, in_three}
+use Rattle.sexpr_text.proofs.Printed.{in_two, in_three}
 use Rattle.spki_reduce.specs.Written.{limit_values, window_limits}
 use Rattle.spki_guard.proofs.PrintedTags.{spaced_append}
 use Rattle.spki_guard.proofs.PrintedFives.{window_whole, limits_from, limits_to}

@@ -1,4 +1,4 @@
-use Rattle.sexpr_text.proofs.SinkLaws.{in_three}
+use Rattle.sexpr_text.proofs.Printed.{in_three}
 use Rattle.spki_guard.proofs.ReportLines.{fold_whole}
 use Rattle.spki_guard.proofs.reports.print_done.Goals as goal
 

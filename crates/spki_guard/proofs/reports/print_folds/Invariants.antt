@@ -1,6 +1,6 @@
 -- The lines so far.
 use Rattle.std.proofs.Common.{ℕ, List, take}
-use Rattle.spki_guard.specs.Reports.{AreFoldLines}
+use Rattle.spki_guard.specs.Lines.{AreFoldLines}
 use Rattle.spki_guard.proofs.reports.print_folds.Given as goal
 
 abbrev pub invariant-loop-place : goal.invariant-loop-place

@@ -1,4 +1,4 @@
-use Rattle.sexpr_text.proofs.SinkLaws.{in_two}
+use Rattle.sexpr_text.proofs.Printed.{in_two}
 use Rattle.spki_guard.proofs.ReportLines.{reason_behind}
 use Rattle.spki_guard.proofs.reports.print_reasons.Goals as goal
 

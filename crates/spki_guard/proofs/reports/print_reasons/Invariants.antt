@@ -1,6 +1,6 @@
 -- The lines so far.
 use Rattle.std.proofs.Common.{take}
-use Rattle.spki_guard.specs.Reports.{reason_lines}
+use Rattle.spki_guard.specs.Lines.{reason_lines}
 use Rattle.spki_guard.proofs.reports.print_reasons.Given as goal
 
 abbrev pub invariant-loop-place : goal.invariant-loop-place

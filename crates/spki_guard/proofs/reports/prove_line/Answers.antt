@@ -1,5 +1,5 @@
 use Rattle.std.proofs.Common.{[], ◌∷◌, refl}
-use Rattle.sexpr_text.specs.Printed.{adv}
+use Rattle.sexpr_text.specs.AdvancedForm.{adv}
 use Rattle.spki_guard.specs.Lines.{entry_line, stopped_line}
 use Rattle.spki_guard.proofs.reports.prove_line.Goals as goal
 

@@ -1,6 +1,6 @@
 -- None so far.
 use Rattle.std.proofs.Common.{◌≡◌, drop}
-use Rattle.spki_guard.specs.Reports.{some_done}
+use Rattle.spki_guard.specs.Lines.{some_done}
 use Rattle.spki_guard.proofs.reports.some_done.Given as goal
 
 abbrev pub invariant-loop-fold : goal.invariant-loop-fold

@@ -1,5 +1,5 @@
 use Rattle.std.proofs.Common.{rules}
-use Rattle.spki_guard.proofs.PageEnds.{on_err, cut_pages}
+use Rattle.spki_guard.proofs.Sending.{on_err, cut_pages}
 use Rattle.spki_guard.proofs.runs.print_pages.Goals as goal
 
 pub returns-clause-cut_off : goal.returns-clause-cut_off

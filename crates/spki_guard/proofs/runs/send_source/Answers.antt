@@ -1,5 +1,4 @@
-use Rattle.spki_guard.proofs.Sending.{sends_also}
-use Rattle.spki_guard.proofs.SentAnswers.{refusal_sent, reply_answers}
+use Rattle.spki_guard.proofs.Sending.{sends_also, refusal_sent, reply_answers}
 use Rattle.spki_guard.proofs.runs.send_source.Goals as goal
 
 pub returns-in-Ok : goal.returns-in-Ok

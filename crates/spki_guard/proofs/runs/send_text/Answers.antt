@@ -1,5 +1,4 @@
-use Rattle.spki_guard.proofs.Sending.{sends_also}
-use Rattle.spki_guard.proofs.SentAnswers.{refusal_sent}
+use Rattle.spki_guard.proofs.Sending.{sends_also, refusal_sent}
 use Rattle.spki_guard.proofs.runs.send_text.Goals as goal
 
 pub returns-in-Err : goal.returns-in-Err

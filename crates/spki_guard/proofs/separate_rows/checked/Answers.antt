@@ -1,7 +1,6 @@
 use Rattle.spki_case.specs.View.{model}
 use Rattle.std.proofs.Common.{rules}
-use Rattle.spki_guard.proofs.Standing.{apart_answered, apart_refused, no_case_apart}
-use Rattle.spki_guard.proofs.Undecided.{err_lifted}
+use Rattle.spki_guard.proofs.AnswerLaws.{apart_answered, apart_refused, no_case_apart, err_lifted}
 use Rattle.spki_guard.proofs.separate_rows.checked.Goals as goal
 
 pub returns-in_err-case-clause-refused : goal.returns-in_err-case-clause-refused

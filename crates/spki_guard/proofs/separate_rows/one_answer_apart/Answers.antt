@@ -1,4 +1,4 @@
-use Rattle.spki_guard.proofs.OneApart.{one_decided, only_memory, one_refused}
+use Rattle.spki_guard.proofs.OneRefusal.{one_decided, only_memory, one_refused}
 use Rattle.spki_guard.proofs.separate_rows.one_answer_apart.Goals as goal
 
 pub returns-clause-decided : goal.returns-clause-decided

@@ -1,5 +1,5 @@
 use Rattle.std.proofs.Common.{true≢false, rules}
-use Rattle.spki_guard.proofs.Standing.{of_value}
+use Rattle.spki_guard.proofs.AnswerLaws.{of_value}
 use Rattle.spki_guard.proofs.sources.canonical_case.Goals as goal
 
 pub returns-else-is_of_form-clause-refused : goal.returns-else-is_of_form-clause-refused

@@ -1,6 +1,6 @@
 use Rattle.std.proofs.Common.{refl, arith, rules}
 use Rattle.spki_tag.proofs.Members.{nodes_le-of_read}
-use Rattle.sexpr_text.proofs.SinkLaws.{in_two, in_three}
+use Rattle.sexpr_text.proofs.Printed.{in_two, in_three}
 use Rattle.spki_guard.proofs.PrintedTags.{star_whole, member_behind, list_whole, set_whole}
 use Rattle.spki_guard.proofs.tag_printer.+print.Goals as goal
 

@@ -1,5 +1,5 @@
 use Rattle.std.proofs.Common.{◌+◌, ◌*◌, take}
-use Rattle.sexpr_text.specs.Printed.{adv_all}
+use Rattle.sexpr_text.specs.AdvancedForm.{adv_all}
 use Rattle.spki_tag.specs.Tag.{tags, tag_values, nodes, nodes_all}
 use Rattle.spki_guard.proofs.tag_printer.+print.Given as goal
 

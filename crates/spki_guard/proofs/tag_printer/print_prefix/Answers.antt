@@ -1,4 +1,4 @@
-use Rattle.sexpr_text.proofs.SinkLaws.{in_three}
+use Rattle.sexpr_text.proofs.Printed.{in_three}
 use Rattle.spki_guard.proofs.PrintedTags.{prefix_whole}
 use Rattle.spki_guard.proofs.tag_printer.print_prefix.Goals as goal
 

@@ -1,5 +1,5 @@
 use Rattle.std.proofs.Common.{refl}
-use Rattle.sexpr_text.proofs.SinkLaws.{in_three}
+use Rattle.sexpr_text.proofs.Printed.{in_three}
 use Rattle.spki_guard.proofs.PrintedTags.{range_whole}
 use Rattle.spki_guard.proofs.tag_printer.print_range.Goals as goal
 

@@ -1,4 +1,4 @@
-use Rattle.sexpr_text.proofs.SinkLaws.{in_two}
+use Rattle.sexpr_text.proofs.Printed.{in_two}
 use Rattle.spki_guard.proofs.PrintedTags.{word_whole}
 use Rattle.spki_guard.proofs.tag_printer.print_word.Goals as goal
 

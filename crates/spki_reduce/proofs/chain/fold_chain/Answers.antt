@@ -1,5 +1,5 @@
 use Rattle.std.proofs.Common.{◌∷◌, IfOk, subst, rules}
-use Rattle.spki_reduce.specs.Tuples.{five}
+use Rattle.spki_reduce.specs.Reduction.{five}
 use Rattle.spki_reduce.specs.Chain.{tuples_of, SupportsNothing, MatchFold}
 use Rattle.spki_reduce.proofs.Chains.{too_large}
 use Rattle.spki_reduce.proofs.Working.{unbounded}

@@ -1,9 +1,8 @@
 use Rattle.std.proofs.Common.{◌≡◌, inl, inr, sym, ◌∙◌, ap, ◌+◌, ◌<◌, length, arith, Result, Ok, Err, IsErrAnd, rules}
 use Rattle.spki_reduce.specs.declared.fault.ReduceFault.TheVariants.{TooLarge}
-use Rattle.spki_reduce.specs.Tuples.{five}
-use Rattle.spki_reduce.specs.Views.{five_tuple, step_tuple}
+use Rattle.spki_reduce.specs.Reduction.{five, five_tuple, step_tuple}
 use Rattle.spki_reduce.specs.Chain.{tuples_of}
-use Rattle.spki_reduce.proofs.Folding.{same_issuer}
+use Rattle.spki_reduce.proofs.ReducedForms.{same_issuer}
 use Rattle.spki_reduce.proofs.Chains.{stops_here, goes_on, met_here, too_large_here, excluded, unsupported}
 use Rattle.std.proofs.lemmas.List.{length-map}
 use Rattle.spki_reduce.proofs.Through.{small_here, small_stopped, steps_tagged}

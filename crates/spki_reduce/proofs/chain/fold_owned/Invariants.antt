@@ -1,9 +1,7 @@
 -- The steps so far became what is kept.
 use Rattle.std.proofs.Common.{◌≡◌, ℕ, take}
-use Rattle.spki_reduce.specs.Tuples.{five}
-use Rattle.spki_reduce.specs.Views.{five_tuple, issuer_of}
-use Rattle.spki_reduce.specs.Chain.{tuples_of, FoldsTo, HasMet, TooLargeAt}
-use Rattle.spki_reduce.specs.Work.{left_of, Takes, IsWorkOf}
+use Rattle.spki_reduce.specs.Reduction.{five, five_tuple, issuer_of}
+use Rattle.spki_reduce.specs.Chain.{tuples_of, FoldsTo, HasMet, TooLargeAt, left_of, Takes, IsWorkOf}
 use Rattle.spki_reduce.proofs.chain.fold_owned.Given as goal
 
 abbrev pub invariant-loop-place : goal.invariant-loop-place

@@ -1,4 +1,4 @@
-use Rattle.spki_reduce.proofs.Bracketing.{bracketed, from_left-leaves, supported}
+use Rattle.spki_reduce.proofs.Derivations.{bracketed, from_left-leaves, supported}
 use Rattle.spki_reduce.proofs.laws.any_bracketing.Goals as goal
 
 pub returns : goal.returns

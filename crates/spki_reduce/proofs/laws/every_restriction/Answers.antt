@@ -1,4 +1,4 @@
-use Rattle.spki_reduce.proofs.Parts.{all_tags, all_windows}
+use Rattle.spki_reduce.proofs.Derivations.{all_tags, all_windows}
 use Rattle.spki_reduce.proofs.laws.every_restriction.Goals as goal
 
 pub returns : goal.returns

@@ -1,4 +1,4 @@
-use Rattle.spki_reduce.proofs.Bracketing.{one_root}
+use Rattle.spki_reduce.proofs.Derivations.{one_root}
 use Rattle.spki_reduce.proofs.laws.one_root.Goals as goal
 
 pub returns : goal.returns

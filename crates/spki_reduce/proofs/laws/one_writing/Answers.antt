@@ -1,4 +1,4 @@
-use Rattle.spki_reduce.proofs.OneFive.{written_one}
+use Rattle.spki_reduce.proofs.Uniqueness.{written_one}
 use Rattle.spki_reduce.proofs.laws.one_writing.Goals as goal
 
 pub returns : goal.returns

@@ -1,4 +1,4 @@
-use Rattle.spki_reduce.proofs.Policies.{derived_openly, supported_openly}
+use Rattle.spki_reduce.proofs.Derivations.{derived_openly, supported_openly}
 use Rattle.spki_reduce.proofs.laws.strict_implies_open.Goals as goal
 
 pub returns : goal.returns

@@ -1,7 +1,7 @@
 -- The names so far, as strings.
 use Rattle.std.proofs.Common.{◌≡◌, ◌++◌, map, take}
-use Rattle.sexpr_core.specs.Tree.{sexp_value}
-use Rattle.spki_cert.specs.Subjects.{plains}
+use Rattle.sexpr_core.specs.Value.{sexp_value}
+use Rattle.spki_cert.specs.Fields.{plains}
 use Rattle.spki_reduce.proofs.writer.push_names.Given as goal
 
 abbrev pub invariant-loop-place : goal.invariant-loop-place

@@ -1,7 +1,7 @@
 use Rattle.std.proofs.Common.{◌≡◌, ◌≤◌, ◌+◌, ◌*◌, length}
 use Rattle.sexpr_core.specs.Value.{values}
-use Rattle.spki_tag.proofs.Weight.{weight, weights}
-use Rattle.spki_service.specs.Counted.{strings_all}
+use Rattle.spki_tag.proofs.TagReading.{weight, weights}
+use Rattle.spki_service.specs.Questions.{strings_all}
 use Rattle.spki_service.proofs.counts.+subtract_strings.Given as goal
 
 abbrev pub decreases-subtract_strings : goal.decreases-subtract_strings

@@ -1,5 +1,5 @@
 use Rattle.std.proofs.Common.{rules}
-use Rattle.spki_service.proofs.Counting.{has_many, has_few}
+use Rattle.spki_service.proofs.PartTexts.{has_many, has_few}
 use Rattle.spki_service.proofs.counts.check_counts.Goals as goal
 
 pub returns-then-branch-clause-many : goal.returns-then-branch-clause-many

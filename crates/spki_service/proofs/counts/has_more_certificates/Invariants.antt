@@ -1,5 +1,5 @@
 use Rattle.std.proofs.Common.{◌≡◌, ◌+◌, drop}
-use Rattle.spki_service.specs.Counted.{certificates_in}
+use Rattle.spki_service.specs.Questions.{certificates_in}
 use Rattle.spki_service.proofs.counts.has_more_certificates.Given as goal
 
 abbrev pub invariant-loop-item : goal.invariant-loop-item

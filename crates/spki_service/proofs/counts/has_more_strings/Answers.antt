@@ -1,5 +1,5 @@
 use Rattle.std.proofs.Common.{rules}
-use Rattle.spki_case.proofs.Unrefused.{one_text}
+use Rattle.spki_case.proofs.OneCase.{one_text}
 use Rattle.spki_service.proofs.counts.has_more_strings.Goals as goal
 
 pub returns-in-Ok-clause-tells : goal.returns-in-Ok-clause-tells

@@ -1,7 +1,7 @@
 use Rattle.std.proofs.Common.{◌≡◌, ◌++◌, [], sym, ◌∙◌, ap, subst}
 use Rattle.sexpr_core.specs.Value.{Value, canon}
 use Rattle.sexpr_core.proofs.Texts.{canon_one}
-use Rattle.spki_cert.specs.Entries.{EntryOf}
+use Rattle.spki_cert.specs.Structures.{EntryOf}
 use Rattle.spki_cert.proofs.OneReading.{entry-one}
 use Rattle.spki_service.proofs.entry_texts.entry_in.Goals as goal
 

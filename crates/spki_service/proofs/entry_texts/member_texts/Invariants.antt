@@ -1,6 +1,6 @@
 use Rattle.std.proofs.Common.{◌≡◌, ◌++◌, map, length}
 use Rattle.sexpr_core.specs.Value.{canon}
-use Rattle.spki_service.specs.Held.{octets_of_texts}
+use Rattle.spki_service.specs.AccessLists.{octets_of_texts}
 use Rattle.spki_service.proofs.entry_texts.member_texts.Given as goal
 
 abbrev pub invariant-loop-member : goal.invariant-loop-member

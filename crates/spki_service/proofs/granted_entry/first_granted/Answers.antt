@@ -4,9 +4,9 @@ use Rattle.std.proofs.lemmas.Slice.Zip.{AllZip-long}
 use Rattle.spki_reduce.specs.Chain.{tuples_of}
 use Rattle.spki_case.specs.View.{model}
 use Rattle.spki_decision.specs.declared.decision.Decision.TheVariants.{Yes, No}
-use Rattle.spki_decision.specs.Views.{with_entries}
-use Rattle.spki_decision.proofs.Entries.{not_yet, found}
-use Rattle.spki_service.proofs.EntryTexts.{picked_there}
+use Rattle.spki_decision.specs.Standing.{with_entries}
+use Rattle.spki_decision.proofs.Standing.{not_yet, found}
+use Rattle.spki_service.proofs.SelectedEntries.{picked_there}
 use Rattle.spki_service.proofs.granted_entry.first_granted.Goals as goal
 
 pub returns-then-grants : goal.returns-then-grants

@@ -3,10 +3,9 @@ use Rattle.std.proofs.Common.{List}
 use Rattle.spki_cert.specs.declared.entry.Entry.{Entry}
 use Rattle.spki_reduce.specs.Chain.{tuples_of}
 use Rattle.spki_case.specs.View.{model}
-use Rattle.spki_decision.specs.Supported.{NoneBefore}
-use Rattle.spki_decision.specs.Views.{with_entries}
-use Rattle.spki_service.specs.Held.{AreEntries, octets_of_texts}
-use Rattle.spki_service.specs.Picked.{ArePicked}
+use Rattle.spki_decision.specs.Granted.{NoneBefore}
+use Rattle.spki_decision.specs.Standing.{with_entries}
+use Rattle.spki_service.specs.AccessLists.{AreEntries, octets_of_texts, ArePicked}
 use Rattle.spki_service.proofs.granted_entry.first_granted.Given as goal
 
 abbrev pub invariant-loop-number : goal.invariant-loop-number

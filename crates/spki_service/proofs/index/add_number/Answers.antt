@@ -2,10 +2,10 @@ use Rattle.std.proofs.Common.{refl, ◌≡◌, Option, Some, None, ◌∷◌, �
 use Rattle.std.specs.declared.alloc.Global.{Global}
 use Rattle.std.specs.BTreeMap.Entry.{map_with_value}
 use Rattle.std.specs.Option.{unwrap_or, option_map_or}
-use Rattle.spki_case.specs.ByDigest.{at_digest}
-use Rattle.spki_case.proofs.ByDigest.{inserted}
-use Rattle.spki_service.specs.Indexed.{numbers_at}
-use Rattle.spki_service.proofs.Indexing.{put}
+use Rattle.spki_case.specs.Lookups.{at_digest}
+use Rattle.spki_case.proofs.Lookups.{inserted}
+use Rattle.spki_service.specs.AccessLists.{numbers_at}
+use Rattle.spki_service.proofs.IndexLaws.{put}
 use Rattle.spki_service.proofs.index.add_number.Goals as goal
 
 behind : (o : Option (Vec ℕ Global)) (none : Vec ℕ Global) (number : ℕ) → none.items ≡ []

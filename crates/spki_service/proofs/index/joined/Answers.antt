@@ -1,6 +1,6 @@
 use Rattle.std.proofs.Common.{rules}
 use Rattle.std.proofs.lemmas.Result.{IfOk-weaker}
-use Rattle.spki_service.proofs.Merging.{merge-empty, empty-merge}
+use Rattle.spki_service.proofs.IndexLaws.{merge-empty, empty-merge}
 use Rattle.spki_service.proofs.index.joined.Goals as goal
 
 -- nothing is added

@@ -1,4 +1,4 @@
-use Rattle.spki_service.proofs.MarkedAlike.{decided_alike}
+use Rattle.spki_service.proofs.AnswerLaws.{decided_alike}
 use Rattle.spki_service.proofs.laws.marked_as_verified.Goals as goal
 
 pub returns : goal.returns

@@ -1,5 +1,5 @@
-use Rattle.spki_service.proofs.OneList.{list-one, list_fault-one, list_unrefused}
-use Rattle.spki_service.proofs.Picking.{entries_one}
+use Rattle.spki_service.proofs.ListReading.{list-one, list_fault-one, list_unrefused}
+use Rattle.spki_service.proofs.SelectedEntries.{entries_one}
 use Rattle.spki_service.proofs.laws.one_list.Goals as goal
 
 pub returns-clause-list : goal.returns-clause-list

@@ -1,10 +1,10 @@
 use Rattle.spki_decision.specs.Explained.{IsSameExplanation}
-use Rattle.spki_decision.specs.Reduced.{IsSameReduction}
+use Rattle.spki_decision.specs.Granted.{IsSameReduction}
 use Rattle.spki_decision.specs.Answered.{IsExplained, IsReduced, AreSame}
 use Rattle.spki_decision.proofs.OneDecision.{decision_one, explained_one, reduced_one}
-use Rattle.spki_service.specs.Asking.{MarksAccept}
-use Rattle.spki_decision.specs.Views.{with_entries}
-use Rattle.spki_service.proofs.OneAnswer.{answer_one}
+use Rattle.spki_service.specs.GuardQuestions.{MarksAccept}
+use Rattle.spki_decision.specs.Standing.{with_entries}
+use Rattle.spki_service.proofs.AnswerLaws.{answer_one}
 use Rattle.spki_service.proofs.laws.one_marked_answer.Goals as goal
 
 pub returns-clause-decision : goal.returns-clause-decision

@@ -1,9 +1,8 @@
 use Rattle.std.proofs.Common.{sym, ◌∙◌, map, rules}
-use Rattle.spki_decision.specs.Views.{signed_of}
-use Rattle.spki_decision.specs.Asked.{IsAccepted}
-use Rattle.spki_decision.proofs.Answering.{refused_here, one_more}
-use Rattle.spki_service.specs.Asking.{MarksAccept}
-use Rattle.spki_service.proofs.Marking.{marked_here}
+use Rattle.spki_decision.specs.Standing.{signed_of, IsAccepted}
+use Rattle.spki_decision.proofs.Asked.{refused_here, one_more}
+use Rattle.spki_service.specs.GuardQuestions.{MarksAccept}
+use Rattle.spki_service.proofs.AnswerLaws.{marked_here}
 use Rattle.spki_service.proofs.marks.first_unmarked.Goals.{then-is_true_at, else-is_true_at}
 use Rattle.spki_service.proofs.marks.first_unmarked.Goals as goal
 

@@ -1,8 +1,7 @@
 use Rattle.std.proofs.Common.{map, take}
 use Rattle.std.specs.List.{AllByRecursion}
-use Rattle.spki_decision.specs.Views.{signed_of}
-use Rattle.spki_decision.specs.Asked.{IsAccepted}
-use Rattle.spki_service.specs.Asking.{MarksAccept}
+use Rattle.spki_decision.specs.Standing.{signed_of, IsAccepted}
+use Rattle.spki_service.specs.GuardQuestions.{MarksAccept}
 use Rattle.spki_service.proofs.marks.first_unmarked.Given as goal
 
 -- each so far is marked

@@ -1,6 +1,6 @@
 use Rattle.std.proofs.Common.{map}
-use Rattle.spki_decision.specs.Views.{signed_of}
-use Rattle.spki_service.specs.Marks.{NoneMarked}
+use Rattle.spki_decision.specs.Standing.{signed_of}
+use Rattle.spki_service.specs.GuardQuestions.{NoneMarked}
 use Rattle.spki_service.proofs.marks.is_marked.Given as goal
 
 abbrev pub invariant-loop-place : goal.invariant-loop-place

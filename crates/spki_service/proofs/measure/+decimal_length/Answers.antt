@@ -1,4 +1,4 @@
-use Rattle.spki_service.proofs.WordLaws.{digit_length, digits_length}
+use Rattle.spki_service.proofs.PartTexts.{digit_length, digits_length}
 use Rattle.spki_service.proofs.measure.+decimal_length.Goals as goal
 
 pub returns-then-number-lt10-clause-digits : goal.returns-then-number-lt10-clause-digits

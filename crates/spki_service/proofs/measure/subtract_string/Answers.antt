@@ -1,5 +1,5 @@
 use Rattle.std.proofs.Common.{arith}
-use Rattle.spki_service.proofs.WordLaws.{verbatim_length, none_left, last_left}
+use Rattle.spki_service.proofs.PartTexts.{verbatim_length, none_left, last_left}
 use Rattle.spki_service.proofs.measure.subtract_string.Goals as goal
 
 pub returns-in_err-left : goal.returns-in_err-left

@@ -1,4 +1,4 @@
-use Rattle.spki_service.proofs.WordLaws.{none_left, too_few, one_less, all_less}
+use Rattle.spki_service.proofs.PartTexts.{none_left, too_few, one_less, all_less}
 use Rattle.std.proofs.Common.{rules}
 use Rattle.spki_service.proofs.measure.subtract_words.Goals as goal
 

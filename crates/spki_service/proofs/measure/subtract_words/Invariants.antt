@@ -1,5 +1,5 @@
 use Rattle.std.proofs.Common.{◌≡◌, ◌+◌, length}
-use Rattle.spki_service.proofs.WordLaws.{octets_of}
+use Rattle.spki_service.proofs.PartTexts.{octets_of}
 use Rattle.spki_service.proofs.measure.subtract_words.Given as goal
 
 abbrev pub invariant-loop-word : goal.invariant-loop-word

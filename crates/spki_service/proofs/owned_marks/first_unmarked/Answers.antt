@@ -1,8 +1,8 @@
 use Rattle.std.proofs.Common.{sym, ◌∙◌, rules}
-use Rattle.spki_decision.specs.Asked.{IsAccepted}
-use Rattle.spki_service.specs.Asking.{MarksAccept}
-use Rattle.spki_decision.proofs.Answering.{refused_at, one_accepted}
-use Rattle.spki_service.proofs.Marking.{marked_at}
+use Rattle.spki_decision.specs.Standing.{IsAccepted}
+use Rattle.spki_service.specs.GuardQuestions.{MarksAccept}
+use Rattle.spki_decision.proofs.Asked.{refused_at, one_accepted}
+use Rattle.spki_service.proofs.AnswerLaws.{marked_at}
 use Rattle.spki_service.proofs.owned_marks.first_unmarked.Goals.{then-is_true_at, else-is_true_at}
 use Rattle.spki_service.proofs.owned_marks.first_unmarked.Goals as goal
 

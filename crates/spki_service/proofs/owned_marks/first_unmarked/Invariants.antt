@@ -1,7 +1,7 @@
 use Rattle.std.proofs.Common.{take}
 use Rattle.std.specs.List.{AllByRecursion}
-use Rattle.spki_decision.specs.Asked.{IsAccepted}
-use Rattle.spki_service.specs.Asking.{MarksAccept}
+use Rattle.spki_decision.specs.Standing.{IsAccepted}
+use Rattle.spki_service.specs.GuardQuestions.{MarksAccept}
 use Rattle.spki_service.proofs.owned_marks.first_unmarked.Given as goal
 
 -- each so far is marked

@@ -1,4 +1,4 @@
-use Rattle.spki_service.specs.Marks.{NoneMarked}
+use Rattle.spki_service.specs.GuardQuestions.{NoneMarked}
 use Rattle.spki_service.proofs.owned_marks.is_marked.Given as goal
 
 abbrev pub invariant-loop-place : goal.invariant-loop-place

@@ -1,6 +1,6 @@
 use Rattle.std.proofs.Common.{ap, map, rules}
 use Rattle.spki_case.specs.View.{model, row_of}
-use Rattle.spki_service.proofs.PartLaws.{asked_case, sequence_read, key_read, request_read, sequence_lacks, key_lacks, request_lacks, moment_lacks, lifted}
+use Rattle.spki_service.proofs.PartTexts.{asked_case, sequence_read, key_read, request_read, sequence_lacks, key_lacks, request_lacks, moment_lacks, lifted}
 use Rattle.spki_service.proofs.parts.case_of.Goals as goal
 
 pub returns-in_err-sequence-clause-refused : goal.returns-in_err-sequence-clause-refused

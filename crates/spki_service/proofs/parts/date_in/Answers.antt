@@ -1,7 +1,7 @@
 use Rattle.spki_cert.specs.Readings.{DateOf}
 use Rattle.spki_service.specs.declared.question.Part.TheVariants as parts
-use Rattle.spki_service.specs.Texts.{NamesMoment}
-use Rattle.spki_service.proofs.PartLaws.{made_read, made_refused}
+use Rattle.spki_service.specs.GuardQuestions.{NamesMoment}
+use Rattle.spki_service.proofs.PartTexts.{made_read, made_refused}
 use Rattle.spki_service.proofs.parts.date_in.Goals as goal
 
 pub returns-in_ok-document-in-Made-clause-read : goal.returns-in_ok-document-in-Made-clause-read

@@ -1,10 +1,9 @@
 use Rattle.std.proofs.Common.{◌++◌, [], ◌∷◌, ◌∙◌, ap, arith, rules}
-use Rattle.spki_reduce.specs.Chain.{tuples_of}
-use Rattle.spki_reduce.specs.Work.{left_of}
+use Rattle.spki_reduce.specs.Chain.{tuples_of, left_of}
 use Rattle.spki_case.specs.View.{model}
-use Rattle.spki_decision.specs.Views.{with_entries}
-use Rattle.spki_decision.proofs.Stopping.{one_put, none_folded}
-use Rattle.spki_service.proofs.TextFolds.{one_more, too_large, all_texts}
+use Rattle.spki_decision.specs.Standing.{with_entries}
+use Rattle.spki_decision.proofs.EntryChains.{one_put, none_folded}
+use Rattle.spki_service.proofs.AnswerLaws.{one_more, too_large, all_texts}
 use Rattle.spki_service.proofs.text_folds.fold_texts.Goals as goal
 
 pub loop-place-init : goal.loop-place-init

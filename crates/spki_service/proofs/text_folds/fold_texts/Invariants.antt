@@ -1,11 +1,10 @@
 -- What the entries of the texts so far become.
 use Rattle.std.proofs.Common.{List}
-use Rattle.spki_reduce.specs.Chain.{tuples_of}
-use Rattle.spki_reduce.specs.Work.{left_of}
+use Rattle.spki_reduce.specs.Chain.{tuples_of, left_of}
 use Rattle.spki_case.specs.View.{model}
 use Rattle.spki_decision.specs.declared.reduction.EntryFold.{EntryFold}
-use Rattle.spki_decision.proofs.Stopping.{ArePut}
-use Rattle.spki_service.proofs.TextFolds.{TextsTo}
+use Rattle.spki_decision.proofs.EntryChains.{ArePut}
+use Rattle.spki_service.proofs.AnswerLaws.{TextsTo}
 use Rattle.spki_service.proofs.text_folds.fold_texts.Given as goal
 
 abbrev pub invariant-loop-place : goal.invariant-loop-place

@@ -1,4 +1,4 @@
-use Rattle.spki_service.proofs.PartLaws.{canonical_text}
+use Rattle.spki_service.proofs.PartTexts.{canonical_text}
 use Rattle.std.proofs.Common.{rules}
 use Rattle.spki_service.proofs.texts.part_text.Goals as goal
 

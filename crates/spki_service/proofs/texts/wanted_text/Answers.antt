@@ -1,6 +1,5 @@
 use Rattle.std.proofs.Common.{rules}
-use Rattle.spki_service.proofs.PartLaws.{read_as}
-use Rattle.spki_service.proofs.WordLaws.{words_now, words_shallow}
+use Rattle.spki_service.proofs.PartTexts.{read_as, words_now, words_shallow}
 use Rattle.spki_service.proofs.texts.wanted_text.Goals as goal
 
 pub returns-in-Text-clause-read : goal.returns-in-Text-clause-read

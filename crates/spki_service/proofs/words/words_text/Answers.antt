@@ -1,6 +1,6 @@
 use Rattle.std.proofs.Common.{◌∷◌, []}
-use Rattle.sexpr_core.proofs.Written.{member_written}
-use Rattle.spki_service.proofs.WordLaws.{word_value, words_written}
+use Rattle.sexpr_core.proofs.TreeLaws.{member_written}
+use Rattle.spki_service.proofs.PartTexts.{word_value, words_written}
 use Rattle.spki_service.proofs.words.words_text.Goals as goal
 
 pub loop-word-preserved : goal.loop-word-preserved

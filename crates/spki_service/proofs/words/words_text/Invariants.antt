@@ -1,5 +1,5 @@
 use Rattle.std.proofs.Common.{◌≡◌, ◌∷◌, [], ◌++◌}
-use Rattle.spki_service.proofs.WordLaws.{octets_of}
+use Rattle.spki_service.proofs.PartTexts.{octets_of}
 use Rattle.spki_service.proofs.words.words_text.Given as goal
 
 abbrev pub invariant-loop-word : goal.invariant-loop-word

@@ -2,9 +2,8 @@ use Rattle.std.proofs.Common.{◌≡◌, ℕ, ◌≤◌, length, drop, List, ◌
 use Rattle.std.proofs.lemmas.Nat.{mul-le}
 use Rattle.std.proofs.lemmas.List.{take_all}
 use Rattle.spki_tag.specs.Tag.{Tag, tags, nodes, nodes_all}
-use Rattle.spki_tag.specs.Meet.{meet, each_meet, pairs, row}
-use Rattle.spki_tag.specs.Index.{may_share, places_where, tags_at}
-use Rattle.spki_tag.proofs.Sharing.{places_where-within, row-at_places}
+use Rattle.spki_tag.specs.Meet.{meet, each_meet, pairs, row, may_share, places_where, tags_at}
+use Rattle.spki_tag.proofs.Places.{places_where-within, row-at_places}
 use Rattle.spki_tag.proofs.Members.{nodes_le-of_read}
 use Rattle.spki_tag.proofs.MeetSteps.{tags-members, members_meet, meet-by_members, pairs-step, lists_meet, each_meet-rest, has_nothing-found, has_nothing-push, nothing-is, nothing-is_not, each_meet-last}
 use Rattle.spki_tag.proofs.intersection.+meet.Goals as goal

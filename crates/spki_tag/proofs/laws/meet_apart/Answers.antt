@@ -1,4 +1,4 @@
-use Rattle.spki_tag.proofs.Sharing.{meet-apart}
+use Rattle.spki_tag.proofs.Places.{meet-apart}
 use Rattle.spki_tag.proofs.laws.meet_apart.Goals as goal
 
 pub returns : goal.returns

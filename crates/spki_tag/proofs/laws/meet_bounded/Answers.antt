@@ -1,4 +1,4 @@
-use Rattle.spki_tag.proofs.Bounds.{meet-le}
+use Rattle.spki_tag.proofs.MeetSizes.{meet-le}
 use Rattle.spki_tag.proofs.laws.meet_bounded.Goals as goal
 
 pub returns : goal.returns

@@ -1,4 +1,4 @@
-use Rattle.spki_tag.proofs.MeetEquations.{star_rule, set_rule, string_rule, prefix_rule, prefixes_apart, range_rule, prefix_as_range, ordering_rule, times_and_dates, list_rule, heads_apart, lists_and_strings}
+use Rattle.spki_tag.proofs.MeetSteps.{star_rule, set_rule, string_rule, prefix_rule, prefixes_apart, range_rule, prefix_as_range, ordering_rule, times_and_dates, list_rule, heads_apart, lists_and_strings}
 use Rattle.spki_tag.proofs.laws.meet_rules.Goals as goal
 
 pub returns-clause-star : goal.returns-clause-star

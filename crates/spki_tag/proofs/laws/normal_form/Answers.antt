@@ -1,4 +1,4 @@
-use Rattle.spki_tag.proofs.NormalOf.{normal-of}
+use Rattle.spki_tag.proofs.TagReading.{normal-of}
 use Rattle.spki_tag.proofs.laws.normal_form.Goals as goal
 
 pub returns : goal.returns

@@ -1,4 +1,4 @@
-use Rattle.spki_tag.proofs.NormalOf.{reading-one}
+use Rattle.spki_tag.proofs.TagReading.{reading-one}
 use Rattle.spki_tag.proofs.laws.one_reading.Goals as goal
 
 pub returns : goal.returns

@@ -1,4 +1,4 @@
-use Rattle.spki_tag.proofs.Sharing.{row-at_places}
+use Rattle.spki_tag.proofs.Places.{row-at_places}
 use Rattle.spki_tag.proofs.laws.row_at_places.Goals as goal
 
 pub returns : goal.returns

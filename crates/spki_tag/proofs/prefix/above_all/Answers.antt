@@ -1,5 +1,5 @@
 use Rattle.std.proofs.Common.{rules}
-use Rattle.spki_tag.proofs.Above.{least_above-less, least_above-most}
+use Rattle.spki_tag.proofs.Limits.{least_above-less, least_above-most}
 use Rattle.spki_tag.proofs.prefix.above_all.Goals as goal
 
 pub returns-then-last-lt255 : goal.returns-then-last-lt255

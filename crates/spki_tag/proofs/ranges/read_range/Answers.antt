@@ -1,5 +1,5 @@
 use Rattle.std.proofs.Common.{ap, rules}
-use Rattle.spki_tag.specs.FaultOf.{range_fault}
+use Rattle.spki_tag.specs.Faults.{range_fault}
 use Rattle.spki_tag.proofs.Named.{named-first, passed}
 use Rattle.spki_tag.proofs.ranges.read_range.Goals as goal
 

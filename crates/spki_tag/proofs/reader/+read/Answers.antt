@@ -1,6 +1,6 @@
 use Rattle.std.proofs.Common.{arith, rules}
 use Rattle.spki_tag.proofs.Named.{named-first, out_of_memory, passed, prefix-itself, range-itself, unknown-itself, list-itself, so_far-named, no_room_for_head-named, list-members, set-members, star-itself, star-list, star-hinted, full, itself}
-use Rattle.spki_tag.proofs.Spelling.{so_far_weight, so_far_push, list_is_read, set_is_read, members_fit, members_normal}
+use Rattle.spki_tag.proofs.TagReading.{so_far_weight, so_far_push, list_is_read, set_is_read, members_fit, members_normal}
 use Rattle.spki_tag.proofs.reader.+read.Goals as goal
 
 pub read_members-read_tag-requires : goal.read_members-read_tag-requires

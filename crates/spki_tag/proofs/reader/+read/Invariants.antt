@@ -1,7 +1,6 @@
 use Rattle.std.proofs.Common.{◌+◌, ◌*◌, length}
 use Rattle.sexpr_core.specs.Value.{values}
-use Rattle.spki_tag.proofs.Weight.{weight, weights}
-use Rattle.spki_tag.proofs.Spelling.{IsReadSoFar}
+use Rattle.spki_tag.proofs.TagReading.{weight, weights, IsReadSoFar}
 use Rattle.spki_tag.proofs.reader.+read.Given as goal
 
 abbrev pub decreases-read_tag : goal.decreases-read_tag

@@ -1,6 +1,5 @@
-use Rattle.std.proofs.Common.{true≢false, rules}
-use Rattle.std.proofs.Common.{ap}
-use Rattle.spki_tag.specs.FaultOf.{prefix_fault}
+use Rattle.std.proofs.Common.{true≢false, rules, ap}
+use Rattle.spki_tag.specs.Faults.{prefix_fault}
 use Rattle.spki_tag.proofs.Named.{named-first, out_of_memory, prefix-more, prefix-list, prefix-hinted}
 use Rattle.spki_tag.proofs.reader.read_prefix.Goals as goal
 

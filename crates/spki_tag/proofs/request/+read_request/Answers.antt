@@ -1,8 +1,6 @@
-use Rattle.std.proofs.Common.{arith, rules}
-use Rattle.spki_tag.proofs.Requests.{so_far_weight, so_far_push, list_is_request}
-use Rattle.std.proofs.Common.{[], refl}
+use Rattle.std.proofs.Common.{arith, rules, [], refl}
+use Rattle.spki_tag.proofs.RequestReading.{so_far_weight, so_far_push, list_is_request, group-itself, star-group, group-members, so_far-named, part-itself}
 use Rattle.spki_tag.proofs.Named.{named-first, out_of_memory, passed}
-use Rattle.spki_tag.proofs.NamedRequests.{group-itself, star-group, group-members, so_far-named, part-itself}
 use Rattle.spki_tag.proofs.request.+read_request.Goals as goal
 
 pub read_request_members-read_request-requires : goal.read_request_members-read_request-requires

@@ -2,8 +2,7 @@ use Rattle.std.proofs.Common.{◌∙◌, ◌||◌, fold, ap, ap₂, sym, subst, 
 use Rattle.std.proofs.lemmas.List.{take_all}
 use Rattle.std.proofs.lemmas.List.Sums.{fold_more}
 use Rattle.clap.specs.Words.{App, with_subcommand}
-use Rattle.spki_words.specs.Command.{commands}
-use Rattle.spki_words.specs.Words.{bare, with_command, IsProgram}
+use Rattle.spki_words.specs.Words.{commands, bare, with_command, IsProgram}
 use Rattle.spki_words.specs.declared.commands.Command.TheVariants.{Canonical}
 use Rattle.spki_words.proofs.words.program.Goals as goal
 

@@ -1,5 +1,5 @@
 use Rattle.std.proofs.Common.{sym, ◌∙◌}
-use Rattle.sexpr_core.specs.Tree.{sexp_value}
+use Rattle.sexpr_core.specs.Value.{sexp_value}
 use Rattle.test_callers.proofs.SameValues.{is_text}
 use Rattle.test_callers.proofs.texts.same_value.Goals as goal
 

@@ -1,9 +1,7 @@
 use Rattle.std.proofs.Common.{◌+◌, ◌≡◌, sym, ap, ◌∙◌, arith}
 use Rattle.sexpr_core.specs.Value.{node}
-use Rattle.sexpr_core.specs.Places.{node_at}
-use Rattle.sexpr_core.specs.Parts.{member_number}
-use Rattle.sexpr_core.proofs.PlaceLaws.{size_is}
-use Rattle.sexpr_core.proofs.SiblingLaws.{member_of, member_is}
+use Rattle.sexpr_core.specs.Nodes.{node_at, member_number}
+use Rattle.sexpr_core.proofs.NodeLaws.{size_is, member_of, member_is}
 use Rattle.sexpr_core.proofs.document.Doc.member_number.Goals as goal
 
 pub record-requires : goal.record-requires

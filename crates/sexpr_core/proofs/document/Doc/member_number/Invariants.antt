@@ -1,6 +1,5 @@
 use Rattle.std.proofs.Common.{◌≡◌}
-use Rattle.sexpr_core.specs.Places.{node_at}
-use Rattle.sexpr_core.specs.Parts.{member_number}
+use Rattle.sexpr_core.specs.Nodes.{node_at, member_number}
 use Rattle.sexpr_core.proofs.document.Doc.member_number.Given as goal
 
 abbrev pub invariant-loop : goal.invariant-loop

@@ -1,6 +1,6 @@
 use Rattle.std.proofs.Common.{ap, ◌∙◌}
 use Rattle.sexpr_core.specs.Value.{size}
-use Rattle.sexpr_core.proofs.TableLaws.{table_length}
+use Rattle.sexpr_core.proofs.NodeLaws.{table_length}
 use Rattle.sexpr_core.proofs.document.Doc.node_count.Goals as goal
 
 pub returns : goal.returns

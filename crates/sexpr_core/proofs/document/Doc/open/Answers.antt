@@ -1,4 +1,4 @@
-use Rattle.sexpr_core.proofs.TableLaws.{table_of, table_value-is}
+use Rattle.sexpr_core.proofs.NodeLaws.{table_of, table_value-is}
 use Rattle.sexpr_core.proofs.document.Doc.open.Goals as goal
 
 pub invariant_of-result : goal.invariant_of-result

@@ -1,8 +1,7 @@
 use Rattle.std.proofs.Common.{ap, subst, ◌≡◌, ◌∙◌, arith, length, Some}
 use Rattle.sexpr_core.specs.Value.{Value, size, canon}
-use Rattle.sexpr_core.specs.Places.{IsPlace, node_at}
-use Rattle.sexpr_core.specs.Starts.{start_of}
-use Rattle.sexpr_core.proofs.TableLaws.{table_length, table_place, table_start}
+use Rattle.sexpr_core.specs.Nodes.{IsPlace, node_at, start_of}
+use Rattle.sexpr_core.proofs.NodeLaws.{table_length, table_place, table_start}
 use Rattle.sexpr_core.proofs.document.Doc.record.Goals as goal
 
 pub index-requires : goal.index-requires

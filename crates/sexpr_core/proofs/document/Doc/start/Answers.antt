@@ -1,5 +1,5 @@
 use Rattle.std.proofs.Common.{arith, sym}
-use Rattle.sexpr_core.proofs.TableLaws.{starts_end}
+use Rattle.sexpr_core.proofs.NodeLaws.{starts_end}
 use Rattle.sexpr_core.proofs.document.Doc.start.Goals as goal
 
 pub returns-else-n-node_count-clause-start : goal.returns-else-n-node_count-clause-start

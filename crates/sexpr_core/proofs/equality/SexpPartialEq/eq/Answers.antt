@@ -1,4 +1,4 @@
-use Rattle.sexpr_core.proofs.EqualityLaws.{same_given}
+use Rattle.sexpr_core.proofs.TreeLaws.{same_given}
 use Rattle.sexpr_core.proofs.equality.SexpPartialEq.eq.Goals as goal
 
 pub returns-clause-test : goal.returns-clause-test

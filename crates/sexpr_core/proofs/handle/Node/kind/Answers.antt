@@ -1,5 +1,5 @@
 use Rattle.std.proofs.Common.{Some, None, sym, ◌∙◌, arith}
-use Rattle.sexpr_core.proofs.PlaceLaws.{ordered, shown, ends_within, string_from_label, list_from_label}
+use Rattle.sexpr_core.proofs.NodeLaws.{ordered, shown, ends_within, string_from_label, list_from_label}
 use Rattle.sexpr_core.proofs.handle.Node.kind.Goals as goal
 
 pub piece-requires-clause-ordered : goal.piece-requires-clause-ordered

@@ -1,6 +1,5 @@
 use Rattle.std.proofs.Common.{arith}
-use Rattle.sexpr_core.proofs.PlaceLaws.{size_is}
-use Rattle.sexpr_core.proofs.SiblingLaws.{list_of}
+use Rattle.sexpr_core.proofs.NodeLaws.{size_is, list_of}
 use Rattle.sexpr_core.proofs.siblings.Members.of.Goals as goal
 
 pub overflow_add-result : goal.overflow_add-result

@@ -1,6 +1,5 @@
 use Rattle.std.proofs.Common.{sym, ◌∙◌, rules, arith}
-use Rattle.sexpr_core.proofs.PlaceLaws.{size_is}
-use Rattle.sexpr_core.proofs.SiblingLaws.{split}
+use Rattle.sexpr_core.proofs.NodeLaws.{size_is, split}
 use Rattle.sexpr_core.proofs.siblings.MembersIterator.next.Goals as goal
 
 pub overflow_add-self : goal.overflow_add-self

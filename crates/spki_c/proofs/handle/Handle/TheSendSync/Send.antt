@@ -11,7 +11,7 @@ use Rattle.std.proofs.Crossing.{frees}
 use Rattle.std_alloc.proofs.SendSync.{quiet, lies}
 use Rattle.spki_service.specs.contracts.shared.SharedGuard as guard
 use Rattle.spki_service.proofs.shared.SharedGuard.TheSendSync.{the_send as guard_send}
-use Rattle.spki_c.specs.Holding.{Kept, heap, held_owns}
+use Rattle.spki_c.specs.Pointers.{Kept, heap, held_owns}
 use Rattle.spki_c.specs.contracts.handle.Handle.{the_row, the_type}
 
 held_keyless : (p : Ptr) (held : Option Kept) → Keyless (held_owns guard.the_row p held)

@@ -7,8 +7,7 @@ use denote.Param.Send.{IsSend, AllSend, owning_send, struct_send, sendable}
 use Rattle.std_alloc.proofs.SendSync.{quiet, seen}
 use Rattle.spki_service.specs.contracts.shared.SharedGuard as guard
 use Rattle.spki_service.proofs.shared.SharedGuard.TheSendSync.{the_sync as guard_sync}
-use Rattle.spki_c.specs.Holding.{Kept}
-use Rattle.spki_c.specs.Pointers.{held_lent}
+use Rattle.spki_c.specs.Pointers.{Kept, held_lent}
 use Rattle.spki_c.specs.contracts.handle.Lent.{the_row, the_type}
 
 lent_keyless : (p : Ptr) (g : Kept) → Keyless (held_lent guard.the_row p g)

@@ -7,8 +7,7 @@ use denote.Param.Send.{IsSend, AllSend, owning_send, struct_send, sendable}
 use Rattle.std_alloc.proofs.SendSync.{quiet, seen}
 use Rattle.spki_service.specs.contracts.opened.Opened as question
 use Rattle.spki_service.proofs.opened.Opened.TheSendSync.{the_sync as question_sync}
-use Rattle.spki_c.specs.Holding.{KeptQuestion}
-use Rattle.spki_c.specs.Pointers.{held_lent}
+use Rattle.spki_c.specs.Pointers.{KeptQuestion, held_lent}
 use Rattle.spki_c.specs.contracts.question_handle.LentQuestion.{the_row, the_type}
 
 lent_keyless : (p : Ptr) (g : KeptQuestion) → Keyless (held_lent question.the_row p g)

@@ -11,7 +11,7 @@ use Rattle.std.proofs.Crossing.{frees}
 use Rattle.std_alloc.proofs.SendSync.{quiet, lies}
 use Rattle.spki_service.specs.contracts.opened.Opened as question
 use Rattle.spki_service.proofs.opened.Opened.TheSendSync.{the_send as question_send}
-use Rattle.spki_c.specs.Holding.{KeptQuestion, heap, held_owns}
+use Rattle.spki_c.specs.Pointers.{KeptQuestion, heap, held_owns}
 use Rattle.spki_c.specs.contracts.question_handle.QuestionHandle.{the_row, the_type}
 
 held_keyless : (p : Ptr) (held : Option KeptQuestion) → Keyless (held_owns question.the_row p held)

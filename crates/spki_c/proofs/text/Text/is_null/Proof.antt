@@ -24,7 +24,7 @@ use denote.Ref.{MutRef, mut_vals, mut_Tells}
 use denote.Signature.{plain}
 use denote.Steps.{nothing, opens, closes, peeks}
 use denote.Triple.Walked.{Stays, walk_of, says, stay_ref, Goes-ref, ends_at}
-use Rattle.spki_c.specs.Texts.{IsCounted}
+use Rattle.spki_c.specs.Pointers.{IsCounted}
 use Rattle.spki_c.proofs.Counted.{pointer_typed}
 use Rattle.spki_c.specs.contracts.text.Text.{the_row as R}
 use Rattle.spki_c.specs.contracts.text.Text.is_null as f

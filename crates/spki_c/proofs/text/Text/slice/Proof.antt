@@ -30,8 +30,7 @@ use denote.Steps.{nothing, opens, peeks, heard}
 use denote.Struct.Lending.{lent_at}
 use denote.Triple.Walked.{Stays, walk_of, says, stay_dropped, Goes-spent_ref, Goes-dropped, ends_at}
 use Rattle.std.proofs.VecSteps.Shapes.{after}
-use Rattle.spki_c.specs.Pointers.{held_lent}
-use Rattle.spki_c.specs.Texts.{IsCounted, lent_there, text_owns}
+use Rattle.spki_c.specs.Pointers.{held_lent, IsCounted, lent_there, text_owns}
 use Rattle.spki_c.proofs.Counted.{in_block, are_low}
 use Rattle.spki_c.specs.contracts.text.Text.{the_row as R, the_type}
 use Rattle.spki_c.specs.contracts.text.Text.slice as f

@@ -1,4 +1,4 @@
-use Rattle.spki_case.proofs.LackingRow.{lacks_row}
+use Rattle.spki_case.proofs.RowFaults.{lacks_row}
 use Rattle.spki_case.proofs.table.AcceptedTable.of.Goals as goal
 
 pub returns-in-Err-clause-refused : goal.returns-in-Err-clause-refused

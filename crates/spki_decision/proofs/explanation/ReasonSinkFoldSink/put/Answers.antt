@@ -1,7 +1,7 @@
 use Rattle.std.proofs.Common.{ap, subst}
 use Rattle.std.proofs.lemmas.Slice.Zip.{all_zipped_more}
 use Rattle.spki_case.specs.View.{model}
-use Rattle.spki_decision.specs.Taken.{IsReasonFor}
+use Rattle.spki_decision.specs.Explained.{IsReasonFor}
 use Rattle.spki_decision.proofs.explanation.ReasonSinkFoldSink.put.Goals as goal
 
 pub returns : goal.returns

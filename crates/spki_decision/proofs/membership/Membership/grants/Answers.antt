@@ -1,9 +1,9 @@
 use Rattle.std.proofs.Common.{◌≡◌, true, false, sym, ◌∙◌, subst, Option, Some}
-use Rattle.spki_reduce.specs.Views.{entry_tuple}
+use Rattle.spki_reduce.specs.Reduction.{entry_tuple}
 use Rattle.spki_case.specs.View.{model}
 use Rattle.spki_decision.specs.declared.required_subject.RequiredSubject.{RequiredSubject}
-use Rattle.spki_decision.specs.Supported.{Supported}
-use Rattle.spki_decision.specs.Membership.{IsMetBy}
+use Rattle.spki_decision.specs.Granted.{Supported}
+use Rattle.spki_decision.specs.Requirements.{IsMetBy}
 use Rattle.spki_decision.proofs.membership.Membership.grants.Goals as goal
 use Rattle.spki_decision.proofs.membership.Membership.grants.Goals.{then-is_met_by, else-is_met_by}
 

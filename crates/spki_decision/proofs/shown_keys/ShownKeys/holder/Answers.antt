@@ -1,5 +1,5 @@
 use Rattle.std.proofs.Common.{rules}
-use Rattle.spki_decision.proofs.Finding.{found_none}
+use Rattle.spki_decision.proofs.Standing.{found_none}
 use Rattle.spki_decision.proofs.shown_keys.ShownKeys.holder.Goals as goal
 
 -- hashes of the algorithm name no key

@@ -3,9 +3,8 @@ use borrow.Author.Tests.{leb-true}
 use Rattle.std.proofs.Math.Nat.{mul-le-mul_left}
 use Rattle.spki_tag.specs.Tag.{nodes, nests_set}
 use Rattle.spki_reduce.specs.Chain.{tuples_of}
-use Rattle.spki_decision.specs.Sizes.{ArePlain}
-use Rattle.spki_decision.proofs.SmallChains.{small_product}
-use Rattle.spki_decision.proofs.PlainChains.{small_plain}
+use Rattle.spki_decision.specs.Requirements.{ArePlain}
+use Rattle.spki_decision.proofs.EntryChains.{small_product, small_plain}
 use Rattle.spki_decision.proofs.sizes.Sizes.are_small.Goals as goal
 
 pub returns-then-nodes-most : goal.returns-then-nodes-most

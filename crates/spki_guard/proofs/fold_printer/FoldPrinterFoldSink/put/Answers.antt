@@ -1,6 +1,6 @@
 use Rattle.std.proofs.Common.{◌≡◌, ◌||◌, refl, rules}
-use Rattle.spki_guard.specs.Reports.{is_done}
-use Rattle.spki_guard.proofs.FoldPrinting.{printed, longer, still_long}
+use Rattle.spki_guard.specs.Lines.{is_done}
+use Rattle.spki_guard.proofs.ReportLines.{printed, longer, still_long}
 use Rattle.spki_guard.proofs.fold_printer.FoldPrinterFoldSink.put.Goals.{then-self, else-self, in-Ok, in-Err-TooLarge}
 use Rattle.spki_guard.proofs.fold_printer.FoldPrinterFoldSink.put.Goals as goal
 

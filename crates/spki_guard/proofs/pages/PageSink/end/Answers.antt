@@ -1,4 +1,4 @@
-use Rattle.spki_guard.proofs.PageEnds.{cut_at_flush}
+use Rattle.spki_guard.proofs.Sending.{cut_at_flush}
 use Rattle.std.proofs.Common.{rules}
 use Rattle.spki_guard.proofs.pages.PageSink.end.Goals as goal
 

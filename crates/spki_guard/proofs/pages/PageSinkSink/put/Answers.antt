@@ -1,5 +1,5 @@
 use Rattle.std.proofs.Common.{[]}
-use Rattle.spki_guard.specs.Inner.PageLaws.{page_takes_both}
+use Rattle.spki_guard.specs.Inner.Pages.{page_takes_both}
 use Rattle.spki_guard.proofs.pages.PageSinkSink.put.Goals as goal
 
 pub returns : goal.returns

@@ -1,6 +1,6 @@
 use Rattle.std.proofs.Common.{Some, None, sym, ◌∙◌}
 use Rattle.spki_reduce.specs.declared.last_tests.Denial.TheVariants.{NotTheKey, TagLacks, WindowLacks}
-use Rattle.spki_reduce.proofs.Lacking.{never, not_for, tag_lacks, window_lacks, lacks_nothing, supported}
+use Rattle.spki_reduce.proofs.ReducedForms.{never, not_for, tag_lacks, window_lacks, lacks_nothing, supported}
 use Rattle.spki_reduce.proofs.tuple.Five.first_denial.Goals as goal
 
 pub returns-then-not-is_for-clause-supported : goal.returns-then-not-is_for-clause-supported

@@ -1,5 +1,5 @@
 use Rattle.std.proofs.Common.{rules}
-use Rattle.spki_reduce.proofs.Pairs.{resolves}
+use Rattle.spki_reduce.proofs.ReducedForms.{resolves}
 use Rattle.spki_reduce.proofs.tuple.Five.into_resolve.Goals as goal
 
 pub returns-clause-joined : goal.returns-clause-joined

@@ -1,5 +1,5 @@
 use Rattle.std.proofs.Common.{arith, rules}
-use Rattle.spki_reduce.proofs.Pairs.{unrefused}
+use Rattle.spki_reduce.proofs.ReducedForms.{unrefused}
 use Rattle.spki_reduce.proofs.tuple.Five.joined.Goals as goal
 
 pub returns-in-Auth-clause-too_large : goal.returns-in-Auth-clause-too_large

@@ -1,4 +1,4 @@
-use Rattle.spki_reduce.proofs.Pairs.{along, narrowed_joins, stops_by_tags}
+use Rattle.spki_reduce.proofs.ReducedForms.{along, narrowed_joins, stops_by_tags}
 use Rattle.spki_reduce.proofs.tuple.Five.then_within.Goals as goal
 
 pub returns-in_ok-narrowed-in-Ok-clause-joined : goal.returns-in_ok-narrowed-in-Ok-clause-joined

@@ -1,5 +1,5 @@
 use Rattle.std.proofs.Common.{rules}
-use Rattle.spki_reduce.proofs.Pairs.{links}
+use Rattle.spki_reduce.proofs.ReducedForms.{links}
 use Rattle.spki_reduce.proofs.tuple.Four.then.Goals as goal
 
 pub returns-clause-joined : goal.returns-clause-joined

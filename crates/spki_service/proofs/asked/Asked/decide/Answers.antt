@@ -1,7 +1,6 @@
 use Rattle.std.proofs.Common.{List, map, ap, subst, ◌∙◌, rules}
-use Rattle.spki_decision.specs.Views.{signed_of}
-use Rattle.spki_decision.specs.Asked.{Signed, asked, RefusedAt}
-use Rattle.spki_service.proofs.Outcomes.{decided_all, decided_none}
+use Rattle.spki_decision.specs.Standing.{signed_of, Signed, asked, RefusedAt}
+use Rattle.spki_service.proofs.AnswerLaws.{decided_all, decided_none}
 use Rattle.spki_service.proofs.asked.Asked.decide.Goals as goal
 
 pub returns-in-None : goal.returns-in-None

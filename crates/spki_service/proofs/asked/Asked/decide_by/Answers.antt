@@ -1,8 +1,7 @@
 use Rattle.std.proofs.Common.{map, ap, ◌∙◌, subst, List, rules}
-use Rattle.spki_decision.specs.Views.{signed_of}
-use Rattle.spki_decision.specs.Asked.{Signed, asked, RefusedAt}
-use Rattle.spki_service.specs.Asking.{MarksAccept}
-use Rattle.spki_service.proofs.Outcomes.{decided_all, decided_none}
+use Rattle.spki_decision.specs.Standing.{signed_of, Signed, asked, RefusedAt}
+use Rattle.spki_service.specs.GuardQuestions.{MarksAccept}
+use Rattle.spki_service.proofs.AnswerLaws.{decided_all, decided_none}
 use Rattle.spki_service.proofs.asked.Asked.decide_by.Goals as goal
 
 pub returns-in-None : goal.returns-in-None

@@ -1,8 +1,8 @@
 use Rattle.std.proofs.Common.{subst, rules}
 use Rattle.spki_decision.specs.Judged.{IsEvidence}
-use Rattle.spki_decision.specs.Asked.{every}
-use Rattle.spki_service.specs.Asking.{AskedOf}
-use Rattle.spki_service.proofs.Outcomes.{decided_failed, decided_partly}
+use Rattle.spki_decision.specs.Standing.{every}
+use Rattle.spki_service.specs.GuardQuestions.{AskedOf}
+use Rattle.spki_service.proofs.AnswerLaws.{decided_failed, decided_partly}
 use Rattle.spki_service.proofs.asked.Asked.decided.Goals as goal
 
 pub returns-in-Fails : goal.returns-in-Fails

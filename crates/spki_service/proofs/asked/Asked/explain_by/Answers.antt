@@ -1,8 +1,8 @@
 use Rattle.std.proofs.Common.{ap, ◌∙◌, rules}
-use Rattle.spki_decision.specs.Asked.{asked}
-use Rattle.spki_decision.proofs.Answering.{refused_within}
-use Rattle.spki_service.specs.Asking.{MarksAccept}
-use Rattle.spki_service.proofs.Outcomes.{explained_all, explained_none, refused_there}
+use Rattle.spki_decision.specs.Standing.{asked}
+use Rattle.spki_decision.proofs.Asked.{refused_within}
+use Rattle.spki_service.specs.GuardQuestions.{MarksAccept}
+use Rattle.spki_service.proofs.AnswerLaws.{explained_all, explained_none, refused_there}
 use Rattle.spki_service.proofs.asked.Asked.explain_by.Goals as goal
 
 pub returns-in-None : goal.returns-in-None

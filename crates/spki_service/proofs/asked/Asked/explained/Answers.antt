@@ -3,9 +3,9 @@ use Rattle.std.specs.List.{AllZip}
 use Rattle.spki_tag.specs.Request.{IsRequest}
 use Rattle.spki_case.specs.Case.{Case}
 use Rattle.spki_case.specs.View.{model}
-use Rattle.spki_decision.specs.Asked.{every}
-use Rattle.spki_decision.specs.Taken.{IsReasonFor}
-use Rattle.spki_decision.proofs.Reasons.{reasons_for}
+use Rattle.spki_decision.specs.Standing.{every}
+use Rattle.spki_decision.specs.Explained.{IsReasonFor}
+use Rattle.spki_decision.proofs.Explanations.{reasons_for}
 use Rattle.spki_service.proofs.asked.Asked.explained.Goals as goal
 
 pub returns-in-None : goal.returns-in-None

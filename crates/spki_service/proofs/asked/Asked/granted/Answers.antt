@@ -3,13 +3,10 @@ use Rattle.std.specs.Option.{option_copied}
 use Rattle.spki_cert.specs.declared.entry.Entry.{Entry}
 use Rattle.spki_reduce.specs.Chain.{tuples_of}
 use Rattle.spki_case.specs.View.{model}
-use Rattle.spki_decision.specs.Views.{with_entries}
-use Rattle.spki_service.specs.Asking.{AskedOf}
-use Rattle.spki_service.specs.Held.{AreEntries, octets_of_texts}
-use Rattle.spki_service.specs.Partly.{DecidesPartly}
-use Rattle.spki_service.specs.Picked.{AreNumbers}
-use Rattle.spki_service.proofs.EntryTexts.{as_many, picks}
-use Rattle.spki_service.proofs.Deciding.{partly_by, numbers_found, entries_found, numbers_are}
+use Rattle.spki_decision.specs.Standing.{with_entries}
+use Rattle.spki_service.specs.GuardQuestions.{AskedOf}
+use Rattle.spki_service.specs.AccessLists.{AreEntries, octets_of_texts, DecidesPartly, AreNumbers}
+use Rattle.spki_service.proofs.SelectedEntries.{as_many, picks, partly_by, numbers_found, entries_found, numbers_are}
 use Rattle.spki_service.proofs.asked.Asked.granted.Goals as goal
 
 pub first_granted-requires : goal.first_granted-requires

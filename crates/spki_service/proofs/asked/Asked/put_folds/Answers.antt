@@ -2,14 +2,13 @@ use Rattle.std.proofs.Common.{◌∙◌, sym, ap, subst, List, rules}
 use Rattle.spki_cert.specs.declared.entry.Entry.{Entry}
 use Rattle.spki_reduce.specs.Chain.{tuples_of}
 use Rattle.spki_case.specs.View.{model}
-use Rattle.spki_decision.specs.Asked.{every}
+use Rattle.spki_decision.specs.Standing.{every, with_entries}
 use Rattle.spki_decision.specs.Judged.{IsEvidence}
-use Rattle.spki_decision.specs.Reduced.{AreFolds}
-use Rattle.spki_decision.specs.Views.{with_entries}
-use Rattle.spki_decision.proofs.Stopping.{as_many, are_folds}
-use Rattle.spki_service.specs.Asking.{AskedOf}
-use Rattle.spki_service.specs.Held.{AreEntries, octets_of_texts}
-use Rattle.spki_service.proofs.Outcomes.{folds_failed}
+use Rattle.spki_decision.specs.Granted.{AreFolds}
+use Rattle.spki_decision.proofs.EntryChains.{as_many, are_folds}
+use Rattle.spki_service.specs.GuardQuestions.{AskedOf}
+use Rattle.spki_service.specs.AccessLists.{AreEntries, octets_of_texts}
+use Rattle.spki_service.proofs.AnswerLaws.{folds_failed}
 use Rattle.spki_service.proofs.asked.Asked.put_folds.Goals as goal
 
 pub fold_texts-requires : goal.fold_texts-requires

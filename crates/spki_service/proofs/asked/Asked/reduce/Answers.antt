@@ -1,7 +1,7 @@
 use Rattle.std.proofs.Common.{ap, ◌∙◌, rules}
-use Rattle.spki_decision.specs.Asked.{asked}
-use Rattle.spki_decision.proofs.Answering.{refused_within}
-use Rattle.spki_service.proofs.Outcomes.{reduced_all, reduced_none, refused_there}
+use Rattle.spki_decision.specs.Standing.{asked}
+use Rattle.spki_decision.proofs.Asked.{refused_within}
+use Rattle.spki_service.proofs.AnswerLaws.{reduced_all, reduced_none, refused_there}
 use Rattle.spki_service.proofs.asked.Asked.reduce.Goals as goal
 
 pub returns-in-None-clause-reduced : goal.returns-in-None-clause-reduced

@@ -1,9 +1,9 @@
 use Rattle.std.proofs.Common.{[], ap, ◌∙◌, rules}
 use Rattle.std.specs.List.{AllByRecursion}
-use Rattle.spki_decision.specs.Asked.{asked, IsAccepted}
-use Rattle.spki_decision.proofs.Answering.{refused_within}
-use Rattle.spki_service.specs.Asking.{MarksAccept}
-use Rattle.spki_service.proofs.Outcomes.{folded_all, large_all, folds_none, refused_there}
+use Rattle.spki_decision.specs.Standing.{asked, IsAccepted}
+use Rattle.spki_decision.proofs.Asked.{refused_within}
+use Rattle.spki_service.specs.GuardQuestions.{MarksAccept}
+use Rattle.spki_service.proofs.AnswerLaws.{folded_all, large_all, folds_none, refused_there}
 use Rattle.spki_service.proofs.asked.Asked.reduce_into.Goals as goal
 
 pub returns-in-None-clause-folds : goal.returns-in-None-clause-folds

@@ -1,6 +1,6 @@
 use Rattle.std.proofs.Common.{◌≡◌, ap, length, arith}
 use Rattle.spki_cert.proofs.EntryFaultNone.{acl-refused}
-use Rattle.spki_service.proofs.Reading.{named_fault, texts_held, value_held, many}
+use Rattle.spki_service.proofs.ListReading.{named_fault, texts_held, value_held, many}
 use Rattle.spki_service.proofs.guard.Guard.of.Goals as goal
 
 pub returns-in-Err-clause-refused : goal.returns-in-Err-clause-refused

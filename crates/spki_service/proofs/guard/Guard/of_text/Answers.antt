@@ -1,7 +1,7 @@
 use Rattle.std.proofs.Common.{◌≡◌, ◌++◌, [], sym, ◌∙◌, ap, subst, length, ◌≤◌}
 use Rattle.sexpr_core.specs.Value.{Value, canon}
 use Rattle.sexpr_core.proofs.Texts.{canon_one}
-use Rattle.spki_service.proofs.Reading.{value_there, list_refused}
+use Rattle.spki_service.proofs.ListReading.{value_there, list_refused}
 use Rattle.spki_service.proofs.guard.Guard.of_text.Goals as goal
 
 pub returns-in-Ok-clause-list : goal.returns-in-Ok-clause-list

@@ -1,6 +1,6 @@
-use Rattle.spki_service.proofs.PartLaws.{canonical_text}
+use Rattle.spki_service.proofs.PartTexts.{canonical_text}
 use Rattle.std.proofs.Common.{rules}
-use Rattle.spki_service.proofs.Reading.{list_held, list_refused_text}
+use Rattle.spki_service.proofs.ListReading.{list_held, list_refused_text}
 use Rattle.spki_service.proofs.guard.Guard.read.Goals as goal
 
 -- a list that is canonical as it stands

@@ -1,6 +1,6 @@
 use Rattle.std.proofs.Common.{◌≡◌, ◌∙◌, ap, bytes_eq, reverse, rules}
 use Rattle.std.proofs.lemmas.Result.{on_ok_weaker}
-use Rattle.spki_service.proofs.Indexing.{put_key}
+use Rattle.spki_service.proofs.IndexLaws.{put_key}
 use Rattle.spki_service.proofs.index.EntryIndex.add.Goals as goal
 
 -- a key's number, at its octets as they are kept

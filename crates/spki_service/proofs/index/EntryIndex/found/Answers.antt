@@ -1,8 +1,8 @@
 use Rattle.std.proofs.Common.{◌≡◌, ◌∙◌, ap, reverse}
 use Rattle.std.proofs.lemmas.Result.{IfOk-weaker}
-use Rattle.spki_service.specs.Indexed.{numbers_at, numbers_of_key}
-use Rattle.spki_tag.specs.Merged.{merge}
-use Rattle.spki_service.proofs.Found.{found_all}
+use Rattle.spki_service.specs.AccessLists.{numbers_at, numbers_of_key}
+use Rattle.spki_tag.specs.Places.{merge}
+use Rattle.spki_service.proofs.IndexLaws.{found_all}
 use Rattle.spki_service.proofs.index.EntryIndex.found.Goals as goal
 
 -- the numbers of the key itself, and those of its hashes

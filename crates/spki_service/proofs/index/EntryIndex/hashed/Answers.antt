@@ -1,5 +1,5 @@
 use Rattle.std.proofs.Common.{ap, ◌∙◌}
-use Rattle.spki_service.specs.Indexed.{numbers_at}
+use Rattle.spki_service.specs.AccessLists.{numbers_at}
 use Rattle.spki_service.proofs.index.EntryIndex.hashed.Goals as goal
 
 -- what is found is at the key's digest

@@ -1,8 +1,8 @@
 use Rattle.std.proofs.Common.{◌≡◌, ◌+◌, ◌<◌, ◌∷◌, ◌++◌, [], List, length, take, sym, subst, arith, length-take-le}
 use Rattle.std.proofs.lemmas.List.{take_more}
 use Rattle.spki_cert.specs.declared.entry.Entry.{Entry}
-use Rattle.spki_service.specs.Indexed.{IsIndexOf}
-use Rattle.spki_service.proofs.Indexing.{index_more}
+use Rattle.spki_service.specs.AccessLists.{IsIndexOf}
+use Rattle.spki_service.proofs.IndexLaws.{index_more}
 use Rattle.spki_service.proofs.index.EntryIndex.of.Goals as goal
 
 -- one entry more

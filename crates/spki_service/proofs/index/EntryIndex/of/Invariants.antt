@@ -1,5 +1,5 @@
 use Rattle.std.proofs.Common.{take}
-use Rattle.spki_service.specs.Indexed.{IsIndexOf}
+use Rattle.spki_service.specs.AccessLists.{IsIndexOf}
 use Rattle.spki_service.proofs.index.EntryIndex.of.Given as goal
 
 abbrev pub invariant-loop-place : goal.invariant-loop-place

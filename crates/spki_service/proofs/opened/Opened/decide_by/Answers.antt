@@ -1,7 +1,7 @@
 use Rattle.std.proofs.Common.{None, Ok, ◌∙◌, subst, List}
-use Rattle.spki_decision.specs.Asked.{Signed, asked, IsFirstRefused, RefusedAt}
-use Rattle.spki_service.specs.Asking.{MarksAccept}
-use Rattle.spki_service.proofs.Outcomes.{decided_all, decided_none}
+use Rattle.spki_decision.specs.Standing.{Signed, asked, IsFirstRefused, RefusedAt}
+use Rattle.spki_service.specs.GuardQuestions.{MarksAccept}
+use Rattle.spki_service.proofs.AnswerLaws.{decided_all, decided_none}
 use Rattle.spki_service.proofs.opened.Opened.decide_by.Goals as goal
 
 pub returns-in-None : goal.returns-in-None

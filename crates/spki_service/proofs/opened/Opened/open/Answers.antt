@@ -1,8 +1,8 @@
 use Rattle.std.proofs.Common.{◌<◌, ◌≤◌, subst, sym, arith}
-use Rattle.spki_service.specs.Held.{Held}
-use Rattle.spki_service.specs.KeptOf.{IsKeptOf}
+use Rattle.spki_service.specs.AccessLists.{Held}
+use Rattle.spki_service.specs.GuardQuestions.{IsKeptOf}
 use Rattle.spki_service.specs.Questions.{asked_octets}
-use Rattle.spki_service.proofs.Copying.{texts_copied, kept_of_copies}
+use Rattle.spki_service.proofs.PartTexts.{texts_copied, kept_of_copies}
 use Rattle.spki_service.proofs.opened.Opened.open.Goals as goal
 
 pub returns-clause-opened : goal.returns-clause-opened

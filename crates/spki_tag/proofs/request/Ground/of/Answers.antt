@@ -1,6 +1,6 @@
 use Rattle.std.proofs.Common.{rules}
 use Rattle.spki_tag.proofs.Faultless.{result_refused}
-use Rattle.spki_tag.proofs.NamedRequests.{result-faultless}
+use Rattle.spki_tag.proofs.RequestReading.{result-faultless}
 use Rattle.spki_tag.proofs.request.Ground.of.Goals as goal
 
 pub returns-clause-refused : goal.returns-clause-refused

@@ -1,5 +1,5 @@
 use Rattle.std.proofs.Common.{rules}
-use Rattle.spki_tag.proofs.Gathered.{any_nothing, list_is_normal}
+use Rattle.spki_tag.proofs.NormalForms.{any_nothing, list_is_normal}
 use Rattle.spki_tag.proofs.tag.Tag.list_of.Goals as goal
 
 pub list-requires : goal.list-requires

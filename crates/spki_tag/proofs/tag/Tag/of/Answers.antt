@@ -1,6 +1,6 @@
 use Rattle.std.proofs.Common.{rules}
 use Rattle.std.proofs.lemmas.Result.{err_from_is_err_and}
-use Rattle.spki_tag.proofs.NormalOf.{normal-of}
+use Rattle.spki_tag.proofs.TagReading.{normal-of}
 use Rattle.spki_tag.proofs.Faultless.{tag_refused}
 use Rattle.spki_tag.proofs.Named.{at_first, passed, read-faultless}
 use Rattle.spki_tag.proofs.tag.Tag.of.Goals as goal

@@ -1,5 +1,5 @@
 use Rattle.std.proofs.Common.{rules}
-use Rattle.spki_tag.proofs.Gathered.{spread-all, gathered_set}
+use Rattle.spki_tag.proofs.NormalForms.{spread-all, gathered_set}
 use Rattle.spki_tag.proofs.tag.Tag.set_of.Goals as goal
 
 pub returns-then-has_everything : goal.returns-then-has_everything

@@ -1,5 +1,5 @@
 use Rattle.std.proofs.Common.{◌≡◌, ◌++◌}
-use Rattle.spki_tag.specs.Normal.{spread}
+use Rattle.spki_tag.specs.Reading.{spread}
 use Rattle.spki_tag.proofs.tag.Tag.set_of.Given as goal
 
 abbrev pub invariant-loop-member : goal.invariant-loop-member

@@ -1,0 +1,239 @@
+-- The nodes of a value: their labels, members and siblings, where they are in the canonical text, and the table of
+-- records that describes them.
+use Rattle.std.specs.Prelude.{◌≡◌, ℕ, List, [], ◌∷◌, ◌++◌, length, take, drop, map, Option, ◌⊎◌, refl, ◌+◌, Some, None, option_and_then, nat_lt, slice_get, if◌then◌else◌, zero, suc, ◌-◌, ◌≤◌, slice_range, slice_index_or}
+use Rattle.std.specs.Coded.{Coded, code_by, coded×, coded⊎, coded_ℕ, coded_list, coded_option}
+use Rattle.std.proofs.Common.{sym, ap, ◌∙◌, append_assoc, inl, inr}
+use Rattle.std.proofs.lemmas.List.{map-append, take_at, drop_at, append-nil}
+use Rattle.sexpr_core.specs.Value.{Value, string, list, Values, none, more, members, values, plain, group, nodes, nodes_all, node, size_all, size, canon, decimal}
+use Rattle.sexpr_core.specs.declared.layout.Record.{Record}
+use Rattle.sexpr_core.specs.declared.layout.Shape.{Shape}
+use Rattle.sexpr_core.specs.declared.layout.Shape.TheVariants.{Plain, Hinted, List as Group}
+
+-- ---- a value as the list of its nodes' labels
+
+-- A value as the list of its nodes' labels. Proofs store a value by them and distinguish it from other values.
+
+-- for a list the number of its members; for a string its display hint and its octets
+abbrev pub Label : Type 0
+Label = ℕ ⊎ (Option (List ℕ) × List ℕ)
+
+abbrev pub label : Value → Label
+label (string hint octets) = inr (hint, octets)
+label (list vs) = inl (length (members vs))
+
+-- the labels of the nodes, in their order
+abbrev pub labels : Value → List Label
+labels v = map label (nodes v)
+
+abbrev grown : Label → List Value → List Value
+grown (inr s) rest = string s.0 s.1 ∷ rest
+grown (inl n) rest = group (take n rest) ∷ drop n rest
+
+-- the values that labels represent, one after another
+abbrev pub grow : List Label → List Value
+grow [] = []
+grow (l ∷ ls) = grown l (grow ls)
+
+abbrev first : List Value → Value
+first [] = plain []
+first (v ∷ vs) = v
+
+-- the value that labels represent
+abbrev pub tree : List Label → Value
+tree ls = first (grow ls)
+
+-- ---- labels represent their value
+
+pub values-members : (vs : Values) → values (members vs) ≡ vs
+values-members none = refl
+values-members (more v vs) = ap (more v) (values-members vs)
+
+pub members-values : (vs : List Value) → members (values vs) ≡ vs
+members-values [] = refl
+members-values (v ∷ vs) = ap (λ (ws : List Value). v ∷ ws) (members-values vs)
+
+grown_list : (vs : Values) (rest : List Value) → grown (label (list vs)) (members vs ++ rest) ≡ list vs ∷ rest
+grown_list vs rest =
+    rw (take_at (members vs) rest (length (members vs)) refl, drop_at (members vs) rest (length (members vs)) refl, values-members vs) refl
+
+mutual
+  grow-labels : (v : Value) (ls : List Label) → grow (map label (nodes v) ++ ls) ≡ v ∷ grow ls
+  grow-labels (string hint octets) ls = refl
+  grow-labels (list vs) ls = ap (grown (label (list vs))) (grow-labels_all vs ls) ∙ grown_list vs (grow ls)
+
+  grow-labels_all : (vs : Values) (ls : List Label) → grow (map label (nodes_all vs) ++ ls) ≡ members vs ++ grow ls
+  grow-labels_all none ls = refl
+  grow-labels_all (more v vs) ls =
+      ap (λ (ks : List Label). grow (ks ++ ls)) (map-append label (nodes v) (nodes_all vs))
+      ∙ ap grow (append_assoc (map label (nodes v)) (map label (nodes_all vs)) ls)
+      ∙ grow-labels v (map label (nodes_all vs) ++ ls)
+      ∙ ap (λ (ws : List Value). v ∷ ws) (grow-labels_all vs ls)
+
+pub tree-labels : (v : Value) → tree (labels v) ≡ v
+tree-labels v = ap tree (sym (append-nil (labels v))) ∙ ap first (grow-labels v [])
+
+-- how a value is stored
+abbrev pub value_code : Coded Value
+value_code =
+    code_by (List Label) (coded_list (coded⊎ coded_ℕ (coded× (coded_option (coded_list coded_ℕ)) (coded_list coded_ℕ)))) labels tree tree-labels
+
+-- ---- the properties of a document's nodes, by their numbers
+
+-- how many members a list has
+abbrev pub part_count : Value → Option ℕ
+part_count (string hint octets) = None
+part_count (list vs) = Some (length (members vs))
+
+-- the octets of a string
+abbrev pub body_of : Value → Option (List ℕ)
+body_of (string hint octets) = Some octets
+body_of (list vs) = None
+
+-- the display hint of a string that has one
+abbrev pub hint_of : Value → Option (List ℕ)
+hint_of (string hint octets) = hint
+hint_of (list vs) = None
+
+-- the members of a list; none for a string
+abbrev pub members_of : Value → List Value
+members_of (string hint octets) = []
+members_of (list vs) = members vs
+
+-- member i, from 0, if the list has so many
+abbrev pub part_at : ℕ → Value → Option Value
+part_at i v = slice_get (members_of v) i
+
+-- The number of member i, from 0, of node n. The list itself and all nodes of the members before it come first.
+abbrev pub member_number : ℕ → ℕ → Value → ℕ
+member_number n i v = n + 1 + size_all (take i (members_of v))
+
+abbrev pub part_number : ℕ → ℕ → Value → Option ℕ
+part_number n i v = if nat_lt i (length (members_of v)) then Some (member_number n i v) else None
+
+-- the same for a node of the document, if it exists
+abbrev pub of_node : {A : Type 0} → (Value → Option A) → Value → ℕ → Option A
+of_node f v n = option_and_then f (node v n)
+
+-- ---- the members of a list as siblings in the list of its nodes
+
+-- the values that begin a list of nodes and follow one another in it, at most so many
+abbrev pub siblings : ℕ → List Value → List Value
+siblings zero row = []
+siblings (suc most) [] = []
+siblings (suc most) (v ∷ row) = v ∷ siblings most (drop (size v - 1) row)
+
+-- the siblings from one node of a value up to another
+abbrev pub siblings_between : Value → ℕ → ℕ → List Value
+siblings_between v from to = siblings (to - from) (slice_range (nodes v) from to)
+
+-- the nodes from one of a value up to another are exactly those of some siblings
+pub record AreSiblings (v : Value) (from to : ℕ) (vs : List Value) : Type 0 where
+  pub ordered : from ≤ to
+  pub within : to ≤ size v
+  pub row_is : slice_range (nodes v) from to ≡ nodes_all (values vs)
+
+-- ---- where the nodes of a value begin in its canonical text (RFC 9804, section 6.2)
+
+abbrev mutual
+  -- where each node begins, in the order of `nodes`, if the value's text begins at an offset
+  pub starts : ℕ → Value → List ℕ
+  starts at (string hint octets) = at ∷ []
+  starts at (list vs) = at ∷ starts_all (at + 1) vs
+
+  -- the same for a list's members, if the first of them begins there
+  pub starts_all : ℕ → Values → List ℕ
+  starts_all at none = []
+  starts_all at (more v vs) = starts at v ++ starts_all (at + length (canon v)) vs
+
+-- the offset from 0 where node n begins
+abbrev pub start_of : Value → ℕ → Option ℕ
+start_of v n = slice_get (starts 0 v) n
+
+-- The octets w are in the text at this offset.
+pub record LiesAt (text w : List ℕ) (at : ℕ) : Type 0 where
+  pub before : List ℕ
+  pub behind : List ℕ
+  pub parts : text ≡ before ++ (w ++ behind)
+  pub begins : length before ≡ at
+
+-- ---- where the nodes of a value are in its canonical text
+
+-- how many octets are before those of a string: its length and the colon
+abbrev pub head : List ℕ → ℕ
+head octets = length (decimal (length octets)) + 1
+
+-- the shape of a string that begins at an offset
+abbrev pub shape : ℕ → Option (List ℕ) → List ℕ → Shape
+shape at None octets = Plain (at + head octets)
+shape at (Some hint) octets =
+    let begins = at + 1 + head hint in
+    let ends = begins + length hint in
+    Hinted begins ends (ends + 1 + head octets)
+
+abbrev mutual
+  -- the records of a value's nodes, in the order of `nodes`, if its text begins at an offset
+  pub records : ℕ → Value → List Record
+  records at (string hint octets) =
+      record {
+        start = at;
+        end = at + length (canon (string hint octets));
+        size = 1;
+        shape = shape at hint octets;
+      } ∷ []
+  records at (list vs) =
+      record {
+        start = at;
+        end = at + length (canon (list vs));
+        size = size (list vs);
+        shape = Group (length (members vs));
+      } ∷ records_all (at + 1) vs
+
+  -- those of a list's members, if the first of them begins there
+  pub records_all : ℕ → Values → List Record
+  records_all at none = []
+  records_all at (more v vs) = records at v ++ records_all (at + length (canon v)) vs
+
+-- ---- the value that a table of records describes in a text
+
+-- the shape of a value whose text begins at this offset
+abbrev pub shape_of : ℕ → Value → Shape
+shape_of at (string hint octets) = shape at hint octets
+shape_of at (list vs) = Group (length (members vs))
+
+abbrev pub record_of : ℕ → Value → Record
+record_of at v = record { start = at; end = at + length (canon v); size = size v; shape = shape_of at v }
+
+-- the label of a node of this shape that ends at this offset
+abbrev pub label_as : List ℕ → ℕ → Shape → Label
+label_as text end (Plain body) = inr (None, slice_range text body end)
+label_as text end (Hinted hint hint_end body) = inr (Some (slice_range text hint hint_end), slice_range text body end)
+label_as text end (Group parts) = inl parts
+
+abbrev pub label_in : List ℕ → Record → Label
+label_in text r = label_as text r.end r.shape
+
+abbrev pub table_value : List ℕ → List Record → Value
+table_value text table = tree (map (label_in text) table)
+
+-- the text is the value's, and the table that of its nodes
+pub record IsTable (text : List ℕ) (table : List Record) (v : Value) : Type 0 where
+  pub text_is : text ≡ canon v
+  pub table_is : table ≡ records 0 v
+
+-- ---- a node's text is where its record says
+
+pub record IsPlace (text : List ℕ) (r : Record) (v : Value) : Type 0 where
+  pub before : List ℕ
+  pub after : List ℕ
+  pub parts : text ≡ before ++ (canon v ++ after)
+  pub begins : length before ≡ r.start
+  pub record_is : r ≡ record_of r.start v
+
+-- node n of a value that has so many
+abbrev pub node_at : Value → ℕ → Value
+node_at v n = slice_index_or (nodes v) n (plain [])
+
+-- a list
+abbrev pub IsList : Value → Type 0
+IsList (string hint octets) = ⊥
+IsList (list vs) = Unit {0}

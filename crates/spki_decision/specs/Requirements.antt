@@ -1,0 +1,145 @@
+-- What the certificates of a case require of an entry: the key that its principal names, its subject, tag and window,
+-- and the numbers of nodes for which no step is too large (RFC 2693, sections 6.3 and 6.4).
+use Rattle.std.specs.Prelude.{◌≡◌, ℕ, suc, ◌⊎◌, List, [], ◌∷◌, Option, Some, None, IsTrue, slice_get, map, ◌↔◌, true, Bool, ◌≤◌, false, IfSome, All}
+use Rattle.spki_cert.specs.declared.principal.Policy.{Policy}
+use Rattle.spki_cert.specs.declared.entry.Entry.{Entry}
+use Rattle.spki_cert.specs.Naming.{names}
+use Rattle.spki_reduce.specs.Reduction.{Issuer, own, key, Tuple, five, four, FiveTuple, IsFor, Joins, Derives, from_left, entry_tuple, tags_of, nodes_product}
+use Rattle.spki_case.specs.Case.{Case, Verified}
+use Rattle.spki_decision.specs.Standing.{AreShown, with_entries}
+use Rattle.spki_decision.specs.declared.decision.Decision.{Decision}
+use Rattle.spki_decision.specs.declared.decision.Decision.TheVariants.{Yes, No}
+use Rattle.spki_cert.specs.declared.principal.Principal.{Principal}
+use Rattle.spki_cert.specs.Time.{within}
+use Rattle.spki_tag.specs.Tag.{contains, Tag, tags, nodes_all, some_nests_set}
+use Rattle.spki_decision.specs.declared.membership.Membership.{Membership}
+use Rattle.spki_decision.specs.declared.required_subject.RequiredSubject.{RequiredSubject}
+use Rattle.spki_decision.specs.Granted.{Supported}
+use Rattle.spki_reduce.specs.Chain.{all_tags, TooLargeAt}
+use Rattle.spki_decision.specs.declared.sizes.Sizes.{Sizes}
+use Rattle.spki_decision.specs.declared.sizes.PlainNodes.{PlainNodes}
+
+-- ---- the entries that a question is about
+
+-- The entries of an access list that a question is about (RFC 2693, section 6.3). Their subject's principal names the
+-- key of the first issuer, or the client's key if no certificate is shown.
+
+abbrev pub key_of : Issuer → Option (List ℕ)
+key_of own = None
+key_of (key octets) = Some octets
+
+-- the key that issued the first of these tuples; the client's key if there is none
+abbrev pub first_key : List ℕ → List Tuple → Option (List ℕ)
+first_key asker [] = Some asker
+first_key asker (five t ∷ ts) = key_of t.issuer
+first_key asker (four t ∷ ts) = Some t.key
+
+-- The entry's principal names this key.
+abbrev pub IsOf : Policy → Entry → Option (List ℕ) → Type 0
+IsOf policy e None = ⊥
+IsOf policy e (Some octets) = IsTrue (names policy e.subject.principal octets)
+
+-- An entry may be left out if its principal does not name the first key.
+abbrev pub IsLeftOut : Case → List Tuple → Entry → Type 0
+IsLeftOut c tuples e = ¬ IsOf c.policy e (first_key c.key tuples)
+
+-- ---- parts of a list
+
+-- Some entries of a list in their order, each with its number; the first entry of the list has number n. `Out` holds for all
+-- other entries.
+abbrev pub AreKept : (Entry → Type 0) → ℕ → List Entry → List (ℕ × Entry) → Type 0
+AreKept Out n [] [] = Unit {0}
+AreKept Out n [] (k ∷ ks) = ⊥
+AreKept Out n (e ∷ es) [] = Out e × AreKept Out (suc n) es []
+AreKept Out n (e ∷ es) (k ∷ ks) =
+    (Out e × AreKept Out (suc n) es (k ∷ ks)) ⊎ ((k ≡ (n, e)) × AreKept Out (suc n) es ks)
+
+-- If every certificate stands, only entries that may be left out are missing.
+abbrev pub IsKept : Case → Verified → List (ℕ × Entry) → Type 0
+IsKept c verified kept =
+    (tuples : List Tuple) → AreShown c.policy verified c.items tuples → AreKept (IsLeftOut c tuples) 1 c.entries kept
+
+abbrev pub second : ℕ × Entry → Entry
+second k = k.1
+
+-- the case with only these entries
+abbrev pub kept_case : Case → List (ℕ × Entry) → Case
+kept_case c kept = with_entries c (map second kept)
+
+-- The same decision, with the number of an entry in the part replaced by its number in the list.
+abbrev pub IsRenumbered : List (ℕ × Entry) → Decision → Decision → Type 0
+IsRenumbered kept (Yes m) (Yes n) = (place : ℕ) × (e : Entry) × (m ≡ suc place) × (slice_get kept place ≡ Some (n, e))
+IsRenumbered kept (Yes m) No = ⊥
+IsRenumbered kept No (Yes n) = ⊥
+IsRenumbered kept No No = Unit {0}
+
+-- ---- which entries grant a request
+
+-- Which entries grant a request with certificates, by three tests that do not touch each other: the subjects lead
+-- from the entry to the client's key, each tag contains the request, and the moment is within each window (RFC 2693,
+-- sections 6.3 and 6.4).
+
+-- Tuples lead from an authorization to a key: joined after it, from the left, they make it an authorization for this key. Their tags and
+-- windows may be any.
+pub record Leads (policy : Policy) (tuples : List Tuple) (holder : List ℕ) (first : FiveTuple) : Type 0 where
+  pub root : FiveTuple
+  pub derived : Derives policy (from_left (five first) tuples) (five root)
+  pub is_for : IsFor policy root holder
+
+-- a subject is as required
+pub record Meets (policy : Policy) (required : RequiredSubject) (principal : Principal) (path : List (List ℕ)) (delegation : Bool) : Type 0 where
+  pub named : IsTrue (names policy principal required.key)
+  pub names_are : path ≡ required.names
+  pub allowed : required.delegation ≡ true → delegation ≡ true
+
+-- the same of an authorization's subject; if nothing is required, no subject is
+abbrev pub IsMetBy : Policy → Option RequiredSubject → FiveTuple → Type 0
+IsMetBy policy None t = ⊥
+IsMetBy policy (Some required) t = Meets policy required t.principal t.names t.delegation
+
+-- Tuples lead to a key from exactly the authorizations whose subject is as required.
+abbrev pub IsRequiredBy : Policy → List Tuple → List ℕ → Option RequiredSubject → Type 0
+IsRequiredBy policy tuples holder required = (t : FiveTuple) → Leads policy tuples holder t ↔ IsMetBy policy required t
+
+-- a tuple makes an authorization one whose subject is as required
+pub record Becomes (policy : Policy) (tuple : Tuple) (required : RequiredSubject) (first : FiveTuple) : Type 0 where
+  pub next : FiveTuple
+  pub joined : Joins policy (five first) tuple (five next)
+  pub met : IsMetBy policy (Some required) next
+
+-- That is so for exactly the authorizations whose subject is as required before it.
+abbrev pub IsRequiredBefore : Policy → Tuple → RequiredSubject → Option RequiredSubject → Type 0
+IsRequiredBefore policy tuple required earlier = (t : FiveTuple) → Becomes policy tuple required t ↔ IsMetBy policy earlier t
+
+-- The entries that grant what a case asks, with these tuples after each. Their subject is as required, and the entry's own tag and window
+-- contain the request and the moment. Nothing is required if some tuple does not contain them, and then no entry grants it.
+abbrev pub IsMembership : Case → List Tuple → Membership → Type 0
+IsMembership c tuples membership = (e : Entry) → Supported c tuples e
+    ↔ (IsMetBy c.policy membership.required (entry_tuple e) × (contains e.tag c.request ≡ true) × (within c.moment e.window ≡ true))
+
+-- ---- when no step is too large
+
+-- When the numbers of nodes of the certificates' tags show that no step is too large for an entry (RFC 2693, section
+-- 6.3.1).
+
+-- No tag of the tuples has a set. They have at most so many nodes together, and those of one tuple have at most so many.
+pub record ArePlain (tuples : List Tuple) (plain : PlainNodes) : Type 0 where
+  pub no_set : some_nests_set (tags (all_tags tuples)) ≡ false
+  pub all_nodes : nodes_all (tags (all_tags tuples)) ≤ plain.all
+  pub each_nodes : All (λ tuple. nodes_product (tags_of tuple) ≤ plain.most) tuples
+  pub few : (plain.all ≤ 1000000) × (plain.most ≤ 1000000)
+
+-- `product`, if there is one, is the product of the nodes of the tuples' tags, and at most 1,000,000. `plain`, if there is one, is what
+-- their nodes are without sets.
+pub record AreSizes (tuples : List Tuple) (sizes : Sizes) : Type 0 where
+  pub counted : IfSome sizes.product (λ n. (n ≡ nodes_product (all_tags tuples)) × (n ≤ 1000000))
+  pub plain : IfSome sizes.plain (ArePlain tuples)
+
+-- For each entry with this tag, under each policy, no intersection of its chain is too large.
+pub record IsSmallFor (most : ℕ) (tuples : List Tuple) (tag : Tag) : Type 0 where
+  pub none_large : (e : Entry) → e.tag ≡ tag → (policy : Policy) → ¬ TooLargeAt most policy (five (entry_tuple e)) tuples
+
+-- The product of the nodes of a tag and of an authorization's tags is at most a limit. A definition has no tag.
+abbrev pub IsSmallWith : ℕ → Tag → Tuple → Type 0
+IsSmallWith most tag (five t) = nodes_product (tag ∷ t.tags) ≤ most
+IsSmallWith most tag (four t) = Unit {0}

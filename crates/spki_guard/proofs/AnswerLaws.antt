@@ -1,0 +1,189 @@
+-- The answers and refusals that results become: those for the operands of an intersection, and for cases whose tags
+-- are too large or whose text is canonical.
+use Rattle.std.proofs.Common.{◌≡◌, ◌≢◌, inl, inr, List, [], ◌∷◌, Option, Some, None, MatchOption, sym, ap, ◌∙◌, rules, ℕ, refl, Result, Ok, Err, IfErr, length, subst, IfOk}
+use Rattle.std.specs.Prelude.{codes, IsErrAnd}
+use Rattle.sexpr_core.specs.Value.{Value, canon, octet_limit, IsWithinLimits}
+use Rattle.spki_tag.specs.declared.fault.TagFault.{TagFault}
+use Rattle.spki_tag.specs.declared.fault.TagFault.TheVariants as tag_faults
+use Rattle.spki_tag.specs.Faults.{IsNamed, tag_fault}
+use Rattle.spki_tag.specs.Reading.{ReadsAs, IsNoTag}
+use Rattle.spki_tag.specs.Tag.{Tag}
+use Rattle.spki_tag.proofs.Named.{named-sure}
+use Rattle.spki_case.specs.Case.{headed, IsOuter, Case, accepted_by, IsCaseText, TextRefused, ValueRefused, IsTextOf}
+use Rattle.spki_guard.specs.Intersect.{intersect_value, ValueNotMet}
+use Rattle.spki_guard.specs.declared.intersection.IntersectFault.{IntersectFault}
+use Rattle.spki_guard.specs.declared.intersection.IntersectFault.TheVariants as intersect
+use Rattle.spki_guard.specs.declared.intersection.Operands.{Operands}
+use Rattle.spki_case.proofs.Building.{behind_head}
+use Rattle.spki_decision.specs.declared.fault.GuardFault.{GuardFault}
+use Rattle.spki_decision.specs.declared.fault.GuardFault.TheVariants as guard
+use Rattle.spki_words.specs.declared.commands.Command.{Command}
+use Rattle.spki_guard.specs.declared.answers.Refusal.{Refusal}
+use Rattle.spki_guard.specs.declared.answers.Refusal.TheVariants as refusals
+use Rattle.spki_guard.specs.TextAnswers.{RefusesValue, HasTooLarge, form_of, IsOnCase, AnswersValue, AnswersRead, RefusesAnswer, written_by, ReadsCase, DecidesApart, DecidesBy, RefusesApart, RefusesBy}
+use Rattle.sexpr_core.specs.declared.fault.FormFault.{FormFault}
+use Rattle.sexpr_text.specs.AdvancedForm.{IsTextWithin, written}
+use Rattle.sexpr_text.proofs.Printed.{canonical_spelled}
+use Rattle.spki_case.specs.declared.cases.CaseFault.{CaseFault}
+use Rattle.spki_case.specs.declared.cases.CaseFault.TheVariants as faults
+use Rattle.spki_guard.specs.declared.sources.CaseCommand.{CaseCommand}
+use Rattle.spki_guard.specs.declared.sources.CaseCommand.TheVariants as case_command
+use Rattle.spki_guard.specs.declared.answers.Answer.{Answer}
+use Rattle.spki_guard.specs.declared.replies.Reply.{Reply}
+use Rattle.spki_guard.specs.Inner.Replies.{PrintsAs, command_of}
+
+-- ---- the two operands of an intersection
+
+-- the two behind a head are those of the value
+pub lifted : (v : Value) (ms : List Value) (r : Option Operands) → v ≡ headed (codes "intersect") ms
+    → MatchOption r ((a b : Value) → ms ≢ a ∷ b ∷ []) (λ p. ms ≡ p.first ∷ p.second ∷ [])
+    → MatchOption r ((a b : Value) → v ≢ intersect_value a b) (λ p. v ≡ intersect_value p.first p.second)
+lifted v ms None e h = λ a b k. h a b (behind_head (codes "intersect") ms (a ∷ b ∷ []) (sym e ∙ k))
+lifted v ms (Some p) e h = e ∙ ap (headed (codes "intersect")) h
+
+-- the first isn't a tag
+pub first_refused : (v a b : Value) (fault : TagFault) (outer : IntersectFault) → v ≡ intersect_value a b
+    → IsNoTag fault a → IsNamed fault (tag_fault a)
+    → IsOuter (fault ≡ tag_faults.Memory) intersect.Memory (intersect.First fault) outer → outer ≢ intersect.Memory
+    → ValueNotMet v outer
+first_refused v a b fault outer e none named (inl (inside, is)) found = absurd (found is)
+first_refused v a b fault outer e none named (inr (known, is)) found = search (rules, named-sure, tag_fault)
+
+-- the first is one, and the second isn't
+pub second_refused : (v a b : Value) (t : Tag) (fault : TagFault) (outer : IntersectFault) → v ≡ intersect_value a b
+    → ReadsAs a t → IsNoTag fault b → IsNamed fault (tag_fault b)
+    → IsOuter (fault ≡ tag_faults.Memory) intersect.Memory (intersect.Second fault) outer → outer ≢ intersect.Memory
+    → ValueNotMet v outer
+second_refused v a b t fault outer e read none named (inl (inside, is)) found = absurd (found is)
+second_refused v a b t fault outer e read none named (inr (known, is)) found = search (rules, named-sure, tag_fault)
+
+-- ---- a case whose tags are too large, as the command's refusal
+
+decision_refused : (command : Command) (v : Value) (text : List ℕ) (c : Case) (fault : GuardFault) → text ≡ canon v → IsCaseText text c
+    → (fault ≡ guard.TooLarge → HasTooLarge command c (accepted_by c)) → fault ≢ guard.Memory → RefusesValue command v (refusals.Decision fault)
+decision_refused command v text c guard.TooLarge e t large other =
+    record { case_read = c; text_is = rw (← e) t; named = refl; large = large refl }
+decision_refused command v text c guard.Memory e t large other = absurd (other refl)
+
+pub undecided : (command : Command) (v : Value) (text : List ℕ) (c : Case) (fault : GuardFault) (outer : Refusal) → text ≡ canon v → IsCaseText text c
+    → (fault ≡ guard.TooLarge → HasTooLarge command c (accepted_by c))
+    → IsOuter (fault ≡ guard.Memory) refusals.Memory (refusals.Decision fault) outer → RefusesValue command v outer
+undecided command v text c fault outer e t large (inl h) = let is = h.1 in rw is tt
+undecided command v text c fault outer e t large (inr h) = let is = h.1 in rw is (decision_refused command v text c fault e t large h.0)
+
+pub err_lifted : {T E : Type 0} (r : Result T E) (P Q : E → Type 0) → IsErrAnd r P → ((x : E) → P x → Q x) → IfErr r Q
+err_lifted (Ok v) P Q h f = tt
+err_lifted (Err x) P Q h f = f x h
+
+-- ---- cases that are read where they stand, since their text is canonical
+
+canonical_text : (text : List ℕ) (v : Value) → IsWithinLimits v → text ≡ canon v → IsTextWithin text v
+canonical_text text v within e = search (rules, canonical_spelled, length, octet_limit)
+
+-- a fault that isn't of the form is one of the value
+pub of_value : (text : List ℕ) (fault : CaseFault) → TextRefused text fault → ((form : FormFault) × (fault ≡ faults.Form form) → ⊥)
+    → IsTextOf (λ v. ValueRefused v fault) text
+of_value text fault (inl m) other = absurd (other (m.form, m.is))
+of_value text fault (inr t) other = t
+
+answered_by : (command : Command) (text : List ℕ) (v : Value) (r : Result Reply Refusal) → IsTextWithin text v
+    → IfOk r (PrintsAs (AnswersValue command v))
+    → IfOk r (PrintsAs (AnswersRead command text))
+answered_by command text v (Ok x) t h = λ output printed. record { value = v; read = t; answer = h output printed }
+answered_by command text v (Err refusal) t h = tt
+
+refused_by : (command : Command) (text : List ℕ) (v : Value) (refusal : Refusal) → IsTextWithin text v
+    → RefusesValue command v refusal → RefusesAnswer command text refusal
+refused_by command text v (refusals.Form fault) t h = absurd h
+refused_by command text v (refusals.Rows fault) t h = absurd h
+refused_by command text v refusals.Memory t h = tt
+refused_by command text v refusal t h = record { value = v; read = t; refused = h }
+
+err_by : (command : Command) (text : List ℕ) (v : Value) (r : Result Reply Refusal) → IsTextWithin text v
+    → IfErr r (λ refusal. RefusesValue command v refusal) → IfErr r (λ refusal. RefusesAnswer command text refusal)
+err_by command text v (Ok a) t h = tt
+err_by command text v (Err refusal) t h = refused_by command text v refusal t h
+
+-- what is answered to the value is answered to the canonical text
+pub standing_answered : (command : Command) (text : List ℕ) (c : Case) (r : Result Reply Refusal) → IsCaseText text c
+    → ((v : Value) → IsCaseText (canon v) c → IfOk r (PrintsAs (AnswersValue command v)))
+    → IfOk r (PrintsAs (AnswersRead command text))
+standing_answered command text c r t f =
+    answered_by command text t.value r (canonical_text text t.value t.within t.written)
+    (f t.value (subst (λ s. IsCaseText s c) t.written t))
+
+pub standing_refused : (command : Command) (text : List ℕ) (c : Case) (r : Result Reply Refusal) → IsCaseText text c
+    → ((v : Value) → IsCaseText (canon v) c → IfErr r (λ refusal. RefusesValue command v refusal))
+    → IfErr r (λ refusal. RefusesAnswer command text refusal)
+standing_refused command text c r t f =
+    err_by command text t.value r (canonical_text text t.value t.within t.written)
+    (f t.value (subst (λ s. IsCaseText s c) t.written t))
+
+-- the same of the octets of a value that is converted
+pub converted_answered : (command : Command) (text octets : List ℕ) (r : Result Reply Refusal)
+    → (v : Value) × IsTextWithin text v × (octets ≡ written (form_of command) v)
+    → ((v : Value) → octets ≡ written (form_of command) v → IfOk r (PrintsAs (AnswersValue command v)))
+    → IfOk r (PrintsAs (AnswersRead command text))
+converted_answered command text octets r (v, t, e) f = answered_by command text v r t (f v e)
+
+pub converted_refused : (command : Command) (text octets : List ℕ) (r : Result Reply Refusal)
+    → (v : Value) × IsTextWithin text v × (octets ≡ written (form_of command) v)
+    → ((v : Value) → octets ≡ written (form_of command) v → IfErr r (λ refusal. RefusesValue command v refusal))
+    → IfErr r (λ refusal. RefusesAnswer command text refusal)
+converted_refused command text octets r (v, t, e) f = err_by command text v r t (f v e)
+
+pub on_case : (command : Command) (own : CaseCommand) → command ≡ command_of own → IsOnCase command
+on_case command case_command.Reduce e = subst IsOnCase (sym e) tt
+on_case command case_command.Check e = subst IsOnCase (sym e) tt
+on_case command case_command.Explain e = subst IsOnCase (sym e) tt
+
+-- a case that has no reading, as the refusal
+pub no_case : (command : Command) (text : List ℕ) (fault : CaseFault) (outer : Refusal) → IsOnCase command
+    → (fault ≢ faults.Memory → IsTextOf (λ v. ValueRefused v fault) text)
+    → IsOuter (fault ≡ faults.Memory) refusals.Memory (refusals.Case fault) outer → RefusesAnswer command text outer
+no_case command text fault outer on f (inl h) = let is = h.1 in rw is tt
+no_case command text fault outer on f (inr h) =
+    let is = h.1 in
+    let t = f h.0 in
+    rw is
+    (record {
+      value = t.value;
+      read = canonical_text text t.value t.within t.written;
+      refused = (on, inr (subst (λ s. IsTextOf (λ v. ValueRefused v fault) s) t.written t));
+    })
+
+-- ---- with an accepted list that stands apart
+
+reads_case : (text : List ℕ) (c : Case) → IsCaseText text c → ReadsCase text c
+reads_case text c t = search (rules, canonical_text, written)
+
+pub apart_answered : (text rows : List ℕ) (c : Case) (r : Result Answer Refusal) → IsCaseText text c
+    → IfOk r (λ a. DecidesBy c rows a.verdict (written_by a)) → IfOk r (λ a. DecidesApart text rows a.verdict (written_by a))
+apart_answered text rows c (Ok a) t h = record { case_read = c; text_is = reads_case text c t; is = h }
+apart_answered text rows c (Err refusal) t h = tt
+
+apart_refusal : (text rows : List ℕ) (c : Case) (refusal : Refusal) → IsCaseText text c → RefusesBy c rows refusal
+    → RefusesApart text rows refusal
+apart_refusal text rows c (refusals.Decision fault) t h = record { case_read = c; text_is = reads_case text c t; is = h }
+apart_refusal text rows c (refusals.Rows fault) t h = record { case_read = c; text_is = reads_case text c t; is = h }
+apart_refusal text rows c refusals.Memory t h = tt
+apart_refusal text rows c refusal t h = absurd h
+
+pub apart_refused : (text rows : List ℕ) (c : Case) (r : Result Answer Refusal) → IsCaseText text c
+    → IfErr r (λ refusal. RefusesBy c rows refusal) → IfErr r (λ refusal. RefusesApart text rows refusal)
+apart_refused text rows c (Ok a) t h = tt
+apart_refused text rows c (Err refusal) t h = apart_refusal text rows c refusal t h
+
+pub no_case_apart : (text rows : List ℕ) (fault : CaseFault) (outer : Refusal)
+    → (fault ≢ faults.Memory → IsTextOf (λ v. ValueRefused v fault) text)
+    → IsOuter (fault ≡ faults.Memory) refusals.Memory (refusals.Case fault) outer → RefusesApart text rows outer
+no_case_apart text rows fault outer f (inl h) = let is = h.1 in rw is tt
+no_case_apart text rows fault outer f (inr h) =
+    let is = h.1 in
+    let t = f h.0 in
+    rw is
+    (record {
+      value = t.value;
+      read = canonical_text text t.value t.within t.written;
+      refused = inr (subst (λ s. IsTextOf (λ v. ValueRefused v fault) s) t.written t);
+    })

@@ -1,0 +1,166 @@
+-- Questions that are asked of a guard: their answers, where a service marks the signatures that it has verified, and
+-- the lines of their refusals (RFC 2693, section 6).
+use Rattle.std.specs.Prelude.{ℕ, List, codes, ◌≡◌, ◌≢◌, ◌⊎◌, ◌<◌, ◌≤◌, length, Bool, Option, Some, Ok, Err}
+use Rattle.spki_service.specs.declared.list_fault.AclFault.{AclFault}
+use Rattle.spki_service.specs.declared.list_fault.AclFault.TheVariants as lists
+use Rattle.spki_service.specs.declared.question.Part.{Part}
+use Rattle.spki_service.specs.declared.question.Part.TheVariants as parts
+use Rattle.spki_service.specs.declared.question.AskFault.{AskFault}
+use Rattle.spki_service.specs.declared.question.AskFault.TheVariants as faults
+use Rattle.spki_guard.specs.Lines.{refused_part, refused_text, refused_form, refused_in, refused_memory, tag_kind, kind_name, refused_large, IsExplanationReport, ReportsReduced}
+use Rattle.spki_case.specs.Case.{Case, Verified}
+use Rattle.spki_decision.specs.declared.decision.Decision.{Decision}
+use Rattle.spki_decision.specs.declared.explanation.Explanation.{Explanation}
+use Rattle.spki_decision.specs.declared.reduction.EntryFold.{EntryFold}
+use Rattle.spki_decision.specs.declared.fault.GuardFault.TheVariants.{TooLarge}
+use Rattle.spki_decision.specs.Answered.{IsExplained, IsReduced}
+use Rattle.spki_decision.specs.Standing.{asked}
+use Rattle.spki_service.specs.declared.failure.Failure.{Failure}
+use Rattle.spki_service.specs.GuardQuestions.{AreReduced, AskedOf, OfCase, Decides, MarksAccept}
+use Rattle.spki_service.specs.AccessLists.{Held}
+use Rattle.spki_service.specs.Questions.{certificates_in, HasFewStrings, IsRefused, IsAskedCase, asked_octets}
+use Rattle.spki_service.specs.declared.question.Question.{Question}
+use Rattle.spki_guard.specs.declared.answers.Verdict.{Verdict}
+use Rattle.spki_guard.specs.declared.answers.Verdict.TheVariants.{Refused}
+use Rattle.spki_guard.specs.declared.question_answers.Query.{Query}
+use Rattle.spki_guard.specs.declared.question_answers.Query.TheVariants.{Decide, Explain, Reduce}
+use Rattle.spki_guard.specs.TextAnswers.{IsLineOf, RefusesForMemory}
+
+-- ---- lines of refusals
+
+-- The lines of refusals of access lists that are held, and of questions about them: those of a case with such parts.
+
+-- a fault of an access list
+abbrev pub refused_list : AclFault → List ℕ
+refused_list (lists.Form fault) = refused_form fault
+refused_list (lists.Acl fault) = refused_in (codes "acl") fault.item fault.kind
+refused_list lists.Memory = refused_memory
+
+-- the word for a part of a question
+abbrev pub part_word : Part → List ℕ
+part_word parts.Sequence = codes "sequence"
+part_word parts.Key = codes "key"
+part_word parts.Request = codes "request"
+part_word parts.Moment = codes "at"
+
+-- a fault of a question
+abbrev pub refused_question : AskFault → List ℕ
+refused_question faults.TooLong = refused_part (codes "question") (codes "TooLong")
+refused_question faults.TooManyCertificates = refused_part (codes "question") (codes "TooManyCertificates")
+refused_question faults.TooManyWords = refused_part (codes "question") (codes "TooManyWords")
+refused_question (faults.Form part fault) = refused_text (part_word part) fault
+refused_question (faults.Sequence fault) = refused_in (codes "sequence") fault.item fault.kind
+refused_question (faults.Key kind) = refused_part (codes "key") (kind_name kind)
+refused_question (faults.Request fault) = refused_part (codes "request") (tag_kind fault)
+refused_question (faults.Moment kind) = refused_part (codes "at") (kind_name kind)
+refused_question faults.Memory = refused_memory
+
+-- ---- answers to questions
+
+-- What is answered to a question that is asked of a guard, where a service marks the signatures that it has verified
+-- (RFC 2693, section 6).
+
+-- ---- what is read
+
+-- The question's parts together have no more octets than the guard's limit, and the case is theirs, under the guard's policy and
+-- limits of nodes and work. It has no entries of its own, and no more certificates and strings of the request than the guard's limits.
+pub record ReadsQuestion (held : Held) (q : Question) (c : Case) : Type 0 where
+  pub short : asked_octets q ≤ held.octets
+  pub is : IsAskedCase q c
+  pub policy : c.policy ≡ held.policy
+  pub nodes : c.most_nodes ≡ held.nodes
+  pub work : c.most_work ≡ Some held.work
+  pub few : certificates_in c.items ≤ held.certificates
+  pub few_strings : HasFewStrings held.words q
+
+-- the case beside the guard's entries and its limit of the octets of an answer
+abbrev pub beside : Held → Case → AskedOf
+beside held c = record { texts = held.texts; case = c; answer = held.answer }
+
+-- ---- what is written of it
+
+-- These are the line or lines of what is answered of the case with the guard's entries, where these signatures are accepted. Those of
+-- an explanation or a reduction are within the guard's limit. The windows that a reduction writes begin and end at dates.
+abbrev pub WritesAsked : Query → AskedOf → Verified → Verdict → List ℕ → Type 0
+WritesAsked Decide a verified verdict output =
+    (d : Decision) × Decides verified a d × IsLineOf d verdict output
+WritesAsked Explain a verified verdict output =
+    (e : Explanation) × OfCase a (λ c. IsExplained c verified (Ok e)) × IsExplanationReport e verdict output
+    × (length output ≤ a.answer)
+WritesAsked Reduce a verified verdict output =
+    (failure : Option Failure) × (folds : List EntryFold) × AreReduced a verified failure folds
+    × ReportsReduced failure folds verdict output × (length output ≤ a.answer)
+
+-- The lines of what is answered have more octets than the guard's limit.
+pub record ExplainsLong (a : AskedOf) (verified : Verified) : Type 0 where
+  pub explanation : Explanation
+  pub is : OfCase a (λ c. IsExplained c verified (Ok explanation))
+  pub verdict : Verdict
+  pub lines : List ℕ
+  pub report : IsExplanationReport explanation verdict lines
+  pub long : a.answer < length lines
+
+pub record ReducesLong (a : AskedOf) (verified : Verified) : Type 0 where
+  pub failure : Option Failure
+  pub folds : List EntryFold
+  pub are : AreReduced a verified failure folds
+  pub verdict : Verdict
+  pub lines : List ℕ
+  pub report : ReportsReduced failure folds verdict lines
+  pub long : a.answer < length lines
+
+-- Tags are too large for an answer, or its lines are; for a decision none are.
+abbrev pub IsTooLargeFor : Query → AskedOf → Verified → Type 0
+IsTooLargeFor Decide a verified = ⊥
+IsTooLargeFor Explain a verified = OfCase a (λ c. IsExplained c verified (Err TooLarge)) ⊎ ExplainsLong a verified
+IsTooLargeFor Reduce a verified = OfCase a (λ c. IsReduced c verified (Err TooLarge)) ⊎ ReducesLong a verified
+
+-- ---- answers
+
+-- what the marks accept of a case's signatures
+abbrev pub marked : Case → List Bool → Verified
+marked c marks = MarksAccept (asked c) marks
+
+-- Tags or lines are too large for an answer, and the line says so.
+pub record SaysTooLarge (query : Query) (a : AskedOf) (verified : Verified) (verdict : Verdict) (output : List ℕ) : Type 0 where
+  pub large : IsTooLargeFor query a verified
+  pub verdict_is : verdict ≡ Refused
+  pub line : output ≡ refused_large
+
+abbrev pub AnswersAsked : Query → AskedOf → Verified → Verdict → List ℕ → Type 0
+AnswersAsked query a verified verdict output =
+    WritesAsked query a verified verdict output ⊎ SaysTooLarge query a verified verdict output
+
+-- The question is read and has as many signatures as there are marks, and this is the answer of its case.
+pub record AnswersHeld (query : Query) (held : Held) (q : Question) (marks : List Bool) (verdict : Verdict) (output : List ℕ) : Type 0 where
+  pub case_read : Case
+  pub read : ReadsQuestion held q case_read
+  pub counted : length marks ≡ length (asked case_read)
+  pub answer : AnswersAsked query (beside held case_read) (marked case_read marks) verdict output
+
+-- why a question is refused: its parts together have too many octets; or they do not, and a part has no reading, or there are too many
+-- certificates or strings
+abbrev pub IsUnreadFor : Held → Question → AskFault → Type 0
+IsUnreadFor held q fault =
+    ((fault ≡ faults.TooLong) × (held.octets < asked_octets q)) ⊎ ((asked_octets q ≤ held.octets) × IsRefused held.certificates held.words q fault)
+
+-- The question is refused, and the line says why.
+pub record RefusesQuestion (held : Held) (q : Question) (verdict : Verdict) (output : List ℕ) : Type 0 where
+  pub fault : AskFault
+  pub refused : IsUnreadFor held q fault
+  pub verdict_is : verdict ≡ Refused
+  pub line : output ≡ refused_question fault
+
+-- The question is refused, or memory ran out.
+abbrev pub IsUnreadQuestion : Held → Question → Verdict → List ℕ → Type 0
+IsUnreadQuestion held q verdict output = RefusesQuestion held q verdict output ⊎ RefusesForMemory verdict output
+
+abbrev pub IsAnswerHeld : Query → Held → Question → List Bool → Verdict → List ℕ → Type 0
+IsAnswerHeld query held q marks verdict output =
+    AnswersHeld query held q marks verdict output ⊎ IsUnreadQuestion held q verdict output
+
+-- The question is read, and has another number of signatures than there are marks.
+pub record HasOtherCount (held : Held) (q : Question) (marks : List Bool) : Type 0 where
+  pub case_read : Case
+  pub read : ReadsQuestion held q case_read
+  pub other : length marks ≢ length (asked case_read)

@@ -1,0 +1,341 @@
+-- Authorizations in reduced form. What the code joins is joined in the model. One more tuple joins the reduced form
+-- as it joins the root, and what the reduced form lacks, the root lacks.
+use Rattle.std.proofs.Common.{◌≡◌, ◌≢◌, ℕ, ◌*◌, ◌≤◌, max, Bool, true, ◌&&◌, List, [], ◌∷◌, ◌++◌, refl, sym, ◌∙◌, ap, arith, IsTrue, IfOk, Result, Ok, Err, rules, ◌<◌, fold, subst, append-nil, ◌↔◌, false, Option, Some, None, IsNone}
+use Rattle.spki_cert.specs.declared.principal.Policy.{Policy}
+use Rattle.std.proofs.Math.Bool.{and-true}
+use Rattle.spki_cert.specs.declared.window.Window.{Window}
+use Rattle.spki_cert.specs.declared.entry.Subject.{Subject}
+use Rattle.spki_cert.specs.Naming.{names}
+use Rattle.spki_cert.specs.Time.{within, IsMeet, Overlap}
+use Rattle.spki_tag.specs.Request.{Request, IsRequest}
+use Rattle.spki_tag.specs.Tag.{Tag, contains, nodes, ldepth, set, none, star}
+use Rattle.spki_reduce.specs.declared.fold.Cause.{Cause}
+use Rattle.spki_reduce.specs.declared.fold.Cause.TheVariants.{NoTag, NotIssuer, NotTheName, NoDelegation, NoValidity}
+use Rattle.spki_reduce.specs.declared.fold.Joined.{Joined}
+use Rattle.spki_reduce.specs.declared.fold.Joined.TheVariants.{Done, Stopped}
+use Rattle.spki_reduce.specs.declared.tuple.Five.{Five}
+use Rattle.spki_reduce.specs.declared.tuple.Four.{Four}
+use Rattle.spki_reduce.specs.Reduction.{five, four, SomeMoment, Issues, resolved, linked, five_tuple, four_tuple, FiveTuple, FourTuple, Tuple, tags_of, IsFor, Begins, Joins, Delegate, Resolve, in_each, within_each, NoMoment, met, nodes_product, deepest, issuer_of, own, Grants, IsFirstDenial, IsSupported}
+use Rattle.spki_reduce.specs.Joining.{JoinButForTags, Stops, IsHandedOn, BecomesFive, BecomesFour, MatchJoined, TooLargeFor, ReducesToFive}
+use Rattle.std.proofs.Math.Nat.{mul-le-mul_right}
+use Rattle.std.proofs.lemmas.List.Folds.{list_all-append}
+use Rattle.std.proofs.lemmas.List.Sums.{fold-append}
+use Rattle.std.proofs.lemmas.Grind.{flat_map-append}
+use Rattle.spki_tag.specs.Meet.{meet}
+use Rattle.spki_reduce.specs.Chain.{Reaches, FoldsTo}
+use Rattle.spki_reduce.proofs.Derivations.{from_left-more, from_left-leaves, one_root}
+use Rattle.spki_reduce.specs.declared.last_tests.Denial.{Denial}
+use Rattle.spki_reduce.specs.declared.last_tests.Denial.TheVariants.{NotTheKey, TagLacks, WindowLacks}
+
+-- ---- what joins of the code are in the model
+
+-- ---- two of each
+
+pub both : (a b : Bool) → (a && b) ≡ (a && (b && true))
+both a b = sym (ap (λ x. a && x) (and-true b))
+
+both_true : (a b : Bool) → a ≡ true → b ≡ true → (a && (b && true)) ≡ true
+both_true a b p q = rw (p, q) refl
+
+pub overlapping : (v w : Window) → Overlap v w → SomeMoment (v ∷ w ∷ [])
+overlapping v w h = (h.0, h.1, both_true (within h.0 v) (within h.0 w) h.2 h.3)
+
+pub along : {T : Type 0} (joined : Joined T) (P P' : T → Type 0) (Q Q' : Cause → Type 0)
+    → MatchJoined joined P Q → ((f : T) → P f → P' f) → ((cause : Cause) → Q cause → Q' cause) → MatchJoined joined P' Q'
+along (Done f) P P' Q Q' h p q = p f h
+along (Stopped cause) P P' Q Q' h p q = q cause h
+
+-- what would be refused didn't come to an answer
+pub unrefused : {T E : Type 0} (r : Result T E) (e : E) (P : Type 0) → (P → r ≡ Err e) → IfOk r (λ _. P → ⊥)
+unrefused (Ok x) e P h = λ p. absurd (let clash = h p in cc)
+unrefused (Err x) e P h = tt
+
+-- ---- authorizations
+
+module _
+    (policy : Policy) (left right : Five) (window : Window) (issues : Issues policy (five_tuple left) (five_tuple right))
+    (allowed : left.propagate ≡ true) (overlap : Overlap left.window right.window) where
+  pub narrowed_joins : IsMeet left.window right.window window → (tag : Tag)
+      → ((g : Request) → IsRequest g → contains tag g ≡ (contains left.tag g && contains right.tag g))
+      → (nodes tag ≤ nodes left.tag * nodes right.tag) × (ldepth tag ≤ max (ldepth left.tag) (ldepth right.tag))
+      → (f : Five) → IsHandedOn left.issuer tag right window f × (tag ≢ set none)
+      → BecomesFive policy (five (five_tuple left)) (five (five_tuple right)) f × (f.tag ≢ set none)
+  narrowed_joins meets tag exact bounds f (h, some) = search (rules, both, overlapping)
+
+  pub joins_but_for_tags : JoinButForTags policy (five_tuple left) (five_tuple right)
+  joins_but_for_tags = search (rules, overlapping)
+
+  pub stops_by_tags : (tag : Tag) → ((g : Request) → IsRequest g → contains tag g ≡ (contains left.tag g && contains right.tag g))
+      → (cause : Cause) → (cause ≡ NoTag) × (tag ≡ set none)
+      → Stops policy (five (five_tuple left)) (five (five_tuple right)) cause
+  stops_by_tags tag exact cause h = search (rules, joins_but_for_tags, both)
+
+-- ---- names
+
+module _
+    (policy : Policy) (window : Window) (right : Four) (rest : List (List ℕ)) (subject : Subject)
+    (subject_is : (subject.principal ≡ right.subject.principal) × (subject.names ≡ right.subject.names ++ rest))
+  where
+    pub resolves : (left : Five)
+        → IsTrue (names policy left.subject.principal right.key) × (left.subject.names ≡ right.name ∷ rest)
+        → IsMeet left.window right.window window → Overlap left.window right.window
+        → BecomesFive policy (five (five_tuple left)) (four (four_tuple right)) (record left { subject = subject; window = window })
+    resolves left begins meets overlap = record {
+      root = resolved (five_tuple left) (four_tuple right) rest;
+      joined = record { begins = record { rest = rest; named = begins.0; name = begins.1 }; result_is = refl };
+      reduced = record {
+        issuer = refl;
+        principal = subject_is.0;
+        names = subject_is.1;
+        delegation = refl;
+        requests = λ g is. sym (and-true (contains left.tag g));
+        moments = λ t. meets t ∙ both (within t left.window) (within t right.window);
+        nodes = omega arith;
+        depth = omega arith;
+      };
+      timely = overlapping left.window right.window overlap;
+    }
+
+    pub links : (left : Four)
+        → IsTrue (names policy left.subject.principal right.key) × (left.subject.names ≡ right.name ∷ rest)
+        → IsMeet left.window right.window window → Overlap left.window right.window
+        → BecomesFour policy (four (four_tuple left)) (four (four_tuple right)) (record left { subject = subject; window = window })
+    links left begins meets overlap = record {
+      root = linked (four_tuple left) (four_tuple right) rest;
+      joined = record { begins = record { rest = rest; named = begins.0; name = begins.1 }; result_is = refl };
+      reduced = record {
+        key = refl;
+        name = refl;
+        principal = subject_is.0;
+        names = subject_is.1;
+        moments = λ t. meets t ∙ both (within t left.window) (within t right.window);
+      };
+      timely = overlapping left.window right.window overlap;
+    }
+
+-- ---- one more tuple joins a chain as it joins what the chain became
+
+-- ---- tags and windows, one for several
+
+pub nodes_product-append : (xs ys : List Tag) → nodes_product (xs ++ ys) ≡ nodes_product xs * nodes_product ys
+nodes_product-append [] ys = omega arith
+nodes_product-append (x ∷ xs) ys = rw (nodes_product-append xs ys) (omega arith)
+
+pub met_more : (tag : Tag) (tags more : List Tag) → tag ≡ met tags → met (tag ∷ more) ≡ met (tags ++ more)
+met_more tag tags more h = ap (λ t. fold meet t more) h ∙ sym (fold-append meet star tags more)
+
+deepest-append : (xs ys : List Tag) → deepest (xs ++ ys) ≡ max (deepest xs) (deepest ys)
+deepest-append [] ys = omega arith
+deepest-append (x ∷ xs) ys = omega (arith, deepest-append xs ys)
+
+fewer : (tag : Tag) (tags more : List Tag) (n : ℕ) → nodes tag ≤ nodes_product tags → n ≤ nodes_product (tag ∷ more)
+    → n ≤ nodes_product (tags ++ more)
+fewer tag tags more n h k = rw nodes_product-append (omega (arith, mul-le-mul_right (nodes_product more) h))
+
+pub more_nodes : (tag : Tag) (tags more : List Tag) → nodes tag ≤ nodes_product tags → (n : ℕ) → n < nodes_product (tag ∷ more)
+    → n < nodes_product (tags ++ more)
+more_nodes tag tags more h n k = rw nodes_product-append (omega (arith, mul-le-mul_right (nodes_product more) h))
+
+shallower : (tag : Tag) (tags more : List Tag) (n : ℕ) → ldepth tag ≤ deepest tags → n ≤ deepest (tag ∷ more)
+    → n ≤ deepest (tags ++ more)
+shallower tag tags more n h k = rw deepest-append (omega arith)
+
+module _ (tag : Tag) (tags more : List Tag) where
+  in_more : (request : Request) → contains tag request ≡ in_each request tags
+      → in_each request (tag ∷ more) ≡ in_each request (tags ++ more)
+  in_more request h = search (rules, list_all-append)
+
+module _ (window : Window) (windows more : List Window) (same : (t : List ℕ) → within t window ≡ within_each t windows) where
+  within_more : (t : List ℕ) → within_each t (window ∷ more) ≡ within_each t (windows ++ more)
+  within_more t = ap (λ x. x && within_each t more) (same t) ∙ sym (list_all-append (λ w. within t w) windows more)
+
+  some_more : SomeMoment (window ∷ more) → SomeMoment (windows ++ more)
+  some_more h = (h.0, h.1, sym (within_more h.0) ∙ h.2)
+
+  some_fewer : SomeMoment (windows ++ more) → SomeMoment (window ∷ more)
+  some_fewer h = (h.0, h.1, within_more h.0 ∙ h.2)
+
+  none_more : NoMoment (window ∷ more) → NoMoment (windows ++ more)
+  none_more h t = sym (within_more t) ∙ h t
+
+-- ---- a root, and what it reduces to
+
+module _ (policy : Policy) (root : FiveTuple) (f : Five) (reduced : ReducesToFive root f) where
+  pub is_for : (holder : List ℕ) → IsFor policy (five_tuple f) holder → IsFor policy root holder
+  is_for holder h = search rules
+
+  pub is_for_back : (holder : List ℕ) → IsFor policy root holder → IsFor policy (five_tuple f) holder
+  is_for_back holder h = search rules
+
+  issues : (right : FiveTuple) → Issues policy (five_tuple f) right → Issues policy root right
+  issues right h = record { holder = h.holder; issued = h.issued; is_for = is_for h.holder h.is_for }
+
+  issues_back : (right : FiveTuple) → Issues policy root right → Issues policy (five_tuple f) right
+  issues_back right h = record { holder = h.holder; issued = h.issued; is_for = is_for_back h.holder h.is_for }
+
+  abbrev begins : (right : FourTuple) → Begins policy f.subject.principal f.subject.names right
+      → Begins policy root.principal root.names right
+  begins right h = record {
+    rest = h.rest;
+    named = ap (λ p. names policy p right.key) (sym reduced.principal) ∙ h.named;
+    name = sym reduced.names ∙ h.name;
+  }
+
+  begins_back : (right : FourTuple) → Begins policy root.principal root.names right
+      → Begins policy f.subject.principal f.subject.names right
+  begins_back right h = search rules
+
+  -- ---- joins
+
+  delegates : (right : FiveTuple) (made : FiveTuple) (g : Five) → Delegate policy (five_tuple f) right made
+      → ReducesToFive made g → SomeMoment made.windows → BecomesFive policy (five root) (five right) g
+  delegates right made g h k m = search (rules, issues, in_more, within_more, fewer, shallower, some_more)
+
+  resolves_more : (right : FourTuple) (made : FiveTuple) (g : Five) → Resolve policy (five_tuple f) right made
+      → ReducesToFive made g → SomeMoment made.windows → BecomesFive policy (five root) (four right) g
+  resolves_more right made g h k m =
+      let is = h.result_is in
+      let tags = ap (λ (t : FiveTuple). t.tags) is in
+      let windows = ap (λ (t : FiveTuple). t.windows) is in
+      record {
+        root = resolved root right h.begins.rest;
+        joined = record { begins = begins right h.begins; result_is = refl };
+        reduced = record {
+          issuer = k.issuer ∙ ap (λ (t : FiveTuple). t.issuer) is ∙ reduced.issuer;
+          principal = k.principal ∙ ap (λ (t : FiveTuple). t.principal) is;
+          names = k.names ∙ ap (λ (t : FiveTuple). t.names) is;
+          delegation = k.delegation ∙ ap (λ (t : FiveTuple). t.delegation) is ∙ reduced.delegation;
+          requests = λ q is_request. k.requests q is_request ∙ ap (λ ts. in_each q ts) tags
+              ∙ in_more f.tag root.tags [] q (reduced.requests q is_request) ∙ ap (λ ts. in_each q ts) (append-nil root.tags);
+          moments = λ t. k.moments t ∙ ap (λ ws. within_each t ws) windows
+              ∙ within_more f.window root.windows right.windows reduced.moments t;
+          nodes = omega (arith, reduced.nodes, rw tags at k.nodes);
+          depth = omega (arith, reduced.depth, rw tags at k.depth);
+        };
+        timely = some_more f.window root.windows right.windows reduced.moments (subst SomeMoment windows m);
+      }
+
+  joins : (right made : Tuple) (g : Five) (r : FiveTuple) → made ≡ five r → Joins policy (five (five_tuple f)) right (five r)
+      → ReducesToFive r g → SomeMoment r.windows → BecomesFive policy (five root) right g
+  joins (five right) made g r e h k m = delegates right r g h k m
+  joins (four right) made g r e h k m = resolves_more right r g h k m
+
+  pub becomes : (right : Tuple) (g : Five) → BecomesFive policy (five (five_tuple f)) right g → BecomesFive policy (five root) right g
+  becomes right g h = joins right (five h.root) g h.root refl h.joined h.reduced h.timely
+
+  -- ---- stops
+
+  pub stops : (right : Tuple) (cause : Cause) → Stops policy (five (five_tuple f)) right cause → Stops policy (five root) right cause
+  stops (five right) NotIssuer h = λ k. h (issues_back right k)
+  stops (five right) NoDelegation h = (issues right h.0, sym reduced.delegation ∙ h.1)
+  stops (five right) NoValidity h = search (rules, issues, none_more)
+  stops (five right) NoTag h = (
+    record {
+      issues = issues right h.0.issues;
+      allowed = sym reduced.delegation ∙ h.0.allowed;
+      timely = some_more f.window root.windows right.windows reduced.moments h.0.timely;
+    },
+    λ q is. sym (in_more f.tag root.tags right.tags q (reduced.requests q is)) ∙ h.1 q is,
+  )
+  stops (four right) NotTheName h = λ k. h (begins_back right k)
+  stops (four right) NoValidity h = (
+    begins right h.0,
+    none_more f.window root.windows right.windows reduced.moments h.1,
+  )
+  stops right cause h = h
+
+  -- ---- steps that are reached
+
+  pub reaches : (right : Tuple) → Reaches policy (five_tuple f) right → Reaches policy root right
+  reaches (five right) h = search (rules, issues, some_more)
+  reaches (four right) h =
+      record { begins = begins right h.begins; timely = some_more f.window root.windows right.windows reduced.moments h.timely }
+
+  pub reaches_back : (right : Tuple) → Reaches policy root right → Reaches policy (five_tuple f) right
+  reaches_back (five right) h = search (rules, issues, issues_back, some_fewer)
+  reaches_back (four right) h = search (rules, begins_back, some_fewer)
+
+  pub too_large : (most : ℕ) (right : Tuple) → TooLargeFor most policy (five_tuple f) right → TooLargeFor most policy root right
+  too_large most (five right) h =
+      (reaches (five right) h.0, more_nodes f.tag root.tags right.tags reduced.nodes most h.1)
+  too_large most (four right) h = h
+
+  pub too_large_back : (most : ℕ) (right : Tuple) → TooLargeFor most policy root right
+      → most < nodes_product (f.tag ∷ tags_of right) → TooLargeFor most policy (five_tuple f) right
+  too_large_back most (five right) h large = (reaches_back (five right) h.0, large)
+  too_large_back most (four right) h large = h
+
+-- what two tuples become is from the left issuer
+pub same_issuer : (policy : Policy) (f g : Five) (right : Tuple) → BecomesFive policy (five (five_tuple f)) right g
+    → issuer_of g.issuer ≡ issuer_of f.issuer
+same_issuer policy f g (five right) h = h.reduced.issuer ∙ ap (λ (t : FiveTuple). t.issuer) h.joined.result_is
+same_issuer policy f g (four right) h = h.reduced.issuer ∙ ap (λ (t : FiveTuple). t.issuer) h.joined.result_is
+
+-- ---- chains
+
+module _ (policy : Policy) (first : Tuple) where
+  pub grown : (before : List Tuple) (tuple : Tuple) (f g : Five) → FoldsTo policy first before f
+      → BecomesFive policy (five (five_tuple f)) tuple g → (g.tag ≡ set none → (f.tag ≡ set none) × (tags_of tuple ≡ []))
+      → FoldsTo policy first (before ++ tuple ∷ []) g
+  grown before tuple f g h k tags =
+      let made = becomes policy h.root f h.reduced tuple g k in
+      record {
+        root = made.root;
+        derived = rw (from_left-more first tuple before) (five h.root, tuple, h.derived, refl, made.joined);
+        reduced = made.reduced;
+        timely = λ _. made.timely;
+        tagged = λ e. let d = tags e in
+            rw (flat_map-append tags_of before (tuple ∷ []), h.tagged d.0, d.1) refl;
+      }
+
+-- ---- what a reduced authorization lacks, its root lacks, and every derivation from the same tuples
+
+pub never : (b : Bool) → b ≡ false → b ≡ true → ⊥
+never b e f = let g : false ≡ true = sym e ∙ f in cc
+
+module _ (policy : Policy) (holder : List ℕ) (request : Request) (moment : List ℕ) where
+  -- ---- a root
+
+  granted : (root : FiveTuple) → root.issuer ≡ own → IsFirstDenial policy root holder request moment None
+      → Grants policy root holder request moment
+  granted root is h = record { issuer = is; whole = h.0.whole; named = h.0.named; asked = h.1; timely = h.2 }
+
+  passed : (root : FiveTuple) (denial : Option Denial) → IsFirstDenial policy root holder request moment denial
+      → Grants policy root holder request moment → IsNone denial
+  passed root (Some NotTheKey) h g = absurd (h (record { whole = g.whole; named = g.named }))
+  passed root (Some TagLacks) h g = absurd (never (in_each request root.tags) h.1 g.asked)
+  passed root (Some WindowLacks) h g = absurd (never (within_each moment root.windows) h.2 g.timely)
+  passed root None h g = refl
+
+  -- ---- what reduces to it
+
+  module _ (f : Five) (is : IsRequest request) (root : FiveTuple) (reduced : ReducesToFive root f) where
+    pub not_for : (IsFor policy (five_tuple f) holder → ⊥) → IsFirstDenial policy root holder request moment (Some NotTheKey)
+    not_for h k = h (is_for_back policy root f reduced holder k)
+
+    pub tag_lacks : IsFor policy (five_tuple f) holder → contains f.tag request ≡ false
+        → IsFirstDenial policy root holder request moment (Some TagLacks)
+    tag_lacks h k = (is_for policy root f reduced holder h, sym (reduced.requests request is) ∙ k)
+
+    pub window_lacks : IsFor policy (five_tuple f) holder → contains f.tag request ≡ true → within moment f.window ≡ false
+        → IsFirstDenial policy root holder request moment (Some WindowLacks)
+    window_lacks h k l = search (rules, is_for)
+
+    pub lacks_nothing : IsFor policy (five_tuple f) holder → contains f.tag request ≡ true → within moment f.window ≡ true
+        → IsFirstDenial policy root holder request moment None
+    lacks_nothing h k l = search (rules, is_for)
+
+  -- ---- a chain
+
+  module _ (f : Five) (first : Tuple) (others : List Tuple) (folds : FoldsTo policy first others f) where
+    supporting : issuer_of f.issuer ≡ own → IsFirstDenial policy folds.root holder request moment None
+        → IsSupported policy first others holder request moment
+    supporting is h = search (rules, from_left-leaves, granted)
+
+    root_is : IsSupported policy first others holder request moment → Grants policy folds.root holder request moment
+    root_is s = search (rules, one_root, from_left-leaves)
+
+    pub supported : (denial : Option Denial) → issuer_of f.issuer ≡ own → IsFirstDenial policy folds.root holder request moment denial
+        → IsNone denial ↔ IsSupported policy first others holder request moment
+    supported None is h = (λ _. supporting is h, λ _. refl)
+    supported (Some denial) is h = search (rules, passed, root_is)

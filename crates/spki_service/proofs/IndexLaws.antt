@@ -1,0 +1,222 @@
+-- The index of an access list: the numbers of the entries that pass a test, the numbers that the index has for a key,
+-- and the index with one entry more.
+use Rattle.std.proofs.Common.{◌≡◌, ℕ, List, [], ◌∷◌, length, refl, sym, arith, suc, ◌+◌, ◌<◌, Bool, true, false, cond, ◌&&◌, ◌||◌, ◌++◌, map, ap, ◌∙◌, append-nil, rules, ◌⊎◌, inl, inr, Vec, Option, Some, bytes_eq, reverse}
+use Rattle.spki_tag.specs.Places.{merge}
+use Rattle.spki_tag.proofs.Places.{merge-nil, StartsAbove, merge-left, merge-right}
+use Rattle.std.proofs.lemmas.List.{map-append, reverse-reverse}
+use Rattle.spki_cert.specs.declared.entry.Entry.{Entry}
+use Rattle.spki_service.specs.AccessLists.{kept_from, first, numbers_from, is_key, is_hash, numbers_at, numbers_of_key, by_algorithm, IsIndexOf, NumberMap}
+use Rattle.std.proofs.Math.Bool.{and-false, or-false}
+use Rattle.spki_cert.specs.declared.hash.HashAlg.{HashAlg}
+use Rattle.spki_cert.specs.declared.hash.HashAlg.TheVariants.{Sha1, Sha256, Sha512}
+use Rattle.spki_cert.specs.declared.principal.Policy.{Policy}
+use Rattle.spki_cert.specs.declared.principal.Principal.{Principal}
+use Rattle.spki_cert.specs.declared.principal.Principal.TheVariants.{Key, Hash}
+use Rattle.spki_cert.specs.Naming.{names, admits, digest_of}
+use Rattle.spki_service.specs.declared.index.EntryIndex.{EntryIndex}
+use Rattle.std.specs.Option.{option_map_or}
+use Rattle.std.specs.declared.alloc.Global.{Global}
+use Rattle.std.proofs.lemmas.Bool.{cases_Bool, true≢false}
+use Rattle.std.proofs.lemmas.Slice.Eq.{bytes_eq-Decides}
+use Rattle.spki_case.specs.Lookups.{at_digest}
+
+-- ---- two lists of numbers in one, of which one is empty
+
+pub merge-empty : (xs ys : List ℕ) → length ys ≡ 0 → xs ≡ merge xs ys
+merge-empty xs [] empty = sym (merge-nil xs)
+merge-empty xs (y ∷ ys) empty = absurd (omega (arith, empty))
+
+pub empty-merge : (xs ys : List ℕ) → length xs ≡ 0 → ys ≡ merge xs ys
+empty-merge [] ys empty = refl
+empty-merge (x ∷ xs) ys empty = absurd (omega (arith, empty))
+
+-- ---- the numbers of the entries that pass a test
+
+-- none passes
+pub numbers_none : (n : ℕ) (es : List Entry) → numbers_from n (λ e. false) es ≡ []
+numbers_none n [] = refl
+numbers_none n (e ∷ es) = numbers_none (suc n) es
+
+-- ---- one list behind another
+
+joined : (b : Bool) (k : ℕ × Entry) (ks ls : List (ℕ × Entry)) → cond b (k ∷ (ks ++ ls)) (ks ++ ls) ≡ cond b (k ∷ ks) ks ++ ls
+joined true k ks ls = refl
+joined false k ks ls = refl
+
+pub kept-append : (n : ℕ) (p : Entry → Bool) (xs ys : List Entry)
+    → kept_from n p (xs ++ ys) ≡ kept_from n p xs ++ kept_from (n + length xs) p ys
+kept-append n p [] ys = let same : n ≡ n + 0 = omega arith in ap (λ m. kept_from m p ys) same
+kept-append n p (x ∷ xs) ys = search (rules, joined, kept-append (suc n) p xs ys)
+
+last : (b : Bool) (numbers : List ℕ) (n : ℕ) (e : Entry)
+    → numbers ++ map first (cond b ((n, e) ∷ []) []) ≡ cond b (numbers ++ n ∷ []) numbers
+last true numbers n e = refl
+last false numbers n e = append-nil numbers
+
+-- one entry behind others
+pub numbers_more : (p : Entry → Bool) (es : List Entry) (e : Entry) (number : ℕ) → 1 + length es ≡ number
+    → numbers_from 1 p (es ++ e ∷ []) ≡ cond (p e) (numbers_from 1 p es ++ number ∷ []) (numbers_from 1 p es)
+numbers_more p es e number counted = search (rules, kept-append, map-append, last)
+
+-- ---- two tests that never both hold
+
+begun : (b : Bool) (k n : ℕ) (e : Entry) (ks : List (ℕ × Entry)) → k < n → StartsAbove k (map first ks)
+    → StartsAbove k (map first (cond b ((n, e) ∷ ks) ks))
+begun true k n e ks less later = less
+begun false k n e ks less later = later
+
+begins : (k n : ℕ) (p : Entry → Bool) (es : List Entry) → k < n → StartsAbove k (numbers_from n p es)
+begins k n p [] less = tt
+begins k n p (e ∷ es) less =
+    begun (p e) k n e (kept_from (suc n) p es) less (begins k (suc n) p es (omega (arith, less)))
+
+step : (n : ℕ) (e : Entry) (b c : Bool) (ps qs rs : List (ℕ × Entry)) → (b && c) ≡ false
+    → StartsAbove n (map first ps) → StartsAbove n (map first qs)
+    → merge (map first ps) (map first qs) ≡ map first rs
+    → merge (map first (cond b ((n, e) ∷ ps) ps)) (map first (cond c ((n, e) ∷ qs) qs)) ≡ map first (cond (b || c) ((n, e) ∷ rs) rs)
+step n e true true ps qs rs apart from_p from_q later = absurd cc
+step n e true false ps qs rs apart from_p from_q later =
+    merge-left n (map first ps) (map first qs) from_q ∙ ap (λ l. n ∷ l) later
+step n e false true ps qs rs apart from_p from_q later =
+    merge-right n (map first ps) (map first qs) from_p ∙ ap (λ l. n ∷ l) later
+step n e false false ps qs rs apart from_p from_q later = later
+
+-- their numbers in one list are those of the entries that pass one of them
+pub numbers_merged : (n : ℕ) (p q : Entry → Bool) (es : List Entry) → ((e : Entry) → (p e && q e) ≡ false)
+    → merge (numbers_from n p es) (numbers_from n q es) ≡ numbers_from n (λ e. p e || q e) es
+numbers_merged n p q [] apart = refl
+numbers_merged n p q (e ∷ es) apart =
+    let more : n < suc n = omega arith in
+    step n e (p e) (q e) (kept_from (suc n) p es) (kept_from (suc n) q es) (kept_from (suc n) (λ f. p f || q f) es) (apart e)
+    (begins n (suc n) p es more) (begins n (suc n) q es more) (numbers_merged (suc n) p q es apart)
+
+-- ---- what a principal names, by what it is: a key, or a hash by one of the algorithms
+
+-- whether a principal is the key's hash by an algorithm, and the policy admits it
+abbrev is_admitted : Policy → HashAlg → List ℕ → Principal → Bool
+is_admitted policy alg key p = admits policy alg && is_hash alg (digest_of alg key) p
+
+module _ (policy : Policy) (key : List ℕ) where
+  abbrev one : Principal → Bool
+  one p = is_key key p || is_admitted policy Sha1 key p
+
+  abbrev two : Principal → Bool
+  two p = one p || is_admitted policy Sha256 key p
+
+  -- ---- no principal is of two kinds
+
+  apart_1 : (p : Principal) → (is_key key p && is_admitted policy Sha1 key p) ≡ false
+  apart_1 (Key own) = simp and-false
+  apart_1 (Hash alg digest) = refl
+
+  apart_2 : (p : Principal) → (one p && is_admitted policy Sha256 key p) ≡ false
+  apart_2 (Key own) = simp (and-false, or-false)
+  apart_2 (Hash Sha1 digest) = simp and-false
+  apart_2 (Hash Sha256 digest) = simp and-false
+  apart_2 (Hash Sha512 digest) = simp and-false
+
+  apart_3 : (p : Principal) → (two p && is_admitted policy Sha512 key p) ≡ false
+  apart_3 (Key own) = simp (and-false, or-false)
+  apart_3 (Hash Sha1 digest) = simp and-false
+  apart_3 (Hash Sha256 digest) = simp and-false
+  apart_3 (Hash Sha512 digest) = simp and-false
+
+  -- and one that names the key is of one of them
+  named : (p : Principal) → (two p || is_admitted policy Sha512 key p) ≡ names policy p key
+  named (Hash Sha512 digest) = simp and-false
+  named _ = simp (and-false, or-false)
+
+  -- ---- their numbers
+
+  abbrev own_numbers : List Entry → List ℕ
+  own_numbers es = numbers_from 1 (λ e. is_key key e.subject.principal) es
+
+  abbrev hash_numbers : HashAlg → List Entry → List ℕ
+  hash_numbers alg es = numbers_from 1 (λ e. is_admitted policy alg key e.subject.principal) es
+
+  merged_named : (es : List Entry) → merge (merge (merge (own_numbers es) (hash_numbers Sha1 es)) (hash_numbers Sha256 es)) (hash_numbers Sha512 es)
+      ≡ numbers_from 1 (λ e. names policy e.subject.principal key) es
+  merged_named es = search (rules, numbers_merged, apart_1, apart_2, apart_3, named)
+
+  -- ---- what is looked up
+
+  abbrev pub admitted_at : EntryIndex → HashAlg → List ℕ
+  admitted_at index alg = cond (admits policy alg) (numbers_at (by_algorithm index alg) (digest_of alg key)) []
+
+  hash_at : (alg : HashAlg) (es : List Entry) (index : EntryIndex) → IsIndexOf es index → admitted_at index alg ≡ hash_numbers alg es
+  hash_at alg es index i = by (admits policy alg)
+    where
+      by : (b : Bool) → cond b (numbers_at (by_algorithm index alg) (digest_of alg key)) []
+          ≡ numbers_from 1 (λ e. b && is_hash alg (digest_of alg key) e.subject.principal) es
+      by true = i.hashes alg (digest_of alg key)
+      by false = sym (numbers_none 1 es)
+
+  pub found_all : (es : List Entry) (index : EntryIndex) → IsIndexOf es index
+      → merge (merge (merge (numbers_of_key index key) (admitted_at index Sha1)) (admitted_at index Sha256)) (admitted_at index Sha512)
+      ≡ numbers_from 1 (λ e. names policy e.subject.principal key) es
+  found_all es index i =
+      ap (λ l. merge (merge (merge l (admitted_at index Sha1)) (admitted_at index Sha256)) (admitted_at index Sha512)) (i.keys key)
+      ∙ ap (λ l. merge (merge (merge (own_numbers es) l) (admitted_at index Sha256)) (admitted_at index Sha512)) (hash_at Sha1 es index i)
+      ∙ ap (λ l. merge (merge (merge (own_numbers es) (hash_numbers Sha1 es)) l) (admitted_at index Sha512)) (hash_at Sha256 es index i)
+      ∙ ap (λ l. merge (merge (merge (own_numbers es) (hash_numbers Sha1 es)) (hash_numbers Sha256 es)) l) (hash_at Sha512 es index i)
+      ∙ merged_named es
+
+-- ---- an index, where one entry comes behind others
+
+module _ (es : List Entry) (e : Entry) (number : ℕ) (counted : 1 + length es ≡ number) where
+  more_at : (p : Entry → Bool) (old new : List ℕ) → old ≡ numbers_from 1 p es → new ≡ cond (p e) (old ++ number ∷ []) old
+      → new ≡ numbers_from 1 p (es ++ e ∷ [])
+  more_at p old new stood added =
+      added ∙ ap (λ l. cond (p e) (l ++ number ∷ []) l) stood ∙ sym (numbers_more p es e number counted)
+
+  pub index_more : (old new : EntryIndex) → IsIndexOf es old
+      → ((octets : List ℕ) → numbers_of_key new octets
+      ≡ cond (is_key octets e.subject.principal) (numbers_of_key old octets ++ number ∷ []) (numbers_of_key old octets))
+      → ((alg : HashAlg) (digest : List ℕ) → numbers_at (by_algorithm new alg) digest
+      ≡ cond (is_hash alg digest e.subject.principal) (numbers_at (by_algorithm old alg) digest ++ number ∷ [])
+      (numbers_at (by_algorithm old alg) digest))
+      → IsIndexOf (es ++ e ∷ []) new
+  index_more old new stood keys hashes = search (rules, more_at)
+
+-- ---- one number more at octets
+
+pub put : (own other : List ℕ) (old new : NumberMap) (value : Vec ℕ Global) (number : ℕ)
+    → at_digest new other ≡ cond (bytes_eq own other) (Some value) (at_digest old other)
+    → value.items ≡ numbers_at old own ++ number ∷ []
+    → numbers_at new other ≡ cond (bytes_eq own other) (numbers_at old other ++ number ∷ []) (numbers_at old other)
+put own other old new value number found longer =
+    ap (λ (o : Option (Vec ℕ Global)). option_map_or (λ v. v.items) o []) found ∙ by (cases_Bool (bytes_eq own other))
+  where
+    by : (bytes_eq own other ≡ true) ⊎ (bytes_eq own other ≡ false)
+        → option_map_or (λ (v : Vec ℕ Global). v.items) (cond (bytes_eq own other) (Some value) (at_digest old other)) []
+        ≡ cond (bytes_eq own other) (numbers_at old other ++ number ∷ []) (numbers_at old other)
+    by (inl same) =
+        rw same (longer ∙ ap (λ l. numbers_at old l ++ number ∷ []) ((bytes_eq-Decides own other).0 same))
+    by (inr apart) = rw apart refl
+
+-- ---- octets from the last to the first
+
+pub turned_eq : (a b : List ℕ) → bytes_eq (reverse a) (reverse b) ≡ bytes_eq a b
+turned_eq a b = by (cases_Bool (bytes_eq a b)) (cases_Bool (bytes_eq (reverse a) (reverse b)))
+  where
+    straight : reverse a ≡ reverse b → a ≡ b
+    straight e = sym (reverse-reverse a) ∙ ap reverse e ∙ reverse-reverse b
+
+    by : (bytes_eq a b ≡ true) ⊎ (bytes_eq a b ≡ false)
+        → (bytes_eq (reverse a) (reverse b) ≡ true) ⊎ (bytes_eq (reverse a) (reverse b) ≡ false)
+        → bytes_eq (reverse a) (reverse b) ≡ bytes_eq a b
+    by (inl same) (inl turned) = turned ∙ sym same
+    by (inr apart) (inr turned) = turned ∙ sym apart
+    by (inl same) (inr turned) =
+        absurd (true≢false (sym ((bytes_eq-Decides (reverse a) (reverse b)).1 (ap reverse ((bytes_eq-Decides a b).0 same))) ∙ turned))
+    by (inr apart) (inl turned) =
+        absurd (true≢false (sym ((bytes_eq-Decides a b).1 (straight ((bytes_eq-Decides (reverse a) (reverse b)).0 turned))) ∙ apart))
+
+-- a number more at a key's octets, as they are kept
+pub put_key : (own octets : List ℕ) (old new : NumberMap) (number : ℕ)
+    → numbers_at new (reverse octets)
+    ≡ cond (bytes_eq (reverse own) (reverse octets)) (numbers_at old (reverse octets) ++ number ∷ []) (numbers_at old (reverse octets))
+    → numbers_at new (reverse octets)
+    ≡ cond (bytes_eq own octets) (numbers_at old (reverse octets) ++ number ∷ []) (numbers_at old (reverse octets))
+put_key own octets old new number added =
+    added ∙ ap (λ (b : Bool). cond b (numbers_at old (reverse octets) ++ number ∷ []) (numbers_at old (reverse octets))) (turned_eq own octets)

@@ -1,0 +1,121 @@
+-- How a text is read as an access list. It is one list or has one fault.
+use Rattle.std.proofs.Common.{◌≡◌, ◌≢◌, inl, inr, ℕ, ◌≤◌, List, Vec, map, length, sym, subst, Result, Ok, Err, IfOk, IfErr, rules, ◌++◌, ap, ◌∙◌}
+use Rattle.std.specs.declared.alloc.Global.{Global}
+use Rattle.std.proofs.lemmas.Slice.Zip.{AllZip-long}
+use Rattle.sexpr_core.specs.Value.{Value, canon}
+use Rattle.sexpr_text.specs.AdvancedForm.{IsTextWithin}
+use Rattle.spki_cert.specs.declared.entry.Entry.{Entry}
+use Rattle.spki_cert.specs.declared.fault.CertFault.{CertFault}
+use Rattle.spki_cert.specs.declared.fault.CertFaultKind.TheVariants as kinds
+use Rattle.spki_cert.specs.Structures.{EntryOf, AclOf}
+use Rattle.spki_case.specs.Case.{IsOuter}
+use Rattle.spki_service.specs.declared.list_fault.AclFault.{AclFault}
+use Rattle.spki_service.specs.declared.list_fault.AclFault.TheVariants as faults
+use Rattle.spki_service.specs.AccessLists.{Held, AreEntries, HoldsValue, HoldsList, octets_of_texts, IsNoAcl, IsNoAccessList, ListRefused}
+use Rattle.spki_service.proofs.SelectedEntries.{held}
+use Rattle.std.specs.Prelude.{codes}
+use Rattle.spki_cert.specs.StructureFaults.{behind_version}
+use Rattle.spki_cert.proofs.Looking.{same_others}
+use Rattle.spki_cert.proofs.EntryFaultLaws.{entries-behind}
+use Rattle.spki_service.specs.Questions.{Reads}
+use Rattle.spki_service.proofs.OneAsking.{text_one, of_text, both, form_unread, form_one, some-one}
+
+-- ---- how an access list is made ready
+
+-- a fault other than of memory is named
+pub named_fault : (v : Value) (fault : CertFault) (outer : AclFault)
+    → IsOuter (fault.kind ≡ kinds.Memory) faults.Memory (faults.Acl fault) outer
+    → (fault.kind ≢ kinds.Memory → IsNoAcl fault v)
+    → outer ≢ faults.Memory → (inner : CertFault) × (outer ≡ faults.Acl inner) × IsNoAcl inner v
+named_fault v fault outer (inl memory) refused found = absurd (found memory.1)
+named_fault v fault outer (inr named) refused found = (fault, named.1, refused named.0)
+
+-- the texts of the entries that are read are held
+pub texts_held : (v : Value) (es : List Entry) (texts : List (Vec ℕ Global)) (a : AclOf v es) → octets_of_texts texts ≡ map canon a.entries
+    → AreEntries (octets_of_texts texts) es
+texts_held v es texts a same = subst (λ xs. AreEntries xs es) (sym same) (held a.entries es a.each)
+
+pub value_held : (v : Value) (es : List Entry) (texts : List (Vec ℕ Global)) (a : AclOf v es) → octets_of_texts texts ≡ map canon a.entries
+    → HoldsValue v (octets_of_texts texts)
+value_held v es texts a same = record { entries = es; is = a; texts_are = same; held = texts_held v es texts a same }
+
+pub many : (v : Value) (es : List Entry) (a : AclOf v es) → length a.entries ≡ length es
+many v es a = sym (AllZip-long EntryOf a.entries es a.each)
+
+pub list_refused : {A : Type 0} (v w : Value) (r : Result A AclFault) → w ≡ v → length (canon v) ≤ 1048576
+    → IfErr r (λ fault. fault ≢ faults.Memory → (inner : CertFault) × (fault ≡ faults.Acl inner) × IsNoAcl inner w)
+    → IfErr r (λ fault. fault ≢ faults.Memory → ListRefused v fault)
+list_refused v w (Ok a) same short h = tt
+list_refused v w (Err fault) same short h = search rules
+
+pub value_there : (v w : Value) (r : Result Held AclFault) → w ≡ v → length (canon v) ≤ 1048576 → IfOk r (λ g. HoldsValue w g.texts)
+    → IfOk r (λ g. (length (canon v) ≤ 1048576) × HoldsValue v g.texts)
+value_there v w (Ok g) same short h = (short, subst (λ u. HoldsValue u g.texts) same h)
+value_there v w (Err fault) same short h = tt
+
+-- ---- a text of which the value is known
+
+pub holds_list : (text : List ℕ) (v : Value) (texts : List (List ℕ)) → IsTextWithin text v → length (canon v) ≤ 1048576
+    → HoldsValue v texts → HoldsList text texts
+holds_list text v texts meant short h =
+    record { value = v; spelled = meant; short = short; holds = h }
+
+pub converted_held : (text : List ℕ) (v : Value) → IsTextWithin text v → (r : Result Held AclFault)
+    → IfOk r (λ g. (length (canon v) ≤ 1048576) × HoldsValue v g.texts) → IfOk r (λ g. HoldsList text g.texts)
+converted_held text v meant (Ok g) h = holds_list text v g.texts meant h.0 h.1
+converted_held text v meant (Err fault) h = tt
+
+module _ (text : List ℕ) (v w : Value) (same : w ≡ v) (meant : IsTextWithin text v) where
+  pub list_held : (r : Result Held AclFault) → length (canon v) ≤ 1048576 → IfOk r (λ g. HoldsValue w g.texts)
+      → IfOk r (λ g. HoldsList text g.texts)
+  list_held (Ok g) short h = holds_list text v g.texts meant short (subst (λ u. HoldsValue u g.texts) same h)
+  list_held (Err fault) short h = tt
+
+  pub list_refused_text : (r : Result Held AclFault) → length (canon v) ≤ 1048576
+      → IfErr r (λ fault. fault ≢ faults.Memory → (inner : CertFault) × (fault ≡ faults.Acl inner) × IsNoAcl inner w)
+      → IfErr r (λ fault. fault ≢ faults.Memory → IsNoAccessList text fault)
+  list_refused_text (Ok g) short h = tt
+  list_refused_text (Err fault) short h = search rules
+
+-- ---- a text is read as one access list or has one fault
+
+-- ---- one list
+
+values_one : (v w : Value) (es fs : List Entry) (r : AclOf v es) (s : AclOf w fs) → v ≡ w → r.entries ≡ s.entries
+values_one v w es fs r s same =
+    let all : r.version ++ r.entries ≡ s.version ++ s.entries =
+    same_others v (codes "acl") (r.version ++ r.entries) (s.version ++ s.entries) r.written (same ∙ s.written) in
+    sym (entries-behind r.version r.entries es r.version_is r.each) ∙ ap behind_version all
+    ∙ entries-behind s.version s.entries fs s.version_is s.each
+
+pub list-one : (text : List ℕ) (a b : List (List ℕ)) → HoldsList text a → HoldsList text b → a ≡ b
+list-one text a b m n =
+    let same : m.value ≡ n.value = text_one text m.value n.value m.spelled n.spelled in
+    let entries = values_one m.value n.value m.holds.entries n.holds.entries m.holds.is n.holds.is same in
+    m.holds.texts_are ∙ ap (map canon) entries ∙ sym n.holds.texts_are
+
+-- ---- one fault
+
+module _ (text : List ℕ) where
+  pub list_fault-one : (f g : AclFault) → IsNoAccessList text f → IsNoAccessList text g → f ≡ g
+  list_fault-one (faults.Form e) (faults.Form f) m n = ap faults.Form (form_one (of_text text) e f m n)
+  list_fault-one (faults.Form e) (faults.Acl f) m n = absurd (form_unread (of_text text) e m n)
+  list_fault-one (faults.Form e) faults.Memory m n = absurd n
+  list_fault-one (faults.Acl e) (faults.Form f) m n = absurd (form_unread (of_text text) f n m)
+  list_fault-one (faults.Acl e) (faults.Acl f) m n =
+      let b = both (of_text text) m n in
+      ap faults.Acl (some-one b.one.named b.other.named)
+  list_fault-one (faults.Acl e) faults.Memory m n = absurd n
+  list_fault-one faults.Memory g m n = absurd m
+
+  -- ---- never both
+
+  pub list_unrefused : (texts : List (List ℕ)) (fault : AclFault) → HoldsList text texts → ¬ IsNoAccessList text fault
+  list_unrefused texts (faults.Form fault) m lacks =
+      let read : Reads (IsTextWithin text) (λ v. AclOf v m.holds.entries) =
+      record { value = m.value; meant = m.spelled; short = m.short; is = m.holds.is } in
+      form_unread (of_text text) fault lacks read
+  list_unrefused texts (faults.Acl fault) m none =
+      let same : m.value ≡ none.value = text_one text m.value none.value m.spelled none.meant in
+      none.is.none m.holds.entries (subst (λ (v : Value). AclOf v m.holds.entries) same m.holds.is)
+  list_unrefused texts faults.Memory m none = none

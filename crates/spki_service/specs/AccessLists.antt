@@ -1,0 +1,197 @@
+-- Access lists (RFC 2693, section 3.4): their entries as a guard contains them, why a text is refused as a list, the
+-- index by principals, and the decision by the entries that are found in it.
+use Rattle.std.specs.Prelude.{◌≡◌, ℕ, ◌≤◌, List, Vec, map, length, ◌≢◌, ◌<◌, Some, suc, Bool, [], ◌∷◌, if◌then◌else◌, false, ◌&&◌, bytes_eq, reverse, slice_get, ◌-◌, Option, None}
+use Rattle.std.specs.declared.alloc.Global.{Global}
+use Rattle.std.specs.List.{AllZip, AllByRecursion}
+use Rattle.sexpr_core.specs.Value.{Value, canon}
+use Rattle.sexpr_text.specs.AdvancedForm.{IsTextWithin}
+use Rattle.spki_cert.specs.declared.entry.Entry.{Entry}
+use Rattle.spki_cert.specs.declared.principal.Policy.{Policy}
+use Rattle.spki_cert.specs.Structures.{EntryOf, AclOf}
+use Rattle.spki_service.specs.declared.limits.Limits.{Limits}
+use Rattle.sexpr_core.specs.declared.fault.FormFault.TheVariants as form
+use Rattle.spki_cert.specs.declared.fault.CertFault.{CertFault}
+use Rattle.spki_cert.specs.declared.fault.CertFaultKind.TheVariants as kinds
+use Rattle.spki_cert.specs.StructureFaults.{acl_fault}
+use Rattle.spki_service.specs.declared.list_fault.AclFault.{AclFault}
+use Rattle.spki_service.specs.declared.list_fault.AclFault.TheVariants as faults
+use Rattle.spki_service.specs.Questions.{RefusesForm, Reads, LacksForm}
+use Rattle.std.specs.Option.{option_map_or}
+use Rattle.std.specs.BTreeMap.{BTreeMap}
+use Rattle.spki_cert.specs.declared.hash.HashAlg.{HashAlg}
+use Rattle.spki_cert.specs.declared.hash.HashAlg.TheVariants.{Sha1, Sha256, Sha512}
+use Rattle.spki_cert.specs.declared.principal.Principal.{Principal}
+use Rattle.spki_cert.specs.declared.principal.Principal.TheVariants.{Key, Hash}
+use Rattle.spki_cert.specs.Naming.{is_same, names}
+use Rattle.spki_case.specs.Lookups.{at_digest}
+use Rattle.spki_service.specs.declared.index.EntryIndex.{EntryIndex}
+use Rattle.spki_reduce.specs.Reduction.{Tuple}
+use Rattle.spki_case.specs.Case.{Case}
+use Rattle.spki_decision.specs.declared.decision.Decision.{Decision}
+use Rattle.spki_decision.specs.declared.decision.Decision.TheVariants.{Yes, No}
+use Rattle.spki_decision.specs.Granted.{Names}
+use Rattle.spki_decision.specs.Requirements.{AreKept, IsLeftOut, kept_case, IsRenumbered}
+
+-- ---- what a guard contains
+
+-- What a guard contains: the entries of an access list, each as its canonical text (RFC 2693, section 3.4; RFC 9804,
+-- section 6.2).
+
+-- The text is the canonical text of a value that is read as the entry.
+pub record IsEntryText (text : List ℕ) (e : Entry) : Type 0 where
+  pub value : Value
+  pub written : text ≡ canon value
+  pub is : EntryOf value e
+
+-- the texts are those of the entries, in order
+abbrev pub AreEntries : List (List ℕ) → List Entry → Type 0
+AreEntries texts es = AllZip IsEntryText texts es
+
+-- What a guard is in a contract: the canonical texts of its entries, the policy, and the limits. These are on the octets, certificates
+-- and strings of a question, the nodes of an intersection, the nodes of all intersections of a question, and the octets of an answer.
+pub record Held : Type 0 where
+  pub texts : List (List ℕ)
+  pub policy : Policy
+  pub octets : ℕ
+  pub certificates : ℕ
+  pub words : ℕ
+  pub nodes : ℕ
+  pub work : ℕ
+  pub answer : ℕ
+
+-- the guard has these limits
+abbrev pub HasLimits : Held → Limits → Type 0
+HasLimits g limits =
+    (g.octets ≡ limits.octets) × (g.certificates ≡ limits.certificates) × (g.words ≡ limits.words) × (g.nodes ≡ limits.nodes)
+    × (g.work ≡ limits.work) × (g.answer ≡ limits.answer)
+
+-- The value is an access list, and these are the canonical texts of its entries, in order.
+pub record HoldsValue (v : Value) (texts : List (List ℕ)) : Type 0 where
+  pub entries : List Entry
+  pub is : AclOf v entries
+  pub texts_are : texts ≡ map canon is.entries
+  pub held : AreEntries texts entries
+
+-- The text is an access list in one of the three forms, and these are the canonical texts of its entries, in order. Its own
+-- canonical form has at most 1,048,576 octets.
+pub record HoldsList (list : List ℕ) (texts : List (List ℕ)) : Type 0 where
+  pub value : Value
+  pub spelled : IsTextWithin list value
+  pub short : length (canon value) ≤ 1048576
+  pub holds : HoldsValue value texts
+
+-- the octets of some texts
+abbrev pub octets_of_texts : List (Vec ℕ Global) → List (List ℕ)
+octets_of_texts texts = map (λ text. text.items) texts
+
+-- ---- why a text is refused as an access list (RFC 2693, section 3.4)
+
+-- The value is no access list. The fault names one of its entries, or the whole list, and is the first one from the left.
+pub record IsNoAcl (fault : CertFault) (v : Value) : Type 0 where
+  pub found : fault.kind ≢ kinds.Memory
+  pub named : acl_fault v ≡ Some fault
+  pub none : (es : List Entry) → ¬ AclOf v es
+
+-- What a fault means for a value, except for Memory: its canonical form is too long, or it is no access list.
+abbrev pub ListRefused : Value → AclFault → Type 0
+ListRefused v (faults.Form fault) = (1048576 < length (canon v)) × (fault ≡ form.TooLong)
+ListRefused v (faults.Acl fault) = (length (canon v) ≤ 1048576) × IsNoAcl fault v
+ListRefused v faults.Memory = ⊥
+
+-- What a fault means for a text in any of the three forms, except for Memory.
+abbrev pub IsNoAccessList : List ℕ → AclFault → Type 0
+IsNoAccessList list (faults.Form fault) = LacksForm (IsTextWithin list) (RefusesForm list) fault
+IsNoAccessList list (faults.Acl fault) = Reads (IsTextWithin list) (IsNoAcl fault)
+IsNoAccessList list faults.Memory = ⊥
+
+-- ---- the entries of an access list that pass a test, and their numbers
+
+-- the entries that pass a test, in their order, each with its number; the first entry of the list has number n
+abbrev pub kept_from : ℕ → (Entry → Bool) → List Entry → List (ℕ × Entry)
+kept_from n test [] = []
+kept_from n test (e ∷ es) = if test e then (n, e) ∷ kept_from (suc n) test es else kept_from (suc n) test es
+
+abbrev pub first : ℕ × Entry → ℕ
+first k = k.0
+
+-- the numbers of these entries
+abbrev pub numbers_from : ℕ → (Entry → Bool) → List Entry → List ℕ
+numbers_from n test es = map first (kept_from n test es)
+
+-- ---- an index of an access list by the principals of its entries' subjects (RFC 2693, section 2.5)
+
+-- whether a principal is the key with these octets
+abbrev pub is_key : List ℕ → Principal → Bool
+is_key octets (Key own) = bytes_eq own octets
+is_key octets (Hash alg digest) = false
+
+-- whether a principal is the hash with this algorithm and digest
+abbrev pub is_hash : HashAlg → List ℕ → Principal → Bool
+is_hash alg digest (Key own) = false
+is_hash alg digest (Hash by own) = is_same by alg && bytes_eq digest own
+
+-- numbers by octets
+abbrev pub NumberMap : Type 0
+NumberMap = BTreeMap (Vec ℕ Global) (Vec ℕ Global)
+
+-- the numbers at these octets, if there are any
+abbrev pub numbers_at : NumberMap → List ℕ → List ℕ
+numbers_at m octets = option_map_or (λ v. v.items) (at_digest m octets) []
+
+-- the numbers of a key with these octets, which are at its octets from the last to the first
+abbrev pub numbers_of_key : EntryIndex → List ℕ → List ℕ
+numbers_of_key index octets = numbers_at index.by_key (reverse octets)
+
+-- the numbers by the digests of an algorithm
+abbrev pub by_algorithm : EntryIndex → HashAlg → NumberMap
+by_algorithm index Sha1 = index.by_sha1
+by_algorithm index Sha256 = index.by_sha256
+by_algorithm index Sha512 = index.by_sha512
+
+-- An index of these entries. For a key's octets it has the numbers of the entries whose principal is this key. At a digest of
+-- an algorithm it has the numbers of the entries whose principal is this hash.
+pub record IsIndexOf (es : List Entry) (index : EntryIndex) : Type 0 where
+  pub keys : (octets : List ℕ) → numbers_of_key index octets ≡ numbers_from 1 (λ e. is_key octets e.subject.principal) es
+  pub hashes : (alg : HashAlg) (digest : List ℕ)
+      → numbers_at (by_algorithm index alg) digest ≡ numbers_from 1 (λ e. is_hash alg digest e.subject.principal) es
+
+-- ---- entries that are selected from a list by their numbers, counted from 1
+
+-- an entry has this number in a list
+abbrev pub HasNumber : List Entry → ℕ → Entry → Type 0
+HasNumber es n e = (place : ℕ) × (n ≡ suc place) × (slice_get es place ≡ Some e)
+
+-- these are the entries with these numbers
+abbrev pub ArePicked : List Entry → List ℕ → List Entry → Type 0
+ArePicked es numbers picked = AllZip (HasNumber es) numbers picked
+
+-- numbers of entries of a list of this length
+abbrev pub AreNumbers : ℕ → List ℕ → Type 0
+AreNumbers long numbers = AllByRecursion (λ n. (0 < n) × (n ≤ long)) numbers
+
+-- ---- the decision by the entries that are found for a question
+
+-- whether an entry's principal names a key; false if there is no key
+abbrev pub is_of : Policy → Option (List ℕ) → Entry → Bool
+is_of policy None e = false
+is_of policy (Some key) e = names policy e.subject.principal key
+
+-- The decision by the entries that are kept, if these are the tuples of the certificates. A decision names an entry by its
+-- number in the whole list.
+abbrev pub DecidesKept : Case → List Tuple → List (ℕ × Entry) → Decision → Type 0
+DecidesKept c tuples kept d = (part : Decision) × Names (kept_case c kept) tuples part × IsRenumbered kept part d
+
+-- the decision by some of the list's entries; only entries that may be left out are missing
+abbrev pub DecidesPartly : Case → List Tuple → Decision → Type 0
+DecidesPartly c tuples d = (kept : List (ℕ × Entry)) × AreKept (IsLeftOut c tuples) 1 c.entries kept × DecidesKept c tuples kept d
+
+-- a decision names an entry by its place among the entries with these numbers, and another one by its number
+abbrev pub IsNumbered : List ℕ → Decision → Decision → Type 0
+IsNumbered numbers (Yes place) (Yes n) = slice_get numbers (place - 1) ≡ Some n
+IsNumbered numbers (Yes place) No = ⊥
+IsNumbered numbers No (Yes n) = ⊥
+IsNumbered numbers No No = Unit {0}
+
+-- the decision of a case with only these entries, by their numbers
+abbrev pub NamesPicked : Case → List Tuple → List ℕ → Decision → Type 0
+NamesPicked c tuples numbers d = (part : Decision) × Names c tuples part × IsNumbered numbers part d

@@ -1,0 +1,247 @@
+-- Questions that are put to a guard: the texts of their parts, what is kept of a question that is opened, and the
+-- answers by what a verifier accepts or has marked (RFC 2693, section 6).
+use Rattle.std.specs.Prelude.{◌⊎◌, ◌↔◌, true, slice_get, Result, Ok, Err, Bool, ◌≤◌, ◌<◌}
+use Rattle.sexpr_core.specs.declared.fault.FormFault.{FormFault}
+use Rattle.sexpr_core.specs.Value.{Value, canon, IsShallow, IsWithinLimits}
+use Rattle.sexpr_text.specs.AdvancedForm.{IsTextWithin}
+use Rattle.spki_service.specs.declared.question.Question.{Question}
+use Rattle.spki_tag.specs.declared.fault.TagFault.{TagFault}
+use Rattle.spki_cert.specs.declared.fault.CertFault.{CertFault}
+use Rattle.spki_cert.specs.declared.fault.CertFaultKind.{CertFaultKind}
+use Rattle.spki_cert.specs.declared.fault.CertFaultKind.TheVariants as kinds
+use Rattle.spki_cert.specs.Readings.{DateOf}
+use Rattle.spki_service.specs.declared.question.Part.{Part}
+use Rattle.spki_service.specs.declared.question.Part.TheVariants as parts
+use Rattle.spki_service.specs.declared.question.AskFault.{AskFault}
+use Rattle.spki_service.specs.declared.question.AskFault.TheVariants as faults
+use Rattle.spki_service.specs.declared.question.Moment as of_question
+use Rattle.spki_service.specs.declared.question.Moment.TheVariants as moments
+use Rattle.spki_service.specs.declared.texts.PartText.{PartText}
+use Rattle.spki_service.specs.declared.texts.PartText.TheVariants.{Standing, Made, Malformed}
+use Rattle.spki_service.specs.declared.texts.MomentText.{MomentText}
+use Rattle.spki_service.specs.declared.texts.MomentText.TheVariants as of_moment
+use Rattle.spki_service.specs.declared.texts.Texts.{Texts}
+use Rattle.spki_service.specs.Questions.{RefusesForm, LacksForm, IsDateAt, IsAtNoDate, IsWanted, RefusesWanted, IsNoSequenceFor, IsNoKeyFor, IsNoRequestFor, IsNoDateFor, asked_octets, certificates_in, HasFewStrings, IsAskedCase}
+use Rattle.spki_cert.specs.declared.entry.Entry.{Entry}
+use Rattle.spki_case.specs.Case.{Case, Verified}
+use Rattle.spki_decision.specs.declared.fault.GuardFault.{GuardFault}
+use Rattle.spki_decision.specs.declared.fault.GuardFault.TheVariants.{TooLarge, Memory}
+use Rattle.spki_decision.specs.declared.decision.Decision.{Decision}
+use Rattle.spki_decision.specs.Granted.{IsDecision, AreFoldsOf, IsDated, EndsAtDate, IsFailure, AreFolds}
+use Rattle.spki_decision.specs.Standing.{with_entries, Signed, IsAccepted, asked, every}
+use Rattle.spki_service.specs.AccessLists.{AreEntries, Held}
+use Rattle.spki_service.specs.declared.opened.Opened.{Opened}
+use Rattle.std.proofs.Common.{◌≡◌, ℕ, List, [], Option, Some, None}
+use Rattle.std.specs.List.{AllByRecursion}
+use Rattle.spki_reduce.specs.Reduction.{Tuple}
+use Rattle.spki_decision.specs.declared.reduction.EntryFold.{EntryFold}
+use Rattle.spki_service.specs.declared.failure.Failure.{Failure}
+
+-- ---- the texts of a question's parts
+
+-- the text is the canonical text of a value of the part; or the part has none, and this is the fault of its form
+abbrev pub IsReadAs : (means : Value → Type 0) → (refuses : FormFault → Type 0) → PartText → Type 0
+IsReadAs means refuses (Standing document) = means document × IsWithinLimits document
+IsReadAs means refuses (Made octets) = (v : Value) × means v × IsWithinLimits v × (octets.items ≡ canon v)
+IsReadAs means refuses (Malformed fault) = LacksForm means refuses fault
+
+-- the same for a moment
+abbrev pub IsMomentText : of_question.Moment → MomentText → Type 0
+IsMomentText (moments.Text text) (of_moment.Text part) = IsReadAs (IsTextWithin text.now) (RefusesForm text.now) part
+IsMomentText (moments.Text text) (of_moment.At date) = ⊥
+IsMomentText (moments.Text text) of_moment.Dateless = ⊥
+IsMomentText (moments.Seconds seconds) (of_moment.Text part) = ⊥
+IsMomentText (moments.Seconds seconds) (of_moment.At date) = IsDateAt seconds date
+IsMomentText (moments.Seconds seconds) of_moment.Dateless = IsAtNoDate seconds
+
+-- The texts are those of the question's parts, which have so many octets together.
+pub record IsTextsOf (q : Question) (texts : Texts) : Type 0 where
+  pub sequence : IsReadAs (IsTextWithin q.sequence.now) (RefusesForm q.sequence.now) texts.sequence
+  pub key : IsReadAs (IsTextWithin q.key.now) (RefusesForm q.key.now) texts.key
+  pub request : IsReadAs (IsWanted q.request) (RefusesWanted q.request) texts.request
+  pub moment : IsMomentText q.moment texts.moment
+  pub octets : texts.octets ≡ asked_octets q
+
+-- ---- the value of a part's text
+
+-- a canonical text that was made, unless it is too long
+abbrev pub IsMade : List ℕ → PartText → Type 0
+IsMade octets text = (v : Value) → octets ≡ canon v → IsShallow v → IsReadAs (λ w. w ≡ v) (λ fault. ⊥) text
+
+-- a statement is true of the value of the text
+abbrev pub OfText : PartText → (Value → Type 0) → Type 0
+OfText (Standing document) said = said document
+OfText (Made octets) said = (v : Value) → IsWithinLimits v → octets.items ≡ canon v → said v
+OfText (Malformed fault) said = ⊥
+
+-- the text has no value, for this fault
+abbrev pub HasNone : PartText → FormFault → Type 0
+HasNone (Standing document) fault = ⊥
+HasNone (Made octets) fault = (v : Value) → IsWithinLimits v → octets.items ≡ canon v → ⊥
+HasNone (Malformed form) fault = fault ≡ form
+
+-- ---- faults of a part's text
+
+-- The fault names a part whose text has no value.
+pub record NamesForm (part : Part) (text : PartText) (fault : AskFault) : Type 0 where
+  pub form : FormFault
+  pub named : fault ≡ faults.Form part form
+  pub none : HasNone text form
+
+-- The fault names the part, and its value is refused.
+pub record NamesSequence (fault : AskFault) (v : Value) : Type 0 where
+  pub inner : CertFault
+  pub named : fault ≡ faults.Sequence inner
+  pub refused : IsNoSequenceFor inner v
+
+pub record NamesKey (fault : AskFault) (v : Value) : Type 0 where
+  pub inner : CertFaultKind
+  pub named : fault ≡ faults.Key inner
+  pub refused : IsNoKeyFor inner v
+
+pub record NamesRequest (fault : AskFault) (v : Value) : Type 0 where
+  pub inner : TagFault
+  pub named : fault ≡ faults.Request inner
+  pub refused : IsNoRequestFor inner v
+
+pub record NamesMoment (fault : AskFault) (v : Value) : Type 0 where
+  pub inner : CertFaultKind
+  pub named : fault ≡ faults.Moment inner
+  pub refused : IsNoDateFor inner v
+
+-- What a fault means for the text of a part, except for Memory: it has no value, or its value is refused.
+abbrev pub NamesPart : Part → (AskFault → Value → Type 0) → PartText → AskFault → Type 0
+NamesPart part names text fault = NamesForm part text fault ⊎ OfText text (names fault)
+
+-- the same for the text of a moment, or for its seconds
+abbrev pub NamesDate : MomentText → AskFault → Type 0
+NamesDate (of_moment.Text text) fault = NamesPart parts.Moment NamesMoment text fault
+NamesDate (of_moment.At date) fault = ⊥
+NamesDate of_moment.Dateless fault = fault ≡ faults.Moment kinds.BadDate
+
+-- the date of a moment's text, or of its seconds
+abbrev pub HasDate : MomentText → List ℕ → Type 0
+HasDate (of_moment.Text text) date = OfText text (λ v. DateOf v date)
+HasDate (of_moment.At octets) date = date ≡ octets
+HasDate of_moment.Dateless date = ⊥
+
+-- ---- texts in memory of their own
+
+-- the second text is the first, in memory of its own
+abbrev pub IsCopyOf : PartText → PartText → Type 0
+IsCopyOf (Standing document) (Standing other) = ⊥
+IsCopyOf (Standing document) (Made octets) = octets.items ≡ canon document
+IsCopyOf (Standing document) (Malformed fault) = ⊥
+IsCopyOf (Made octets) text = text ≡ Made octets
+IsCopyOf (Malformed fault) text = text ≡ Malformed fault
+
+-- the same of a moment
+abbrev pub IsMomentCopy : MomentText → MomentText → Type 0
+IsMomentCopy (of_moment.Text text) (of_moment.Text copy) = IsCopyOf text copy
+IsMomentCopy (of_moment.Text text) (of_moment.At date) = ⊥
+IsMomentCopy (of_moment.Text text) of_moment.Dateless = ⊥
+IsMomentCopy (of_moment.At date) copy = copy ≡ of_moment.At date
+IsMomentCopy of_moment.Dateless copy = copy ≡ of_moment.Dateless
+
+-- The second texts are the first, in memory of their own.
+pub record AreCopies (texts copies : Texts) : Type 0 where
+  pub sequence : IsCopyOf texts.sequence copies.sequence
+  pub key : IsCopyOf texts.key copies.key
+  pub request : IsCopyOf texts.request copies.request
+  pub moment : IsMomentCopy texts.moment copies.moment
+  pub octets : copies.octets ≡ texts.octets
+
+-- ---- questions and answers
+
+-- Questions that are put to a guard, and its answers: those for the case of the guard's entries and the question's
+-- parts (RFC 2693, section 6).
+
+-- A question that was read. It has the canonical texts of the guard's entries, the case of the question's parts, which has no entries
+-- of its own, and the guard's limit of the octets of an answer.
+pub record AskedOf : Type 0 where
+  pub texts : List (List ℕ)
+  pub case : Case
+  pub answer : ℕ
+
+-- a statement is true of the question's case with the guard's entries
+abbrev pub OfCase : AskedOf → (Case → Type 0) → Type 0
+OfCase a said = (es : List Entry) → AreEntries a.texts es → said (with_entries a.case es)
+
+-- a decision of the case with the guard's entries: the first entry that is granted, or no if none is
+abbrev pub Decides : Verified → AskedOf → Decision → Type 0
+Decides verified a d = OfCase a (λ c. IsDecision c verified d)
+
+-- An answer is an answer for the case with the guard's entries. Nothing is claimed if memory ran out.
+abbrev pub Answers : {A : Type 0} → (Case → Result A GuardFault → Type 0) → AskedOf → Result A GuardFault → Type 0
+Answers IsAnswer a (Ok answer) = OfCase a (λ c. IsAnswer c (Ok answer))
+Answers IsAnswer a (Err TooLarge) = OfCase a (λ c. IsAnswer c (Err TooLarge))
+Answers IsAnswer a (Err Memory) = Unit {0}
+
+-- What marks accept: the signatures that are listed at a place with a true mark.
+abbrev pub MarksAccept : List Signed → List Bool → Verified
+MarksAccept signed marks key message value =
+    (place : ℕ) × (item : ℕ) × (slice_get marks place ≡ Some true)
+    × (slice_get signed place ≡ Some (record { item = item; key = key; message = message; value = value }))
+
+-- Marks tell what a verifier accepts: the mark at the place of a signature is true exactly if the verifier accepts the signature.
+abbrev pub MarksTell : Verified → List Signed → List Bool → Type 0
+MarksTell verified signed marks =
+    (place : ℕ) (s : Signed) → slice_get signed place ≡ Some s → (slice_get marks place ≡ Some true) ↔ IsAccepted verified s
+
+-- ---- what a question that was read keeps of its texts
+
+-- The texts are read as this question of the guard, whichever question they are the texts of.
+pub record IsReadFrom (held : Held) (texts : Texts) (a : AskedOf) : Type 0 where
+  pub entries : a.texts ≡ held.texts
+  pub is : (q : Question) → IsTextsOf q texts → IsAskedCase q a.case
+  pub policy : a.case.policy ≡ held.policy
+  pub nodes : a.case.most_nodes ≡ held.nodes
+  pub work : a.case.most_work ≡ Some held.work
+  pub answer : a.answer ≡ held.answer
+  pub few : certificates_in a.case.items ≤ held.certificates
+  pub short : (q : Question) → IsTextsOf q texts → HasFewStrings held.words q
+
+-- These are the signatures that a verifier is asked about the texts, and the decision if it accepts all of them.
+pub record IsKeptOf (held : Held) (texts : Texts) (signed : List Signed) (d : Decision) : Type 0 where
+  pub read : AskedOf
+  pub is : IsReadFrom held texts read
+  pub signed_are : signed ≡ asked read.case
+  pub decision_is : Decides every read d
+
+-- ---- questions that own what they need
+
+-- The question is opened for the guard: its texts are kept, and together they have no more octets than the guard's limit. So are the
+-- signatures that a verifier is asked about, and the decision if it accepts all of them.
+pub record IsOpened (held : Held) (q : Question) (o : Opened) : Type 0 where
+  pub guard_is : o.guard ≡ held
+  pub texts : IsTextsOf q o.texts
+  pub short : asked_octets q ≤ held.octets
+  pub kept : IsKeptOf o.guard o.texts o.signed.items o.decision
+
+-- ---- marks for the same signature
+
+-- two signatures are the same question to a verifier: by the same key, over the same message, with the same value
+abbrev pub AskSame : Signed → Signed → Type 0
+AskSame one other = (one.key ≡ other.key) × (one.message ≡ other.message) × (one.value ≡ other.value)
+
+-- no place before `bound` has a true mark for the same signature
+abbrev pub NoneMarked : List Signed → List Bool → Signed → ℕ → Type 0
+NoneMarked signed marks one bound =
+    (place : ℕ) (other : Signed) → place < bound → slice_get marks place ≡ Some true → slice_get signed place ≡ Some other
+    → ¬ AskSame other one
+
+-- ---- what the entries of canonical texts become, each with all certificates (RFC 2693, section 6.3)
+
+-- what the entries of the texts become; the limits of their windows are dates
+abbrev pub AreTextFolds : List (List ℕ) → Case → List Tuple → List EntryFold → Type 0
+AreTextFolds texts c tuples folds =
+    ((es : List Entry) → AreEntries texts es → AreFoldsOf (with_entries c es) tuples folds)
+    × AllByRecursion IsDated folds × AllByRecursion EndsAtDate folds
+
+-- ---- reductions
+
+-- A certificate of the question does not stand, and nothing is put. Or all stand, and this is what the guard's entries become.
+abbrev pub AreReduced : AskedOf → Verified → Option Failure → List EntryFold → Type 0
+AreReduced a verified (Some failure) folds = (folds ≡ []) × OfCase a (λ c. IsFailure c verified failure.item failure.stop)
+AreReduced a verified None folds =
+    OfCase a (λ c. AreFolds c verified folds) × AllByRecursion IsDated folds × AllByRecursion EndsAtDate folds

@@ -1,0 +1,276 @@
+-- Which tag is written as a value, and which is read from it: only one is written so, and the one that is read,
+-- member by member, is its normal form.
+use Rattle.std.proofs.Common.{◌≡◌, ℕ, Bool, true, false, List, ◌++◌, Option, Some, None, refl, sym, ap, rules, ◌≤◌, ◌&&◌, ◌||◌, [], ◌∷◌, ◌∙◌, arith, ◌+◌, map, append_assoc}
+use Rattle.std.specs.Prelude.{codes, if◌then◌else◌}
+use Rattle.std.specs.Str.{bytes_eq}
+use Rattle.std.specs.Cmp.Lexicographic.{other_text}
+use Rattle.sexpr_core.specs.Value.{Values, values, Value, plain, group}
+use Rattle.spki_tag.specs.Tag.{Tag, Tags, Limit, Ordering, alpha, time, date, star, string, prefix, range, list, set, none, more, IsTag, AreTags, tag_value, tag_values, ordering_name, low_values, up_values, starred, tags, contains, contain_each, some_contains, nodes_all, nodes, most_nodes}
+use Rattle.spki_tag.specs.Request as request
+use Rattle.spki_tag.specs.Request.{Request, Requests, IsHead}
+use Rattle.spki_tag.specs.Reading.{IsNormalOf, AreNormal, normal, normals, ReadsAs, spread, set_of, most_read, IsRead, AreRead}
+use Rattle.spki_tag.proofs.NormalForms.{set_of-normal, listed-normal}
+use Rattle.sexpr_core.specs.Value as value
+use Rattle.std.proofs.lemmas.List.{map_push}
+use Rattle.spki_tag.specs.Meet.{listed}
+
+-- ---- one tag is written as a value
+
+-- two words that are not the same
+pub apart : (a b : List ℕ) → false ≡ bytes_eq a b → a ≡ b → ⊥
+apart a b d e = other_text a b d e
+
+-- ---- ranges
+
+ordering_only : (a b : Ordering) → ordering_name a ≡ ordering_name b → a ≡ b
+ordering_only alpha alpha e = refl
+ordering_only time time e = refl
+ordering_only date date e = refl
+ordering_only a b e = absurd (apart _ _ refl e)
+
+low_word_only : (a b : Bool) → (if a then codes "g" else codes "ge") ≡ (if b then codes "g" else codes "ge") → a ≡ b
+low_word_only true false e = absurd (apart (codes "g") (codes "ge") refl e)
+low_word_only false true e = absurd (apart (codes "ge") (codes "g") refl e)
+low_word_only a b e = refl
+
+up_word_only : (a b : Bool) → (if a then codes "l" else codes "le") ≡ (if b then codes "l" else codes "le") → a ≡ b
+up_word_only true false e = absurd (apart (codes "l") (codes "le") refl e)
+up_word_only false true e = absurd (apart (codes "le") (codes "l") refl e)
+up_word_only a b e = refl
+
+low_is_not_up : (a b : Bool) → (if a then codes "g" else codes "ge") ≡ (if b then codes "l" else codes "le") → ⊥
+low_is_not_up true true e = apart (codes "g") (codes "l") refl e
+low_is_not_up true false e = apart (codes "g") (codes "le") refl e
+low_is_not_up false true e = apart (codes "ge") (codes "l") refl e
+low_is_not_up false false e = apart (codes "ge") (codes "le") refl e
+
+same_limit : (k m : Limit) → k.strict ≡ m.strict → k.octets ≡ m.octets → Some k ≡ Some m
+same_limit k m e f = search rules
+
+up_only : (k m : Option Limit) → values (up_values k) ≡ values (up_values m) → k ≡ m
+up_only None None e = refl
+up_only (Some k) (Some m) e = same_limit k m (up_word_only k.strict m.strict cc) cc
+up_only k m e = absurd cc
+
+limits_only : (low up low' up' : Option Limit)
+    → values (low_values low ++ up_values up) ≡ values (low_values low' ++ up_values up')
+    → (low ≡ low') × (up ≡ up')
+limits_only None up None up' e = (refl, up_only up up' e)
+limits_only None (Some u) (Some m) up' e = absurd (low_is_not_up m.strict u.strict (sym cc))
+limits_only (Some k) up None (Some u) e = absurd (low_is_not_up k.strict u.strict cc)
+limits_only (Some k) up (Some m) up' e = (same_limit k m (low_word_only k.strict m.strict cc) cc, up_only up up' cc)
+limits_only low up low' up' e = absurd cc
+
+same_range : (o p : Ordering) (low up low' up' : Option Limit) → o ≡ p → (low ≡ low') × (up ≡ up')
+    → range o low up ≡ range p low' up'
+same_range o p low up low' up' e f = let a = f.0 in let b = f.1 in cc
+
+-- ---- tags
+
+mutual
+  pub tag_only : (t w : Tag) → IsTag t → IsTag w → tag_value w ≡ tag_value t → w ≡ t
+  tag_only star star h k e = refl
+  tag_only (string octets) (string s) h k e = ap string cc
+  tag_only (prefix octets) (prefix s) h k e = ap prefix cc
+  tag_only (range o l u) (range ordering low up) h k e = search (rules, same_range, ordering_only, limits_only)
+  tag_only (list other ts) (list head ws) h k e = search (rules, tags_only ts ws h.1 k.1 cc)
+  tag_only (set ts) (set ws) h k e = ap set (tags_only ts ws h k cc)
+  tag_only t (list head ws) h k e = absurd (k.0 cc)
+  tag_only (list other ts) w h k e = absurd (h.0 (sym cc))
+  tag_only t w h k e = search rules
+
+  pub tags_only : (ts ws : Tags) → AreTags ts → AreTags ws → tag_values ws ≡ tag_values ts → ws ≡ ts
+  tags_only none none h k e = refl
+  tags_only (more t ts) (more w ws) h k e =
+      let a : w ≡ t = tag_only t w h.0 k.0 cc in
+      let b : ws ≡ ts = tags_only ts ws h.1 k.1 cc in
+      cc
+  tags_only ts ws h k e = absurd cc
+
+-- ---- the normal form of a written tag is in normal form, and contains the same requests
+
+-- ---- one of each, in order
+
+abbrev pub AreNormalOf : Tags → List Tag → Type 0
+AreNormalOf none [] = Unit {0}
+AreNormalOf none (t ∷ ts) = ⊥
+AreNormalOf (more w ws) [] = ⊥
+AreNormalOf (more w ws) (t ∷ ts) = IsNormalOf w t × AreNormalOf ws ts
+
+pub AreNormal-of : (ws : Tags) (ts : List Tag) → AreNormalOf ws ts → AreNormal ts
+AreNormal-of none [] h = tt
+AreNormal-of (more w ws) (t ∷ ts) h = (h.0.written, h.0.normal, AreNormal-of ws ts h.1)
+AreNormal-of ws ts h = absurd h
+
+pub nodes_all-of : (ws : Tags) (ts : List Tag) → AreNormalOf ws ts → nodes_all (tags ts) ≤ nodes_all ws
+nodes_all-of none [] h = omega arith
+nodes_all-of (more w ws) (t ∷ ts) h = omega (arith, h.0.no_more, nodes_all-of ws ts h.1)
+nodes_all-of ws ts h = absurd h
+
+some_contains-of : (ws : Tags) (ts : List Tag) (g : Request) → AreNormalOf ws ts
+    → some_contains (tags ts) g ≡ some_contains ws g
+some_contains-of none [] g h = refl
+some_contains-of (more w ws) (t ∷ ts) g h = λ i. h.0.same g i || some_contains-of ws ts g h.1 i
+some_contains-of ws ts g h = absurd h
+
+contain_each-of : (ws : Tags) (ts : List Tag) (gs : Requests) → AreNormalOf ws ts
+    → contain_each (tags ts) gs ≡ contain_each ws gs
+contain_each-of none (t ∷ ts) gs h = absurd h
+contain_each-of (more w ws) [] gs h = absurd h
+contain_each-of (more w ws) (t ∷ ts) (request.more g gs) h = λ i. h.0.same g i && contain_each-of ws ts gs h.1 i
+contain_each-of ws ts gs h = refl
+
+-- the normal form of a set of normal forms is that of the set as it was written
+set-of : (ws : Tags) (ts : List Tag) (t : Tag) → AreNormalOf ws ts → IsNormalOf (set (tags ts)) t → IsNormalOf (set ws) t
+set-of ws ts t h k = search (rules, some_contains-of, nodes_all-of)
+
+-- the same of a list
+list-of : (head : List ℕ) (ws : Tags) (ts : List Tag) (t : Tag) → AreNormalOf ws ts
+    → IsNormalOf (list head (tags ts)) t → IsNormalOf (list head ws) t
+list-of head ws ts t h k = record {
+  written = k.written;
+  normal = k.normal;
+  same = λ g. k.same g ∙ same g;
+  no_more = omega (arith, k.no_more, nodes_all-of ws ts h);
+}
+  where
+    same : (g : Request) → contains (list head (tags ts)) g ≡ contains (list head ws) g
+    same (request.string s) = refl
+    same (request.list requested gs) = ap (λ b. bytes_eq head requested && b) (contain_each-of ws ts gs h)
+
+-- ---- the normal form
+
+mutual
+  pub normal-of : (w : Tag) → IsTag w → IsNormalOf w (normal w)
+  normal-of (list head ws) h = search (rules, normals-of ws h.1, list-of, listed-normal, AreNormal-of)
+  normal-of (set ws) h = search (rules, normals-of ws h, set-of, set_of-normal, AreNormal-of)
+  normal-of w h = record { written = h; normal = refl; same = λ g. refl; no_more = omega arith }
+
+  pub normals-of : (ws : Tags) → AreTags ws → AreNormalOf ws (normals ws)
+  normals-of none h = tt
+  normals-of (more w ws) h = (normal-of w h.0, normals-of ws h.1)
+
+-- one more at the end
+pub normals-push : (ws : List Tag) (w : Tag) → normals (tags (ws ++ w ∷ [])) ≡ normals (tags ws) ++ normal w ∷ []
+normals-push [] w = refl
+normals-push (u ∷ ws) w = ap (λ (ts : List Tag). normal u ∷ ts) (normals-push ws w)
+
+-- ---- readings
+
+-- a value is read as one tag
+pub reading-one : (v : Value) (t u : Tag) → ReadsAs v t → ReadsAs v u → t ≡ u
+reading-one v t u r s = search (rules, tag_only)
+
+-- ---- how large a value is, by which reading ends
+
+abbrev mutual
+  pub weight : Value → ℕ
+  weight (value.string hint octets) = 1
+  weight (value.list vs) = 1 + weights vs
+
+  pub weights : Values → ℕ
+  weights value.none = 0
+  weights (value.more v vs) = weight v + weights vs
+
+-- a member weighs no more than all of them
+pub weight_le-weights : (us : List Value) (v : Value) (vs : List Value) → weight v ≤ weights (values (us ++ v ∷ vs))
+weight_le-weights [] v vs = omega arith
+weight_le-weights (u ∷ us) v vs = omega (arith, weight_le-weights us v vs)
+
+-- ---- which tags are written as a value
+
+-- ---- the members of a list, one after the other
+
+pub AreTags-push : (ts : List Tag) (t : Tag) → AreTags (tags ts) → IsTag t → AreTags (tags (ts ++ t ∷ []))
+AreTags-push [] t p q = (q, tt)
+AreTags-push (u ∷ ts) t p q = (p.0, AreTags-push ts t p.1 q)
+
+pub nodes_all-push : (ts : List Tag) (t : Tag) → nodes_all (tags (ts ++ t ∷ [])) ≡ nodes_all (tags ts) + nodes t
+nodes_all-push [] t = omega arith
+nodes_all-push (u ∷ ts) t = omega (arith, nodes_all-push ts t)
+
+pub tag_values-tags : (ts : List Tag) → tag_values (tags ts) ≡ values (map tag_value ts)
+tag_values-tags [] = refl
+tag_values-tags (t ∷ ts) = ap (value.more (tag_value t)) (tag_values-tags ts)
+
+-- ---- the loop over the members
+
+-- the members so far were read as tags, and these are left
+pub record IsReadSoFar (used : ℕ) (vs : List Value) (ts : List Tag) (counted : ℕ) (left : List Value) : Type 0 where
+  pub ws : List Tag
+  pub written : AreTags (tags ws)
+  pub spelled : map tag_value ws ++ left ≡ vs
+  pub value : ts ≡ normals (tags ws)
+  pub sum : counted ≡ used + nodes_all (tags ws)
+  pub few : counted ≤ most_read
+
+pub so_far_push : (used counted after : ℕ) (vs left further : List Value) (ts : List Tag) (v : Value) (t : Tag)
+    → IsReadSoFar used vs ts counted left → left ≡ v ∷ further → IsRead counted v t after
+    → IsReadSoFar used vs (ts ++ t ∷ []) after further
+so_far_push used counted after vs left further ts v t so_far e r = record {
+  ws = so_far.ws ++ r.w ∷ [];
+  written = AreTags-push so_far.ws r.w so_far.written r.written;
+  spelled =
+      ap (λ (us : List Value). us ++ further) (map_push tag_value so_far.ws r.w)
+      ∙ append_assoc (map tag_value so_far.ws) (tag_value r.w ∷ []) further
+      ∙ ap (λ (x : Value). map tag_value so_far.ws ++ x ∷ further) r.spelled
+      ∙ ap (λ (us : List Value). map tag_value so_far.ws ++ us) (sym e) ∙ so_far.spelled;
+  value = (λ i. so_far.value i ++ r.value i ∷ []) ∙ sym (normals-push so_far.ws r.w);
+  sum = omega (arith, r.counted, so_far.sum, nodes_all-push so_far.ws r.w);
+  few = r.few;
+}
+
+-- ---- what was read
+
+-- a list of members that were read
+pub list_is_read : (used after : ℕ) (head : List ℕ) (vs : List Value) (ts : List Tag) (t : Tag) → IsHead head
+    → AreRead (used + 2) vs ts after → t ≡ listed head ts → IsRead used (group (plain head ∷ vs)) t after
+list_is_read used after head vs ts t h r n = record {
+  w = list head (tags r.ws);
+  written = (h, r.written);
+  spelled = ap (λ us. value.list (value.more (plain head) us)) (tag_values-tags r.ws ∙ ap values r.spelled);
+  value = n ∙ ap (listed head) r.value;
+  counted = omega (arith, r.counted);
+  few = r.few;
+}
+
+-- a set of members that were read
+pub set_is_read : (used after : ℕ) (vs : List Value) (ts : List Tag) (t : Tag) → AreRead (used + 1) vs ts after
+    → t ≡ set_of (spread ts) → IsRead used (starred (codes "set") (values vs)) t after
+set_is_read used after vs ts t r n = record {
+  w = set (tags r.ws);
+  written = r.written;
+  spelled = ap (starred (codes "set")) (tag_values-tags r.ws ∙ ap values r.spelled);
+  value = n ∙ ap (λ us. set_of (spread us)) r.value;
+  counted = omega (arith, r.counted);
+  few = r.few;
+}
+
+each_normal : (used after : ℕ) (vs : List Value) (ts : List Tag) (r : AreRead used vs ts after) → AreNormalOf (tags r.ws) ts
+each_normal used after vs ts r = search (rules, normals-of)
+
+-- few enough nodes for a list or a set of members that were read
+pub members_fit : (used after : ℕ) (vs : List Value) (ts : List Tag) → AreRead used vs ts after
+    → 2 + nodes_all (tags ts) ≤ most_nodes
+members_fit used after vs ts r = omega (arith, r.counted, r.few, nodes_all-of (tags r.ws) ts (each_normal used after vs ts r))
+
+pub members_normal : (used after : ℕ) (vs : List Value) (ts : List Tag) → AreRead used vs ts after → AreNormal ts
+members_normal used after vs ts r = AreNormal-of (tags r.ws) ts (each_normal used after vs ts r)
+
+-- a member that is left weighs no more than all
+pub so_far_weight : (used counted : ℕ) (vs left further : List Value) (ts : List Tag) (v : Value)
+    → IsReadSoFar used vs ts counted left → left ≡ v ∷ further → weight v ≤ weights (values vs)
+so_far_weight used counted vs left further ts v so_far e = search (rules, weight, weights, weight_le-weights)
+
+-- ---- writing
+
+-- a list is written by its head and its members
+pub list_written : (head : List ℕ) (ts : List Tag) (v : Value) (front out : List Value) → v ≡ group out
+    → out ≡ front ++ map tag_value ts → front ≡ plain head ∷ [] → v ≡ tag_value (list head (tags ts))
+list_written head ts v front out e f g = search (rules, tag_values-tags)
+
+-- a set is written by the star, its word and its members
+pub set_written : (ts : List Tag) (v : Value) (front out : List Value) → v ≡ group out
+    → out ≡ front ++ map tag_value ts → front ≡ plain (codes "*") ∷ plain (codes "set") ∷ []
+    → v ≡ tag_value (set (tags ts))
+set_written ts v front out e f g = search (rules, tag_values-tags)
