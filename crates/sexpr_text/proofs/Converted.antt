@@ -149,8 +149,8 @@ module _ (Printed : List ℕ → Type 0) (vs : Values) (behind rest : List ℕ) 
         absurd (canon_differs v (canons us ++ 41 ∷ behind) tail q)
 
     -- the closing parenthesis
-    pub members_end : (h : IsInMembers Printed vs behind rest member) → c ≡ 41 → (tail ≡ behind) × (h.front ≡ adv_all 0 vs)
-    members_end h closing = last_of h.left h.front h.spelled h.whole closing
+    pub printed_end : (h : IsInMembers Printed vs behind rest member) → c ≡ 41 → (tail ≡ behind) × (h.front ≡ adv_all 0 vs)
+    printed_end h closing = last_of h.left h.front h.spelled h.whole closing
 
 -- one member more was printed, with the gap before it
 pub member_printed : (Before Printed : List ℕ → Type 0) (vs us : Values) (v : Value) (behind rest tail : List ℕ) (member : ℕ)

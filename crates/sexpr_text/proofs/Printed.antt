@@ -245,9 +245,9 @@ all_spelled out text v begins e h = subst (λ t. Spells t v) (sym (e ∙ ap (λ 
 -- ---- the canonical text of a value spells it
 
 mutual
-  spelled : (v : Value) → SpellsAs false (canon v) v
-  spelled (string None octets) = inl refl
-  spelled (string (Some hint) octets) = record {
+  canon_spelled : (v : Value) → SpellsAs false (canon v) v
+  canon_spelled (string None octets) = inl refl
+  canon_spelled (string (Some hint) octets) = record {
     as_token = false;
     inside = [];
     hint_text = verbatim hint;
@@ -261,11 +261,11 @@ mutual
     spaces_behind = tt;
     octets_meant = inl refl;
   }
-  spelled (list vs) = (canons vs, refl, refl, members_spelled vs)
+  canon_spelled (list vs) = (canons vs, refl, refl, canons_spelled vs)
 
-  members_spelled : (vs : Values) → SpellsMembers (canons vs) vs
-  members_spelled none = tt
-  members_spelled (more v vs) = ([], false, canon v, canons vs, refl, tt, spelled v, tt, members_spelled vs)
+  canons_spelled : (vs : Values) → SpellsMembers (canons vs) vs
+  canons_spelled none = tt
+  canons_spelled (more v vs) = ([], false, canon v, canons vs, refl, tt, canon_spelled v, tt, canons_spelled vs)
 
 pub canonical_spelled : (v : Value) → Spells (canon v) v
 canonical_spelled v = record {
@@ -275,6 +275,6 @@ canonical_spelled v = record {
   after = [];
   parts = sym (append-nil (canon v));
   spaces_before = tt;
-  spelled = spelled v;
+  spelled = canon_spelled v;
   spaces_after = tt;
 }

@@ -1,5 +1,5 @@
 use Rattle.std.proofs.Common.{[], ◌∷◌, ◌++◌, length, sym, ◌∙◌, ap, append_assoc, arith, rules}
-use Rattle.sexpr_text.proofs.Converted.{opens_list, opens_hint, opens_plain, value_shortens, member_next, member_printed, members_end}
+use Rattle.sexpr_text.proofs.Converted.{opens_list, opens_hint, opens_plain, value_shortens, member_next, member_printed, printed_end}
 use Rattle.sexpr_text.proofs.Printed.{in_two, in_three}
 use Rattle.sexpr_text.proofs.canonical_printer.+printing.Goals as goal
 
@@ -42,7 +42,7 @@ print_first-returns-in_default-first g t c v behind e =
 pub print_members-returns-then-octet-eq41 : goal.print_members-returns-then-octet-eq41
 print_members-returns-then-octet-eq41 g t c vs behind e =
     let h = c.loop-octet.invariant.1 vs behind e in
-    let (tail, front) = members_end _ vs behind _ _ _ _ c.in-Some.ensures.cases.0 h c.if-octet-eq41.true in
+    let (tail, front) = printed_end _ vs behind _ _ _ _ c.in-Some.ensures.cases.0 h c.if-octet-eq41.true in
     (in_two g.S.Sink.takes g.met.S.Sink.both _ h.printed c.put_octet-then-octet-eq41.ensures (ap (λ f. 40 ∷ (f ++ 41 ∷ [])) front), tail)
 
 pub print_members-print_first-rest-requires : goal.print_members-print_first-rest-requires
