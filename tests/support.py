@@ -6,10 +6,12 @@ import base64
 import importlib.machinery
 import importlib.util
 import os
+import re
 import shutil
 import subprocess
 import sys
-from collections.abc import Callable
+import time
+from collections.abc import Callable, Iterable
 from typing import Any
 
 TOP = os.path.realpath(os.path.join(os.path.dirname(os.path.abspath(__file__)), ".."))
@@ -26,10 +28,12 @@ LIBRARY = os.path.join(TOP, "crates", "spki_c", "out", "libspki_c.a")
 ARM, ON_ARM = "aarch64-unknown-linux-gnu", ["qemu-aarch64", "-L", "/usr/aarch64-linux-gnu"]
 COMMANDS = ("canonical", "advanced", "transport", "intersect", "reduce", "check", "explain")
 SECONDS, SECONDS_TO_COMPILE = 120, 900
+# What `rt ci` says of a crate that it has proved, or that it proved on this machine before.
+PROVED = re.compile(r"^rt: (\w+) (?:proved$|is kept:)", re.MULTILINE)
 
 __all__ = ["ARM", "BENCH", "COMMANDS", "EXAMPLES", "LIBRARY", "ON_ARM", "PROGRAM", "SECONDS", "TESTS", "TOP", "braced", "canonical",
            "given_program", "group", "is_compiled", "loaded", "on_one_line", "output_of", "read", "run", "string", "tables_here", "text_of",
-           "toolchain"]
+           "toolchain", "wait_until_proved"]
 
 
 def given_program(place=1):
@@ -98,3 +102,13 @@ def loaded(path):
 def toolchain():
     """The toolchain's own commands."""
     return loaded(os.path.realpath(shutil.which("rt") or sys.exit("rt is not in the path")))
+
+
+def wait_until_proved(crates: Iterable[str], lines: str) -> None:
+    """Waits until a file with the lines of `rt ci`, which runs, says that each of these crates is proved."""
+    left = set(crates)
+    while left:
+        with open(lines, encoding="utf-8", errors="replace") as file:
+            left -= set(PROVED.findall(file.read()))
+        if left:
+            time.sleep(1)
