@@ -108,4 +108,4 @@ TakesReasons start folds sink = start.reasons.items ≡ []
     → (sink.case ≡ start.case) × AllZip (IsReasonFor (model start.case.now)) folds sink.reasons.items
 
 pub no_reasons : (sink : ReasonSink) → TakesReasons sink [] sink
-no_reasons sink none = (refl, rw none tt)
+no_reasons sink empty = (refl, rw empty tt)
