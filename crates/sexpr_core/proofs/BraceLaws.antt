@@ -12,12 +12,12 @@ use Rattle.base64.specs.declared.decode.DecodeAllocError.{DecodeAllocError}
 use Rattle.base64.specs.declared.decode.DecodeAllocError.TheVariants.{DecodeError as Failed}
 use Rattle.base64.proofs.RoundTrip.{length-encode_symbols}
 use Rattle.sexpr_core.specs.Reading.{visible, is_symbol, is_body_octet, AreBodyOctets, IsBase64, StandsAt, AreSpaces, Skips, Braced, IsBraced, IsBracedWithin, ReadsBase64, PackedAt, transport, IsFaultAt, RefusesBody, IsTrailingBehind, RefusesPart, BracesDeep, IsShallowBraced, Begins, StopsAt}
-use Rattle.sexpr_core.proofs.Spans.{no_space, Agree, agree, spelled_too, stands_too, skips_too, long_too, front_is, one_body, same_body, gathers_to_too, one_end}
+use Rattle.sexpr_core.proofs.Spans.{no_space, stops_here, stops_later, Agree, spelled_too, stands_too, skips_too, long_too, front_is, one_body, same_body, gathers_to_too, one_end}
 use Rattle.sexpr_core.proofs.Texts.{all-append, all_front}
 use Rattle.std.proofs.lemmas.List.Sums.{length-filter, count_by-le-length}
 use Rattle.base64.proofs.EngineFacts.{decode_of-encode_of}
 use Rattle.sexpr_core.specs.declared.fault.FormFault.{FormFault}
-use Rattle.sexpr_core.specs.declared.fault.FormFault.TheVariants.{TooLong, TooDeep, Short, Bad, Trailing, Memory}
+use Rattle.sexpr_core.specs.declared.fault.FormFault.TheVariants.{TooLong, TooDeep, Bad, Trailing, Memory}
 use Rattle.sexpr_core.specs.Value.{Value, canon, plain, verbatim, decimal, IsWithinLimits, octet_limit}
 use Rattle.sexpr_core.specs.Inner.Gathering.{GathersTo, BodyAt}
 use Rattle.sexpr_core.proofs.Prefix.{RefusesPart-less}
@@ -174,39 +174,26 @@ read_short text at mark to octets few r =
 
 reads_too : (text other : List ℕ) (k at mark to : ℕ) (octets : List ℕ) → Agree text other k → to ≤ k + 1 → ReadsBase64 text at mark octets to
     → ReadsBase64 other at mark octets to
-reads_too text other k at mark to octets a le r = record {
-  body = r.body;
-  spelled =
-      spelled_too text other k at to (r.body ++ mark ∷ []) a (omega (arith, r.goes_on)) le (r.spelled ∙ sym (append_assoc r.body (mark ∷ []) (drop to text)))
-      ∙ append_assoc r.body (mark ∷ []) (drop to other);
-  packed = r.packed;
-  goes_on = r.goes_on;
-  within = omega (arith, long_too text other k a);
-}
+reads_too text other k at mark to octets a le r =
+    let e = spelled_too text other k at to (r.body ++ mark ∷ []) a (omega (arith, r.goes_on)) le (r.spelled ∙ sym (append_assoc r.body (mark ∷ []) (drop to text)))
+    ∙ append_assoc r.body (mark ∷ []) (drop to other) in
+    search (rules, e, long_too text other k a)
 
 packed_stops : (text : List ℕ) (at mark to : ℕ) (symbols : List ℕ) → GathersTo text at mark symbols to → is_body_octet mark ≡ false
     → ((octets : List ℕ) → IsBase64 symbols octets → ⊥) → StopsAt (PackedAt at mark) text at (to - 1)
-packed_stops text at mark to symbols g apart never = record {
-  behind = omega (arith, g.goes_on);
-  within = omega (arith, g.goes_on, g.within);
-  none = λ b.
-      let other = take (to - 1 + 1) text ++ b.rest in
-      let w : PackedAt at mark other = b.whole in
-      let a : Agree text other (to - 1) = agree text (to - 1) b.rest (omega (arith, g.goes_on, g.within)) in
-      let same = same_body other at mark to symbols w.body w.rest (gathers_to_too text other (to - 1) at mark to symbols a (omega (arith, g.goes_on)) g) apart
-      (body_octets w.body w.octets w.packed) w.spelled in
-      never w.octets (subst (λ s. IsBase64 s w.octets) (sym same.0) w.packed);
-}
+packed_stops text at mark to symbols g apart never =
+    stops_here (PackedAt at mark) text at (to - 1) (omega (arith, g.goes_on)) (omega (arith, g.goes_on, g.within)) (λ other a w.
+    let same = same_body other at mark to symbols w.body w.rest (gathers_to_too text other (to - 1) at mark to symbols a (omega (arith, g.goes_on)) g) apart
+    (body_octets w.body w.octets w.packed) w.spelled in
+    never w.octets (subst (λ s. IsBase64 s w.octets) (sym same.0) w.packed))
 
 -- what is gathered is no base64
 pub packed_refused : (text : List ℕ) (at mark to : ℕ) (symbols : List ℕ) (fault : FormFault) → GathersTo text at mark symbols to → is_body_octet mark ≡ false
     → IsFaultAt (to - 1) fault → ((octets : List ℕ) → IsBase64 symbols octets → fault ≡ Memory) → RefusesPart (PackedAt at mark) text at fault
-packed_refused text at mark to symbols Short g apart is only = tt
 packed_refused text at mark to symbols (Bad k) g apart is only =
     subst (λ n. StopsAt (PackedAt at mark) text at n) (sym is)
     (packed_stops text at mark to symbols g apart (λ octets b. let e : Bad k ≡ Memory = only octets b in cc))
-packed_refused text at mark to symbols Memory g apart is only = tt
-packed_refused text at mark to symbols _ g apart is only = is
+packed_refused text at mark to symbols _ g apart is only = search rules
 
 -- what is gathered is no body
 pub body_not_packed : (text : List ℕ) (at mark : ℕ) (fault : FormFault) → RefusesPart (BodyAt at mark) text at fault → RefusesPart (PackedAt at mark) text at fault
@@ -224,56 +211,36 @@ BraceFault text _ = Unit {0}
 
 -- another first octet than a brace
 pub not_opened : (text : List ℕ) (begin c : ℕ) → Skips text 0 begin → StandsAt text begin c → (c ≡ 123 → ⊥) → BraceFault text (Bad begin)
-not_opened text begin c s stands apart = (
-  stands.within,
-  λ b.
-      let other = take (begin + 1) text ++ b.rest in
-      let w : IsBraced other = b.whole in
-      let a : Agree text other begin = agree text begin b.rest stands.within in
-      apart (opens other begin c w.value (skips_too text other begin 0 begin a (omega arith) s) (stands_too text other begin begin c a (omega arith) stands) w.braced),
-)
+not_opened text begin c s stands apart =
+    let h = stops_here IsBraced text begin begin (omega arith) stands.within (λ other a w. apart (opens other begin c w.value
+    (skips_too text other begin 0 begin a (omega arith) s) (stands_too text other begin begin c a (omega arith) stands) w.braced)) in
+    (h.within, h.none)
 
 -- a body that is no base64
 pub body_missed : (text : List ℕ) (begin c : ℕ) (fault : FormFault) → Skips text 0 begin → StandsAt text begin c
     → RefusesPart (PackedAt (begin + 1) 125) text (begin + 1) fault → BraceFault text fault
-body_missed text begin c Short s stands h = tt
-body_missed text begin c (Bad k) s stands h = (
-  h.within,
-  λ b.
-      let other = take (k + 1) text ++ b.rest in
-      let w : IsBraced other = b.whole in
-      let a : Agree text other k = agree text k b.rest h.within in
-      let e = body_is other begin c w.value (skips_too text other k 0 begin a (omega (arith, h.behind)) s) (stands_too text other k begin c a (omega (arith, h.behind)) stands) w.braced in
-      h.none (record { rest = b.rest; whole = record { body = w.braced.body; rest = w.braced.after; octets = canon w.value; spelled = e; packed = w.braced.packed } }),
-)
-body_missed text begin c Memory s stands h = tt
-body_missed text begin c _ s stands h = absurd h
+body_missed text begin c (Bad k) s stands h =
+    let r = stops_later IsBraced (PackedAt (begin + 1) 125) text (begin + 1) (begin + 1) k (omega arith) (λ other n a le w.
+    let e = body_is other begin c w.value (skips_too text other n 0 begin a (omega arith) s) (stands_too text other n begin c a (omega arith) stands) w.braced in
+    record { body = w.braced.body; rest = w.braced.after; octets = canon w.value; spelled = e; packed = w.braced.packed }) h in
+    (r.within, r.none)
+body_missed text begin c _ s stands h = search rules
 
 -- a body of octets that are no canonical text
 pub body_unread : (text : List ℕ) (begin c to : ℕ) (octets : List ℕ) (fault : FormFault) → Skips text 0 begin → StandsAt text begin c → c ≡ 123
     → ReadsBase64 text (begin + 1) 125 octets to → RefusesBody octets (to - 1) fault → BraceFault text fault
-body_unread text begin c to octets TooDeep s stands e r h = search rules
-body_unread text begin c to octets Short s stands e r h = tt
 body_unread text begin c to octets (Bad k) s stands e r h =
     let last : k ≡ to - 1 = h.0 in
-    let lt : k < length text = omega (arith, last, r.goes_on, r.within) in (
-      lt,
-      λ b.
-          let other = take (k + 1) text ++ b.rest in
-          let w : IsBraced other = b.whole in
-          let a : Agree text other k = agree text k b.rest lt in
-          let f = body_is other begin c w.value (skips_too text other k 0 begin a (omega (arith, last, r.goes_on)) s) (stands_too text other k begin c a (omega (arith, last, r.goes_on)) stands) w.braced in
-          let once = read_once other (begin + 1) 125 to octets w.braced.body w.braced.after (canon w.value)
-          (reads_too text other k (begin + 1) 125 to octets a (omega (arith, last, r.goes_on)) r) refl w.braced.packed f in
-          h.1 w.value once.0,
-    )
-body_unread text begin c to octets Memory s stands e r h = tt
-body_unread text begin c to octets _ s stands e r h = absurd h
+    let z = stops_here IsBraced text begin k (omega (arith, last, r.goes_on)) (omega (arith, last, r.goes_on, r.within)) (λ other a w.
+    let f = body_is other begin c w.value (skips_too text other k 0 begin a (omega (arith, last, r.goes_on)) s) (stands_too text other k begin c a (omega (arith, last, r.goes_on)) stands) w.braced in
+    h.1 w.value (read_once other (begin + 1) 125 to octets w.braced.body w.braced.after (canon w.value)
+    (reads_too text other k (begin + 1) 125 to octets a (omega (arith, last, r.goes_on)) r) refl w.braced.packed f).0) in
+    (z.within, z.none)
+body_unread text begin c to octets _ s stands e r h = search rules
 
 -- an octet behind the closing brace and whitespace
 pub braced_before : (text : List ℕ) (begin c to : ℕ) (octets : List ℕ) (fault : FormFault) → length text ≤ 1048576 → Skips text 0 begin → StandsAt text begin c → c ≡ 123
     → ReadsBase64 text (begin + 1) 125 octets to → ((v : Value) × (octets ≡ canon v) × IsWithinLimits v) → IsTrailingBehind text to fault → BraceFault text fault
-braced_before text begin c to octets Short few s stands e r v h = tt
 braced_before text begin c to octets (Trailing k) few s stands e r v h =
     let behind : Skips text to k = h.1 in
     let front = s.spaces ++ 123 ∷ (r.body ++ 125 ∷ behind.spaces) in
@@ -281,8 +248,7 @@ braced_before text begin c to octets (Trailing k) few s stands e r v h =
     s.spelled ∙ ap (λ t. s.spaces ++ t) (stands.spelled ∙ ap (λ n. n ∷ drop (begin + 1) text) e ∙ ap (λ t. 123 ∷ t) (r.spelled ∙ ap (λ t. r.body ++ 125 ∷ t) behind.spelled)) ∙ simp append_assoc in
     let taken : take k text ≡ front = front_is text front k whole behind.within in
     search (rules, length-take-le)
-braced_before text begin c to octets Memory few s stands e r v h = tt
-braced_before text begin c to octets _ few s stands e r v h = absurd h
+braced_before text begin c to octets _ few s stands e r v h = search rules
 
 -- whitespace begins a text in braces
 empty_octets : IsBytes (canon (plain []))

@@ -1,7 +1,8 @@
 -- The refusals of a text in braces: it has at most one that speaks of its form, and where the reader meets a fault,
 -- its refusal holds.
-use Rattle.std.proofs.Common.{◌≡◌, ℕ, zero, suc, ◌+◌, ◌-◌, ◌<◌, ◌≤◌, false, ◌⊎◌, inl, inr, List, [], ◌∷◌, ◌++◌, length, take, refl, sym, ◌∙◌, ap, subst, arith, append-nil, append_assoc, length-append, rules, drop, length-drop}
+use Rattle.std.proofs.Common.{◌≡◌, ℕ, ◌+◌, ◌-◌, ◌<◌, ◌≤◌, false, ◌⊎◌, inl, inr, List, [], ◌∷◌, ◌++◌, length, take, refl, sym, ◌∙◌, ap, subst, arith, append-nil, append_assoc, length-append, rules, drop, length-drop}
 use Rattle.std.proofs.lemmas.List.{take_at, take-append-drop, drop_at, drop-drop, take_all}
+use Rattle.std.proofs.Math.Seq.{take-append-add}
 use Rattle.std.proofs.lemmas.Bool.{cases_order}
 use Rattle.sexpr_core.specs.declared.fault.FormFault.{FormFault}
 use Rattle.sexpr_core.specs.declared.fault.FormFault.TheVariants.{Bad, Trailing, TooDeep, Short, Memory}
@@ -89,38 +90,21 @@ record Closes (text : List ℕ) : Type 0 where
   before_is : OpensBraces (take place text)
   behind_is : (n : ℕ) → place < n → BracesDeep (take n text)
 
-take_later : (a b : List ℕ) (n : ℕ) → length a ≤ n → take n (a ++ b) ≡ a ++ take (n - length a) b
-take_later [] b n h = let e : n - 0 ≡ n = omega arith in sym (ap (λ k. take k b) e)
-take_later (x ∷ xs) b zero h = absurd (omega arith)
-take_later (x ∷ xs) b (suc n) h = search (rules, take_later xs b n (omega arith))
-
 closes : (text : List ℕ) → BracesDeep text → Closes text
 closes text d =
     let front : List ℕ = d.before ++ 123 ∷ d.body in
     let all : text ≡ front ++ 125 ∷ d.after = d.parts ∙ sym (append_assoc d.before (123 ∷ d.body) (125 ∷ d.after)) in
     let shut : List ℕ = front ++ 125 ∷ [] in
     let more : text ≡ shut ++ d.after = all ∙ sym (append_assoc front (125 ∷ []) d.after) in
+    let upto : take (length front) text ≡ front = ap (take (length front)) all ∙ take_at front (125 ∷ d.after) (length front) refl in
     record {
       place = length front;
-      before_is = record {
-        before = d.before;
-        body = d.body;
-        parts = ap (take (length front)) all ∙ take_at front (125 ∷ d.after) (length front) refl;
-        spaces_before = d.spaces_before;
-        symbols = body_octets d.body d.octets d.packed;
-      };
-      behind_is = λ n h. record {
-        before = d.before;
-        body = d.body;
-        after = take (n - length shut) d.after;
-        octets = d.octets;
-        parts =
-            ap (take n) more ∙ take_later shut d.after n (omega (arith, length-append front (125 ∷ [])))
-            ∙ append_assoc front (125 ∷ []) (take (n - length shut) d.after) ∙ append_assoc d.before (123 ∷ d.body) (125 ∷ take (n - length shut) d.after);
-        spaces_before = d.spaces_before;
-        packed = d.packed;
-        deep = d.deep;
-      };
+      before_is = search (rules, upto, body_octets d.body d.octets d.packed);
+      behind_is = λ n h.
+          let past : n ≡ length shut + (n - length shut) = omega (arith, length-append front (125 ∷ [])) in
+          let e : take n text ≡ d.before ++ 123 ∷ (d.body ++ 125 ∷ take (n - length shut) d.after) =
+          ap (take n) more ∙ ap (λ k. take k (shut ++ d.after)) past ∙ take-append-add shut d.after (n - length shut) ∙ simp append_assoc refl in
+          search (rules, e);
     }
 
 -- ---- the place at which nothing goes on
@@ -204,7 +188,7 @@ spaces_unbraced xs v h b =
 other_first : (xs : List ℕ) (c : ℕ) (b r : List ℕ) → AreSpaces xs → is_whitespace c ≡ false → (c ≡ 123 → ⊥) → AreSpaces b → xs ++ c ∷ [] ≡ b ++ 123 ∷ r → ⊥
 other_first xs c b r h v apart k e = apart (head_is c 123 [] r (one_end xs b (c ∷ []) (123 ∷ r) h k v refl e).1)
 
-one_more : (text : List ℕ) (k c : ℕ) (front : List ℕ) → StandsAt text k c → take k text ≡ front → take (k + 1) text ≡ front ++ c ∷ []
+pub one_more : (text : List ℕ) (k c : ℕ) (front : List ℕ) → StandsAt text k c → take k text ≡ front → take (k + 1) text ≡ front ++ c ∷ []
 one_more text k c front s e =
     front_is text (front ++ c ∷ []) (k + 1)
     (sym (take-append-drop k text) ∙ ap (λ t. t ++ drop k text) e ∙ ap (λ t. front ++ t) s.spelled ∙ sym (append_assoc front (c ∷ []) (drop (k + 1) text)))
@@ -269,23 +253,15 @@ body_end text begin c (Bad k) s o e h r b only =
     let same = stopped_at text begin k h.1.0 s opens passed stands in
     let q = deep_body s.spaces passed.body (take (k + 1) text) h.1.0 s.are_spaces passed.octets h.1.2 same d in
     r.none (packed_there text (take (k + 1) text) passed.body begin d.octets s q.0 (same ∙ ap (λ n. s.spaces ++ 123 ∷ (passed.body ++ n ∷ [])) q.1))) b.1
-body_end text begin c Memory s o e h r b only = tt
-body_end text begin c _ s o e h r b only = absurd h
+body_end text begin c _ s o e h r b only = search rules
 
 -- what was read of a body
 abbrev gathered : (text : List ℕ) (at to : ℕ) (octets : List ℕ) → (r : ReadsBase64 text at 125 octets to) → GathersTo text at 125 (visible r.body) to
-gathered text at to octets r = record {
-  body = r.body;
-  octets = body_octets r.body octets r.packed;
-  spelled = r.spelled;
-  kept = refl;
-  goes_on = r.goes_on;
-  within = r.within;
-}
+gathered text at to octets r =
+    record { body = r.body; octets = body_octets r.body octets r.packed; spelled = r.spelled; kept = refl; goes_on = r.goes_on; within = r.within }
 
 pub octets_end : (text : List ℕ) (begin c to : ℕ) (octets : List ℕ) (fault : FormFault) → Skips text 0 begin → StandsAt text begin c → c ≡ 123
     → ReadsBase64 text (begin + 1) 125 octets to → RefusesBody octets (to - 1) fault → BraceFault text fault → RefusesBraces text fault
-octets_end text begin c to octets TooDeep s o e r h b = b
 octets_end text begin c to octets (Bad k) s o e r h b =
     let opens = subst (StandsAt text begin) e o in
     let g = gathered text (begin + 1) to octets r in
@@ -300,8 +276,7 @@ octets_end text begin c to octets (Bad k) s o e r h b =
     ap (λ m. take m text) n ∙ front_at text (r.body ++ 125 ∷ []) begin to s opens (r.spelled ∙ sym (append_assoc r.body (125 ∷ []) (drop to text))) r.within in
     let q = deep_body s.spaces r.body (take (k + 1) text) 125 s.are_spaces g.octets refl whole d in
     h.2 (subst (λ x. Refused x TooDeep) (sym (one_packed (visible r.body) octets d.octets r.packed q.0)) d.deep)) b.1
-octets_end text begin c to octets Memory s o e r h b = tt
-octets_end text begin c to octets _ s o e r h b = absurd h
+octets_end text begin c to octets _ s o e r h b = search rules
 
 pub stands_there : (text : List ℕ) (k : ℕ) → k < length text → (c : ℕ) × StandsAt text k c
 stands_there text k lt = begins (drop k text) refl
@@ -338,5 +313,4 @@ behind_stops text begin to k octets s o r t lt g =
 pub behind_end : (text : List ℕ) (begin c to : ℕ) (octets : List ℕ) (fault : FormFault) → Skips text 0 begin → StandsAt text begin c → c ≡ 123
     → ReadsBase64 text (begin + 1) 125 octets to → IsTrailingBehind text to fault → BraceFault text fault → RefusesBraces text fault
 behind_end text begin c to octets (Trailing k) s o e r h b = (b.0, b.1, behind_stops text begin to k octets s (subst (StandsAt text begin) e o) r h.1 h.0)
-behind_end text begin c to octets Memory s o e r h b = tt
-behind_end text begin c to octets _ s o e r h b = absurd h
+behind_end text begin c to octets _ s o e r h b = search rules

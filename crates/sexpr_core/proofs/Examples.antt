@@ -66,5 +66,5 @@ leading_zero : Refused (codes "03:abc") (Bad 1)
 unfolding decimal
 leading_zero =
     refused (codes "03:abc") (Bad 1)
-    (plain_fault 64 0 48 (codes "3:abc") (Bad 1) (omega arith, omega arith)
+    (plain_fault 64 0 48 (codes "03:abc") (codes "3:abc") (Bad 1) refl (omega arith, omega arith)
     (verbatim_fault 0 (codes "03:abc") (Bad 1) (length_zero 0 51 (codes "03:abc") (codes ":abc") refl (λ e. omega arith))))

@@ -3,12 +3,12 @@ use Rattle.std.proofs.Common.{◌≡◌, ℕ, suc, ◌+◌, ◌-◌, ◌<◌, �
 use Rattle.std.proofs.lemmas.List.{length-replicate}
 use Rattle.std.proofs.Math.Seq.{take-append-add, take-append_seam}
 use Rattle.sexpr_core.specs.declared.fault.FormFault.{FormFault}
-use Rattle.sexpr_core.specs.declared.fault.FormFault.TheVariants.{TooDeep, Short, Bad}
+use Rattle.sexpr_core.specs.declared.fault.FormFault.TheVariants.{Short, Bad}
 use Rattle.sexpr_core.specs.Value.{Value, Values, string, list, none, decimal, verbatim, canon, canons, depths}
 use Rattle.sexpr_core.specs.Reading.{Front, IsCanon, IsCanonWithin, IsMembers, IsMembersWithin, IsVerbatim, IsClosing, IsLength}
-use Rattle.sexpr_core.specs.Inner.PartFaults.{Barred, FaultAt}
+use Rattle.sexpr_core.specs.Inner.PartFaults.{Barred, IsDeep, FaultAt}
 use Rattle.sexpr_core.proofs.Prefix.{FaultAt-head, FaultAt-tail, FaultAt-from, FaultAt-first, Front-none}
-use Rattle.sexpr_core.proofs.Texts.{IsDigit, AreDigits-decimal, parts_agree, zero_ends, decimal_starts, IsFilled, IsFilledWithin, IsHinted, verbatim_is, verbatim_differs, colon_no_digit, Opens-verbatim, Opens-hinted, Behind-hint, Behind-closing, Behind-bracket, Behind-bracket_within, From-digit, From-digit_within}
+use Rattle.sexpr_core.proofs.Texts.{IsDigit, AreDigits-decimal, parts_agree, head_is, zero_once, decimal_starts, IsFilled, IsFilledWithin, IsHinted, verbatim_is, verbatim_differs, colon_no_digit, Opens-verbatim, Opens-hinted, Behind-hint, Behind-closing, Behind-bracket, Behind-bracket_within, From-digit, From-digit_within}
 use Rattle.sexpr_core.proofs.ListTexts.{Behind-members, Behind-members_within, Behind-open, Behind-open_within, closed_within, From-filled, From-filled_within, Opens-filled, Opens-filled_within}
 
 some_append : (xs ys : List ℕ) → 0 < length ys → 0 < length (xs ++ ys)
@@ -16,22 +16,22 @@ some_append xs ys h = omega (arith, length-append xs ys)
 
 -- ---- a length
 
-pub length_ended : (at : ℕ) → FaultAt IsLength IsLength at [] Short
-length_ended at =
-    Front-none IsLength (decimal 0 ++ 58 ∷ []) (some_append (decimal 0) (58 ∷ []) (omega arith)) (record { number = 0; is = refl })
+pub length_ended : (xs : List ℕ) → xs ≡ [] → Front IsLength xs
+length_ended xs e =
+    Front-none IsLength (decimal 0 ++ 58 ∷ []) xs e (some_append (decimal 0) (58 ∷ []) (omega arith)) (record { number = 0; is = refl })
 
 length_begins : (n x y : _) (c : ℕ) → c ∷ x ≡ decimal n ++ y → IsDigit c
 length_begins n x y c e = search (rules, decimal_starts n)
 
-pub length_first : (at c : ℕ) (ys : List ℕ) → (IsDigit c → ⊥) → FaultAt IsLength IsLength at (c ∷ ys) (Bad at)
-length_first at c ys h = FaultAt-first IsLength IsLength at c ys (length_ended at)
+pub length_first : (at c : ℕ) (xs ys : List ℕ) → xs ≡ c ∷ ys → (IsDigit c → ⊥) → FaultAt IsLength IsLength at xs (Bad at)
+length_first at c xs ys q h = FaultAt-first IsLength IsLength at c xs ys q (length_ended [] refl)
     (λ t x y is e. h (length_begins is.number x (58 ∷ [] ++ y) c (e ∙ ap (λ s. s ++ y) is.is ∙ append_assoc (decimal is.number) (58 ∷ []) y)))
 
-pub length_short : (at n : ℕ) (xs : List ℕ) → xs ≡ decimal n ++ [] → FaultAt IsLength IsLength at xs Short
-length_short at n xs e = record {
+pub length_short : (n : ℕ) (xs ys : List ℕ) → xs ≡ decimal n ++ ys → ys ≡ [] → Front IsLength xs
+length_short n xs ys e f = record {
   rest = 58 ∷ [];
   some = omega arith;
-  whole = record { number = n; is = ap (λ t. t ++ 58 ∷ []) (e ∙ append-nil (decimal n)) };
+  whole = record { number = n; is = ap (λ t. t ++ 58 ∷ []) (e ∙ ap (λ t. decimal n ++ t) f ∙ append-nil (decimal n)) };
 }
 
 -- the octet c can't stand behind the digits of n
@@ -73,7 +73,7 @@ pub length_zero :
     (at c : ℕ) (xs ys : List ℕ) → xs ≡ decimal 0 ++ c ∷ ys → (c ≡ 58 → ⊥) →
     FaultAt IsLength IsLength at xs (Bad (at + length (decimal 0)))
 unfolding CannotFollow
-length_zero at c xs ys e nc = length_stop at 0 c xs ys e (λ m x y q. nc (zero_ends m c x y q))
+length_zero at c xs ys e nc = length_stop at 0 c xs ys e (λ m x y q. nc (head_is c 58 x y (zero_once m 58 (c ∷ x) y q).1))
 
 -- ---- a string in verbatim form
 
@@ -93,10 +93,7 @@ verbatim_short at n xs ys e h =
       some = omega arith;
       whole = record {
         octets = ys ++ replicate (n - length ys) 0;
-        is = ap (λ t. t ++ replicate (n - length ys) 0) e
-            ∙ append_assoc (decimal n) (58 ∷ ys) (replicate (n - length ys) 0)
-            ∙ ap (λ k. decimal k ++ 58 ∷ (ys ++ replicate (n - length ys) 0)) (sym whole)
-            ∙ sym (verbatim_is (ys ++ replicate (n - length ys) 0));
+        is = rw (e, verbatim_is (ys ++ replicate (n - length ys) 0), whole) (simp append_assoc refl);
       };
     }
 
@@ -105,17 +102,17 @@ verbatim_none octets = search (rules, verbatim_is, some_append)
 
 -- ---- behind a hint
 
-pub closing_ended : (at : ℕ) → FaultAt IsClosing IsClosing at [] Short
-closing_ended at = Front-none IsClosing (93 ∷ verbatim []) (omega arith) (record { octets = []; is = refl })
+pub closing_ended : (xs : List ℕ) → xs ≡ [] → Front IsClosing xs
+closing_ended xs e = Front-none IsClosing (93 ∷ verbatim []) xs e (omega arith) (record { octets = []; is = refl })
 
-pub closing_first : (at c : ℕ) (ys : List ℕ) → (c ≡ 93 → ⊥) → FaultAt IsClosing IsClosing at (c ∷ ys) (Bad at)
-closing_first at c ys h = FaultAt-first IsClosing IsClosing at c ys (closing_ended at)
+pub closing_first : (at c : ℕ) (xs ys : List ℕ) → xs ≡ c ∷ ys → (c ≡ 93 → ⊥) → FaultAt IsClosing IsClosing at xs (Bad at)
+closing_first at c xs ys q h = FaultAt-first IsClosing IsClosing at c xs ys q (closing_ended [] refl)
     (λ t x y is e. let q : c ∷ x ≡ 93 ∷ (verbatim is.octets ++ y) = e ∙ ap (λ s. s ++ y) is.is in h cc)
 
 pub closing_fault :
-    (at : ℕ) (ys : List ℕ) (e : FormFault) → FaultAt IsVerbatim IsVerbatim (at + 1) ys e →
-    FaultAt IsClosing IsClosing at (93 ∷ ys) e
-closing_fault at ys e h = search (rules, FaultAt-tail IsClosing IsVerbatim IsClosing IsVerbatim at (93 ∷ []) ys e Behind-closing Behind-closing h)
+    (at : ℕ) (xs ys : List ℕ) (e : FormFault) → xs ≡ 93 ∷ ys → FaultAt IsVerbatim IsVerbatim (at + 1) ys e →
+    FaultAt IsClosing IsClosing at xs e
+closing_fault at xs ys e q h = FaultAt-tail IsClosing IsVerbatim IsClosing IsVerbatim at (at + 1) (93 ∷ []) xs ys e q refl Behind-closing Behind-closing h
 
 -- ---- a hinted string behind its bracket
 
@@ -128,14 +125,13 @@ pub hinted_fault :
     (at to : ℕ) (hint xs ys : List ℕ) (e : FormFault) → xs ≡ verbatim hint ++ ys →
     to ≡ at + length (verbatim hint) → FaultAt IsClosing IsClosing to ys e → FaultAt IsHinted IsHinted at xs e
 hinted_fault at to hint xs ys e q p h =
-    subst (λ s. FaultAt IsHinted IsHinted at s e) (sym q)
-    (FaultAt-tail IsHinted IsClosing IsHinted IsClosing at (verbatim hint) ys e (Behind-hint hint) (Behind-hint hint)
-    (subst (λ k. FaultAt IsClosing IsClosing k ys e) p h))
+    FaultAt-tail IsHinted IsClosing IsHinted IsClosing at to (verbatim hint) xs ys e q p (Behind-hint hint) (Behind-hint hint) h
 
 -- ---- a value
 
-pub value_ended : (room at : ℕ) → FaultAt IsCanon (IsCanonWithin room) at [] Short
-value_ended room at = Front-none (IsCanonWithin room) (verbatim []) (verbatim_none []) (record { value = string None []; fits = omega arith; is = refl })
+pub value_ended : (room : ℕ) (xs : List ℕ) → xs ≡ [] → Front (IsCanonWithin room) xs
+value_ended room xs e =
+    Front-none (IsCanonWithin room) (verbatim []) xs e (verbatim_none []) (record { value = string None []; fits = omega arith; is = refl })
 
 value_never :
     (v : Value) (c : ℕ) (x y : List ℕ) → (IsDigit c → ⊥) → (c ≡ 91 → ⊥) → (c ≡ 40 → ⊥) → c ∷ x ≡ canon v ++ y →
@@ -145,35 +141,39 @@ value_never (string (Some h) a) c x y nd nb np e = nb cc
 value_never (list vs) c x y nd nb np e = np cc
 
 pub value_first :
-    (room at c : ℕ) (ys : List ℕ) → (IsDigit c → ⊥) → (c ≡ 91 → ⊥) → (c ≡ 40 → ⊥) →
-    FaultAt IsCanon (IsCanonWithin room) at (c ∷ ys) (Bad at)
-value_first room at c ys nd nb np = FaultAt-first IsCanon (IsCanonWithin room) at c ys (value_ended room at)
+    (room at c : ℕ) (xs ys : List ℕ) → xs ≡ c ∷ ys → (IsDigit c → ⊥) → (c ≡ 91 → ⊥) → (c ≡ 40 → ⊥) →
+    FaultAt IsCanon (IsCanonWithin room) at xs (Bad at)
+value_first room at c xs ys q nd nb np = FaultAt-first IsCanon (IsCanonWithin room) at c xs ys q (value_ended room [] refl)
     (λ t x y is e. value_never is.value c x y nd nb np (e ∙ ap (λ s. s ++ y) is.is))
 
 pub plain_fault :
-    (room at c : ℕ) (ys : List ℕ) (e : FormFault) → IsDigit c → FaultAt IsVerbatim IsVerbatim at (c ∷ ys) e →
-    FaultAt IsCanon (IsCanonWithin room) at (c ∷ ys) e
-plain_fault room at c ys e low h = search (rules, FaultAt-from, From-digit, From-digit_within)
+    (room at c : ℕ) (xs ys : List ℕ) (e : FormFault) → xs ≡ c ∷ ys → IsDigit c → FaultAt IsVerbatim IsVerbatim at xs e →
+    FaultAt IsCanon (IsCanonWithin room) at xs e
+plain_fault room at c xs ys e q low h =
+    FaultAt-from IsCanon IsVerbatim (IsCanonWithin room) IsVerbatim at c xs ys e q (From-digit c low) (From-digit_within room c low) h
 
 pub bracket_fault :
-    (room at : ℕ) (ys : List ℕ) (e : FormFault) → FaultAt IsHinted IsHinted (at + 1) ys e →
-    FaultAt IsCanon (IsCanonWithin room) at (91 ∷ ys) e
-bracket_fault room at ys e h =
-    FaultAt-tail IsCanon IsHinted (IsCanonWithin room) IsHinted at (91 ∷ []) ys e Behind-bracket (Behind-bracket_within room) h
+    (room at : ℕ) (xs ys : List ℕ) (e : FormFault) → xs ≡ 91 ∷ ys → FaultAt IsHinted IsHinted (at + 1) ys e →
+    FaultAt IsCanon (IsCanonWithin room) at xs e
+bracket_fault room at xs ys e q h =
+    FaultAt-tail IsCanon IsHinted (IsCanonWithin room) IsHinted at (at + 1) (91 ∷ []) xs ys e q refl Behind-bracket (Behind-bracket_within room) h
 
-pub list_deep : (at : ℕ) (ys : List ℕ) → FaultAt IsCanon (IsCanonWithin 0) at (40 ∷ ys) TooDeep
-list_deep at ys = record {
-  place = 0;
-  within = omega arith;
-  before = record { rest = 41 ∷ []; some = omega arith; whole = record { value = list none; is = refl } };
-  stops = record { bars = λ t rest after is e. closed_within t rest after is e };
-}
+pub list_deep : (room : ℕ) (xs ys : List ℕ) → room ≡ 0 → xs ≡ 40 ∷ ys → IsDeep IsCanon (IsCanonWithin room) xs
+list_deep room xs ys z q =
+    let h : IsDeep IsCanon (IsCanonWithin 0) (40 ∷ ys) = record {
+      place = 0;
+      within = omega arith;
+      before = record { rest = 41 ∷ []; some = omega arith; whole = record { value = list none; is = refl } };
+      stops = record { bars = λ t rest after is e. closed_within t rest after is e };
+    } in
+    subst (λ s. IsDeep IsCanon (IsCanonWithin room) s) (sym q) (subst (λ r. IsDeep IsCanon (IsCanonWithin r) (40 ∷ ys)) (sym z) h)
 
 pub list_fault :
-    (room at : ℕ) (ys : List ℕ) (e : FormFault) → FaultAt IsMembers (IsMembersWithin room) (at + 1) ys e →
-    FaultAt IsCanon (IsCanonWithin (suc room)) at (40 ∷ ys) e
-list_fault room at ys e h =
-    FaultAt-tail IsCanon IsMembers (IsCanonWithin (suc room)) (IsMembersWithin room) at (40 ∷ []) ys e Behind-open (Behind-open_within room) h
+    (room inner at : ℕ) (xs ys : List ℕ) (e : FormFault) → room ≡ suc inner → xs ≡ 40 ∷ ys →
+    FaultAt IsMembers (IsMembersWithin inner) (at + 1) ys e → FaultAt IsCanon (IsCanonWithin room) at xs e
+list_fault room inner at xs ys e z q h =
+    subst (λ r. FaultAt IsCanon (IsCanonWithin r) at xs e) (sym z)
+    (FaultAt-tail IsCanon IsMembers (IsCanonWithin (suc inner)) (IsMembersWithin inner) at (at + 1) (40 ∷ []) xs ys e q refl Behind-open (Behind-open_within inner) h)
 
 -- ---- members
 
@@ -182,21 +182,19 @@ behind_members :
     to ≡ at + length (canons vs) → FaultAt IsMembers (IsMembersWithin room) to ys e →
     FaultAt IsMembers (IsMembersWithin room) at xs e
 behind_members room at to vs xs ys e fits q p h =
-    subst (λ s. FaultAt IsMembers (IsMembersWithin room) at s e) (sym q)
-    (FaultAt-tail IsMembers IsMembers (IsMembersWithin room) (IsMembersWithin room) at (canons vs) ys e
-    (Behind-members vs) (Behind-members_within room vs fits)
-    (subst (λ k. FaultAt IsMembers (IsMembersWithin room) k ys e) p h))
+    FaultAt-tail IsMembers IsMembers (IsMembersWithin room) (IsMembersWithin room) at to (canons vs) xs ys e q p
+    (Behind-members vs) (Behind-members_within room vs fits) h
 
 pub members_short :
     (room at : ℕ) (vs : Values) (xs : List ℕ) → depths vs ≤ room → xs ≡ canons vs ++ [] →
     FaultAt IsMembers (IsMembersWithin room) at xs Short
 members_short room at vs xs fits q = behind_members room at (at + length (canons vs)) vs xs [] Short fits q refl
-    (Front-none (IsMembersWithin room) (41 ∷ []) (omega arith) (record { items = none; fits = omega arith; is = refl }))
+    (Front-none (IsMembersWithin room) (41 ∷ []) [] refl (omega arith) (record { items = none; fits = omega arith; is = refl }))
 
 pub member_fault :
     (room at to c : ℕ) (vs : Values) (xs ys : List ℕ) (e : FormFault) → depths vs ≤ room →
     xs ≡ canons vs ++ c ∷ ys → to ≡ at + length (canons vs) → (c ≡ 41 → ⊥) →
     FaultAt IsCanon (IsCanonWithin room) to (c ∷ ys) e → FaultAt IsMembers (IsMembersWithin room) at xs e
 member_fault room at to c vs xs ys e fits q p nc h = behind_members room at to vs xs (c ∷ ys) e fits q p
-    (FaultAt-from IsMembers IsFilled (IsMembersWithin room) (IsFilledWithin room) to c ys e (From-filled c nc) (From-filled_within room c nc)
+    (FaultAt-from IsMembers IsFilled (IsMembersWithin room) (IsFilledWithin room) to c (c ∷ ys) ys e refl (From-filled c nc) (From-filled_within room c nc)
     (FaultAt-head IsFilled IsCanon (IsFilledWithin room) (IsCanonWithin room) to (c ∷ ys) e Opens-filled (Opens-filled_within room) h))

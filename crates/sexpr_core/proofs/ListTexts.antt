@@ -55,33 +55,18 @@ Behind-members vs = record {
   on = λ b is. record { items = join vs is.items; is = members_on vs is.items b is.is };
   back = λ t x y is e.
       let r = members_rest vs is.items t x y is.is e in
-      record {
-        rest = canons r.rest ++ 41 ∷ [];
-        is = record { items = r.rest; is = refl };
-        whole = members_whole vs is.items r.rest t is.is r.is;
-      };
+      search (rules, members_whole vs is.items r.rest t is.is r.is);
 }
 
 pub Behind-members_within :
     (room : ℕ) (vs : Values) → depths vs ≤ room →
     Behind (IsMembersWithin room) (IsMembersWithin room) (canons vs)
 Behind-members_within room vs h = record {
-  on = λ b is. record {
-    items = join vs is.items;
-    fits = depths-join room vs is.items h is.fits;
-    is = members_on vs is.items b is.is;
-  };
+  on = λ b is. record { items = join vs is.items; fits = depths-join room vs is.items h is.fits; is = members_on vs is.items b is.is };
   back = λ t x y is e.
       let r = members_rest vs is.items t x y is.is e in
-      record {
-        rest = canons r.rest ++ 41 ∷ [];
-        is = record {
-          items = r.rest;
-          fits = depths_rest room vs r.rest (subst (λ k. depths k ≤ room) r.is is.fits);
-          is = refl;
-        };
-        whole = members_whole vs is.items r.rest t is.is r.is;
-      };
+      let fits = depths_rest room vs r.rest (subst (λ k. depths k ≤ room) r.is is.fits) in
+      search (rules, fits, members_whole vs is.items r.rest t is.is r.is);
 }
 
 -- a list behind its opening parenthesis
@@ -93,30 +78,16 @@ list_back (list vs) t x y is e = (vs, refl)
 pub Behind-open : Behind IsCanon IsMembers (40 ∷ [])
 Behind-open = record {
   on = λ b is. record { value = list is.items; is = ap (λ t. 40 ∷ t) is.is };
-  back = λ t x y is e.
-      let p = list_back is.value t x y is.is e in
-      record {
-        rest = canons p.0 ++ 41 ∷ [];
-        is = record { items = p.0; is = refl };
-        whole = is.is ∙ ap canon p.1;
-      };
+  back = λ t x y is e. let p = list_back is.value t x y is.is e in search (rules, is.is ∙ ap canon p.1);
 }
 
 pub Behind-open_within : (room : ℕ) → Behind (IsCanonWithin (suc room)) (IsMembersWithin room) (40 ∷ [])
 Behind-open_within room = record {
-  on = λ b is. record {
-    value = list is.items;
-    fits = let h : depths is.items ≤ room = is.fits in omega arith;
-    is = ap (λ t. 40 ∷ t) is.is;
-  };
+  on = λ b is. record { value = list is.items; fits = let h : depths is.items ≤ room = is.fits in omega arith; is = ap (λ t. 40 ∷ t) is.is };
   back = λ t x y is e.
       let p = list_back is.value t x y is.is e in
       let h : suc (depths p.0) ≤ suc room = subst (λ k. depth k ≤ suc room) p.1 is.fits in
-      record {
-        rest = canons p.0 ++ 41 ∷ [];
-        is = record { items = p.0; fits = omega arith; is = refl };
-        whole = is.is ∙ ap canon p.1;
-      };
+      search (rules, arith, is.is ∙ ap canon p.1);
 }
 
 -- where no list may open
@@ -144,12 +115,7 @@ From-filled_within room c h = record {
   on = λ t is. record { items = more is.first is.others; fits = is.fits; is = is.is };
   back = λ t x y is e.
       let p = filled_back is.items t x y c h is.is e in
-      record {
-        first = p.0;
-        others = p.1;
-        fits = subst (λ k. depths k ≤ room) p.2 is.fits;
-        is = is.is ∙ ap (λ k. canons k ++ 41 ∷ []) p.2;
-      };
+      search (rules, subst (λ k. depths k ≤ room) p.2 is.fits, is.is ∙ ap (λ k. canons k ++ 41 ∷ []) p.2);
 }
 
 one_member : (v : Value) (a : List ℕ) → a ≡ canon v → a ++ 41 ∷ [] ≡ canons (more v none) ++ 41 ∷ []
@@ -162,37 +128,17 @@ first_member v vs t is = is ∙ append_assoc (canon v) (canons vs) (41 ∷ [])
 
 pub Opens-filled : Opens IsFilled IsCanon
 Opens-filled = record {
-  on = λ a is. record {
-    rest = 41 ∷ [];
-    whole = record { first = is.value; others = none; is = one_member is.value a is.is };
-  };
-  back = λ t is. record {
-    first = canon is.first;
-    rest = canons is.others ++ 41 ∷ [];
-    is = record { value = is.first; is = refl };
-    whole = first_member is.first is.others t is.is;
-  };
+  on = λ a is. record { rest = 41 ∷ []; whole = record { first = is.value; others = none; is = one_member is.value a is.is } };
+  back = λ t is. search (rules, first_member is.first is.others t is.is);
 }
 
 pub Opens-filled_within : (room : ℕ) → Opens (IsFilledWithin room) (IsCanonWithin room)
 Opens-filled_within room = record {
   on = λ a is. record {
     rest = 41 ∷ [];
-    whole = record {
-      first = is.value;
-      others = none;
-      fits = let h : depth is.value ≤ room = is.fits in omega arith;
-      is = one_member is.value a is.is;
-    };
+    whole = record { first = is.value; others = none; fits = let h : depth is.value ≤ room = is.fits in omega arith; is = one_member is.value a is.is };
   };
-  back = λ t is. record {
-    first = canon is.first;
-    rest = canons is.others ++ 41 ∷ [];
-    is = record {
-      value = is.first;
-      fits = let h : max (depth is.first) (depths is.others) ≤ room = is.fits in omega arith;
-      is = refl;
-    };
-    whole = first_member is.first is.others t is.is;
-  };
+  back = λ t is.
+      let h : max (depth is.first) (depths is.others) ≤ room = is.fits in
+      search (rules, arith, first_member is.first is.others t is.is);
 }

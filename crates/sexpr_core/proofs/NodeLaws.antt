@@ -40,7 +40,7 @@ mutual
   places text before after at (list vs) len e =
       (place text before after at (list vs) len e, places_all text (opened before) (41 ∷ after) (at + 1) vs (length-append before (40 ∷ []) ∙ ap (λ n. n + 1) len) (e ∙ inside before after vs))
 
-  places_all : (text before after : List ℕ) (at : ℕ) (vs : Values) → length before ≡ at → text ≡ before ++ (canons vs ++ after) → ArePlaces text (records_all at vs) (nodes_all vs)
+  pub places_all : (text before after : List ℕ) (at : ℕ) (vs : Values) → length before ≡ at → text ≡ before ++ (canons vs ++ after) → ArePlaces text (records_all at vs) (nodes_all vs)
   places_all text before after at none len e = tt
   places_all text before after at (more v vs) len e =
       ArePlaces-append text (records at v) (nodes v) (records_all (at + length (canon v)) vs) (nodes_all vs)
@@ -109,7 +109,7 @@ place_at text (s ∷ rs) (w ∷ vs) zero r v p lt = p.0
 place_at text (s ∷ rs) (w ∷ vs) (suc n) r v p lt = place_at text rs vs n r v p.1 (omega arith)
 place_at text rs vs n r v p lt = absurd (search rules)
 
-as_many : (text : List ℕ) (rs : List Record) (vs : List Value) → ArePlaces text rs vs → length rs ≡ length vs
+pub as_many : (text : List ℕ) (rs : List Record) (vs : List Value) → ArePlaces text rs vs → length rs ≡ length vs
 as_many text [] [] p = refl
 as_many text (r ∷ rs) (v ∷ vs) p = ap suc (as_many text rs vs p.1)
 as_many text rs vs p = absurd (search rules)
@@ -319,7 +319,7 @@ size_all-take [] k d lt = absurd (omega arith)
 size_all-take (v ∷ vs) zero d lt = omega arith
 size_all-take (v ∷ vs) (suc k) d lt = rw add-one (omega (arith, rw add-one at (size_all-take vs k d (omega arith))))
 
-length-nodes_all : (vs : Values) → length (nodes_all vs) ≡ size_all (members vs)
+pub length-nodes_all : (vs : Values) → length (nodes_all vs) ≡ size_all (members vs)
 length-nodes_all none = refl
 length-nodes_all (more v vs) = omega (arith, length-append (nodes v) (nodes_all vs), length-nodes_all vs)
 

@@ -61,32 +61,37 @@ Barred-tail T U a ys o h = record {
   bars = λ t rest after is e.
       let e2 : a ++ (ys ++ rest) ≡ t ++ after = sym (append_assoc a ys rest) ∙ e in
       let p : Tailed U a t = o.back t (ys ++ rest) after is e2 in
-      let e3 : a ++ (ys ++ rest) ≡ a ++ (p.rest ++ after) =
-      e2 ∙ ap (λ s. s ++ after) p.whole ∙ append_assoc a p.rest after in
-      h.bars p.rest rest after p.is (append_cancel_left a (ys ++ rest) (p.rest ++ after) e3);
+      h.bars p.rest rest after p.is
+      (append_cancel_left a (ys ++ rest) (p.rest ++ after) (e2 ∙ ap (λ s. s ++ after) p.whole ∙ append_assoc a p.rest after));
 }
 
 more_taken : (a ys : List ℕ) (j : ℕ) → take (suc (length a + j)) (a ++ ys) ≡ a ++ take (suc j) ys
 more_taken a ys j = ap (λ n. take n (a ++ ys)) (sym (add-suc (length a) j)) ∙ take-append-add a ys (suc j)
 
-pub FaultAt-tail :
+fault_tail :
     (T U S V : List ℕ → Type 0) (at : ℕ) (a ys : List ℕ) (e : FormFault) → Behind T U a → Behind S V a →
     FaultAt U V (at + length a) ys e → FaultAt T S at (a ++ ys) e
-FaultAt-tail T U S V at a ys TooDeep o p h = record {
+fault_tail T U S V at a ys TooDeep o p h = record {
   place = length a + h.place;
   within = let w : h.place < length ys = h.within in omega (arith, length-append a ys);
   before = subst (λ s. Front T s) (sym (more_taken a ys h.place)) (Front-tail T U a (take (suc h.place) ys) o h.before);
   stops = subst (λ s. Barred S s) (sym (more_taken a ys h.place)) (Barred-tail S V a (take (suc h.place) ys) p h.stops);
 }
-FaultAt-tail T U S V at a ys Short o p h = Front-tail S V a ys p h
-FaultAt-tail T U S V at a ys (Bad k) o p h = record {
+fault_tail T U S V at a ys Short o p h = Front-tail S V a ys p h
+fault_tail T U S V at a ys (Bad k) o p h = record {
   place = length a + h.place;
   offset = let w : k ≡ at + length a + h.place = h.offset in omega arith;
   within = let w : h.place < length ys = h.within in omega (arith, length-append a ys);
   before = subst (λ s. Front S s) (sym (take-append-add a ys h.place)) (Front-tail S V a (take h.place ys) p h.before);
   stops = subst (λ s. Barred T s) (sym (more_taken a ys h.place)) (Barred-tail T U a (take (suc h.place) ys) o h.stops);
 }
-FaultAt-tail T U S V at a ys _ o p h = h
+fault_tail T U S V at a ys _ o p h = h
+
+pub FaultAt-tail :
+    (T U S V : List ℕ → Type 0) (at to : ℕ) (a xs ys : List ℕ) (e : FormFault) → xs ≡ a ++ ys → to ≡ at + length a → Behind T U a → Behind S V a →
+    FaultAt U V to ys e → FaultAt T S at xs e
+FaultAt-tail T U S V at to a xs ys e q r o p h =
+    subst (λ s. FaultAt T S at s e) (sym q) (fault_tail T U S V at a ys e o p (subst (λ k. FaultAt U V k ys e) r h))
 
 -- ---- a choice by the first octet
 
@@ -96,25 +101,32 @@ Front-from T U c xs o f = record { rest = f.rest; some = f.some; whole = o.on (x
 Barred-from : (T U : List ℕ → Type 0) (c : ℕ) (ys : List ℕ) → From c T U → Barred U (c ∷ ys) → Barred T (c ∷ ys)
 Barred-from T U c ys o h = record { bars = λ t rest after is e. h.bars t rest after (o.back t (ys ++ rest) after is e) e }
 
-pub FaultAt-from :
+fault_from :
     (T U S V : List ℕ → Type 0) (at c : ℕ) (ys : List ℕ) (e : FormFault) → From c T U → From c S V →
     FaultAt U V at (c ∷ ys) e → FaultAt T S at (c ∷ ys) e
-FaultAt-from T U S V at c ys TooDeep o p h = search (rules, Front-from, Barred-from)
-FaultAt-from T U S V at c ys Short o p h = Front-from S V c (c ∷ ys) p h
-FaultAt-from T U S V at c ys (Bad k) o p h = search (rules, Front-from, Barred-from)
-FaultAt-from T U S V at c ys _ o p h = h
+fault_from T U S V at c ys TooDeep o p h = search (rules, Front-from, Barred-from)
+fault_from T U S V at c ys Short o p h = Front-from S V c (c ∷ ys) p h
+fault_from T U S V at c ys (Bad k) o p h = search (rules, Front-from, Barred-from)
+fault_from T U S V at c ys _ o p h = h
+
+pub FaultAt-from :
+    (T U S V : List ℕ → Type 0) (at c : ℕ) (xs ys : List ℕ) (e : FormFault) → xs ≡ c ∷ ys → From c T U → From c S V →
+    FaultAt U V at xs e → FaultAt T S at xs e
+FaultAt-from T U S V at c xs ys e q o p h =
+    subst (λ s. FaultAt T S at s e) (sym q) (fault_from T U S V at c ys e o p (subst (λ s. FaultAt U V at s e) q h))
 
 -- ---- faults at the first octet
 
 -- a text of T, which is not empty, has no octet yet
-pub Front-none : (T : List ℕ → Type 0) (t : List ℕ) → 0 < length t → T t → Front T []
-Front-none T t some is = record { rest = t; some = some; whole = is }
+pub Front-none : (T : List ℕ → Type 0) (t xs : List ℕ) → xs ≡ [] → 0 < length t → T t → Front T xs
+Front-none T t xs e some is = record { rest = t; some = some; whole = subst T (ap (λ s. s ++ t) (sym e)) is }
 
 -- no text of T begins with the octet
 pub FaultAt-first :
-    (T S : List ℕ → Type 0) (at c : ℕ) (ys : List ℕ) → Front S [] →
-    ((t x y : List ℕ) → T t → c ∷ x ≡ t ++ y → ⊥) → FaultAt T S at (c ∷ ys) (Bad at)
-FaultAt-first T S at c ys front never = search rules
+    (T S : List ℕ → Type 0) (at c : ℕ) (xs ys : List ℕ) → xs ≡ c ∷ ys → Front S [] →
+    ((t x y : List ℕ) → T t → c ∷ x ≡ t ++ y → ⊥) → FaultAt T S at xs (Bad at)
+FaultAt-first T S at c xs ys e front never =
+    let h : FaultAt T S at (c ∷ ys) (Bad at) = search rules in subst (λ s. FaultAt T S at s (Bad at)) (sym e) h
 
 -- ---- texts of a narrower sort
 

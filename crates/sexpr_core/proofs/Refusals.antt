@@ -91,9 +91,7 @@ module _ (W A : List ℕ → Type 0) (front : HasFronts W) (any : (x : List ℕ)
     one_fault (Trailing i) Short p q a b = absurd (no_short W A front any text i (k.trailing i a) (k.short b))
     one_fault (Trailing i) (Bad j) p q a b = absurd (apart_at j i b a)
     one_fault (Trailing i) (Trailing j) p q a b = ap Trailing (at_one W A front any text i j (k.trailing i a) (k.trailing j b))
-    one_fault TooLong f p q a b = absurd p
-    one_fault Memory f p q a b = absurd p
-    one_fault _ _ p q a b = absurd q
+    one_fault _ _ p q a b = search rules
 
     -- none where the text is read
     pub no_fault : W text → (R Short → ⊥) → (R TooDeep → ⊥) → (e : FormFault) → IsOfForm e → R e → ⊥
@@ -208,13 +206,11 @@ barred_begins T xs h b = h.bars (xs ++ b.rest) b.rest [] b.whole (sym (append-ni
 
 pub refused : (text : List ℕ) (e : FormFault) → FaultAt IsCanon (IsCanonWithin 64) 0 text e → Refused text e
 refused text TooDeep h = search (rules, front_begins, barred_begins)
-refused text Short h = h
 refused text (Bad k) h =
     let e : h.place ≡ k = let o : k ≡ 0 + h.place = h.offset in omega arith in
     let f : suc h.place ≡ k + 1 = omega arith in
     search (rules, barred_begins)
-refused text Memory h = h
-refused text _ h = absurd h
+refused text _ h = search rules
 
 -- ---- a whole value
 

@@ -1,10 +1,10 @@
 -- What stands between two offsets of a text, octet by octet: whitespace, and bodies in base64. The same is read of
 -- each other text that begins with the same octets.
-use Rattle.std.proofs.Common.{◌≡◌, ℕ, ◌+◌, ◌<◌, ◌≤◌, List, [], ◌∷◌, ◌++◌, length, take, drop, refl, sym, ap, subst, ◌∙◌, arith, append_assoc, length-append, length-drop, rules, zero, suc, true, false, ◌-◌, append-nil}
+use Rattle.std.proofs.Common.{◌≡◌, ℕ, ◌+◌, ◌<◌, ◌≤◌, List, [], ◌∷◌, ◌++◌, length, take, drop, refl, sym, ap, subst, ◌∙◌, arith, append_assoc, length-append, length-drop, rules, zero, suc, Bool, true, false, ◌-◌, append-nil}
 use Rattle.std.proofs.lemmas.List.{append_cancel_right, drop-append-le, take-append-drop, take_at, length-take-le, drop-drop, drop_at}
-use Rattle.sexpr_core.specs.Reading.{StandsAt, StartsVisible, Skips, StopsAt, RefusesPart, is_whitespace, IsSpace, AreSpaces, IsFaultAt, visible, is_symbol, is_body_octet, AreBodyOctets, Passed, IsBodyEnd}
+use Rattle.sexpr_core.specs.Reading.{StandsAt, StartsVisible, Skips, StopsAt, RefusesPart, is_whitespace, AreSpaces, IsFaultAt, visible, is_symbol, is_body_octet, AreBodyOctets, Passed, IsBodyEnd}
 use Rattle.sexpr_core.specs.declared.fault.FormFault.{FormFault}
-use Rattle.sexpr_core.specs.declared.fault.FormFault.TheVariants.{Bad, Short}
+use Rattle.sexpr_core.specs.declared.fault.FormFault.TheVariants.{Bad}
 use Rattle.sexpr_core.proofs.Texts.{all-append, one_front, head_is, tail_is, fails_among}
 use Rattle.std.specs.Prelude.{slice_range}
 use Rattle.std.specs.List.{AllByRecursion}
@@ -71,14 +71,8 @@ same_head text other k to a le =
 pub skips_too : (text other : List ℕ) (k at to : ℕ) → Agree text other k → to ≤ k → Skips text at to → Skips other at to
 skips_too text other k at to a le s =
     let h = same_head text other k to a le in
-    record {
-      spaces = s.spaces;
-      are_spaces = s.are_spaces;
-      spelled = spelled_too text other k at to s.spaces a (omega (arith, s.ordered)) (omega arith) s.spelled;
-      ends = subst StartsVisible (sym h.second_is) (subst StartsVisible h.first_is s.ends);
-      ordered = s.ordered;
-      within = omega (arith, long_too text other k a);
-    }
+    let ends = subst StartsVisible (sym h.second_is) (subst StartsVisible h.first_is s.ends) in
+    search (rules, ends, spelled_too text other k at to s.spaces a (omega (arith, s.ordered)) (omega arith) s.spelled, long_too text other k a)
 
 -- the octets in front of an offset, where the whole is these and what follows there
 pub front_is : (text front : List ℕ) (k : ℕ) → text ≡ front ++ drop k text → k ≤ length text → take k text ≡ front
@@ -97,11 +91,7 @@ pub stops_later : (T U : List ℕ → Type 0) (text : List ℕ) (at i k : ℕ) �
 stops_later T U text at i k le on s = record {
   behind = omega (arith, s.behind);
   within = s.within;
-  none = λ b.
-      s.none (record {
-        rest = b.rest;
-        whole = on (take (k + 1) text ++ b.rest) k (agree text k b.rest s.within) s.behind b.whole;
-      });
+  none = λ b. s.none (record { rest = b.rest; whole = on (take (k + 1) text ++ b.rest) k (agree text k b.rest s.within) s.behind b.whole });
 }
 
 pub refused_later : (T U : List ℕ → Type 0) (text : List ℕ) (at i : ℕ) (fault : FormFault) → at ≤ i
@@ -109,26 +99,19 @@ pub refused_later : (T U : List ℕ → Type 0) (text : List ℕ) (at i : ℕ) (
 refused_later T U text at i (Bad k) le on h = stops_later T U text at i k le on h
 refused_later T U text at i _ le on h = h
 
--- ---- whitespace that stands between two offsets
+-- ---- octets that pass a test, and whitespace, between two offsets
 
-pub record SpacesTo (text : List ℕ) (at to : ℕ) : Type 0 where
-  pub spaces : List ℕ
-  pub are_spaces : AreSpaces spaces
-  pub spelled : drop at text ≡ spaces ++ drop to text
-  pub ordered : at ≤ to
-  pub within : to ≤ length text
+pub nothing_passed : (p : ℕ → Bool) (text : List ℕ) (at : ℕ) → at ≤ length text → Passed p text at at
+nothing_passed p text at h = record { body = []; octets = tt; spelled = refl; ordered = omega arith; within = h }
 
-pub no_spaces : (text : List ℕ) (at : ℕ) → at ≤ length text → SpacesTo text at at
-no_spaces text at h = record { spaces = []; are_spaces = tt; spelled = refl; ordered = omega arith; within = h }
+pub one_passed : (p : ℕ → Bool) (text : List ℕ) (at i c : ℕ) → Passed p text at i → StandsAt text i c → p c ≡ true → Passed p text at (i + 1)
+one_passed p text at i c s stands passes =
+    search (rules, all-append (λ k. p k ≡ true) s.body (c ∷ []) s.octets (passes, tt), append_assoc s.body (c ∷ []) (drop (i + 1) text))
 
-pub more_spaces : (text : List ℕ) (at i c : ℕ) → SpacesTo text at i → StandsAt text i c → IsSpace c → SpacesTo text at (i + 1)
-more_spaces text at i c s stands space =
-    search (rules, all-append IsSpace s.spaces (c ∷ []) s.are_spaces (space, tt), append_assoc s.spaces (c ∷ []) (drop (i + 1) text))
-
-pub spaces_stop : (text : List ℕ) (at i c : ℕ) → SpacesTo text at i → StandsAt text i c → is_whitespace c ≡ false → Skips text at i
+pub spaces_stop : (text : List ℕ) (at i c : ℕ) → Passed is_whitespace text at i → StandsAt text i c → is_whitespace c ≡ false → Skips text at i
 spaces_stop text at i c s stands other = search rules
 
-pub spaces_end : (text : List ℕ) (at i : ℕ) → SpacesTo text at i → drop i text ≡ [] → Skips text at i
+pub spaces_end : (text : List ℕ) (at i : ℕ) → Passed is_whitespace text at i → drop i text ≡ [] → Skips text at i
 spaces_end text at i s e = search rules
 
 -- whitespace ends in one way
@@ -156,33 +139,13 @@ spaces_all text at to s h lt = search (rules, not_both, behind_spaces, length-dr
 
 -- ---- a run of symbols
 
--- symbols that stand between two offsets
-pub record SymbolsTo (text : List ℕ) (at to : ℕ) : Type 0 where
-  pub symbols : List ℕ
-  pub are_symbols : AllByRecursion (λ c. is_symbol c ≡ true) symbols
-  pub spelled : drop at text ≡ symbols ++ drop to text
-  pub ordered : at ≤ to
-  pub within : to ≤ length text
-
-pub no_symbols : (text : List ℕ) (at : ℕ) → at ≤ length text → SymbolsTo text at at
-no_symbols text at h = record { symbols = []; are_symbols = tt; spelled = refl; ordered = omega arith; within = h }
-
-pub more_symbols : (text : List ℕ) (at i c : ℕ) → SymbolsTo text at i → StandsAt text i c → is_symbol c ≡ true → SymbolsTo text at (i + 1)
-more_symbols text at i c s stands symbol = record {
-  symbols = s.symbols ++ c ∷ [];
-  are_symbols = all-append (λ k. is_symbol k ≡ true) s.symbols (c ∷ []) s.are_symbols (symbol, tt);
-  spelled = s.spelled ∙ ap (λ t. s.symbols ++ t) stands.spelled ∙ sym (append_assoc s.symbols (c ∷ []) (drop (i + 1) text));
-  ordered = omega (arith, s.ordered);
-  within = omega (arith, stands.within);
-}
-
-symbols_skipped : (text : List ℕ) (at i : ℕ) → SymbolsTo text at i → StartsNoSymbol (drop i text) → SkipsSymbols text at i
+symbols_skipped : (text : List ℕ) (at i : ℕ) → Passed is_symbol text at i → StartsNoSymbol (drop i text) → SkipsSymbols text at i
 symbols_skipped text at i s ends = search rules
 
-pub symbols_stop : (text : List ℕ) (at i c : ℕ) → SymbolsTo text at i → StandsAt text i c → is_symbol c ≡ false → SkipsSymbols text at i
+pub symbols_stop : (text : List ℕ) (at i c : ℕ) → Passed is_symbol text at i → StandsAt text i c → is_symbol c ≡ false → SkipsSymbols text at i
 symbols_stop text at i c s stands other = symbols_skipped text at i s (subst StartsNoSymbol (sym stands.spelled) other)
 
-pub symbols_end : (text : List ℕ) (at i : ℕ) → SymbolsTo text at i → drop i text ≡ [] → SkipsSymbols text at i
+pub symbols_end : (text : List ℕ) (at i : ℕ) → Passed is_symbol text at i → drop i text ≡ [] → SkipsSymbols text at i
 symbols_end text at i s e = symbols_skipped text at i s (subst StartsNoSymbol (sym e) tt)
 
 -- ---- a body
@@ -218,20 +181,14 @@ pub more_gathered : (text : List ℕ) (at i end next : ℕ) (symbols new : List 
 more_gathered text at i end next symbols new g run gap e =
     let run_stays = symbols_stay run.symbols run.are_symbols in
     let gap_goes = spaces_vanish gap.spaces gap.are_spaces in
+    let read = slice_read text run.symbols i end run.ordered run.within run.spelled in
     record {
       body = g.body ++ (run.symbols ++ gap.spaces);
       octets =
           all-append (λ k. is_body_octet k ≡ true) g.body (run.symbols ++ gap.spaces) g.octets
           (all-append (λ k. is_body_octet k ≡ true) run.symbols gap.spaces run_stays.0 gap_goes.0);
-      spelled =
-          g.spelled ∙ ap (λ t. g.body ++ t) (run.spelled ∙ ap (λ t. run.symbols ++ t) gap.spelled ∙ sym (append_assoc run.symbols gap.spaces (drop next text)))
-          ∙ sym (append_assoc g.body (run.symbols ++ gap.spaces) (drop next text));
-      kept =
-          e ∙ ap (λ t. symbols ++ t) (slice_read text run.symbols i end run.ordered run.within run.spelled) ∙ ap (λ t. t ++ run.symbols) g.kept
-          ∙ ap (λ t. visible g.body ++ t)
-          (sym (append-nil run.symbols) ∙ ap (λ t. run.symbols ++ t) (sym gap_goes.1) ∙ ap (λ t. t ++ visible gap.spaces) (sym run_stays.1)
-          ∙ sym (visible-append run.symbols gap.spaces))
-          ∙ sym (visible-append g.body (run.symbols ++ gap.spaces));
+      spelled = rw (g.spelled, run.spelled, gap.spelled) (simp append_assoc refl);
+      kept = rw (e, read, g.kept, visible-append g.body (run.symbols ++ gap.spaces), visible-append run.symbols gap.spaces, run_stays.1, gap_goes.1) (simp append-nil refl);
       ordered = omega (arith, g.ordered, run.ordered, gap.ordered);
       within = gap.within;
     }
@@ -269,29 +226,16 @@ gathers_too text other k at i symbols a le g =
 
 pub gathers_to_too : (text other : List ℕ) (k at mark to : ℕ) (symbols : List ℕ) → Agree text other k → to ≤ k + 1 → GathersTo text at mark symbols to
     → GathersTo other at mark symbols to
-gathers_to_too text other k at mark to symbols a le g = record {
-  body = g.body;
-  octets = g.octets;
-  spelled =
-      spelled_too text other k at to (g.body ++ mark ∷ []) a (omega (arith, g.goes_on)) le (g.spelled ∙ sym (append_assoc g.body (mark ∷ []) (drop to text)))
-      ∙ append_assoc g.body (mark ∷ []) (drop to other);
-  kept = g.kept;
-  goes_on = g.goes_on;
-  within = omega (arith, long_too text other k a);
-}
+gathers_to_too text other k at mark to symbols a le g =
+    let e = spelled_too text other k at to (g.body ++ mark ∷ []) a (omega (arith, g.goes_on)) le (g.spelled ∙ sym (append_assoc g.body (mark ∷ []) (drop to text)))
+    ∙ append_assoc g.body (mark ∷ []) (drop to other) in
+    search (rules, e, long_too text other k a)
 
 pub body_stops : (text : List ℕ) (at i c mark : ℕ) (symbols : List ℕ) → Gathers text at symbols i → StandsAt text i c
     → (c ≡ mark → ⊥) → is_body_octet mark ≡ false → is_body_octet c ≡ false → StopsAt (BodyAt at mark) text at i
-body_stops text at i c mark symbols g stands apart other misfit = record {
-  behind = g.ordered;
-  within = stands.within;
-  none = λ b.
-      let a : Agree text (take (i + 1) text ++ b.rest) i = agree text i b.rest stands.within in
-      let w : BodyAt at mark (take (i + 1) text ++ b.rest) = b.whole in
-      apart (gathered_mark (take (i + 1) text ++ b.rest) at i c mark symbols w.body w.rest
-      (gathers_too text (take (i + 1) text ++ b.rest) i at i symbols a (omega arith) g)
-      (stands_too text (take (i + 1) text ++ b.rest) i i c a (omega arith) stands) misfit other w.octets w.spelled);
-}
+body_stops text at i c mark symbols g stands apart other misfit = stops_here (BodyAt at mark) text at i g.ordered stands.within (λ next a w.
+    apart (gathered_mark next at i c mark symbols w.body w.rest (gathers_too text next i at i symbols a (omega arith) g)
+    (stands_too text next i i c a (omega arith) stands) misfit other w.octets w.spelled))
 
 -- ---- where a body is refused
 
@@ -317,6 +261,5 @@ mark_stands text at mark to symbols g =
 -- a body that ends at its mark and is no base64
 pub unpacked_end : (text : List ℕ) (at mark to : ℕ) (symbols : List ℕ) (fault : FormFault) → GathersTo text at mark symbols to → is_body_octet mark ≡ false
     → IsFaultAt (to - 1) fault → IsBodyEnd is_body_octet text at fault
-unpacked_end text at mark to symbols Short g other h = absurd h
 unpacked_end text at mark to symbols (Bad k) g other h = search (rules, mark_stands text at mark to symbols g)
-unpacked_end text at mark to symbols _ g other h = h
+unpacked_end text at mark to symbols _ g other h = search rules

@@ -11,8 +11,8 @@ use Rattle.sexpr_core.specs.Value.{string, decimal, verbatim, canon}
 use Rattle.sexpr_core.specs.Nodes.{head, shape}
 use Rattle.sexpr_core.specs.Reading.{Front, IsCanon, IsCanonWithin, IsVerbatim, IsClosing, IsLength, StandsAt, ReadsLength, ReadsVerbatim, ReadsString}
 use Rattle.sexpr_core.specs.Inner.PartFaults.{IsBad, FaultAt}
-use Rattle.sexpr_core.proofs.Texts.{IsDigit, decimal_digit, decimal_more, IsHinted, verbatim_is}
-use Rattle.sexpr_core.proofs.Faults.{length_ended, length_first, length_short, length_bad, length_zero, verbatim_short, closing_ended, closing_first, closing_fault, hint_fault, hinted_fault, value_first, plain_fault, bracket_fault}
+use Rattle.sexpr_core.proofs.Texts.{IsDigit, decimal_digit, decimal_more, verbatim_is}
+use Rattle.sexpr_core.proofs.Faults.{length_bad, length_zero, verbatim_short, hint_fault, hinted_fault, bracket_fault}
 
 -- ---- offsets
 
@@ -35,14 +35,6 @@ read_both text xs ys at via to e f = e ∙ ap (λ t. xs ++ t) f ∙ sym (append_
 
 -- ---- a length
 
-pub first_ended : (xs : List ℕ) → xs ≡ [] → Front IsLength xs
-first_ended xs e = subst (λ s. Front IsLength s) (sym e) (length_ended 0)
-
-pub first_bad :
-    (text : List ℕ) (at c : ℕ) → StandsAt text at c → (IsDigit c → ⊥) →
-    IsBad IsLength IsLength at (drop at text) at
-first_bad text at c s h = subst (λ xs. IsBad IsLength IsLength at xs at) (sym s.spelled) (length_first at c (drop (at + 1) text) h)
-
 pub first_spelled :
     (text : List ℕ) (at d : ℕ) → d < 10 → StandsAt text at (48 + d) →
     drop at text ≡ decimal d ++ drop (at + 1) text
@@ -57,11 +49,6 @@ pub more_spelled :
     (text : List ℕ) (at i n c : ℕ) → 0 < n → 48 ≤ c → c < 58 → StandsAt text i c →
     drop at text ≡ decimal n ++ drop i text → drop at text ≡ decimal (n * 10 + (c - 48)) ++ drop (i + 1) text
 more_spelled text at i n c p low high s e = search (rules, append_assoc, decimal_more)
-
-pub later_short :
-    (text : List ℕ) (at i n : ℕ) → drop at text ≡ decimal n ++ drop i text → drop i text ≡ [] →
-    Front IsLength (drop at text)
-later_short text at i n e f = length_short at n (drop at text) (e ∙ ap (λ t. decimal n ++ t) f)
 
 pub later_bad :
     (text : List ℕ) (at i n c : ℕ) → at ≤ length text → drop at text ≡ decimal n ++ drop i text →
@@ -104,41 +91,22 @@ octets_read text at n to short begins r h =
     let d : decimal (length (take n (drop to text))) ≡ decimal r.written = ap decimal (l ∙ m) in
     search (rules, append_assoc, verbatim_is, length-append)
 
--- ---- behind a hint
-
-pub closing_none : (text : List ℕ) (at : ℕ) → drop at text ≡ [] → Front IsClosing (drop at text)
-closing_none text at e = subst (λ s. Front IsClosing s) (sym e) (closing_ended at)
-
-pub closing_other :
-    (text : List ℕ) (at c : ℕ) → StandsAt text at c → (c ≡ 93 → ⊥) →
-    IsBad IsClosing IsClosing at (drop at text) at
-closing_other text at c s h = subst (λ xs. IsBad IsClosing IsClosing at xs at) (sym s.spelled) (closing_first at c (drop (at + 1) text) h)
-
-pub closing_on :
-    (text : List ℕ) (at : ℕ) (e : FormFault) → StandsAt text at 93 →
-    FaultAt IsVerbatim IsVerbatim (at + 1) (drop (at + 1) text) e →
-    FaultAt IsClosing IsClosing at (drop at text) e
-closing_on text at e s h = search (rules, closing_fault)
-
 -- ---- strings
-
-bracket_on :
-    (room : ℕ) (text : List ℕ) (at : ℕ) (e : FormFault) → StandsAt text at 91 →
-    FaultAt IsHinted IsHinted (at + 1) (drop (at + 1) text) e →
-    FaultAt IsCanon (IsCanonWithin room) at (drop at text) e
-bracket_on room text at e s h = search (rules, bracket_fault)
 
 pub in_hint :
     (room : ℕ) (text : List ℕ) (at : ℕ) (e : FormFault) → StandsAt text at 91 →
     FaultAt IsVerbatim IsVerbatim (at + 1) (drop (at + 1) text) e →
     FaultAt IsCanon (IsCanonWithin room) at (drop at text) e
-in_hint room text at e s h = bracket_on room text at e s (hint_fault (at + 1) (drop (at + 1) text) e h)
+in_hint room text at e s h = bracket_fault room at (drop at text) (drop (at + 1) text) e s.spelled (hint_fault (at + 1) (drop (at + 1) text) e h)
 
 pub behind_hint :
     (room : ℕ) (text : List ℕ) (at body to : ℕ) (e : FormFault) → StandsAt text at 91 →
     ReadsVerbatim text (at + 1) body to → FaultAt IsClosing IsClosing to (drop to text) e →
     FaultAt IsCanon (IsCanonWithin room) at (drop at text) e
-behind_hint room text at body to e s r h = search (rules, read_length, bracket_on, hinted_fault)
+behind_hint room text at body to e s r h =
+    bracket_fault room at (drop at text) (drop (at + 1) text) e s.spelled
+    (hinted_fault (at + 1) to r.octets (drop (at + 1) text) (drop to text) e r.spelled
+    (read_length text (verbatim r.octets) (at + 1) to (omega (arith, s.within)) r.within r.spelled) h)
 
 -- a string's record
 abbrev pub one : ℕ → ℕ → Shape → Record
@@ -165,9 +133,7 @@ hinted_read text at hint via body to s h m r =
     let d : body ≡ via + 1 + head r.octets = r.begins in
     let v : via ≡ at + 1 + head h.octets + length h.octets = omega arith in
     let f : body ≡ at + 1 + head h.octets + length h.octets + 1 + head r.octets = omega arith in
-    let sh : Hinted hint via body ≡ shape at (Some h.octets) r.octets =
-    ap (λ n. Hinted n via body) a ∙ ap (λ n. Hinted (at + 1 + head h.octets) n body) v
-    ∙ ap (λ n. Hinted (at + 1 + head h.octets) (at + 1 + head h.octets + length h.octets) n) f in
+    let sh : Hinted hint via body ≡ shape at (Some h.octets) r.octets = cc in
     record {
       hint = Some h.octets;
       octets = r.octets;
@@ -177,16 +143,6 @@ hinted_read text at hint via body to s h m r =
           (read_length text (canon (string (Some h.octets) r.octets)) at to (omega arith) k e) sh;
       within = k;
     }
-
-pub string_bad :
-    (room : ℕ) (text : List ℕ) (at c : ℕ) → StandsAt text at c → (IsDigit c → ⊥) → (c ≡ 91 → ⊥) → (c ≡ 40 → ⊥) →
-    IsBad IsCanon (IsCanonWithin room) at (drop at text) at
-string_bad room text at c s nd nb np = search (rules, value_first)
-
-pub in_plain :
-    (room : ℕ) (text : List ℕ) (at c : ℕ) (e : FormFault) → StandsAt text at c → IsDigit c →
-    FaultAt IsVerbatim IsVerbatim at (drop at text) e → FaultAt IsCanon (IsCanonWithin room) at (drop at text) e
-in_plain room text at c e s low h = search (rules, plain_fault)
 
 pub plain_read :
     (text : List ℕ) (at body to : ℕ) → at ≤ length text → ReadsVerbatim text at body to →

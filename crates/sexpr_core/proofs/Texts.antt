@@ -163,14 +163,14 @@ decimal_same (suc m) (suc n) e =
     (map_same (digits_of 10 (suc m)) (digits_of 10 (suc n)) (sym (decimal_suc m) ∙ e ∙ decimal_suc n))
 decimal_same m n e = absurd (search (rules, decimal_leads, decimal_zero))
 
--- behind "0" stands no digit
-pub zero_ends : (n c : ℕ) (x y : List ℕ) → decimal 0 ++ c ∷ x ≡ decimal n ++ 58 ∷ y → c ≡ 58
-zero_ends zero c x y e = let q : 48 ∷ (c ∷ x) ≡ 48 ∷ (58 ∷ y) = rw decimal_zero at e in cc
-zero_ends (suc n) c x y e =
+-- behind "0" stands what stands behind the number
+pub zero_once : (n d : ℕ) (x y : List ℕ) → decimal 0 ++ x ≡ decimal n ++ d ∷ y → (0 ≡ n) × (x ≡ d ∷ y)
+zero_once zero d x y e = let q : 48 ∷ x ≡ 48 ∷ (d ∷ y) = rw decimal_zero at e in (refl, cc)
+zero_once (suc n) d x y e =
     let s = decimal_starts (suc n) in
-    let q : 48 ∷ (c ∷ x) ≡ s.digit ∷ (s.rest ++ 58 ∷ y) = ap (λ t. t ++ c ∷ x) (sym decimal_zero) ∙ e ∙ ap (λ t. t ++ 58 ∷ y) s.is in
-    let d : s.digit ≡ 48 = cc in
-    absurd (decimal_leads (suc n) s.rest (omega arith) (s.is ∙ ap (λ k. k ∷ s.rest) d))
+    let q : 48 ∷ x ≡ s.digit ∷ (s.rest ++ d ∷ y) = ap (λ t. t ++ x) (sym decimal_zero) ∙ e ∙ ap (λ t. t ++ d ∷ y) s.is in
+    let k : s.digit ≡ 48 = cc in
+    absurd (decimal_leads (suc n) s.rest (omega arith) (s.is ∙ ap (λ m. m ∷ s.rest) k))
 
 -- ---- no canonical text is a prefix of another's, and what follows from that for each sort of text
 
@@ -220,7 +220,7 @@ verbatim_differs octets x y c h e = h (verbatim_begins octets x y c e)
 pub verbatim_one : (a b x y : List ℕ) → verbatim a ++ x ≡ verbatim b ++ y → (a ≡ b) × (x ≡ y)
 verbatim_one a b x y e = search (rules, verbatim_is, append_assoc, parts_agree, AreDigits-decimal, colon_no_digit, same_length, decimal_same)
 
-no_bracket : IsDigit 91 → ⊥
+pub no_bracket : IsDigit 91 → ⊥
 no_bracket h = omega (arith, h.1)
 
 pub no_open : IsDigit 40 → ⊥
@@ -276,26 +276,13 @@ Opens-verbatim = record {
               ∙ ap (λ n. decimal n ++ 58 ∷ octets) (sym (length-replicate is.number 0)) ∙ sym (verbatim_is octets);
         };
       };
-  back = λ t is. record {
-    first = decimal (length is.octets) ++ 58 ∷ [];
-    rest = is.octets;
-    is = record { number = length is.octets; is = refl };
-    whole = is.is ∙ verbatim_is is.octets ∙ sym (append_assoc (decimal (length is.octets)) (58 ∷ []) is.octets);
-  };
+  back = λ t is. search (rules, is.is ∙ verbatim_is is.octets ∙ sym (append_assoc (decimal (length is.octets)) (58 ∷ []) is.octets));
 }
 
 pub Opens-hinted : Opens IsHinted IsVerbatim
 Opens-hinted = record {
-  on = λ a is. record {
-    rest = 93 ∷ verbatim [];
-    whole = record { hint = is.octets; octets = []; is = ap (λ t. t ++ 93 ∷ verbatim []) is.is };
-  };
-  back = λ t is. record {
-    first = verbatim is.hint;
-    rest = 93 ∷ verbatim is.octets;
-    is = verbatim_text is.hint;
-    whole = is.is;
-  };
+  on = λ a is. record { rest = 93 ∷ verbatim []; whole = search (rules, ap (λ t. t ++ 93 ∷ verbatim []) is.is) };
+  back = λ t is. search (rules, verbatim_text);
 }
 
 pub Behind-hint : (hint : List ℕ) → Behind IsHinted IsClosing (verbatim hint)

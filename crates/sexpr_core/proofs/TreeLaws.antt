@@ -1,7 +1,7 @@
 -- Values and owned trees, member by member: how many nodes they have, what is written of them behind other octets,
 -- their octets, and when two are the same.
-use Rattle.std.proofs.Common.{◌≡◌, suc, ◌+◌, List, [], ◌∷◌, ◌++◌, length, ap, arith, length-append, refl, ℕ, ◌*◌, ◌/◌, ◌%◌, ◌<◌, ◌≤◌, sym, ◌∙◌, append_assoc, map, take, get_or, Vec, Global, append-nil, rules, subst, ◌↔◌, Bool, false, IsTrue}
-use Rattle.sexpr_core.specs.Value.{Value, values, group, size, size_all, nodes, nodes_all, sexp_value, level_value, decimal, verbatim, canon, canons, HasOctets, HaveOctets, members, is_same}
+use Rattle.std.proofs.Common.{◌≡◌, suc, ◌+◌, List, [], ◌∷◌, ◌++◌, length, ap, arith, refl, ℕ, ◌*◌, ◌/◌, ◌%◌, ◌<◌, ◌≤◌, sym, ◌∙◌, append_assoc, map, take, get_or, Vec, Global, append-nil, rules, subst, ◌↔◌, Bool, false, IsTrue}
+use Rattle.sexpr_core.specs.Value.{Value, values, group, size, size_all, sexp_value, level_value, decimal, verbatim, canon, canons, HasOctets, HaveOctets, members, is_same}
 use Rattle.std.proofs.lemmas.List.{map-append, take_more, take_all, get_or-map}
 use Rattle.sexpr_core.specs.declared.tree.Sexp.{Sexp}
 use Rattle.sexpr_core.specs.declared.tree.Sexp.TheVariants.{List as Branch, rolls-List}
@@ -12,15 +12,12 @@ use Rattle.std.specs.Bool.{Decides}
 use Rattle.std.proofs.lemmas.Slice.Eq.{bytes_eq-Decides}
 use Rattle.std.proofs.lemmas.Bool.Decides.{same_from_decides}
 use Rattle.sexpr_core.specs.Nodes.{members-values}
+use Rattle.sexpr_core.proofs.NodeLaws.{length-nodes_all}
 
 -- ---- how many nodes there are in a list's members
 
-pub size_all-values : (vs : List Value) → length (nodes_all (values vs)) ≡ size_all vs
-size_all-values [] = refl
-size_all-values (v ∷ vs) = omega (arith, length-append (nodes v) (nodes_all (values vs)), size_all-values vs)
-
 pub size_group : (vs : List Value) → size (group vs) ≡ suc (size_all vs)
-size_group vs = ap suc (size_all-values vs)
+size_group vs = ap suc (length-nodes_all (values vs) ∙ ap size_all (members-values vs))
 
 pub size_all-append : (vs ws : List Value) → size_all (vs ++ ws) ≡ size_all vs + size_all ws
 size_all-append [] ws = omega arith
@@ -48,9 +45,6 @@ one_written _ out new some few e = absurd (omega arith)
 
 -- ---- lists
 
-pub nothing_written : (out : List ℕ) → out ≡ out ++ []
-nothing_written out = sym (append-nil out)
-
 pub canons-append : (vs ws : List Value) → canons (values (vs ++ ws)) ≡ canons (values vs) ++ canons (values ws)
 canons-append [] ws = refl
 canons-append (v ∷ vs) ws = ap (λ s. canon v ++ s) (canons-append vs ws) ∙ sym (append_assoc (canon v) (canons (values vs)) (canons (values ws)))
@@ -59,10 +53,8 @@ pub member_written : {A : Type 0} (f : A → Value) (xs : List A) (k : ℕ) (d :
     → mid ≡ out ++ canons (values (map f (take k xs))) → new ≡ mid ++ canon (f (get_or xs k d))
     → new ≡ out ++ canons (values (map f (take (k + 1) xs)))
 member_written f xs k d out mid new lt e g =
-    let split : map f (take (k + 1) xs) ≡ map f (take k xs) ++ f (get_or xs k d) ∷ [] = ap (map f) (take_more xs k d lt) ∙ map-append f (take k xs) (get_or xs k d ∷ []) in
-    let whole : canons (values (map f (take (k + 1) xs))) ≡ canons (values (map f (take k xs))) ++ canon (f (get_or xs k d)) =
-    ap (λ vs. canons (values vs)) split ∙ canons-append (map f (take k xs)) (f (get_or xs k d) ∷ []) ∙ ap (λ s. canons (values (map f (take k xs))) ++ s) (append-nil (canon (f (get_or xs k d)))) in
-    g ∙ ap (λ s. s ++ canon (f (get_or xs k d))) e ∙ append_assoc out (canons (values (map f (take k xs)))) (canon (f (get_or xs k d))) ∙ ap (λ s. out ++ s) (sym whole)
+    rw (g, e, take_more xs k d lt, map-append f (take k xs) (get_or xs k d ∷ []), canons-append (map f (take k xs)) (f (get_or xs k d) ∷ []))
+    (simp (append_assoc, append-nil) refl)
 
 pub sexp_list : (ms : Vec Sexp Global) → sexp_value (Branch ms) ≡ group (map sexp_value ms.items)
 sexp_list ms = ap sexp_value (sym (rolls-List ms)) ∙ fold-roll-Sexp Value level_value (Layer ms)

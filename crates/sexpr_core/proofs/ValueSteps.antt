@@ -1,21 +1,20 @@
 -- Each step of the reader of values and members, over the text and its offsets.
-use Rattle.std.proofs.Common.{◌≡◌, ℕ, suc, ◌+◌, ◌-◌, ◌<◌, ◌≤◌, List, [], ◌∷◌, ◌++◌, length, drop, None, refl, sym, ◌∙◌, ap, subst, arith, append_assoc, length-append, append-nil, set, rules}
+use Rattle.std.proofs.Common.{◌≡◌, ℕ, suc, ◌+◌, ◌-◌, ◌<◌, ◌≤◌, List, [], ◌∷◌, ◌++◌, length, drop, None, refl, sym, ◌∙◌, ap, arith, append_assoc, length-append, append-nil, set, replicate, rules}
 use Rattle.std.proofs.Math.Seq.{set-append_seam}
 use Rattle.sexpr_core.specs.declared.fault.FormFault.{FormFault}
 use Rattle.sexpr_core.specs.declared.layout.Record.{Record}
 use Rattle.sexpr_core.specs.declared.layout.Shape.TheVariants.{List as Group}
 use Rattle.sexpr_core.specs.Value.{Value, Values, string, list, none, more, members, canon, canons, depth, depths, nodes, nodes_all, size}
-use Rattle.sexpr_core.specs.Nodes.{records, records_all}
+use Rattle.sexpr_core.specs.Nodes.{records_all}
 use Rattle.sexpr_core.specs.Reading.{Front, IsCanon, IsCanonWithin, IsMembers, IsMembersWithin, StandsAt, ReadsString, ReadsValue, ReadsMembers, PassesValue, PassesMembers}
-use Rattle.sexpr_core.specs.Inner.PartFaults.{IsDeep, FaultAt}
+use Rattle.sexpr_core.specs.Inner.PartFaults.{FaultAt}
+use Rattle.std.proofs.lemmas.List.{length-replicate}
+use Rattle.sexpr_core.proofs.NodeLaws.{as_many, places_all}
 use Rattle.sexpr_core.proofs.ListTexts.{join, canons-join, depths-join}
-use Rattle.sexpr_core.proofs.Faults.{verbatim_none, value_ended, list_deep, list_fault, members_short, member_fault}
-use Rattle.sexpr_core.proofs.Steps.{read_length, read_both}
+use Rattle.sexpr_core.proofs.Faults.{verbatim_none, members_short, member_fault}
+use Rattle.sexpr_core.proofs.Steps.{read_length}
 
 -- ---- values
-
-pub value_none : (room : ℕ) (text : List ℕ) (at : ℕ) → drop at text ≡ [] → Front (IsCanonWithin room) (drop at text)
-value_none room text at e = subst (λ s. Front (IsCanonWithin room) s) (sym e) (value_ended room at)
 
 canon_some : (v : Value) → 0 < length (canon v)
 canon_some (string None a) = verbatim_none a
@@ -37,28 +36,8 @@ string_value room text at read old new w r e =
       within = k;
     }
 
-pub deep_list :
-    (room : ℕ) (text : List ℕ) (at : ℕ) → room ≡ 0 → StandsAt text at 40 →
-    IsDeep IsCanon (IsCanonWithin room) (drop at text)
-deep_list room text at z s = search (rules, list_deep at (drop (at + 1) text))
-
-pub in_list :
-    (room inner : ℕ) (text : List ℕ) (at : ℕ) (e : FormFault) → room ≡ suc inner → StandsAt text at 40 →
-    FaultAt IsMembers (IsMembersWithin inner) (at + 1) (drop (at + 1) text) e →
-    FaultAt IsCanon (IsCanonWithin room) at (drop at text) e
-in_list room inner text at e q s h = search (rules, list_fault)
-
-mutual
-  records_many : (at : ℕ) (v : Value) → length (records at v) ≡ length (nodes v)
-  records_many at (string hint octets) = refl
-  records_many at (list vs) = ap suc (records_all_many (at + 1) vs)
-
-  records_all_many : (at : ℕ) (vs : Values) → length (records_all at vs) ≡ length (nodes_all vs)
-  records_all_many at none = refl
-  records_all_many at (more v vs) =
-      let a : length (records at v) ≡ length (nodes v) = records_many at v in
-      let b : length (records_all (at + length (canon v)) vs) ≡ length (nodes_all vs) = records_all_many (at + length (canon v)) vs in
-      omega (arith, length-append (records at v) (records_all (at + length (canon v)) vs), length-append (nodes v) (nodes_all vs))
+records_all_many : (at : ℕ) (vs : Values) → length (records_all at vs) ≡ length (nodes_all vs)
+records_all_many at vs = as_many _ (records_all at vs) (nodes_all vs) (places_all _ (replicate at 0) [] at vs (length-replicate at 0) refl)
 
 -- a list's record
 abbrev pub listed : ℕ → ℕ → ℕ → ℕ → Record
@@ -96,9 +75,7 @@ list_is inner text at parts to index many kept old pushed grown s i d r m =
     let w : at < length text = s.within in
     let e : drop at text ≡ canon (list r.items) ++ drop to text =
     s.spelled ∙ ap (λ t. 40 ∷ t) (r.spelled ∙ sym (append_assoc (canons r.items) (41 ∷ []) (drop to text))) in
-    let p : grown ≡ old ++ (kept ∷ records_all (at + 1) r.items) =
-    r.placed ∙ ap (λ rs. rs ++ records_all (at + 1) r.items) d
-    ∙ append_assoc old (kept ∷ []) (records_all (at + 1) r.items) in
+    let p : grown ≡ old ++ (kept ∷ records_all (at + 1) r.items) = rw (r.placed, d) (simp append_assoc refl) in
     let n : many ≡ size (list r.items) =
     omega (arith, ap length p, length-append old (kept ∷ records_all (at + 1) r.items), records_all_many (at + 1) r.items) in
     (e, p, n, read_length text (canon (list r.items)) at to (omega arith) r.within e)
@@ -127,10 +104,7 @@ list_read room inner text at parts to index many kept old pushed grown q s i d r
       value = list r.items;
       fits = omega arith;
       spelled = l.0;
-      placed = ap (λ rs. set rs index (listed at to many parts)) l.1
-          ∙ ap (λ n. set (old ++ (kept ∷ records_all (at + 1) r.items)) n (listed at to many parts)) i
-          ∙ set-append_seam old kept (records_all (at + 1) r.items) (listed at to many parts)
-          ∙ ap (λ k. old ++ (k ∷ records_all (at + 1) r.items)) is;
+      placed = rw (l.1, i, set-append_seam old kept (records_all (at + 1) r.items) (listed at to many parts)) (ap (λ k. old ++ (k ∷ records_all (at + 1) r.items)) is);
       goes_on = omega arith;
       within = k;
     }
@@ -184,15 +158,8 @@ more_members room text at parts via to old new newer w h r =
     record {
       items = join h.items (more r.value none);
       fits = depths-join room h.items (more r.value none) h.fits (omega arith);
-      spelled = read_both text (canons h.items) (canon r.value) at via to h.spelled r.spelled
-          ∙ ap (λ t. t ++ drop to text)
-          (ap (λ t. canons h.items ++ t) (sym (append-nil (canon r.value))) ∙ sym (canons-join h.items (more r.value none)));
-      placed = r.placed ∙ ap (λ rs. rs ++ records via r.value) h.placed
-          ∙ append_assoc old (records_all at h.items) (records via r.value)
-          ∙ ap (λ rs. old ++ rs)
-          (ap (λ n. records_all at h.items ++ records n r.value) l
-          ∙ ap (λ rs. records_all at h.items ++ rs) (sym (append-nil (records (at + length (canons h.items)) r.value)))
-          ∙ sym (records_all-join at h.items (more r.value none)));
+      spelled = rw (h.spelled, r.spelled, canons-join h.items (more r.value none)) (simp (append_assoc, append-nil) refl);
+      placed = rw (r.placed, h.placed, l, records_all-join at h.items (more r.value none)) (simp (append_assoc, append-nil) refl);
       counted = omega (arith, members-join h.items (more r.value none));
       ahead = omega arith;
       within = r.within;

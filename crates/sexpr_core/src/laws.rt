@@ -11,6 +11,7 @@ use crate::tree::{Atom, Sexp};
 
 /// No value's canonical text is a proper beginning of that of another value. If a text begins with a canonical text, it
 /// begins with that of one value only, and the rest is determined (RFC 9804, section 6.2).
+#[tactic(auto, using(crate::proofs::Texts::canon_one))]
 pub fn canonical_form_is_prefix_free()
     ensures { (v w : Value) (x y : List ℕ) → canon v ++ x ≡ canon w ++ y → (v ≡ w) × (x ≡ y) }
 {}
@@ -18,6 +19,7 @@ pub fn canonical_form_is_prefix_free()
 /// A text has at most one of the faults TooDeep, Short, Bad and Trailing, with its offset. It has none if it is a
 /// value's canonical text within the limits. So, if the text is not too long and memory does not run out, each of these
 /// faults is returned exactly if the text has it.
+#[tactic(auto, using(crate::proofs::Refusals::no_refusal, crate::proofs::Refusals::one_refusal))]
 pub fn one_refusal()
     ensures none { (text : List ℕ) (e : FormFault) (v : Value) → IsOfForm e → Refused text e → IsWithinLimits v → text ≢ canon v }
     ensures one { (text : List ℕ) (e f : FormFault) → IsOfForm e → IsOfForm f → Refused text e → Refused text f → e ≡ f }
@@ -33,6 +35,7 @@ pub fn one_refusal_in_braces()
 
 /// Two values have the same canonical text exactly if they are equal. This is what `==` of two trees, or of two strings,
 /// tests.
+#[tactic(auto, using(crate::proofs::TreeLaws::same_decides))]
 pub fn equality_is_of_canonical_forms()
     ensures { (v w : Value) → IsTrue (is_same v w) ↔ (v ≡ w) }
 {}

@@ -7,7 +7,7 @@ use Rattle.sexpr_core.proofs.Texts.{verbatim_is}
 use Rattle.sexpr_text.specs.AdvancedForm.{is_token_octet, IsCount, Simple, IsApart, SpellsAs, SpellsMembers}
 use Rattle.sexpr_text.specs.Refusal.{IsUnclosedString, IsUnclosedHinted, UnclosedMembers, depth_open}
 use Rattle.sexpr_text.specs.Inner.Begun.{IsStringPart, GoesString, IsValuePart, IsUnclosedValue, GoesValue, IsMembersPart, AreUnclosedMembers, GoesMembers}
-use Rattle.sexpr_text.proofs.Printed.{end_apart}
+use Rattle.sexpr_text.proofs.Printed.{end_apart, hinted_is}
 use Rattle.sexpr_text.proofs.OneValue.{apart_front, spaces_members}
 
 -- digits of a length begin a string, as nothing does
@@ -40,20 +40,7 @@ pub hinted_value : (room : ℕ) (ends as_token : Bool) (hint octets inside hint_
 hinted_value room ends as_token hint octets inside hint_text behind_hint behind octets_text s m t u n = record {
   ends_token = ends;
   value = string (Some hint) octets;
-  meant = record {
-    as_token = as_token;
-    inside = inside;
-    hint_text = hint_text;
-    behind_hint = behind_hint;
-    behind = behind;
-    octets_text = octets_text;
-    spelled = refl;
-    spaces_inside = s;
-    hint_meant = m;
-    spaces_behind_hint = t;
-    spaces_behind = u;
-    octets_meant = n;
-  };
+  meant = hinted_is ends as_token _ hint octets inside hint_text behind_hint behind octets_text refl s m t u n;
   fits = omega arith;
 }
 
@@ -111,9 +98,8 @@ pub spaces_part : (room : ℕ) (s x : List ℕ) → AreSpaces s → Begins (IsMe
 spaces_part room s x h b = search (rules, append_assoc, spaces_members)
 
 head_apart : (ends : Bool) (c : ℕ) (xs ys inside : List ℕ) → c ∷ xs ≡ inside ++ 41 ∷ [] → IsApart ends (c ∷ ys) → IsApart ends inside
-head_apart false c xs ys inside e h = tt
-head_apart true c xs ys [] e h = tt
 head_apart true c xs ys (d ∷ ds) e h = let q : c ≡ d = cc in subst (λ n. is_token_octet n ≡ false) q h
+head_apart ends c xs ys inside e h = tt
 
 -- a whole member, and what begins members behind it; where nothing does, the list is closed
 pub first_part : (room : ℕ) (ends : Bool) (first : List ℕ) (v : Value) (x y : List ℕ) → SpellsAs ends first v → depth v ≤ room → IsApart ends (x ++ y)

@@ -1,13 +1,12 @@
 -- What is written of a value while its text, in canonical or in advanced form, is read.
-use Rattle.std.proofs.Common.{◌≡◌, ◌≢◌, ℕ, zero, suc, ◌+◌, ◌*◌, ◌-◌, ◌<◌, ◌≤◌, List, [], ◌∷◌, ◌++◌, length, map, take, drop, Some, None, refl, sym, ap, ◌∙◌, append_assoc, append-nil, length-append, arith, ◌==◌, false, cond, subst, rules}
+use Rattle.std.proofs.Common.{◌≡◌, ◌≢◌, ℕ, zero, suc, ◌+◌, ◌*◌, ◌-◌, ◌<◌, ◌≤◌, List, [], ◌∷◌, ◌++◌, length, map, take, drop, Some, None, refl, sym, ap, ◌∙◌, append_assoc, append-nil, length-append, arith, subst, rules}
 use Rattle.std.specs.Int.Digits.{digits_of, number_from_digits, number_from_digits_after, AllBelowBase}
-use Rattle.std.proofs.lemmas.List.{take_all}
+use Rattle.std.proofs.lemmas.List.{take_all, take_at, drop_at}
 use Rattle.std.proofs.lemmas.Int.Digits.{number_after_ge, number_digits_of, all_below_base_digits_of}
 use Rattle.sexpr_core.specs.Value.{Value, Values, string, list, none, more, decimal, verbatim, canon, canons, values, IsWithinLimits}
-use Rattle.sexpr_core.proofs.Texts.{IsDigit, digit_of, decimal_zero, decimal_suc, verbatim_is, verbatim_differs, no_open, canon_differs}
+use Rattle.sexpr_core.proofs.Texts.{no_bracket, digit_of, decimal_zero, decimal_suc, verbatim_is, verbatim_differs, no_open, canon_differs}
 use Rattle.sexpr_text.specs.AdvancedForm.{gap, adv, adv_all, written, written_all, written_string, gap_of, IsSpelledWithin}
-use Rattle.sexpr_text.proofs.Printed.{past_first, canonical_spelled, adv_all-append}
-use Rattle.std.proofs.lemmas.Bool.Decides.{nat_tests}
+use Rattle.sexpr_text.proofs.Printed.{gap_suc, past_first, canonical_spelled, adv_all-append}
 use Rattle.sexpr_core.specs.Reading.{StandsAt, Skips}
 use Rattle.sexpr_text.specs.declared.converter.Form.{Form}
 use Rattle.sexpr_text.specs.declared.converter.Form.TheVariants.{Canonical, Advanced}
@@ -75,21 +74,14 @@ pub length_within : (rest : List ℕ) (number : ℕ) (octets behind : List ℕ) 
 length_within rest number octets behind h =
     omega (arith, ap length h.spelled, length-append (map digit_of h.digits) (58 ∷ (octets ++ behind)), length-append octets behind)
 
-front_taken : (xs ys : List ℕ) → (take (length xs) (xs ++ ys) ≡ xs) × (drop (length xs) (xs ++ ys) ≡ ys)
-front_taken [] ys = (refl, refl)
-front_taken (x ∷ xs) ys = let rest = front_taken xs ys in (ap (λ t. x ∷ t) rest.0, rest.1)
-
 pub split_there : (n : ℕ) (tail octets behind : List ℕ) → n ≡ length octets → tail ≡ octets ++ behind → (take n tail ≡ octets) × (drop n tail ≡ behind)
-split_there n tail octets behind long is = rw (long, is) (front_taken octets behind)
+split_there n tail octets behind long is = rw is (take_at octets behind n (sym long), drop_at octets behind n (sym long))
 
 -- what is behind the first octet
 pub behind_first : (xs : List ℕ) (c : ℕ) (ys : List ℕ) → xs ≡ c ∷ ys → take (length xs - 1) (drop 1 xs) ≡ ys
 behind_first xs c ys e = rw e (take_all (length (c ∷ ys) - 1) ys (omega arith))
 
 -- ---- values by their first octets
-
-no_bracket : IsDigit 91 → ⊥
-no_bracket h = omega (arith, h.1)
 
 pub opens_list : (v : Value) (x y : List ℕ) → canon v ++ x ≡ 40 ∷ y → (vs : Values) × (v ≡ list vs) × (y ≡ canons vs ++ 41 ∷ x)
 opens_list (string None a) x y e = absurd (verbatim_differs a x y 40 no_open e)
@@ -159,9 +151,7 @@ pub member_printed : (Before Printed : List ℕ → Type 0) (vs us : Values) (v 
 member_printed Before Printed vs us v behind rest tail member h is e p = record {
   left = us;
   front = h.front ++ (gap member ++ adv v);
-  whole = h.whole ∙ ap (λ s. h.front ++ adv_all member s) is ∙ ap (λ s. h.front ++ (gap member ++ (adv v ++ s))) (past_first member us)
-      ∙ ap (λ s. h.front ++ s) (sym (append_assoc (gap member) (adv v) (adv_all 1 us)))
-      ∙ sym (append_assoc h.front (gap member ++ adv v) (adv_all 1 us));
+  whole = rw (h.whole, is, past_first member us) (simp append_assoc refl);
   spelled = e;
   printed = p;
 }
@@ -250,24 +240,19 @@ pub more_converted : (room : ℕ) (text : List ℕ) (at i c to then_at : ℕ) (f
 more_converted room text at i c to then_at form old mid spaced new next later h stands other e p g s =
     let v = p.0 in
     let vs = h.items in
-    let before : List ℕ = written_all form 0 (values vs) in
     record {
       items = vs ++ v ∷ [];
       read =
           subst (λ us. HasMembers room text at then_at (values us)) (map-same (vs ++ v ∷ []))
           (more_members same vs (vs ++ v ∷ []) v room text at i c to then_at
           (subst (λ us. HasMembers room text at i (values us)) (sym (map-same vs)) h.read) stands other p.1 refl s);
-      is_written =
-          p.2 ∙ ap (λ t. t ++ written form v) (e ∙ ap (λ t. mid ++ t) h.next_is ∙ ap (λ t. t ++ gap_of form (length vs)) h.is_written)
-          ∙ append_assoc (old ++ before) (gap_of form (length vs)) (written form v)
-          ∙ append_assoc old before (gap_of form (length vs) ++ written form v)
-          ∙ ap (λ t. old ++ t) (sym (written_more form vs v));
+      is_written = rw (p.2, e, h.next_is, h.is_written, written_more form vs v) (simp append_assoc refl);
       next_is = g ∙ past_first form (length vs) ∙ ap (gap_of form) (one_more vs);
     }
   where
     past_first : (f : Form) (n : ℕ) → gap_of f 1 ≡ gap_of f (suc n)
     past_first Canonical n = refl
-    past_first Advanced n = let e : (suc n == 0) ≡ false = grind (arith, nat_tests) in ap (λ b. cond b [] (32 ∷ [])) (sym e)
+    past_first Advanced n = sym (gap_suc n)
 
     one_more : (us : List Value) → suc (length us) ≡ length (us ++ p.0 ∷ [])
     one_more us = omega (arith, length-append us (p.0 ∷ []))

@@ -1,9 +1,9 @@
 -- A string with or without its length in front, as the reader meets it.
-use Rattle.std.proofs.Common.{◌≡◌, ◌≢◌, ℕ, zero, suc, ◌+◌, ◌≤◌, min, Bool, true, false, ◌⊎◌, inl, inr, List, [], ◌∷◌, ◌++◌, length, drop, refl, sym, ap, subst, ◌∙◌, append_assoc, length-append, length-drop, arith, rules}
+use Rattle.std.proofs.Common.{◌≡◌, ◌≢◌, ℕ, ◌+◌, ◌≤◌, min, Bool, true, false, ◌⊎◌, inl, inr, List, [], ◌∷◌, ◌++◌, length, drop, refl, sym, ap, subst, ◌∙◌, append_assoc, length-append, length-drop, arith, rules}
 use Rattle.std.proofs.lemmas.Bool.Decides.{nat_tests}
 use Rattle.sexpr_core.specs.Value.{decimal}
 use Rattle.sexpr_core.specs.Reading.{StandsAt}
-use Rattle.sexpr_core.proofs.Texts.{IsDigit, AreDigits, AreDigits-decimal, decimal_zero, decimal_leads, decimal_same, decimal_starts, verbatim_is, Passes, one_front}
+use Rattle.sexpr_core.proofs.Texts.{IsDigit, zero_once, AreDigits, AreDigits-decimal, decimal_same, decimal_starts, verbatim_is, Passes, one_front}
 use Rattle.sexpr_text.specs.AdvancedForm.{is_digit, is_token_octet, IsToken, IsQuoted, IsMarked, Simple}
 use Rattle.sexpr_text.specs.Reads.{Reads, ReadsCount, ReadsOctets, ReadsString, StringAt, Stops}
 use Rattle.sexpr_text.proofs.Marked.{is_mark, marked_first, one_marked, marked_few}
@@ -21,14 +21,6 @@ digits_pass (c ∷ cs) h = (digit_passes c h.0, digits_pass cs h.1)
 other_digit : (d : ℕ) → (IsDigit d → ⊥) → is_digit d ≡ false
 other_digit d h = grind (arith, nat_tests)
 
-zero_once : (n d : ℕ) (x y : List ℕ) → decimal 0 ++ x ≡ decimal n ++ d ∷ y → (0 ≡ n) × (x ≡ d ∷ y)
-zero_once zero d x y e = let q : 48 ∷ x ≡ 48 ∷ (d ∷ y) = rw decimal_zero at e in (refl, cc)
-zero_once (suc n) d x y e =
-    let s = decimal_starts (suc n) in
-    let q : 48 ∷ x ≡ s.digit ∷ (s.rest ++ d ∷ y) = ap (λ t. t ++ x) (sym decimal_zero) ∙ e ∙ ap (λ t. t ++ d ∷ y) s.is in
-    let k : s.digit ≡ 48 = cc in
-    absurd (decimal_leads (suc n) s.rest (omega arith) (s.is ∙ ap (λ m. m ∷ s.rest) k))
-
 pub count_once : (w n d : ℕ) (x y : List ℕ) → (w ≡ 0) ⊎ Stops is_digit x → (IsDigit d → ⊥) → decimal w ++ x ≡ decimal n ++ d ∷ y → (w ≡ n) × (x ≡ d ∷ y)
 count_once w n d x y (inl z) other e = search (rules, zero_once)
 count_once w n d x y (inr stops) other e =
@@ -37,13 +29,15 @@ count_once w n d x y (inr stops) other e =
 
 -- ---- what stands behind a length
 
-token_digit : (c : ℕ) (cs a rest : List ℕ) → IsToken a → IsDigit c → c ∷ cs ≡ a ++ rest → ⊥
-token_digit c cs [] rest h d e = absurd h
-token_digit c cs (x ∷ xs) rest h d e = let q : c ≡ x = cc in let t : is_digit x ≡ true = digit_passes x (subst IsDigit q d) in let f : false ≡ true = sym h.0 ∙ t in cc
+begins_no_token : (c : ℕ) (cs a rest : List ℕ) → IsToken a → (is_digit c ≡ false → is_token_octet c ≡ true → ⊥) → c ∷ cs ≡ a ++ rest → ⊥
+begins_no_token c cs [] rest h other e = absurd h
+begins_no_token c cs (x ∷ xs) rest h other e =
+    let q : x ≡ c = cc in other (subst (λ k. is_digit k ≡ false) q h.0) (subst (λ k. is_token_octet k ≡ true) q h.1.0)
 
-begins_counted : (ends : Bool) (c : ℕ) (cs s a rest : List ℕ) → Simple ends s a → IsDigit c → c ∷ cs ≡ s ++ rest → Simple false s a
-begins_counted true c cs s a rest h d e = absurd (token_digit c cs a rest h.1 d (e ∙ ap (λ t. t ++ rest) h.0))
-begins_counted false c cs s a rest h d e = h
+-- a string whose first octet begins no token is none
+is_no_token : (ends : Bool) (c : ℕ) (cs s a rest : List ℕ) → Simple ends s a → (is_digit c ≡ false → is_token_octet c ≡ true → ⊥) → c ∷ cs ≡ s ++ rest → Simple false s a
+is_no_token true c cs s a rest h other e = absurd (begins_no_token c cs a rest h.1 other (e ∙ ap (λ t. t ++ rest) h.0))
+is_no_token false c cs s a rest h other e = h
 
 -- the octets of a verbatim string behind its colon, or a string between marks
 abbrev pub StandsBehind : List ℕ → List ℕ → List ℕ → Type 0
@@ -67,7 +61,8 @@ ends_written n w x c (inr s) = inr s
 pub counted_stands : (text : List ℕ) (at first number to : ℕ) (a rest : List ℕ) → StandsAt text at first → IsDigit first → (r : ReadsCount text at number to)
     → (number ≡ 0) ⊎ Stops is_digit (drop to text) → StringAt text at a rest → (r.written ≡ length a) × StandsBehind (drop to text) a rest
 counted_stands text at first number to a rest opens low r ends s =
-    let h : Cut s.spelling a = cut s.spelling a (begins_counted s.ends_token first (drop (at + 1) text) s.spelling a rest s.meant low (sym opens.spelled ∙ s.spelled)) in
+    let f = is_no_token s.ends_token first (drop (at + 1) text) s.spelling a rest s.meant (λ d t. cc (sym d ∙ digit_passes first low)) (sym opens.spelled ∙ s.spelled) in
+    let h : Cut s.spelling a = cut s.spelling a f in
     let e : drop at text ≡ h.digits ++ h.mark ∷ (h.tail ++ rest) = s.spelled ∙ ap (λ t. t ++ rest) h.spelled ∙ append_assoc h.digits (h.mark ∷ h.tail) rest in
     cut_behind r.written first h.mark (drop (at + 1) text) (drop to text) h.digits h.tail a rest (ends_written number r.written (drop to text) r.capped ends) low h.other h.behind
     (sym opens.spelled ∙ r.spelled) (sym opens.spelled ∙ e)
@@ -110,13 +105,14 @@ pub verbatim_string : (text : List ℕ) (at number to c end : ℕ) (octets : Lis
 verbatim_string text at number to c end octets r next n o =
     search (rules, append_assoc (decimal (length octets)) (58 ∷ octets) (drop end text), verbatim_is octets)
 
-pub octets_few : (text s a : List ℕ) (at to : ℕ) → IsMarked s a → drop at text ≡ s ++ drop to text → length a ≤ length text
-octets_few text s a at to m e = omega (arith, marked_few s a m, ap length e, length-append s (drop to text), length-drop at text)
+pub octets_few : (text a : List ℕ) (at to : ℕ) → Reads IsMarked text at a to → length a ≤ length text
+octets_few text a at to m =
+    omega (arith, marked_few m.spelling a m.meant, ap length m.spelled, length-append m.spelling (drop to text), length-drop at text)
 
 pub counted_string : (text : List ℕ) (at number to end : ℕ) (octets : List ℕ) → length text ≤ 1048576 → ReadsCount text at number to
     → Reads IsMarked text to octets end → length octets ≡ number → ReadsString text at octets end
 counted_string text at number to end octets short r m n =
-    let w : r.written ≡ length octets = omega (arith, r.capped, octets_few text m.spelling octets to end m.meant m.spelled) in
+    let w : r.written ≡ length octets = omega (arith, r.capped, octets_few text octets to end m) in
     record {
       stands = record {
         ends_token = false;
@@ -141,12 +137,6 @@ counted_elsewhere text at first number to c end n octets a rest short opens low 
     let q : n ≡ number = omega (arith, r.capped, w, ap length one.0) in
     other q
 
-pub counted_right : (text : List ℕ) (at first number to c end n : ℕ) (octets a rest : List ℕ) → length text ≤ 1048576 → StandsAt text at first → IsDigit first
-    → ReadsCount text at number to → (number ≡ 0) ⊎ Stops is_digit (drop to text) → StandsAt text to c → c ≢ 58 → Reads IsMarked text to octets end
-    → n ≡ length octets → n ≢ number → StringAt text at a rest → ⊥
-counted_right text at first number to c end n octets a rest short opens low r ends next apart m l other s =
-    counted_elsewhere text at first number to c end n octets a rest (omega (arith, octets_few text m.spelling octets to end m.meant m.spelled)) opens low r ends next apart m l other s
-
 -- ---- without a length
 
 pub marked_string : (text : List ℕ) (at end : ℕ) (octets : List ℕ) → Reads IsMarked text at octets end → ReadsString text at octets end
@@ -164,19 +154,12 @@ behind_none c d cs ds t a rest other (inl b) e = search (rules, decimal_starts (
 behind_none c d cs ds t a rest other (inr (m, inl n, k)) e = (d ∷ t, k, e ∙ ap (λ u. u ++ d ∷ (t ++ rest)) n)
 behind_none c d cs ds t a rest other (inr (m, inr i, k)) e = search (rules, decimal_starts (length a))
 
-token_begins : (c : ℕ) (cs a rest : List ℕ) → IsToken a → is_token_octet c ≡ false → c ∷ cs ≡ a ++ rest → ⊥
-token_begins c cs [] rest h n e = absurd h
-token_begins c cs (x ∷ xs) rest h n e = let q : c ≡ x = cc in cc (sym n ∙ ap is_token_octet q ∙ h.1.0)
-
-no_token_begins : (ends : Bool) (c : ℕ) (cs s a rest : List ℕ) → Simple ends s a → is_token_octet c ≡ false → c ∷ cs ≡ s ++ rest → Simple false s a
-no_token_begins true c cs s a rest h n e = absurd (token_begins c cs a rest h.1 n (e ∙ ap (λ t. t ++ rest) h.0))
-no_token_begins false c cs s a rest h n e = h
-
 -- a string that begins with no octet of a token stands between marks
 pub uncounted_stands : (text : List ℕ) (at c : ℕ) (a rest : List ℕ) → StandsAt text at c → (IsDigit c → ⊥) → is_token_octet c ≡ false → StringAt text at a rest
     → (s : List ℕ) × IsMarked s a × (drop at text ≡ s ++ rest)
 uncounted_stands text at c a rest opens other n s =
-    let h : Cut s.spelling a = cut s.spelling a (no_token_begins s.ends_token c (drop (at + 1) text) s.spelling a rest s.meant n (sym opens.spelled ∙ s.spelled)) in
+    let f = is_no_token s.ends_token c (drop (at + 1) text) s.spelling a rest s.meant (λ d t. cc (sym n ∙ t)) (sym opens.spelled ∙ s.spelled) in
+    let h : Cut s.spelling a = cut s.spelling a f in
     let e : drop at text ≡ h.digits ++ h.mark ∷ (h.tail ++ rest) = s.spelled ∙ ap (λ t. t ++ rest) h.spelled ∙ append_assoc h.digits (h.mark ∷ h.tail) rest in
     let k = behind_none c h.mark (drop (at + 1) text) h.digits h.tail a rest other h.behind (sym opens.spelled ∙ e) in
     (k.0, k.1, opens.spelled ∙ k.2)

@@ -136,23 +136,23 @@ pub none_left : (ps : List Piece) (r rest : List ℕ) → ArePieces ps (34 ∷ r
 none_left [] r rest h e = (refl, cc)
 none_left (p ∷ ps) r rest h e = absurd (search (rules, no_quote, append_assoc))
 
-starts_followed : (d : ℕ) (t rest : List ℕ) → StartsOther d (t ++ 34 ∷ []) → StartsOther d (t ++ 34 ∷ rest)
-starts_followed d [] rest h = h
-starts_followed d (c ∷ cs) rest h = h
+starts_on : (d : ℕ) (t x y : List ℕ) → (StartsOther d x → StartsOther d y) → StartsOther d (t ++ x) → StartsOther d (t ++ y)
+starts_on d [] x y on h = on h
+starts_on d (c ∷ cs) x y on h = h
 
-piece_followed : (p : Piece) (t rest : List ℕ) → IsPiece p (t ++ 34 ∷ []) → IsPiece p (t ++ 34 ∷ rest)
-piece_followed (raw c) t rest h = h
-piece_followed (escaped e c) t rest h = h
-piece_followed (octal a b c) t rest h = h
-piece_followed (hexadecimal a b m n) t rest h = h
-piece_followed (line c) t rest (inl h) = inl (h.0, starts_followed 10 t rest h.1)
-piece_followed (line c) t rest (inr h) = inr (h.0, starts_followed 13 t rest h.1)
-piece_followed (line_pair c d) t rest h = h
+piece_on : (p : Piece) (t x y : List ℕ) → (StartsOther 10 x → StartsOther 10 y) → (StartsOther 13 x → StartsOther 13 y) → IsPiece p (t ++ x) → IsPiece p (t ++ y)
+piece_on (line c) t x y l r (inl h) = inl (h.0, starts_on 10 t x y l h.1)
+piece_on (line c) t x y l r (inr h) = inr (h.0, starts_on 13 t x y r h.1)
+piece_on p t x y l r h = h
+
+-- pieces stay right in front of other octets, if these begin with LF or CR only where the first do
+pub are_on : (ps : List Piece) (x y : List ℕ) → (StartsOther 10 x → StartsOther 10 y) → (StartsOther 13 x → StartsOther 13 y) → ArePieces ps x → ArePieces ps y
+are_on [] x y l r h = tt
+are_on (p ∷ ps) x y l r h = (piece_on p (pieces_text ps) x y l r h.0, are_on ps x y l r h.1)
 
 -- pieces are right whatever follows their closing quote
-pub are_followed : (ps : List Piece) (rest : List ℕ) → ArePieces ps (34 ∷ []) → ArePieces ps (34 ∷ rest)
-are_followed [] rest h = tt
-are_followed (p ∷ ps) rest h = (piece_followed p (pieces_text ps) rest h.0, are_followed ps rest h.1)
+pub are_followed : (ps : List Piece) (r rest : List ℕ) → ArePieces ps (34 ∷ r) → ArePieces ps (34 ∷ rest)
+are_followed ps r rest h = are_on ps (34 ∷ r) (34 ∷ rest) (λ s. s) (λ s. s) h
 
 piece_few : (p : Piece) → length (piece_octets p) ≤ length (piece_text p)
 piece_few (raw c) = omega arith
@@ -205,7 +205,7 @@ opened m n s a r t b q d e h = search (rules, closed)
 pub one_quoted : (s r a t q b : List ℕ) → IsQuoted s a → IsQuoted t b → s ++ r ≡ t ++ q → (a ≡ b) × (r ≡ q)
 one_quoted s r a t q b h k e =
     let o = opened 34 34 s (pieces_text h.pieces) r t (pieces_text k.pieces) q h.spelled k.spelled e in
-    let l = left_pieces h.pieces k.pieces (34 ∷ r) q (are_followed h.pieces r h.right) (are_followed k.pieces q k.right) o.1 in
+    let l = left_pieces h.pieces k.pieces (34 ∷ r) q (are_followed h.pieces [] r h.right) (are_followed k.pieces [] q k.right) o.1 in
     let n = none_left l.pieces r q l.right l.spelled in
     (h.meant ∙ sym (append-nil (pieces_octets h.pieces)) ∙ ap (λ t. pieces_octets h.pieces ++ t) (sym n.0) ∙ sym l.meant ∙ sym k.meant, n.1)
 
@@ -335,8 +335,7 @@ kept_refused text at i c kept body rest (Bad n) k stands apart all e is =
     let q : c ∷ drop (i + 1) text ≡ 35 ∷ rest = sym stands.spelled ∙ s.1 in
     let m : c ≡ 35 = cc in
     absurd (apart m)
-kept_refused text at i c kept body rest Memory k stands apart all e is = refl
-kept_refused text at i c kept body rest _ k stands apart all e is = absurd is
+kept_refused text at i c kept body rest _ k stands apart all e is = search rules
 
 pub kept_end : (text : List ℕ) (at i : ℕ) (kept body rest : List ℕ) → Keeps text at kept i → drop i text ≡ []
     → Passes is_hexadecimal_octet body → drop at text ≡ body ++ 35 ∷ rest → ⊥

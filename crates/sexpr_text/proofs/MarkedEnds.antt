@@ -20,7 +20,7 @@ use Rattle.sexpr_text.proofs.RefusedParts.{marked_too, count_too, ends_too, no_m
 use Rattle.sexpr_text.proofs.Unfinished.{unclosed_marked, unclosed_first, cut_open}
 use Rattle.sexpr_text.proofs.OneValue.{mark_no_digit}
 use Rattle.sexpr_core.proofs.Refusals.{begins_front}
-use Rattle.sexpr_text.proofs.StringEnds.{nothing_begun, part_later, body_fails, quoted_is, digits_are, symbols_are}
+use Rattle.sexpr_text.proofs.StringEnds.{nothing_begun, part_later, pieces_open, body_fails, quoted_is, digits_are, symbols_are}
 
 -- ---- between marks
 
@@ -122,12 +122,11 @@ verbatim_end text at number to c Short short r s e h = record {
   ordered = omega (arith, r.forward, r.within);
   within = omega arith;
 }
-verbatim_end text at number to c (Bad k) short r s e h = absurd h
-verbatim_end text at number to c _ short r s e h = h
+verbatim_end text at number to c _ short r s e h = search rules
 
-counted_goes : (n : ℕ) (part : List ℕ) → GoesMarked part → GoesString (decimal n ++ part)
-counted_goes n part (inl e) = inl (count_begins (decimal n ++ part) n (inr (ap (λ t. decimal n ++ t) e ∙ append-nil (decimal n))))
-counted_goes n part (inr u) = inr (record { count = decimal n; number = n; marked = part; spelled = refl; counts = inr refl; meant = u })
+goes_counted : (count : List ℕ) (n : ℕ) (part : List ℕ) → IsCount count n → GoesMarked part → GoesString (count ++ part)
+goes_counted count n part c (inl e) = inl (subst (Begins IsStringPart) (sym (ap (λ t. count ++ t) e ∙ append-nil count)) (count_begins count n c))
+goes_counted count n part c (inr u) = inr (record { count = count; number = n; marked = part; spelled = refl; counts = c; meant = u })
 
 cut_counted : (w c : ℕ) (cs x digits : List ℕ) (n mark : ℕ) (tail : List ℕ) → (w ≡ 0) ⊎ Stops is_digit x → IsDigit c → IsCount digits n → is_mark mark ≡ true
     → c ∷ cs ≡ decimal w ++ x → c ∷ cs ≡ digits ++ mark ∷ tail → x ≡ mark ∷ tail
@@ -143,7 +142,7 @@ counted_open text at first number to s low r ends u = search (rules, cut_open, c
 pub counted_end : (text : List ℕ) (at first number to : ℕ) (fault : FormFault) → StandsAt text at first → IsDigit first → ReadsCount text at number to
     → (number ≡ 0) ⊎ Stops is_digit (drop to text) → IsPartEnd GoesMarked IsUnclosed text to fault → IsPartEnd GoesString IsUnclosedString text at fault
 counted_end text at first number to fault s low r ends h =
-    part_later GoesMarked GoesString IsUnclosed IsUnclosedString text (decimal r.written) at to fault (omega (arith, r.forward)) r.spelled (counted_goes r.written)
+    part_later GoesMarked GoesString IsUnclosed IsUnclosedString text (decimal r.written) at to fault (omega (arith, r.forward)) r.spelled (λ part g. goes_counted (decimal r.written) r.written part (inr refl) g)
     (λ other n a le u.
     counted_open other at first number to (stands_too text other n at first a (omega (arith, r.forward)) s) low (count_too text other n at number to a (omega arith) r)
     (ends_too text other n number to a le ends) u) h
@@ -156,31 +155,14 @@ record WithoutMark (s : List ℕ) : Type 0 where
   unclosed : IsUnclosed front
 
 without_mark : (s a : List ℕ) → IsMarked s a → WithoutMark s
-without_mark s a (inl h) = record {
-  front = 34 ∷ pieces_text h.pieces;
-  mark = 34;
-  whole = h.spelled;
-  unclosed = inl (record {
-    body = pieces_text h.pieces;
-    more = 34 ∷ [];
-    octets = a;
-    spelled = refl;
-    some = omega arith;
-    whole = subst (λ t. IsQuoted t a) h.spelled h;
-  });
-}
-without_mark s a (inr (inl h)) = record {
-  front = 35 ∷ h.body;
-  mark = 35;
-  whole = h.spelled;
-  unclosed = inr (inl (record { body = h.body; spelled = refl; digits = hexadecimal_octets h.body a h.packed }));
-}
-without_mark s a (inr (inr h)) = record {
-  front = 124 ∷ h.body;
-  mark = 124;
-  whole = h.spelled;
-  unclosed = inr (inr (record { body = h.body; spelled = refl; symbols = body_octets h.body a h.packed }));
-}
+without_mark s a (inl h) =
+    record { front = 34 ∷ pieces_text h.pieces; mark = 34; whole = h.spelled; unclosed = inl (pieces_open h.pieces (34 ∷ []) h.right) }
+without_mark s a (inr (inl h)) =
+    let digits = hexadecimal_octets h.body a h.packed in
+    record { front = 35 ∷ h.body; mark = 35; whole = h.spelled; unclosed = inr (inl (record { body = h.body; spelled = refl; digits = digits })) }
+without_mark s a (inr (inr h)) =
+    let symbols = body_octets h.body a h.packed in
+    record { front = 124 ∷ h.body; mark = 124; whole = h.spelled; unclosed = inr (inr (record { body = h.body; spelled = refl; symbols = symbols })) }
 
 -- a length that isn't the number of octets meant
 pub count_end : (text : List ℕ) (at first number to end : ℕ) (octets : List ℕ) → StandsAt text at first → IsDigit first → ReadsCount text at number to
@@ -195,7 +177,7 @@ count_end text at first number to end octets s low r ends m =
       record {
         part = decimal r.written ++ w.front;
         spelled = r.spelled ∙ ap (λ t. decimal r.written ++ t) (e ∙ ap (λ t. w.front ++ t) (sym last)) ∙ sym (append_assoc (decimal r.written) w.front (drop (end - 1) text));
-        goes = counted_goes r.written w.front (inr w.unclosed);
+        goes = goes_counted (decimal r.written) r.written w.front (inr refl) (inr w.unclosed);
         ordered = omega (arith, r.forward, m.forward);
         within = omega (arith, m.within);
       },
@@ -207,10 +189,6 @@ count_end text at first number to end octets s low r ends m =
           (sym also.spelled)),
     )
 
-uncounted_goes : (part : List ℕ) → GoesMarked part → GoesString part
-uncounted_goes part (inl e) = subst GoesString (sym e) none_string
-uncounted_goes part (inr u) = inr (record { count = []; number = 0; marked = part; spelled = refl; counts = inl refl; meant = u })
-
 cut_uncounted : (c : ℕ) (cs digits : List ℕ) (n mark : ℕ) (tail : List ℕ) → (IsDigit c → ⊥) → IsCount digits n → c ∷ cs ≡ digits ++ mark ∷ tail → c ∷ cs ≡ mark ∷ tail
 cut_uncounted c cs digits n mark tail other (inl k) e = e ∙ ap (λ t. t ++ mark ∷ tail) k
 cut_uncounted c cs digits n mark tail other (inr k) e = search (rules, decimal_starts n)
@@ -218,7 +196,7 @@ cut_uncounted c cs digits n mark tail other (inr k) e = search (rules, decimal_s
 pub uncounted_end : (text : List ℕ) (at c : ℕ) (fault : FormFault) → StandsAt text at c → (IsDigit c → ⊥) → IsPartEnd GoesMarked IsUnclosed text at fault
     → IsPartEnd GoesString IsUnclosedString text at fault
 uncounted_end text at c fault s other h =
-    part_later GoesMarked GoesString IsUnclosed IsUnclosedString text [] at at fault (omega arith) refl uncounted_goes
+    part_later GoesMarked GoesString IsUnclosed IsUnclosedString text [] at at fault (omega arith) refl (λ part g. goes_counted [] 0 part (inl refl) g)
     (λ also n a le u.
     let k = cut_open (drop at also) u in
     let o = stands_too text also n at c a le s in

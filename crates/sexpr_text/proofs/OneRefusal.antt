@@ -4,14 +4,14 @@ use Rattle.std.proofs.Common.{◌≡◌, ℕ, List, take, append-nil, rules, ◌
 use Rattle.sexpr_core.specs.declared.fault.FormFault.{FormFault}
 use Rattle.sexpr_core.specs.declared.fault.FormFault.TheVariants.{TooDeep, Bad, Trailing}
 use Rattle.sexpr_core.specs.Value.{Value, plain}
-use Rattle.sexpr_core.specs.Reading.{IsOfForm, StandsAt, is_whitespace, AreSpaces, Skips, Begins, Braced, IsBraced, RefusesBraces}
+use Rattle.sexpr_core.specs.Reading.{IsOfForm, StandsAt, Passed, is_whitespace, AreSpaces, Skips, Begins, Braced, IsBraced, RefusesBraces}
 use Rattle.sexpr_text.specs.AdvancedForm.{IsSpelledWithin, Spells, IsText, IsTextWithin}
 use Rattle.sexpr_text.specs.Refusal.{GoesOn, GoesOnWithin, RefusesSpelling, IsSpelling, OpensBrace, RefusesText, IsSomeText}
 use Rattle.sexpr_core.proofs.Refusals.{goes_part, StopsThere, no_deep, AreApart, one_fault, no_fault}
 use Rattle.sexpr_text.proofs.Unfinished.{goes_front, goes_on_front, goes_anyhow}
 use Rattle.std.proofs.lemmas.Bool.{cases_lt, cases_Bool}
 use Rattle.std.proofs.lemmas.List.{drop-drop, take-append-le}
-use Rattle.sexpr_core.proofs.Spans.{Agree, agree, same_head, skips_too, SpacesTo, no_spaces, more_spaces, spaces_stop, spaces_end, spaces_front, one_end}
+use Rattle.sexpr_core.proofs.Spans.{Agree, agree, same_head, skips_too, nothing_passed, one_passed, spaces_stop, spaces_end, spaces_front, one_end}
 use Rattle.sexpr_core.proofs.BraceLaws.{opening, spaces_begin}
 use Rattle.sexpr_core.proofs.BraceRefusals.{one_brace_refusal, no_brace_refusal}
 use Rattle.sexpr_text.proofs.WholeTexts.{brace_unspelled}
@@ -139,23 +139,23 @@ braces_refused text rest begin fault s e h = inl (opens_brace text rest begin s 
 
 -- ---- no text of a value goes on at an octet that is refused
 
-past_spaces : (text : List ℕ) (i : ℕ) (rest : List ℕ) → drop i text ≡ rest → SpacesTo text 0 i → (to : ℕ) × Skips text 0 to
+past_spaces : (text : List ℕ) (i : ℕ) (rest : List ℕ) → drop i text ≡ rest → Passed is_whitespace text 0 i → (to : ℕ) × Skips text 0 to
 past_spaces text i [] e s = (i, spaces_end text 0 i s e)
 past_spaces text i (c ∷ cs) e s =
     let n : drop (i + 1) text ≡ cs = sym (drop-drop 1 i text) ∙ ap (drop 1) e in
     let stands : StandsAt text i c = record { spelled = e ∙ ap (λ t. c ∷ t) (sym n); within = omega (arith, ap length e, length-drop i text) } in
     elim (cases_Bool (is_whitespace c)) [
-      | inl w ↦ past_spaces text (i + 1) cs n (more_spaces text 0 i c s stands w)
+      | inl w ↦ past_spaces text (i + 1) cs n (one_passed is_whitespace text 0 i c s stands w)
       | inr v ↦ (i, spaces_stop text 0 i c s stands v)
     ]
 
 pub bad_is_bad : (text : List ℕ) (at : ℕ) → RefusesText text (Bad at) → (at < length text) × (Begins IsSomeText (take (at + 1) text) → ⊥)
 unfolding RefusesText
 bad_is_bad text at (inl h) =
-    let s = past_spaces text 0 text refl (no_spaces text 0 (omega arith)) in
+    let s = past_spaces text 0 text refl (nothing_passed is_whitespace text 0 (omega arith)) in
     (h.1.0, no_spelling text h.0.rest s.0 at s.1 (brace_found text s.0 s.1 h.0) h.1.0 h.1.4)
 bad_is_bad text at (inr h) =
-    let s = past_spaces text 0 text refl (no_spaces text 0 (omega arith)) in
+    let s = past_spaces text 0 text refl (nothing_passed is_whitespace text 0 (omega arith)) in
     (h.1.0, no_braces text s.0 at s.1 (λ brace. h.0 (opens_brace text brace.0 s.0 s.1 brace.1)) h.1.0 (λ b. h.1.3 (inl b)))
 
 -- ---- one refusal of a text in whichever form
@@ -173,7 +173,7 @@ braced_opens text v b = record { before = b.before; rest = b.body ++ 125 ∷ b.a
 pub none_of_any : (text : List ℕ) (e : FormFault) (v : Value) → IsOfForm e → RefusesText text e → IsTextWithin text v → ⊥
 unfolding RefusesText
 none_of_any text e v p (inl a) (inl w) =
-    let s = past_spaces text 0 text refl (no_spaces text 0 (omega arith)) in
+    let s = past_spaces text 0 text refl (nothing_passed is_whitespace text 0 (omega arith)) in
     brace_unspelled text a.0.rest s.0 v s.1 (brace_found text s.0 s.1 a.0) w.spelling
 none_of_any text e v p (inl a) (inr w) = no_brace_refusal text e v p a.1 w
 none_of_any text e v p (inr a) (inl w) = no_refusal text e v p a.1 w

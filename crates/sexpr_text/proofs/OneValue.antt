@@ -164,14 +164,12 @@ apart_append true [] ys d h k = k
 apart_append true (x ∷ xs) ys d h k = h
 
 pub apart_front : (e : Bool) (xs ys : List ℕ) → IsApart e (xs ++ ys) → IsApart e xs
-apart_front false xs ys h = tt
-apart_front true [] ys h = tt
 apart_front true (x ∷ xs) ys h = h
+apart_front e xs ys h = tt
 
 pub spaces_apart : (e : Bool) (xs : List ℕ) → AreSpaces xs → IsApart e xs
-spaces_apart false xs h = tt
-spaces_apart true [] h = tt
 spaces_apart true (x ∷ xs) h = space_apart x h.0
+spaces_apart e xs h = tt
 
 -- ---- hinted strings
 
@@ -214,24 +212,15 @@ mutual
       → (v ≡ w) × (r ≡ q)
   one_spelling e f s r t q (string None a) (string None b) m k n l eq =
       let p = one_simple e f s r a t q b m k n l eq in (ap (string None) p.0, p.1)
-  one_spelling e f s r t q (string None a) (string (Some h) b) m k n l eq =
-      absurd (simple_differs e s a r _ 91 m refl (eq ∙ hinted_text f t h b q n))
-  one_spelling e f s r t q (string None a) (list ws) m k n l eq =
-      absurd (simple_differs e s a r _ 40 m refl (eq ∙ list_text t n.0 q n.2))
-  one_spelling e f s r t q (string (Some g) a) (string None b) m k n l eq =
-      absurd (simple_differs f t b q _ 91 n refl (sym eq ∙ hinted_text e s g a r m))
   one_spelling e f s r t q (string (Some g) a) (string (Some h) b) m k n l eq =
       let p = hinted_one e f s r t q g a h b m k n l eq in
       (ap (λ i. string (Some i) a) p.0 ∙ ap (string (Some h)) p.1, p.2)
-  one_spelling e f s r t q (string (Some g) a) (list ws) m k n l eq =
-      absurd (list_differs t n.0 q (s ++ r) _ n.2 (hinted_text e s g a r m) (sym eq))
-  one_spelling e f s r t q (list vs) (string None b) m k n l eq =
-      absurd (simple_differs f t b q _ 40 n refl (sym eq ∙ list_text s m.0 r m.2))
-  one_spelling e f s r t q (list vs) (string (Some h) b) m k n l eq =
-      absurd (list_differs s m.0 r (t ++ q) _ m.2 (hinted_text f t h b q n) eq)
   one_spelling e f s r t q (list vs) (list ws) m k n l eq =
       let p = one_members m.0 r n.0 q vs ws m.3 n.3 (list_inside s m.0 r t n.0 q m.2 n.2 eq) in
       (ap list p.0, p.1)
+  one_spelling e f s r t q (list vs) (string None b) m k n l eq =
+      absurd (simple_differs f t b q _ 40 n refl (sym eq ∙ list_text s m.0 r m.2))
+  one_spelling e f s r t q v w m k n l eq = absurd (search (rules, simple_differs, hinted_text, list_text, list_differs))
 
   one_members : (s r t q : List ℕ) (vs ws : Values) → SpellsMembers s vs → SpellsMembers t ws → s ++ 41 ∷ r ≡ t ++ 41 ∷ q → (vs ≡ ws) × (r ≡ q)
   one_members s r t q none none m n eq =

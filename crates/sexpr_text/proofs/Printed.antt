@@ -1,7 +1,7 @@
 -- What is printed for a value: what a sink takes in several calls, what is printed behind other octets, and that the
 -- printed text spells the value, as the canonical text does.
 use Rattle.std.proofs.Common.{◌≡◌, ℕ, List, ◌++◌, suc, ◌+◌, ◌%◌, ◌<◌, ◌≤◌, ◌==◌, ◌||◌, Bool, true, false, [], ◌∷◌, length, map, take, drop, take-append-drop, get_or, cond, Vec, Global, Some, refl, sym, ap, ◌∙◌, append_assoc, append-nil, arith, rules, not, None, subst, if◌then◌else◌, inl}
-use Rattle.std.proofs.lemmas.Bool.{cases_Bool, and_parts, or_cases, or_parts, not-true, eqb-true, eqb-false, ne_eqb}
+use Rattle.std.proofs.lemmas.Bool.{cases_Bool, and_parts, or_cases, or_parts, not-true, eqb-true, eqb-false}
 use Rattle.std.proofs.lemmas.Bool.Decides.{nat_tests}
 use Rattle.std.proofs.lemmas.List.{map-append, take_more, take_all, length-take-le, length-map}
 use Rattle.std.specs.List.{AllByRecursion}
@@ -13,7 +13,7 @@ use Rattle.sexpr_core.specs.declared.tree.Sexp.{Sexp}
 use Rattle.sexpr_core.specs.declared.tree.Sexp.TheVariants.{List as Branch}
 use Rattle.sexpr_core.specs.Value.{Value, Values, none, more, values, atom_value, sexp_value, string, list, HasOctets, HaveOctets, verbatim, canon, canons}
 use Rattle.sexpr_core.proofs.TreeLaws.{sexp_list}
-use Rattle.sexpr_text.specs.AdvancedForm.{IsToken, every, is_token, is_printable, quoted_body, printed_string, gap, adv, adv_all, is_digit, is_token_octet, IsApart, Piece, raw, escaped, IsPiece, pieces_text, pieces_octets, ArePieces, escape_value, IsQuoted, IsPacked, Simple, SpellsAs, SpellsMembers, Spells}
+use Rattle.sexpr_text.specs.AdvancedForm.{IsToken, every, is_token, is_printable, quoted_body, printed_string, gap, adv, adv_all, is_digit, is_token_octet, IsApart, Piece, raw, escaped, IsPiece, pieces_text, pieces_octets, ArePieces, escape_value, IsQuoted, IsPacked, Simple, IsHinted, SpellsAs, SpellsMembers, Spells}
 use Rattle.sexpr_core.specs.Reading.{AreSpaces}
 use Rattle.sexpr_core.proofs.BraceLaws.{packed_encoded}
 
@@ -31,12 +31,9 @@ module _ {S : Type 0} (takes : S → List ℕ → S → Type 0)
 
 -- ---- what is printed behind other octets
 
-quoted_cons : (c : ℕ) (cs ys : List ℕ) → quoted_body (cs ++ ys) ≡ quoted_body cs ++ quoted_body ys → quoted_body (c ∷ (cs ++ ys)) ≡ quoted_body (c ∷ cs) ++ quoted_body ys
-quoted_cons c cs ys e = search (rules, cases_Bool)
-
 quoted_body-append : (xs ys : List ℕ) → quoted_body (xs ++ ys) ≡ quoted_body xs ++ quoted_body ys
 quoted_body-append [] ys = refl
-quoted_body-append (c ∷ cs) ys = quoted_cons c cs ys (quoted_body-append cs ys)
+quoted_body-append (c ∷ cs) ys = let e = quoted_body-append cs ys in search (rules, cases_Bool)
 
 pub quoted_one : (xs : List ℕ) (k d : ℕ) → k < length xs
     → quoted_body (take k xs) ++ quoted_body (get_or xs k d ∷ []) ≡ quoted_body (take (k + 1) xs)
@@ -68,7 +65,7 @@ pub adv_all-append : (n : ℕ) (vs ws : List Value) → adv_all n (values (vs ++
 adv_all-append n [] ws = let e : n ≡ n + 0 = omega arith in ap (λ m. adv_all m (values ws)) e
 adv_all-append n (v ∷ vs) ws = search (rules, append_assoc, adv_all-append (suc n) vs ws)
 
-gap_suc : (n : ℕ) → gap (suc n) ≡ 32 ∷ []
+pub gap_suc : (n : ℕ) → gap (suc n) ≡ 32 ∷ []
 gap_suc n = let e : (suc n == 0) ≡ false = grind (arith, nat_tests) in ap (λ b. cond b [] (32 ∷ [])) e
 
 -- past the first member, each has a space before it
@@ -84,18 +81,13 @@ member_behind f xs k d lt =
     let v = f (get_or xs k d) in
     let split : map f (take (k + 1) xs) ≡ before ++ v ∷ [] = ap (map f) (take_more xs k d lt) ∙ map-append f (take k xs) (get_or xs k d ∷ []) in
     let count : 0 + length before ≡ k = omega (arith, length-map (take k xs) f, length-take-le k xs (omega arith)) in
-    sym (ap (λ vs. adv_all 0 (values vs)) split ∙ adv_all-append 0 before (v ∷ []) ∙ ap (λ m. adv_all 0 (values before) ++ (gap m ++ (adv v ++ []))) count
-    ∙ ap (λ s. adv_all 0 (values before) ++ (gap k ++ s)) (append-nil (adv v)) ∙ sym (append_assoc (adv_all 0 (values before)) (gap k) (adv v)))
+    rw (split, adv_all-append 0 before (v ∷ []), count) (simp (append_assoc, append-nil) refl)
 
 pub list_between : (tree : Sexp) (ms : Vec Sexp Global) (xs : List Sexp) (k : ℕ) → tree ≡ Branch ms → xs ≡ ms.items → length xs ≤ k
     → ((40 ∷ []) ++ adv_all 0 (values (map sexp_value (take k xs)))) ++ 41 ∷ [] ≡ adv (sexp_value tree)
 list_between tree ms xs k is same le = search (rules, take_all, sexp_list)
 
 -- ---- pieces
-
-pub quoted_between : (xs : List ℕ) (k : ℕ) → length xs ≤ k
-    → ((34 ∷ []) ++ quoted_body (take k xs)) ++ 34 ∷ [] ≡ 34 ∷ (quoted_body xs ++ 34 ∷ [])
-quoted_between xs k le = ap (λ s. 34 ∷ (quoted_body s ++ 34 ∷ [])) (take_all k xs le)
 
 pub packed_one : (n : ℕ) (rest piece behind packed whole : List ℕ) → n % 3 ≡ 0 → piece ≡ take n rest → behind ≡ drop n rest → length piece ≡ n
     → packed ++ encode_of standard rest ≡ whole → (packed ++ encode_of standard piece) ++ encode_of standard behind ≡ whole
@@ -104,16 +96,6 @@ packed_one n rest piece behind packed whole triple front back long e =
     let even : length piece % 3 ≡ 0 = rw long triple in
     append_assoc packed (encode_of standard piece) (encode_of standard behind)
     ∙ ap (λ s. packed ++ s) (sym (encode_of-append standard piece behind even) ∙ ap (encode_of standard) parts) ∙ e
-
-pub packed_between : (packed last whole : List ℕ) → packed ++ last ≡ whole
-    → (((124 ∷ []) ++ packed) ++ last) ++ 124 ∷ [] ≡ 124 ∷ (whole ++ 124 ∷ [])
-packed_between packed last whole e = ap (λ s. 124 ∷ (s ++ 124 ∷ [])) e
-
-pub quoted_plain : (c : ℕ) → false ≡ (c == 34 || c == 92) → c ∷ [] ≡ quoted_body (c ∷ [])
-quoted_plain c e = rw (sym e) refl
-
-pub quoted_escaped : (c : ℕ) → true ≡ (c == 34 || c == 92) → 92 ∷ c ∷ [] ≡ quoted_body (c ∷ [])
-quoted_escaped c e = rw (sym e) refl
 
 pub hinted_whole : (atom : Atom) (hint : Vec ℕ Global) (hinted body : List ℕ) → atom.hint ≡ Some hint → hinted ≡ hint.items → body ≡ atom.body.items
     → (91 ∷ (printed_string hinted ++ 93 ∷ [])) ++ printed_string body ≡ adv (atom_value atom)
@@ -177,13 +159,16 @@ string_spelled octets h = search (rules, cases_Bool, printed_token, token_meant,
 
 -- ---- values
 
+-- a string with a display hint, of its parts
+pub hinted_is : (ends as_token : Bool) (text hint octets inside hint_text behind_hint behind octets_text : List ℕ)
+    → text ≡ 91 ∷ (inside ++ (hint_text ++ (behind_hint ++ 93 ∷ (behind ++ octets_text)))) → AreSpaces inside → Simple as_token hint_text hint
+    → AreSpaces behind_hint → AreSpaces behind → Simple ends octets_text octets → IsHinted ends text hint octets
+hinted_is ends as_token text hint octets inside hint_text behind_hint behind octets_text e s m t u n = search rules
+
 -- whether what is printed for a value ends in a token
 abbrev ends : Value → Bool
 ends (string hint octets) = is_token octets
 ends (list vs) = false
-
-gap_some : (n : ℕ) → gap (suc n) ≡ 32 ∷ []
-gap_some n = rw (ne_eqb (suc n) 0 (λ e. omega (arith, e))) refl
 
 gap_spaces : (n : ℕ) → AreSpaces (gap n)
 gap_spaces n = search (rules, cases_Bool)
@@ -200,25 +185,13 @@ end_apart false = tt
 apart : (b : Bool) (n : ℕ) (vs : Values) → IsApart b (adv_all (suc n) vs)
 apart b n none = end_apart b
 apart b n (more v vs) =
-    subst (λ s. IsApart b (s ++ (adv v ++ adv_all (suc (suc n)) vs))) (sym (gap_some n)) (space_apart b (adv v ++ adv_all (suc (suc n)) vs))
+    subst (λ s. IsApart b (s ++ (adv v ++ adv_all (suc (suc n)) vs))) (sym (gap_suc n)) (space_apart b (adv v ++ adv_all (suc (suc n)) vs))
 
 mutual
   spelled : (v : Value) → HasOctets v → SpellsAs (ends v) (adv v) v
   spelled (string None octets) h = string_spelled octets h
-  spelled (string (Some hint) octets) h = record {
-    as_token = is_token hint;
-    inside = [];
-    hint_text = printed_string hint;
-    behind_hint = [];
-    behind = [];
-    octets_text = printed_string octets;
-    spelled = refl;
-    spaces_inside = tt;
-    hint_meant = string_spelled hint h.0;
-    spaces_behind_hint = tt;
-    spaces_behind = tt;
-    octets_meant = string_spelled octets h.1;
-  }
+  spelled (string (Some hint) octets) h =
+      hinted_is (is_token octets) (is_token hint) _ hint octets [] (printed_string hint) [] [] (printed_string octets) refl tt (string_spelled hint h.0) tt tt (string_spelled octets h.1)
   spelled (list vs) h = (adv_all 0 vs, refl, refl, members_spelled 0 vs h)
 
   members_spelled : (n : ℕ) (vs : Values) → HaveOctets vs → SpellsMembers (adv_all n vs) vs
@@ -247,20 +220,7 @@ all_spelled out text v begins e h = subst (λ t. Spells t v) (sym (e ∙ ap (λ 
 mutual
   canon_spelled : (v : Value) → SpellsAs false (canon v) v
   canon_spelled (string None octets) = inl refl
-  canon_spelled (string (Some hint) octets) = record {
-    as_token = false;
-    inside = [];
-    hint_text = verbatim hint;
-    behind_hint = [];
-    behind = [];
-    octets_text = verbatim octets;
-    spelled = refl;
-    spaces_inside = tt;
-    hint_meant = inl refl;
-    spaces_behind_hint = tt;
-    spaces_behind = tt;
-    octets_meant = inl refl;
-  }
+  canon_spelled (string (Some hint) octets) = hinted_is false false _ hint octets [] (verbatim hint) [] [] (verbatim octets) refl tt (inl refl) tt tt (inl refl)
   canon_spelled (list vs) = (canons vs, refl, refl, canons_spelled vs)
 
   canons_spelled : (vs : Values) → SpellsMembers (canons vs) vs

@@ -1,15 +1,15 @@
 -- A string or a value that is refused at an octet is refused so in each text that goes on up to it in the same way.
-use Rattle.std.proofs.Common.{◌≡◌, ℕ, ◌+◌, ◌≤◌, Err, ◌⊎◌, List, refl, sym, subst, arith, rules, ◌≢◌, ◌<◌, inl, inr, Some, None, [], ◌∷◌, ◌++◌, drop, ap, ◌∙◌, ◌-◌, true, false, length}
+use Rattle.std.proofs.Common.{◌≡◌, ℕ, ◌+◌, ◌≤◌, Err, ◌⊎◌, List, refl, sym, subst, arith, rules, ◌≢◌, ◌<◌, inl, inr, Some, None, [], ◌∷◌, ◌++◌, drop, ap, ◌∙◌, append_assoc, ◌-◌, true, false, length}
 use Rattle.hex.specs.declared.error.FromHexError.{FromHexError}
 use Rattle.hex.specs.declared.error.FromHexError.TheVariants.{OutOfMemory}
 use Rattle.hex.specs.Hex.{decode_of, hex_digit_value}
 use Rattle.sexpr_core.specs.declared.fault.FormFault.{FormFault}
-use Rattle.sexpr_core.specs.declared.fault.FormFault.TheVariants.{Short, Bad, Memory, TooDeep}
+use Rattle.sexpr_core.specs.declared.fault.FormFault.TheVariants.{Bad, Memory, TooDeep}
 use Rattle.sexpr_core.specs.Reading.{StandsAt, IsFaultAt, RefusesPart, StopsAt, IsShort, PackedAt, Skips}
 use Rattle.sexpr_core.proofs.Spans.{Agree, spelled_too, stands_too, long_too, stops_here, refused_later, SameHead, same_head, skips_too, stops_later}
-use Rattle.sexpr_text.specs.AdvancedForm.{IsHexadecimal, escape_value, Piece, raw, escaped, octal, hexadecimal, line, line_pair, StartsOther, IsPiece, pieces_text, ArePieces, IsQuoted, is_digit, is_token_octet, IsMarked}
+use Rattle.sexpr_text.specs.AdvancedForm.{IsHexadecimal, escape_value, StartsOther, pieces_text, IsQuoted, is_digit, is_token_octet, IsMarked}
 use Rattle.sexpr_text.specs.Reads.{Keeps, IsNoHexadecimalOctet, IsDigitsFault, Stands, DigitsStand, ReadsDigit, IsNoLetter, PieceStands, DigitStands, OctalStands, Reads, ReadsCount, ReadsString, Stops, StringStands, ValueStands, IsValueFault, MembersStand}
-use Rattle.sexpr_text.proofs.Marked.{behind_opening, hexadecimal_octets, kept_refused, digits_refused, hexadecimal_piece, octal_piece, letter_piece, is_mark, marked_first, quoted_of, hexadecimal_of, packed_of}
+use Rattle.sexpr_text.proofs.Marked.{are_on, behind_opening, hexadecimal_octets, kept_refused, digits_refused, hexadecimal_piece, octal_piece, letter_piece, is_mark, marked_first, quoted_of, hexadecimal_of, packed_of}
 use Rattle.sexpr_text.proofs.StringLaws.{ReadsPieces, second_octet, third_octet, octal_behind, quoted_left, left_next}
 use Rattle.std.proofs.lemmas.Bool.Decides.{nat_tests}
 use Rattle.sexpr_core.specs.Value.{decimal, Values}
@@ -36,22 +36,15 @@ octet_stops text at i c kept k stands apart is = stops_here (DigitsStand at) tex
 -- an octet that can't stand in the body
 pub octet_refused : (text : List ℕ) (at i c : ℕ) (kept : List ℕ) (fault : FormFault) → Keeps text at kept i → StandsAt text i c → (c ≡ 35 → ⊥)
     → IsNoHexadecimalOctet c i fault → RefusesPart (DigitsStand at) text at fault
-octet_refused text at i c kept Short k stands apart is = tt
 octet_refused text at i c kept (Bad n) k stands apart is = search (rules, octet_stops text at i c kept k stands apart (refl, is.1))
-octet_refused text at i c kept Memory k stands apart is = tt
-octet_refused text at i c kept _ k stands apart is = is
+octet_refused text at i c kept _ k stands apart is = search rules
 
 -- the same of the whole string
 pub body_refused : (text : List ℕ) (at : ℕ) (fault : FormFault) → StandsAt text at 35 → RefusesPart (DigitsStand (at + 1)) text (at + 1) fault
     → RefusesPart (Stands IsHexadecimal at) text at fault
 body_refused text at fault opens h = refused_later (Stands IsHexadecimal at) (DigitsStand (at + 1)) text at (at + 1) fault (omega arith) (λ other n a le w.
-    record {
-      body = w.meant.body;
-      octets = w.octets;
-      rest = w.rest;
-      packed = w.meant.packed;
-      spelled = (behind_opening 35 other at 35 w.spelling w.meant.body w.rest (stands_too text other n at 35 a (omega arith) opens) w.meant.spelled w.spelled).1;
-    }) h
+    let s = stands_too text other n at 35 a (omega arith) opens in
+    search (rules, behind_opening 35 other at 35 w.spelling w.meant.body w.rest s w.meant.spelled w.spelled)) h
 
 mark_stops : (text : List ℕ) (at i : ℕ) (kept : List ℕ) (error : FromHexError) → StandsAt text at 35 → Keeps text (at + 1) kept i → StandsAt text i 35
     → (error ≡ OutOfMemory) ⊎ (decode_of kept ≡ Err error) → IsDigitsFault error i (Bad i) → StopsAt (Stands IsHexadecimal at) text at i
@@ -64,12 +57,10 @@ mark_stops text at i kept error opens k closes failed is = stops_here (Stands Is
 pub mark_refused : (text : List ℕ) (at i : ℕ) (kept : List ℕ) (error : FromHexError) (fault : FormFault) → StandsAt text at 35 → Keeps text (at + 1) kept i
     → StandsAt text i 35 → (error ≡ OutOfMemory) ⊎ (decode_of kept ≡ Err error) → IsDigitsFault error i fault → IsFaultAt i fault
     → RefusesPart (Stands IsHexadecimal at) text at fault
-mark_refused text at i kept error Short opens k closes failed is there = tt
 mark_refused text at i kept error (Bad n) opens k closes failed is there =
     subst (λ m. StopsAt (Stands IsHexadecimal at) text at m) (sym there)
     (mark_stops text at i kept error opens k closes failed (subst (λ m. IsDigitsFault error i (Bad m)) there is))
-mark_refused text at i kept error Memory opens k closes failed is there = tt
-mark_refused text at i kept error _ opens k closes failed is there = there
+mark_refused text at i kept error _ opens k closes failed is there = search rules
 
 -- ---- a quoted string that is refused at an octet is refused so in each text that goes on up to it in the same way
 
@@ -97,15 +88,10 @@ high_refused text at fault h = search (rules, refused_later, hexadecimal_piece)
 
 pub low_refused : (text : List ℕ) (at m : ℕ) (fault : FormFault) → ReadsDigit text at m → RefusesPart (DigitStands (at + 1)) text (at + 1) fault
     → RefusesPart (PieceStands (92 ∷ 120 ∷ []) at) text at fault
-low_refused text at m fault r h = refused_later (PieceStands (92 ∷ 120 ∷ []) at) (DigitStands (at + 1)) text at (at + 1) fault (omega arith) (λ other n a le w.
+low_refused text at m fault r h =
+    refused_later (PieceStands (92 ∷ 120 ∷ []) at) (DigitStands (at + 1)) text at (at + 1) fault (omega arith) (λ other n a le w.
     let k = hexadecimal_piece w.piece w.rest (drop at other) w.right w.spelled in
-    record {
-      octet = k.1;
-      value = k.3;
-      rest = w.rest;
-      valued = k.6;
-      spelled = second_octet other at r.octet k.0 (k.1 ∷ w.rest) (stands_too text other n at r.octet a (omega arith) r.stands) k.4;
-    }) h
+    search (rules, second_octet other at r.octet k.0 (k.1 ∷ w.rest) (stands_too text other n at r.octet a (omega arith) r.stands) k.4)) h
 
 pub second_refused : (text : List ℕ) (at d : ℕ) (fault : FormFault) → d < 4 → StandsAt text at (48 + d) → RefusesPart (OctalStands (at + 1)) text (at + 1) fault
     → RefusesPart (PieceStands (92 ∷ []) at) text at fault
@@ -117,12 +103,7 @@ pub third_refused : (text : List ℕ) (at d b : ℕ) (fault : FormFault) → d <
     → RefusesPart (OctalStands (at + 2)) text (at + 2) fault → RefusesPart (PieceStands (92 ∷ []) at) text at fault
 third_refused text at d b fault low stands next h = refused_later (PieceStands (92 ∷ []) at) (OctalStands (at + 2)) text at (at + 2) fault (omega arith) (λ other n a le w.
     let k = octal_piece w.piece w.rest (drop (at + 1) other) d low w.right (octal_behind other at (48 + d) _ (stands_too text other n at (48 + d) a (omega arith) stands) w.spelled) in
-    record {
-      value = k.1;
-      rest = w.rest;
-      low = k.4;
-      spelled = third_octet other at (48 + b) (48 + k.0) ((48 + k.1) ∷ w.rest) (stands_too text other n (at + 1) (48 + b) a (omega arith) next) k.2;
-    }) h
+    search (rules, third_octet other at (48 + b) (48 + k.0) ((48 + k.1) ∷ w.rest) (stands_too text other n (at + 1) (48 + b) a (omega arith) next) k.2)) h
 
 letter_stops : (text : List ℕ) (at c : ℕ) → StandsAt text at c → c ≢ 13 → c ≢ 10 → c ≢ 120 → (48 ≤ c → c < 52 → ⊥) → escape_value c ≡ None
     → StopsAt (PieceStands (92 ∷ []) at) text at at
@@ -132,51 +113,28 @@ letter_stops text at c stands r n x o none = stops_here (PieceStands (92 ∷ [])
 pub letter_refused : (text : List ℕ) (at c : ℕ) (fault : FormFault) → StandsAt text at c → c ≢ 13 → c ≢ 10 → c ≢ 120 → (48 ≤ c → c < 52 → ⊥) → IsNoLetter c at fault
     → RefusesPart (PieceStands (92 ∷ []) at) text at fault
 letter_refused text at c (Bad k) stands r n x o h = search (rules, letter_stops text at c stands r n x o h.1)
-letter_refused text at c Short stands r n x o h = tt
-letter_refused text at c _ stands r n x o h = h
+letter_refused text at c _ stands r n x o h = search rules
 
-pub hexadecimal_refused : (text : List ℕ) (at c : ℕ) (fault : FormFault) → StandsAt text at c → c ≡ 120
-    → RefusesPart (PieceStands (92 ∷ 120 ∷ []) (at + 1)) text (at + 1) fault → RefusesPart (PieceStands (92 ∷ []) at) text at fault
-hexadecimal_refused text at c fault stands is h = refused_later (PieceStands (92 ∷ []) at) (PieceStands (92 ∷ 120 ∷ []) (at + 1)) text at (at + 1) fault (omega arith) (λ other n a le w.
+-- an octet stands in front
+pub piece_refused : (front text : List ℕ) (at c d : ℕ) (fault : FormFault) → StandsAt text at c → c ≡ d
+    → RefusesPart (PieceStands (front ++ d ∷ []) (at + 1)) text (at + 1) fault → RefusesPart (PieceStands front at) text at fault
+piece_refused front text at c d fault stands is h =
+    refused_later (PieceStands front at) (PieceStands (front ++ d ∷ []) (at + 1)) text at (at + 1) fault (omega arith) (λ other n a le w.
     let s = stands_too text other n at c a (omega arith) stands in
-    let e : drop at other ≡ 120 ∷ drop (at + 1) other = s.spelled ∙ ap (λ m. m ∷ drop (at + 1) other) is in
-    record { piece = w.piece; rest = w.rest; right = w.right; spelled = ap (λ t. 92 ∷ t) (sym e) ∙ w.spelled }) h
+    let e : front ++ drop at other ≡ front ++ d ∷ drop (at + 1) other = ap (λ t. front ++ t) (s.spelled ∙ ap (λ m. m ∷ drop (at + 1) other) is) in
+    record { piece = w.piece; rest = w.rest; right = w.right; spelled = append_assoc front (d ∷ []) (drop (at + 1) other) ∙ sym e ∙ w.spelled }) h
 
 -- ---- pieces
 
-pub escape_refused : (text : List ℕ) (at c : ℕ) (fault : FormFault) → StandsAt text at c → c ≡ 92
-    → RefusesPart (PieceStands (92 ∷ []) (at + 1)) text (at + 1) fault → RefusesPart (PieceStands [] at) text at fault
-escape_refused text at c fault stands is h = refused_later (PieceStands [] at) (PieceStands (92 ∷ []) (at + 1)) text at (at + 1) fault (omega arith) (λ other n a le w.
-    let s = stands_too text other n at c a (omega arith) stands in
-    let e : drop at other ≡ 92 ∷ drop (at + 1) other = s.spelled ∙ ap (λ m. m ∷ drop (at + 1) other) is in
-    record { piece = w.piece; rest = w.rest; right = w.right; spelled = sym e ∙ w.spelled }) h
-
-starts_too : (d : ℕ) (t x y : List ℕ) → SameHead x y → StartsOther d (t ++ x) → StartsOther d (t ++ y)
-starts_too d [] x y h s = subst (StartsOther d) (sym h.second_is) (subst (StartsOther d) h.first_is s)
-starts_too d (c ∷ cs) x y h s = s
-
-piece_too : (p : Piece) (t x y : List ℕ) → SameHead x y → IsPiece p (t ++ x) → IsPiece p (t ++ y)
-piece_too (raw c) t x y h s = s
-piece_too (escaped e c) t x y h s = s
-piece_too (octal a b c) t x y h s = s
-piece_too (hexadecimal a b m n) t x y h s = s
-piece_too (line c) t x y h (inl s) = inl (s.0, starts_too 10 t x y h s.1)
-piece_too (line c) t x y h (inr s) = inr (s.0, starts_too 13 t x y h s.1)
-piece_too (line_pair c d) t x y h s = s
-
-are_too : (ps : List Piece) (x y : List ℕ) → SameHead x y → ArePieces ps x → ArePieces ps y
-are_too [] x y h s = tt
-are_too (p ∷ ps) x y h s = (piece_too p (pieces_text ps) x y h s.0, are_too ps x y h s.1)
+starts_too : (d : ℕ) (x y : List ℕ) → SameHead x y → StartsOther d x → StartsOther d y
+starts_too d x y h s = subst (StartsOther d) (sym h.second_is) (subst (StartsOther d) h.first_is s)
 
 pieces_too : (text other : List ℕ) (n at i : ℕ) (octets : List ℕ) → Agree text other n → i ≤ n → ReadsPieces text at octets i → ReadsPieces other at octets i
-pieces_too text other n at i octets a le r = record {
-  pieces = r.pieces;
-  spelled = spelled_too text other n at i (pieces_text r.pieces) a (omega (arith, r.ordered)) (omega arith) r.spelled;
-  meant = r.meant;
-  right = are_too r.pieces (drop i text) (drop i other) (same_head text other n i a le) r.right;
-  ordered = r.ordered;
-  within = omega (arith, long_too text other n a);
-}
+pieces_too text other n at i octets a le r =
+    let s = spelled_too text other n at i (pieces_text r.pieces) a (omega (arith, r.ordered)) (omega arith) r.spelled in
+    let h = same_head text other n i a le in
+    let right = are_on r.pieces (drop i text) (drop i other) (λ s. starts_too 10 _ _ h s) (λ s. starts_too 13 _ _ h s) r.right in
+    search (rules, s, right, long_too text other n a)
 
 pub quoted_refused : (text : List ℕ) (at i c : ℕ) (octets : List ℕ) (fault : FormFault) → StandsAt text at 34 → ReadsPieces text (at + 1) octets i → StandsAt text i c
     → c ≢ 34 → RefusesPart (PieceStands [] i) text i fault → RefusesPart (Stands IsQuoted at) text at fault
@@ -213,36 +171,22 @@ ends_too text other n number to a le (inr s) = search (rules, same_head text oth
 
 pub quoted_missed : (text : List ℕ) (at c : ℕ) (fault : FormFault) → StandsAt text at c → c ≡ 34 → RefusesPart (Stands IsQuoted at) text at fault
     → RefusesPart (Stands IsMarked at) text at fault
-quoted_missed text at c fault opens is h = refused_later (Stands IsMarked at) (Stands IsQuoted at) text at at fault (omega arith) (λ other n a le w. record {
-  spelling = w.spelling;
-  octets = w.octets;
-  rest = w.rest;
-  meant = quoted_of other at c w.spelling w.octets w.rest (stands_too text other n at c a le opens) is w.meant w.spelled;
-  spelled = w.spelled;
-}) h
+quoted_missed text at c fault opens is h =
+    refused_later (Stands IsMarked at) (Stands IsQuoted at) text at at fault (omega arith) (λ other n a le w.
+    search (rules, quoted_of other at c w.spelling w.octets w.rest (stands_too text other n at c a le opens) is w.meant w.spelled)) h
 
 pub hexadecimal_missed : (text : List ℕ) (at c : ℕ) (fault : FormFault) → StandsAt text at c → c ≡ 35 → RefusesPart (Stands IsHexadecimal at) text at fault
     → RefusesPart (Stands IsMarked at) text at fault
-hexadecimal_missed text at c fault opens is h = refused_later (Stands IsMarked at) (Stands IsHexadecimal at) text at at fault (omega arith) (λ other n a le w. record {
-  spelling = w.spelling;
-  octets = w.octets;
-  rest = w.rest;
-  meant = hexadecimal_of other at c w.spelling w.octets w.rest (stands_too text other n at c a le opens) is w.meant w.spelled;
-  spelled = w.spelled;
-}) h
+hexadecimal_missed text at c fault opens is h =
+    refused_later (Stands IsMarked at) (Stands IsHexadecimal at) text at at fault (omega arith) (λ other n a le w.
+    search (rules, hexadecimal_of other at c w.spelling w.octets w.rest (stands_too text other n at c a le opens) is w.meant w.spelled)) h
 
 pub packed_missed : (text : List ℕ) (at c : ℕ) (fault : FormFault) → StandsAt text at c → c ≡ 124 → RefusesPart (PackedAt (at + 1) 124) text (at + 1) fault
     → RefusesPart (Stands IsMarked at) text at fault
 packed_missed text at c fault opens is h = refused_later (Stands IsMarked at) (PackedAt (at + 1) 124) text at (at + 1) fault (omega arith) (λ other n a le w.
     let s = stands_too text other n at c a (omega arith) opens in
     let m = packed_of other at c w.spelling w.octets w.rest s is w.meant w.spelled in
-    record {
-      body = m.body;
-      rest = w.rest;
-      octets = w.octets;
-      spelled = (behind_opening 124 other at c w.spelling m.body w.rest s m.spelled w.spelled).1;
-      packed = m.packed;
-    }) h
+    search (rules, behind_opening 124 other at c w.spelling m.body w.rest s m.spelled w.spelled)) h
 
 pub no_mark : (c : ℕ) → c ≢ 34 → c ≢ 35 → c ≢ 124 → is_mark c ≡ false
 no_mark c a b d = grind (arith, nat_tests)
@@ -274,7 +218,7 @@ pub count_missed : (text : List ℕ) (at first number to c end m : ℕ) (octets 
     → m ≡ length octets → m ≢ number → StopsAt (StringStands at) text at (end - 1)
 count_missed text at first number to c end m octets short opens low r ends next apart read l differs =
     stops_here (StringStands at) text at (end - 1) (omega (arith, r.forward, read.forward)) (omega (arith, read.forward, read.within)) (λ other a w.
-    counted_elsewhere other at first number to c end m octets w.octets w.rest (omega (arith, octets_few text read.spelling octets to end read.meant read.spelled))
+    counted_elsewhere other at first number to c end m octets w.octets w.rest (omega (arith, octets_few text octets to end read))
     (stands_too text other (end - 1) at first a (omega (arith, r.forward, read.forward)) opens) low
     (count_too text other (end - 1) at number to a (omega (arith, read.forward)) r) (ends_too text other (end - 1) number to a (omega (arith, read.forward)) ends)
     (stands_too text other (end - 1) to c a (omega (arith, read.forward)) next) apart
@@ -314,11 +258,8 @@ body_missed text at begin to close next read fault opens s r t stands u h =
     let v = hinted_at w.room other at w.value w.rest o w.stands in
     let e = closing_at other at begin to close w.rest read v o (skips_too text other n (at + 1) begin a (omega (arith, r.forward, t.ordered, u.ordered)) s)
     (string_too text other n begin to read a (omega (arith, t.ordered, u.ordered)) r) (skips_too text other n to close a (omega (arith, u.ordered)) t) in
-    record {
-      octets = v.octets;
-      rest = w.rest;
-      stands = body_at other at close next w.rest v e (stands_too text other n close 93 a (omega (arith, u.ordered)) stands) (skips_too text other n (close + 1) next a le u);
-    }) h
+    let c = stands_too text other n close 93 a (omega (arith, u.ordered)) stands in
+    search (rules, body_at other at close next w.rest v e c (skips_too text other n (close + 1) next a le u))) h
 
 -- ---- a value that is refused at an octet is refused so in each text that goes on up to it in the same way
 

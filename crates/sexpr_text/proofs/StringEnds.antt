@@ -5,11 +5,12 @@ use Rattle.sexpr_core.specs.declared.fault.FormFault.{FormFault}
 use Rattle.sexpr_core.specs.declared.fault.FormFault.TheVariants.{Short, Bad}
 use Rattle.sexpr_core.specs.Reading.{Passed, is_body_octet, StandsAt, StopsAt}
 use Rattle.sexpr_core.proofs.Spans.{Agree, spelled_too, stands_too, stops_later, end_is}
-use Rattle.sexpr_text.specs.AdvancedForm.{Piece, octal, hexadecimal, escaped, piece_text, pieces_text, pieces_octets, StartsOther, IsPiece, ArePieces, line, line_pair, raw}
+use Rattle.sexpr_text.specs.AdvancedForm.{Piece, octal, hexadecimal, escaped, piece_text, pieces_text, pieces_octets, IsPiece, ArePieces}
 use Rattle.sexpr_text.specs.Reads.{ReadsDigit, is_hexadecimal_octet}
 use Rattle.sexpr_text.specs.Refusal.{OpensQuoted, IsUnclosed}
 use Rattle.sexpr_text.specs.Inner.Begun.{Begun, From, IsPartEnd, IsFrontEnd, GoesPiece, GoesDigit}
 use Rattle.sexpr_core.proofs.Texts.{fails_among, head_is, tail_is}
+use Rattle.sexpr_text.proofs.Marked.{are_on}
 use Rattle.sexpr_text.proofs.StringLaws.{ReadsPieces, last_text, are_more}
 
 -- what two clauses say of one fault
@@ -50,98 +51,66 @@ part_later G H U V text front at i fault le e on step h = search (rules, end_lat
 
 -- ---- escapes
 
-pub high_end : (text : List ℕ) (at : ℕ) (fault : FormFault) → IsFrontEnd GoesDigit text at fault → IsFrontEnd (GoesPiece (92 ∷ 120 ∷ [])) text at fault
-high_end text at fault h = front_later GoesDigit (GoesPiece (92 ∷ 120 ∷ [])) text [] at at fault (omega arith) refl (λ part y q e. record {
-  piece = hexadecimal 48 48 0 0;
-  rest = 48 ∷ 48 ∷ [];
-  right = λ behind. (refl, refl);
-  spelled = ap (λ t. 92 ∷ 120 ∷ (t ++ 48 ∷ 48 ∷ [])) e;
+-- the octets `seen` of a piece, which these others could complete, stand in front of a digit
+digit_end : (front text seen rest : List ℕ) (at i : ℕ) (fault : FormFault) (p : Piece) → at ≤ i → drop at text ≡ seen ++ drop i text
+    → ((behind : List ℕ) → IsPiece p behind) → front ++ (seen ++ rest) ≡ piece_text p → IsFrontEnd GoesDigit text i fault → IsFrontEnd (GoesPiece front) text at fault
+digit_end front text seen rest at i fault p le e right is h = front_later GoesDigit (GoesPiece front) text seen at i fault le e (λ part y q g. record {
+  piece = p;
+  rest = rest;
+  right = right;
+  spelled = ap (λ t. front ++ ((seen ++ t) ++ rest)) g ∙ ap (λ t. front ++ (t ++ rest)) (append-nil seen) ∙ is;
 }) h
+
+pub high_end : (text : List ℕ) (at : ℕ) (fault : FormFault) → IsFrontEnd GoesDigit text at fault → IsFrontEnd (GoesPiece (92 ∷ 120 ∷ [])) text at fault
+high_end text at fault h =
+    digit_end (92 ∷ 120 ∷ []) text [] (48 ∷ 48 ∷ []) at at fault (hexadecimal 48 48 0 0) (omega arith) refl (λ behind. (refl, refl)) refl h
 
 pub low_end : (text : List ℕ) (at m : ℕ) (fault : FormFault) → ReadsDigit text at m → IsFrontEnd GoesDigit text (at + 1) fault
     → IsFrontEnd (GoesPiece (92 ∷ 120 ∷ [])) text at fault
 low_end text at m fault r h =
-    front_later GoesDigit (GoesPiece (92 ∷ 120 ∷ [])) text (r.octet ∷ []) at (at + 1) fault (omega arith) r.stands.spelled (λ part y q e. record {
-      piece = hexadecimal r.octet 48 m 0;
-      rest = 48 ∷ [];
-      right = λ behind. (r.valued, refl);
-      spelled = ap (λ t. 92 ∷ 120 ∷ r.octet ∷ (t ++ 48 ∷ [])) e;
-    }) h
+    digit_end (92 ∷ 120 ∷ []) text (r.octet ∷ []) (48 ∷ []) at (at + 1) fault (hexadecimal r.octet 48 m 0) (omega arith) r.stands.spelled
+    (λ behind. (r.valued, refl)) refl h
 
 pub second_end : (text : List ℕ) (at d : ℕ) (fault : FormFault) → d < 4 → StandsAt text at (48 + d) → IsFrontEnd GoesDigit text (at + 1) fault
     → IsFrontEnd (GoesPiece (92 ∷ [])) text at fault
 second_end text at d fault low s h =
-    front_later GoesDigit (GoesPiece (92 ∷ [])) text ((48 + d) ∷ []) at (at + 1) fault (omega arith) s.spelled (λ part y q e. record {
-      piece = octal d 0 0;
-      rest = 48 ∷ 48 ∷ [];
-      right = λ behind. (low, omega arith, omega arith);
-      spelled = ap (λ t. 92 ∷ (48 + d) ∷ (t ++ 48 ∷ 48 ∷ [])) e;
-    }) h
+    digit_end (92 ∷ []) text ((48 + d) ∷ []) (48 ∷ 48 ∷ []) at (at + 1) fault (octal d 0 0) (omega arith) s.spelled (λ behind. (low, omega arith, omega arith)) refl h
 
 pub third_end : (text : List ℕ) (at d b : ℕ) (fault : FormFault) → d < 4 → b < 8 → StandsAt text at (48 + d) → StandsAt text (at + 1) (48 + b)
     → IsFrontEnd GoesDigit text (at + 2) fault → IsFrontEnd (GoesPiece (92 ∷ [])) text at fault
 third_end text at d b fault low few s next h =
     let n : at + 1 + 1 ≡ at + 2 = omega arith in
-    front_later GoesDigit (GoesPiece (92 ∷ [])) text ((48 + d) ∷ (48 + b) ∷ []) at (at + 2) fault (omega arith)
-    (s.spelled ∙ ap (λ t. (48 + d) ∷ t) next.spelled ∙ ap (λ k. (48 + d) ∷ (48 + b) ∷ drop k text) n) (λ part y q e. record {
-      piece = octal d b 0;
-      rest = 48 ∷ [];
-      right = λ behind. (low, few, omega arith);
-      spelled = ap (λ t. 92 ∷ (48 + d) ∷ (48 + b) ∷ (t ++ 48 ∷ [])) e;
-    }) h
+    digit_end (92 ∷ []) text ((48 + d) ∷ (48 + b) ∷ []) (48 ∷ []) at (at + 2) fault (octal d b 0) (omega arith)
+    (s.spelled ∙ ap (λ t. (48 + d) ∷ t) next.spelled ∙ ap (λ k. (48 + d) ∷ (48 + b) ∷ drop k text) n) (λ behind. (low, few, omega arith)) refl h
 
 pub letter_goes : GoesPiece (92 ∷ []) []
 letter_goes = record { piece = escaped 97 7; rest = 97 ∷ []; right = λ behind. refl; spelled = refl }
 
-pub hexadecimal_end : (text : List ℕ) (at c : ℕ) (fault : FormFault) → StandsAt text at c → c ≡ 120 → IsFrontEnd (GoesPiece (92 ∷ 120 ∷ [])) text (at + 1) fault
-    → IsFrontEnd (GoesPiece (92 ∷ [])) text at fault
-hexadecimal_end text at c fault s is h =
-    front_later (GoesPiece (92 ∷ 120 ∷ [])) (GoesPiece (92 ∷ [])) text (120 ∷ []) at (at + 1) fault (omega arith)
-    (s.spelled ∙ ap (λ k. k ∷ drop (at + 1) text) is)
-    (λ part y q g. record { piece = g.piece; rest = g.rest; right = g.right; spelled = g.spelled }) h
-
-pub escape_end : (text : List ℕ) (at c : ℕ) (fault : FormFault) → StandsAt text at c → c ≡ 92 → IsFrontEnd (GoesPiece (92 ∷ [])) text (at + 1) fault
-    → IsFrontEnd (GoesPiece []) text at fault
-escape_end text at c fault s is h =
-    front_later (GoesPiece (92 ∷ [])) (GoesPiece []) text (92 ∷ []) at (at + 1) fault (omega arith)
-    (s.spelled ∙ ap (λ k. k ∷ drop (at + 1) text) is)
-    (λ part y q g. record { piece = g.piece; rest = g.rest; right = g.right; spelled = g.spelled }) h
+-- an octet stands in front
+pub octet_end : (front text : List ℕ) (at c d : ℕ) (fault : FormFault) → StandsAt text at c → c ≡ d
+    → IsFrontEnd (GoesPiece (front ++ d ∷ [])) text (at + 1) fault → IsFrontEnd (GoesPiece front) text at fault
+octet_end front text at c d fault s is h =
+    front_later (GoesPiece (front ++ d ∷ [])) (GoesPiece front) text (d ∷ []) at (at + 1) fault (omega arith) (s.spelled ∙ ap (λ k. k ∷ drop (at + 1) text) is)
+    (λ part y q g. record { piece = g.piece; rest = g.rest; right = g.right; spelled = sym (append_assoc front (d ∷ []) (part ++ g.rest)) ∙ g.spelled }) h
 
 -- ---- quoted strings
-
-starts_on : (d : ℕ) (t x y : List ℕ) → (StartsOther d x → StartsOther d y) → StartsOther d (t ++ x) → StartsOther d (t ++ y)
-starts_on d [] x y on h = on h
-starts_on d (c ∷ cs) x y on h = h
-
-piece_on : (p : Piece) (t x y : List ℕ) → (StartsOther 10 x → StartsOther 10 y) → (StartsOther 13 x → StartsOther 13 y) → IsPiece p (t ++ x) → IsPiece p (t ++ y)
-piece_on (raw c) t x y l r h = h
-piece_on (escaped e c) t x y l r h = h
-piece_on (octal a b c) t x y l r h = h
-piece_on (hexadecimal a b m n) t x y l r h = h
-piece_on (line c) t x y l r (inl h) = inl (h.0, starts_on 10 t x y l h.1)
-piece_on (line c) t x y l r (inr h) = inr (h.0, starts_on 13 t x y r h.1)
-piece_on (line_pair c d) t x y l r h = h
-
-are_on : (ps : List Piece) (x y : List ℕ) → (StartsOther 10 x → StartsOther 10 y) → (StartsOther 13 x → StartsOther 13 y) → ArePieces ps x → ArePieces ps y
-are_on [] x y l r h = tt
-are_on (p ∷ ps) x y l r h = (piece_on p (pieces_text ps) x y l r h.0, are_on ps x y l r h.1)
 
 -- pieces are right where a quote follows
 closes : (ps : List Piece) (x : List ℕ) → ArePieces ps x → ArePieces ps (34 ∷ [])
 closes ps x h = are_on ps x (34 ∷ []) (λ s e. omega (arith, e)) (λ s e. omega (arith, e)) h
 
-pieces_open : (ps : List Piece) (x part : List ℕ) → ArePieces ps x → OpensQuoted (34 ∷ (pieces_text ps ++ []))
-pieces_open ps x part h = record {
-  body = pieces_text ps ++ [];
+pub pieces_open : (ps : List Piece) (x : List ℕ) → ArePieces ps x → OpensQuoted (34 ∷ pieces_text ps)
+pieces_open ps x h = record {
+  body = pieces_text ps;
   more = 34 ∷ [];
   octets = pieces_octets ps;
   spelled = refl;
   some = omega arith;
-  whole = record { pieces = ps; spelled = ap (λ t. 34 ∷ (t ++ 34 ∷ [])) (append-nil (pieces_text ps)); meant = refl; right = closes ps x h };
+  whole = record { pieces = ps; spelled = refl; meant = refl; right = closes ps x h };
 }
 
 piece_open : (ps : List Piece) (x part : List ℕ) (y : List ℕ) → ArePieces ps x → x ≡ part ++ y → GoesPiece [] part → OpensQuoted (34 ∷ (pieces_text ps ++ part))
-piece_open ps x [] y h e g = pieces_open ps x [] h
+piece_open ps x [] y h e g = subst (λ t. OpensQuoted (34 ∷ t)) (sym (append-nil (pieces_text ps))) (pieces_open ps x h)
 piece_open ps x (c ∷ cs) y h e g =
     let all : List ℕ = piece_text g.piece ++ 34 ∷ [] in
     let same : all ≡ (c ∷ cs) ++ (g.rest ++ 34 ∷ []) = ap (λ t. t ++ 34 ∷ []) (sym g.spelled) ∙ append_assoc (c ∷ cs) g.rest (34 ∷ []) in

@@ -1,11 +1,11 @@
 -- What the reader of strings without display hint has read, octet by octet, and of quoted strings piece by piece.
-use Rattle.std.proofs.Common.{◌≡◌, ◌≢◌, ℕ, ◌+◌, ◌-◌, ◌*◌, ◌<◌, ◌≤◌, min, true, false, List, [], ◌∷◌, ◌++◌, length, drop, map, refl, sym, ap, subst, ◌∙◌, append_assoc, append-nil, arith, inl, inr, rules, Some, None}
+use Rattle.std.proofs.Common.{◌≡◌, ◌≢◌, ℕ, ◌+◌, ◌-◌, ◌*◌, ◌<◌, ◌≤◌, min, true, false, List, [], ◌∷◌, ◌++◌, length, drop, map, refl, sym, ap, subst, ◌∙◌, append_assoc, append-nil, arith, inl, inr, rules, Some, None, Option}
 use Rattle.std.specs.List.{AllByRecursion}
 use Rattle.sexpr_core.specs.Reading.{StandsAt, ReadsBase64}
 use Rattle.sexpr_core.proofs.Texts.{decimal_digit, all-append}
 use Rattle.sexpr_core.proofs.Steps.{more_capped, more_spelled}
 use Rattle.sexpr_text.specs.AdvancedForm.{is_digit, is_token_octet, IsToken, Piece, raw, escaped, octal, hexadecimal, line, line_pair, piece_text, piece_octets, StartsOther, IsPiece, pieces_text, pieces_octets, ArePieces, IsQuoted, IsPacked, IsMarked, escape_value}
-use Rattle.sexpr_text.specs.Reads.{Reads, ReadsPlain, ReadsPiece, ReadsToken, ReadsCount, ReadsEscape, ReadsDigit, IsLineEnd}
+use Rattle.sexpr_text.specs.Reads.{Reads, ReadsPlain, ReadsPiece, ReadsToken, ReadsCount, ReadsEscape, ReadsDigit, IsLineEnd, escape_octets}
 use Rattle.sexpr_text.proofs.Marked.{Left, left_pieces, are_followed, behind_opening}
 
 -- ---- strings without display hint, octet by octet
@@ -78,23 +78,6 @@ pub are_more : (ps : List Piece) (p : Piece) (x rest : List ℕ) → ArePieces p
 are_more [] p x rest h e right = (right, tt)
 are_more (q ∷ qs) p x rest h e right = search (rules, last_text qs p rest, are_more qs p x rest h.1 e right)
 
-starts_same : (d : ℕ) (t rest : List ℕ) → StartsOther d (t ++ 34 ∷ rest) → StartsOther d (t ++ 34 ∷ [])
-starts_same d [] rest h = h
-starts_same d (c ∷ cs) rest h = h
-
-piece_ended : (p : Piece) (t rest : List ℕ) → IsPiece p (t ++ 34 ∷ rest) → IsPiece p (t ++ 34 ∷ [])
-piece_ended (raw c) t rest h = h
-piece_ended (escaped e c) t rest h = h
-piece_ended (octal a b c) t rest h = h
-piece_ended (hexadecimal a b m n) t rest h = h
-piece_ended (line c) t rest (inl h) = inl (h.0, starts_same 10 t rest h.1)
-piece_ended (line c) t rest (inr h) = inr (h.0, starts_same 13 t rest h.1)
-piece_ended (line_pair c d) t rest h = h
-
-pub are_ended : (ps : List Piece) (rest : List ℕ) → ArePieces ps (34 ∷ rest) → ArePieces ps (34 ∷ [])
-are_ended [] rest h = tt
-are_ended (p ∷ ps) rest h = (piece_ended p (pieces_text ps) rest h.0, are_ended ps rest h.1)
-
 -- pieces of a quoted string, one behind the other
 pub record ReadsPieces (text : List ℕ) (at : ℕ) (octets : List ℕ) (to : ℕ) : Type 0 where
   pub pieces : List Piece
@@ -119,7 +102,7 @@ pub quoted_read : (text : List ℕ) (at i : ℕ) (octets : List ℕ) → StandsA
 quoted_read text at i octets opens r closes = record {
   spelling = 34 ∷ (pieces_text r.pieces ++ 34 ∷ []);
   spelled = opens.spelled ∙ ap (λ t. 34 ∷ t) (r.spelled ∙ ap (λ t. pieces_text r.pieces ++ t) closes.spelled ∙ sym (append_assoc (pieces_text r.pieces) (34 ∷ []) (drop (i + 1) text)));
-  meant = record { pieces = r.pieces; spelled = refl; meant = r.meant; right = are_ended r.pieces (drop (i + 1) text) (subst (ArePieces r.pieces) closes.spelled r.right) };
+  meant = record { pieces = r.pieces; spelled = refl; meant = r.meant; right = are_followed r.pieces (drop (i + 1) text) [] (subst (ArePieces r.pieces) closes.spelled r.right) };
   forward = omega (arith, r.ordered);
   within = omega (arith, closes.within);
 }
@@ -133,27 +116,21 @@ pub more_plain : (text : List ℕ) (at i c : ℕ) (octets : List ℕ) → ReadsP
     → ReadsPlain text at (octets ++ c ∷ []) (i + 1)
 more_plain text at i c octets r stands no_quote no_escape = search (rules, append_assoc, all-append)
 
-raws_text : (xs : List ℕ) → pieces_text (map raw xs) ≡ xs
-raws_text [] = refl
-raws_text (x ∷ xs) = ap (λ t. x ∷ t) (raws_text xs)
-
-raws_octets : (xs : List ℕ) → pieces_octets (map raw xs) ≡ xs
-raws_octets [] = refl
-raws_octets (x ∷ xs) = ap (λ t. x ∷ t) (raws_octets xs)
-
-raws_right : (xs rest : List ℕ) → AllByRecursion (λ c. (c ≢ 34) × (c ≢ 92)) xs → ArePieces (map raw xs) rest
-raws_right [] rest h = tt
-raws_right (x ∷ xs) rest h = (h.0, raws_right xs rest h.1)
+raws : (xs rest : List ℕ) → AllByRecursion (λ c. (c ≢ 34) × (c ≢ 92)) xs
+    → (pieces_text (map raw xs) ≡ xs) × (pieces_octets (map raw xs) ≡ xs) × ArePieces (map raw xs) rest
+raws [] rest h = (refl, refl, tt)
+raws (x ∷ xs) rest h = let r = raws xs rest h.1 in (ap (λ t. x ∷ t) r.0, ap (λ t. x ∷ t) r.1, (h.0, r.2))
 
 pub plain_quoted : (text : List ℕ) (at end c : ℕ) (octets : List ℕ) → StandsAt text at 34 → ReadsPlain text (at + 1) octets end → StandsAt text end c → c ≡ 34
     → Reads IsQuoted text at octets (end + 1)
 plain_quoted text at end c octets opens r closes e =
+    let w = raws octets (drop end text) r.plain in
     quoted_read text at end octets opens
     record {
       pieces = map raw octets;
-      spelled = r.spelled ∙ ap (λ t. t ++ drop end text) (sym (raws_text octets));
-      meant = sym (raws_octets octets);
-      right = raws_right octets (drop end text) r.plain;
+      spelled = r.spelled ∙ ap (λ t. t ++ drop end text) (sym w.0);
+      meant = sym w.1;
+      right = w.2;
       ordered = r.ordered;
       within = r.within;
     }
@@ -188,92 +165,57 @@ starts_ended text i d e = subst (StartsOther d) (sym e) tt
 
 -- ---- escapes
 
+-- the rest of an escape, of its parts
+escape_is : (front text : List ℕ) (at to : ℕ) (octet : Option ℕ) (p : Piece) → front ++ drop at text ≡ piece_text p ++ drop to text
+    → piece_octets p ≡ escape_octets octet → IsPiece p (drop to text) → at < to → to ≤ length text → ReadsEscape front text at octet to
+escape_is front text at to octet p e m r f w = search rules
+
 pub line_end_pair : (text : List ℕ) (at second d : ℕ) → IsLineEnd text at second → StandsAt text (at + 1) d → d ≡ second
     → ReadsEscape (92 ∷ []) text at None (at + 2)
-line_end_pair text at second d (inl h) k e = record {
-  piece = line_pair 13 10;
-  spelled = ap (λ t. 92 ∷ t) (stands_two text at 13 d h.0 k ∙ ap (λ n. 13 ∷ n ∷ drop (at + 2) text) (e ∙ h.1));
-  meant = refl;
-  right = inl (refl, refl);
-  forward = omega arith;
-  within = omega (arith, k.within);
-}
-line_end_pair text at second d (inr h) k e = record {
-  piece = line_pair 10 13;
-  spelled = ap (λ t. 92 ∷ t) (stands_two text at 10 d h.0 k ∙ ap (λ n. 10 ∷ n ∷ drop (at + 2) text) (e ∙ h.1));
-  meant = refl;
-  right = inr (refl, refl);
-  forward = omega arith;
-  within = omega (arith, k.within);
-}
+line_end_pair text at second d (inl h) k e =
+    escape_is (92 ∷ []) text at (at + 2) None (line_pair 13 10) (ap (λ t. 92 ∷ t) (stands_two text at 13 d h.0 k ∙ ap (λ n. 13 ∷ n ∷ drop (at + 2) text) (e ∙ h.1)))
+    refl (inl (refl, refl)) (omega arith) (omega (arith, k.within))
+line_end_pair text at second d (inr h) k e =
+    escape_is (92 ∷ []) text at (at + 2) None (line_pair 10 13) (ap (λ t. 92 ∷ t) (stands_two text at 10 d h.0 k ∙ ap (λ n. 10 ∷ n ∷ drop (at + 2) text) (e ∙ h.1)))
+    refl (inr (refl, refl)) (omega arith) (omega (arith, k.within))
 
 pub line_end_alone : (text : List ℕ) (at second : ℕ) → IsLineEnd text at second → StartsOther second (drop (at + 1) text)
     → ReadsEscape (92 ∷ []) text at None (at + 1)
-line_end_alone text at second (inl h) o = record {
-  piece = line 13;
-  spelled = ap (λ t. 92 ∷ t) h.0.spelled;
-  meant = refl;
-  right = inl (refl, subst (λ n. StartsOther n (drop (at + 1) text)) h.1 o);
-  forward = omega arith;
-  within = omega (arith, h.0.within);
-}
-line_end_alone text at second (inr h) o = record {
-  piece = line 10;
-  spelled = ap (λ t. 92 ∷ t) h.0.spelled;
-  meant = refl;
-  right = inr (refl, subst (λ n. StartsOther n (drop (at + 1) text)) h.1 o);
-  forward = omega arith;
-  within = omega (arith, h.0.within);
-}
+line_end_alone text at second (inl h) o =
+    escape_is (92 ∷ []) text at (at + 1) None (line 13) (ap (λ t. 92 ∷ t) h.0.spelled) refl
+    (inl (refl, subst (λ n. StartsOther n (drop (at + 1) text)) h.1 o)) (omega arith) (omega (arith, h.0.within))
+line_end_alone text at second (inr h) o =
+    escape_is (92 ∷ []) text at (at + 1) None (line 10) (ap (λ t. 92 ∷ t) h.0.spelled) refl
+    (inr (refl, subst (λ n. StartsOther n (drop (at + 1) text)) h.1 o)) (omega arith) (omega (arith, h.0.within))
 
 pub letter_escape : (text : List ℕ) (at e c : ℕ) → StandsAt text at e → escape_value e ≡ Some c → ReadsEscape (92 ∷ []) text at (Some c) (at + 1)
-letter_escape text at e c h m = record {
-  piece = escaped e c;
-  spelled = ap (λ t. 92 ∷ t) h.spelled;
-  meant = refl;
-  right = m;
-  forward = omega arith;
-  within = omega (arith, h.within);
-}
+letter_escape text at e c h m =
+    escape_is (92 ∷ []) text at (at + 1) (Some c) (escaped e c) (ap (λ t. 92 ∷ t) h.spelled) refl m (omega arith) (omega (arith, h.within))
 
 pub hexadecimal_escape : (text : List ℕ) (at m n : ℕ) → ReadsDigit text at m → ReadsDigit text (at + 1) n
     → ReadsEscape (92 ∷ 120 ∷ []) text at (Some (m * 16 + n)) (at + 2)
-hexadecimal_escape text at m n h k = record {
-  piece = hexadecimal h.octet k.octet m n;
-  spelled = ap (λ t. 92 ∷ 120 ∷ t) (stands_two text at h.octet k.octet h.stands k.stands);
-  meant = refl;
-  right = (h.valued, k.valued);
-  forward = omega arith;
-  within = omega (arith, k.stands.within);
-}
+hexadecimal_escape text at m n h k =
+    escape_is (92 ∷ 120 ∷ []) text at (at + 2) (Some (m * 16 + n)) (hexadecimal h.octet k.octet m n)
+    (ap (λ t. 92 ∷ 120 ∷ t) (stands_two text at h.octet k.octet h.stands k.stands)) refl (h.valued, k.valued) (omega arith) (omega (arith, k.stands.within))
 
 pub octal_escape : (text : List ℕ) (at a b c : ℕ) → a < 4 → StandsAt text at (48 + a) → (b < 8) × StandsAt text (at + 1) (48 + b)
     → (c < 8) × StandsAt text (at + 2) (48 + c) → ReadsEscape (92 ∷ []) text at (Some (a * 64 + b * 8 + c)) (at + 3)
-octal_escape text at a b c low h k l = record {
-  piece = octal a b c;
-  spelled = ap (λ t. 92 ∷ t) (stands_three text at (48 + a) (48 + b) (48 + c) h k.1 l.1);
-  meant = refl;
-  right = (low, k.0, l.0);
-  forward = omega arith;
-  within = omega (arith, l.1.within);
-}
+octal_escape text at a b c low h k l =
+    escape_is (92 ∷ []) text at (at + 3) (Some (a * 64 + b * 8 + c)) (octal a b c)
+    (ap (λ t. 92 ∷ t) (stands_three text at (48 + a) (48 + b) (48 + c) h k.1 l.1)) refl (low, k.0, l.0) (omega arith) (omega (arith, l.1.within))
 
 -- ---- pieces
 
 pub raw_piece : (text : List ℕ) (at c : ℕ) (old new : List ℕ) → StandsAt text at c → c ≢ 34 → c ≢ 92 → new ≡ old ++ c ∷ [] → ReadsPiece text at old new (at + 1)
-raw_piece text at c old new h n m e = record {
-  piece = raw c;
-  spelled = h.spelled;
-  meant = e;
-  right = (n, m);
-  forward = omega arith;
-  within = omega (arith, h.within);
-}
+raw_piece text at c old new h n m e =
+    record { piece = raw c; spelled = h.spelled; meant = e; right = (n, m); forward = omega arith; within = omega (arith, h.within) }
 
 -- what is left of the string that stands at the opening quote
 pub quoted_left : (text : List ℕ) (at i : ℕ) (octets s a rest : List ℕ) → StandsAt text at 34 → (r : ReadsPieces text (at + 1) octets i) → (q : IsQuoted s a)
     → drop at text ≡ s ++ rest → Left (drop i text) rest (pieces_octets r.pieces) (pieces_octets q.pieces)
-quoted_left text at i octets s a rest opens r q e = search (rules, left_pieces, are_followed, behind_opening)
+quoted_left text at i octets s a rest opens r q e =
+    left_pieces r.pieces q.pieces (drop i text) rest r.right (are_followed q.pieces [] rest q.right)
+    (sym r.spelled ∙ (behind_opening 34 text at 34 s (pieces_text q.pieces) rest opens q.spelled e).1)
 
 not_ended : (xs : List ℕ) (c : ℕ) (rest : List ℕ) → [] ≡ xs ++ c ∷ rest → ⊥
 not_ended [] c rest e = cc

@@ -204,37 +204,35 @@ pub record Closing (P U : List ℕ → Type 0) (t : List ℕ) : Type 0 where
 closing_string : (t : List ℕ) → IsUnclosedString t → Closing IsStringPart IsUnclosedString t
 closing_string t h = search (rules, count_begins)
 
+-- the same of a text with octets in front
+closing_behind : (P Q U V : List ℕ → Type 0) (pre x t : List ℕ) (k : Closing P U x) → t ≡ pre ++ x
+    → ((m : List ℕ) → IsUnclosed m → U (k.front ++ m) → V (pre ++ (k.front ++ m))) → (Begins P k.front → Begins Q (pre ++ k.front)) → Closing Q V t
+closing_behind P Q U V pre x t k e on begin = record {
+  front = pre ++ k.front;
+  marked = k.marked;
+  spelled = e ∙ ap (λ y. pre ++ y) k.spelled ∙ sym (append_assoc pre k.front k.marked);
+  meant = k.meant;
+  fill = λ m u. subst V (sym (append_assoc pre k.front m)) (on m u (k.fill m u));
+  begins = begin k.begins;
+}
+
 closing_atom : (room : ℕ) (t : List ℕ) → IsUnclosedAtom t → Closing (IsValuePart room) IsUnclosedAtom t
 closing_atom room t (inl h) =
-    let k = closing_string t h in
-    record { front = k.front; marked = k.marked; spelled = k.spelled; meant = k.meant; fill = λ m u. inl (k.fill m u); begins = string_part room k.front k.begins }
+    closing_behind IsStringPart (IsValuePart room) IsUnclosedString IsUnclosedAtom [] t t (closing_string t h) refl (λ m i u. inl u) (λ b. string_part room _ b)
 closing_atom room t (inr (inl h)) =
     let k = closing_string h.last h.unclosed in
-    record {
-      front = 91 ∷ (h.inside ++ k.front);
-      marked = k.marked;
-      spelled = h.spelled ∙ ap (λ x. 91 ∷ (h.inside ++ x)) k.spelled ∙ simp append_assoc refl;
-      meant = k.meant;
-      fill = λ m u. inr (inl (record {
-        inside = h.inside;
-        last = k.front ++ m;
-        spelled = simp append_assoc refl;
-        spaces_inside = h.spaces_inside;
-        unclosed = k.fill m u;
-      }));
-      begins = hint_part room h.inside k.front h.spaces_inside k.begins;
-    }
+    closing_behind IsStringPart (IsValuePart room) IsUnclosedString IsUnclosedAtom (91 ∷ h.inside) h.last t k h.spelled
+    (λ m i u. inr (inl (record { inside = h.inside; last = k.front ++ m; spelled = refl; spaces_inside = h.spaces_inside; unclosed = u })))
+    (λ b. hint_part room h.inside k.front h.spaces_inside b)
 closing_atom room t (inr (inr h)) =
     let k = closing_string h.last h.unclosed in
-    record {
-      front = 91 ∷ (h.inside ++ (h.hint_text ++ (h.behind_hint ++ 93 ∷ (h.behind ++ k.front))));
-      marked = k.marked;
-      spelled = h.spelled ∙ ap (λ x. 91 ∷ (h.inside ++ (h.hint_text ++ (h.behind_hint ++ 93 ∷ (h.behind ++ x))))) k.spelled ∙ simp append_assoc refl;
-      meant = k.meant;
-      fill = λ m u. subst IsUnclosedAtom (simp append_assoc refl) (inr (inr (hinted_unclosed h.as_token h.hint h.inside h.hint_text
-          h.behind_hint h.behind (k.front ++ m) h.spaces_inside h.hint_meant h.spaces_behind_hint h.spaces_behind (k.fill m u))));
-      begins = body_part room h.as_token h.hint h.inside h.hint_text h.behind_hint h.behind k.front h.spaces_inside h.hint_meant h.spaces_behind_hint h.spaces_behind k.begins;
-    }
+    let pre : List ℕ = 91 ∷ (h.inside ++ (h.hint_text ++ (h.behind_hint ++ 93 ∷ h.behind))) in
+    let same : (y : List ℕ) → 91 ∷ (h.inside ++ (h.hint_text ++ (h.behind_hint ++ 93 ∷ (h.behind ++ y)))) ≡ pre ++ y = λ y. simp append_assoc refl in
+    closing_behind IsStringPart (IsValuePart room) IsUnclosedString IsUnclosedAtom pre h.last t k (h.spelled ∙ same h.last)
+    (λ m i u. subst IsUnclosedAtom (same (k.front ++ m)) (inr (inr (hinted_unclosed h.as_token h.hint h.inside h.hint_text
+    h.behind_hint h.behind (k.front ++ m) h.spaces_inside h.hint_meant h.spaces_behind_hint h.spaces_behind u))))
+    (λ b. subst (Begins (IsValuePart room)) (same k.front) (body_part room h.as_token h.hint h.inside h.hint_text h.behind_hint h.behind k.front
+    h.spaces_inside h.hint_meant h.spaces_behind_hint h.spaces_behind b))
 
 mark_apart : (c : ℕ) → is_mark c ≡ true → is_token_octet c ≡ false
 mark_apart c h = grind (arith, nat_tests)
@@ -249,39 +247,24 @@ closing_members : (less : ℕ) (U : List ℕ → Type 0) → ((t : List ℕ) →
     → UnclosedMembers U vs t → Closing (IsMembersPart less) (UnclosedMembers U vs) t
 closing_members less U on none t few h =
     let k = on h.1 h.4 in
-    record {
-      front = h.0 ++ k.front;
-      marked = k.marked;
-      spelled = h.2 ∙ ap (λ x. h.0 ++ x) k.spelled ∙ sym (append_assoc h.0 k.front k.marked);
-      meant = k.meant;
-      fill = λ m u. (h.0, k.front ++ m, append_assoc h.0 k.front m, h.3, k.fill m u);
-      begins = spaces_part less h.0 k.front h.3 (member_part less k.front k.begins);
-    }
+    closing_behind (IsValuePart less) (IsMembersPart less) U (UnclosedMembers U none) h.0 h.1 t k h.2 (λ m i u. (h.0, k.front ++ m, refl, h.3, u))
+    (λ b. spaces_part less h.0 k.front h.3 (member_part less k.front b))
 closing_members less U on (more v vs) t few h =
     let k = closing_members less U on vs h.3 (omega arith) h.8 in
     let apart : IsApart h.1 (k.front ++ k.marked) = subst (IsApart h.1) k.spelled h.7 in
-    record {
-      front = h.0 ++ (h.2 ++ k.front);
-      marked = k.marked;
-      spelled = h.4 ∙ ap (λ x. h.0 ++ (h.2 ++ x)) k.spelled ∙ simp append_assoc refl;
-      meant = k.meant;
-      fill = λ m u. (h.0, h.1, h.2, k.front ++ m, simp append_assoc refl, h.5, h.6, apart_filled h.1 k.front k.marked m apart u, k.fill m u);
-      begins = spaces_part less h.0 (h.2 ++ k.front) h.5 (first_part less h.1 h.2 v k.front k.marked h.6 (omega arith) apart k.begins);
-    }
+    closing_behind (IsMembersPart less) (IsMembersPart less) (UnclosedMembers U vs) (UnclosedMembers U (more v vs)) (h.0 ++ h.2) h.3 t k
+    (h.4 ∙ sym (append_assoc h.0 h.2 h.3))
+    (λ m i u. (h.0, h.1, h.2, k.front ++ m, append_assoc h.0 h.2 (k.front ++ m), h.5, h.6, apart_filled h.1 k.front k.marked m apart i, u))
+    (λ b. subst (Begins (IsMembersPart less)) (sym (append_assoc h.0 h.2 k.front))
+    (spaces_part less h.0 (h.2 ++ k.front) h.5 (first_part less h.1 h.2 v k.front k.marked h.6 (omega arith) apart b)))
 
 closing_value : (room : ℕ) (lists : List Values) (t : List ℕ) → depth_open lists ≤ room → UnclosedValue lists t → Closing (IsValuePart room) (UnclosedValue lists) t
 closing_value room [] t le h = closing_atom room t h
 closing_value room (vs ∷ inner) t le h =
     let less : ℕ = max (depths vs) (depth_open inner) in
     let k = closing_members less (UnclosedValue inner) (λ s u. closing_value less inner s (omega arith) u) vs h.0 (omega arith) h.2 in
-    record {
-      front = 40 ∷ k.front;
-      marked = k.marked;
-      spelled = h.1 ∙ ap (λ x. 40 ∷ x) k.spelled;
-      meant = k.meant;
-      fill = λ m u. (k.front ++ m, refl, k.fill m u);
-      begins = list_part room less k.front le k.begins;
-    }
+    closing_behind (IsMembersPart less) (IsValuePart room) (UnclosedMembers (UnclosedValue inner) vs) (UnclosedValue (vs ∷ inner)) (40 ∷ []) h.0 t k h.1
+    (λ m i u. (k.front ++ m, refl, u)) (λ b. list_part room less k.front le b)
 
 -- ---- whole texts
 
@@ -291,22 +274,9 @@ value_begins room before x s b = search (rules, append_assoc, append-nil)
 closing_text : (room : ℕ) (t : List ℕ) → IsUnclosedText room t → Closing (IsSpellingWithin room) (IsUnclosedText room) t
 closing_text room t h =
     let k = closing_value room h.lists h.value h.fits h.unclosed in
-    record {
-      front = h.before ++ k.front;
-      marked = k.marked;
-      spelled = h.parts ∙ ap (λ x. h.before ++ x) k.spelled ∙ sym (append_assoc h.before k.front k.marked);
-      meant = k.meant;
-      fill = λ m u. record {
-        before = h.before;
-        value = k.front ++ m;
-        lists = h.lists;
-        parts = append_assoc h.before k.front m;
-        spaces_before = h.spaces_before;
-        fits = h.fits;
-        unclosed = k.fill m u;
-      };
-      begins = value_begins room h.before k.front h.spaces_before k.begins;
-    }
+    closing_behind (IsValuePart room) (IsSpellingWithin room) (UnclosedValue h.lists) (IsUnclosedText room) h.before h.value t k h.parts
+    (λ m i u. record { before = h.before; value = k.front ++ m; lists = h.lists; parts = refl; spaces_before = h.spaces_before; fits = h.fits; unclosed = u })
+    (λ b. value_begins room h.before k.front h.spaces_before b)
 
 -- ---- what goes on goes on at each octet before
 

@@ -50,14 +50,13 @@ string_goes room text at to b = record { part = b.part; spelled = b.spelled; goe
 
 pub string_ends : (room : ℕ) (text : List ℕ) (at c : ℕ) (fault : FormFault) → StandsAt text at c → (c ≡ 40 → ⊥) → (c ≡ 91 → ⊥)
     → IsPartEnd GoesString IsUnclosedString text at fault → IsValueEnd room GoesValue (λ most. ValueStandsIn most at) IsUnclosedValue text at fault
-string_ends room text at c TooDeep s group hinted h = absurd h
 string_ends room text at c Short s group hinted h = string_goes room text at (length text) h
 string_ends room text at c (Bad k) s group hinted h = (
   string_goes room text at k h.0,
   stops_later (From (Anywhere IsUnclosedValue) at) (From IsUnclosedString at) text at at k (omega arith) (λ other n a le u.
       string_open other at c (stands_too text other n at c a le s) group hinted u.1.lists u.1.unclosed) h.1,
 )
-string_ends room text at c _ s group hinted h = h
+string_ends room text at c _ s group hinted h = search rules
 
 -- a value in which no list opens
 pub flat_ends : (room : ℕ) (text : List ℕ) (at : ℕ) (fault : FormFault) → ((most : ℕ) → IsPartEnd (GoesValue most) (Anywhere IsUnclosedValue) text at fault)

@@ -4,7 +4,7 @@ use Rattle.std.proofs.Common.{◌≡◌, ℕ, ◌+◌, ◌≤◌, Bool, List, �
 use Rattle.std.proofs.lemmas.List.{take_at, take-append-drop, take_all}
 use Rattle.sexpr_core.specs.Value.{Value, string, list, depth}
 use Rattle.sexpr_core.specs.Reading.{StandsAt, Skips, IsBracedWithin, IsTrailingBehind, Begins, StopsAt, is_whitespace, AreSpaces, StartsVisible}
-use Rattle.sexpr_core.proofs.Spans.{one_end, Agree, agree, same_head, skips_too, front_is}
+use Rattle.sexpr_core.proofs.Spans.{one_end, Agree, agree, same_head, skips_too, front_is, stops_later}
 use Rattle.sexpr_core.proofs.BraceLaws.{opening}
 use Rattle.sexpr_text.specs.AdvancedForm.{IsApart, IsHinted, Spells, IsSpelledWithin, IsTextWithin, is_token_octet, SpellsAs}
 use Rattle.sexpr_text.specs.Reads.{StringAt, ReadsString, ValueAt, ReadsValue, IsValueFault, ValueStands}
@@ -17,8 +17,9 @@ use Rattle.sexpr_text.specs.Refusal.{IsUnclosedText, IsSpelling, IsSpellingWithi
 use Rattle.sexpr_text.specs.Inner.Begun.{Begun, From, Anywhere, GoesValue, IsUnclosedValue, ValueStandsIn, IsValueEnd}
 use Rattle.sexpr_text.proofs.Unfinished.{value_begins, goes_anyhow, unclosed_value, unclosed_value_visible}
 use Rattle.sexpr_text.proofs.StringLaws.{token_grows}
+use Rattle.sexpr_text.proofs.Printed.{hinted_is}
 use Rattle.sexpr_core.proofs.Texts.{fails_among}
-use Rattle.sexpr_core.proofs.BraceRefusals.{stands_there}
+use Rattle.sexpr_core.proofs.BraceRefusals.{one_more, stands_there}
 
 -- ---- hinted strings, and whole texts in either form
 
@@ -81,25 +82,13 @@ hinted_read text at begin to close next end hint octets opens s r t closes u q =
     let middle : drop to text ≡ t.spaces ++ 93 ∷ (u.spaces ++ (b ++ drop end text)) = t.spelled ∙ ap (λ x. t.spaces ++ x) (closes.spelled ∙ ap (λ x. 93 ∷ x) behind) in
     let all : drop at text ≡ 91 ∷ (s.spaces ++ (g ++ (t.spaces ++ 93 ∷ (u.spaces ++ (b ++ drop end text))))) =
     opens.spelled ∙ ap (λ x. 91 ∷ x) (s.spelled ∙ ap (λ x. s.spaces ++ x) (r.stands.spelled ∙ ap (λ x. g ++ x) middle)) in
-    let m : IsHinted q.stands.ends_token (91 ∷ (s.spaces ++ (g ++ (t.spaces ++ 93 ∷ (u.spaces ++ b))))) hint octets = record {
-      as_token = r.stands.ends_token;
-      inside = s.spaces;
-      hint_text = g;
-      behind_hint = t.spaces;
-      behind = u.spaces;
-      octets_text = b;
-      spelled = refl;
-      spaces_inside = s.are_spaces;
-      hint_meant = r.stands.meant;
-      spaces_behind_hint = t.are_spaces;
-      spaces_behind = u.are_spaces;
-      octets_meant = q.stands.meant;
-    } in
+    let m = hinted_is q.stands.ends_token r.stands.ends_token (91 ∷ (s.spaces ++ (g ++ (t.spaces ++ 93 ∷ (u.spaces ++ b))))) hint octets s.spaces g t.spaces u.spaces b refl
+    s.are_spaces r.stands.meant t.are_spaces u.are_spaces q.stands.meant in
     record {
       stands = record {
         ends_token = q.stands.ends_token;
         spelling = 91 ∷ (s.spaces ++ (g ++ (t.spaces ++ 93 ∷ (u.spaces ++ b))));
-        spelled = all ∙ sym (hinted_text q.stands.ends_token _ hint octets (drop end text) m);
+        spelled = all ∙ simp append_assoc refl;
         meant = m;
         apart = q.stands.apart;
         fits = omega arith;
@@ -173,20 +162,8 @@ grows : (s : List ℕ) (v : Value) (c : ℕ) → SpellsAs true s v → is_token_
 grows s (string None a) c m t = (string None (a ++ c ∷ []), (ap (λ x. x ++ c ∷ []) m.0, token_grows a c m.1 t))
 grows s (string (Some g) a) c m t = (
   string (Some g) (a ++ c ∷ []),
-  record {
-    as_token = m.as_token;
-    inside = m.inside;
-    hint_text = m.hint_text;
-    behind_hint = m.behind_hint;
-    behind = m.behind;
-    octets_text = m.octets_text ++ c ∷ [];
-    spelled = hinted_text true s g a (c ∷ []) m;
-    spaces_inside = m.spaces_inside;
-    hint_meant = m.hint_meant;
-    spaces_behind_hint = m.spaces_behind_hint;
-    spaces_behind = m.spaces_behind;
-    octets_meant = (ap (λ x. x ++ c ∷ []) m.octets_meant.0, token_grows a c m.octets_meant.1 t);
-  },
+  hinted_is true m.as_token (s ++ c ∷ []) g (a ++ c ∷ []) m.inside m.hint_text m.behind_hint m.behind (m.octets_text ++ c ∷ []) (hinted_text true s g a (c ∷ []) m)
+      m.spaces_inside m.hint_meant m.spaces_behind_hint m.spaces_behind (ap (λ x. x ++ c ∷ []) m.octets_meant.0, token_grows a c m.octets_meant.1 t),
 )
 grows s (list vs) c m t = let f : true ≡ false = m.1 in absurd cc
 
@@ -214,19 +191,13 @@ apart_behind true before middle [] v c x s m t never = elim (cases_Bool (is_toke
   | inr e ↦ e
 ]
 
-one_more : (text : List ℕ) (k c : ℕ) → StandsAt text k c → take (k + 1) text ≡ take k text ++ c ∷ []
-one_more text k c s =
-    front_is text (take k text ++ c ∷ []) (k + 1)
-    (sym (take-append-drop k text) ∙ ap (λ t. take k text ++ t) s.spelled ∙ sym (append_assoc (take k text) (c ∷ []) (drop (k + 1) text)))
-    (omega (arith, s.within))
-
 -- a value that the octets before an offset spell stands in the text
 whole_before : (text : List ℕ) (begin k c : ℕ) (v : Value) → Skips text 0 begin → StandsAt text k c → (IsSpelling (take (k + 1) text) → ⊥) → IsSpelledWithin (take k text) v
     → (rest : List ℕ) × ValueAt 64 text begin v rest
 whole_before text begin k c v s stands never w =
     let m : Spells (take k text) v = w.spelling in
     let apart = apart_behind m.ends_token m.before m.middle m.after v c (drop (k + 1) text) m.spaces_before m.spelled m.spaces_after
-    (λ h. never (subst IsSpelling (ap (λ t. t ++ c ∷ []) (sym m.parts) ∙ sym (one_more text k c stands)) h)) in
+    (λ h. never (subst IsSpelling (ap (λ t. t ++ c ∷ []) (sym m.parts) ∙ sym (one_more text k c (take k text) stands refl)) h)) in
     let all : text ≡ m.before ++ (m.middle ++ (m.after ++ c ∷ drop (k + 1) text)) =
     sym (take-append-drop k text) ∙ ap (λ t. take k text ++ t) stands.spelled ∙ ap (λ t. t ++ c ∷ drop (k + 1) text) m.parts ∙ simp append_assoc refl in
     let p = one_end s.spaces m.before (drop begin text) (m.middle ++ (m.after ++ c ∷ drop (k + 1) text)) s.are_spaces m.spaces_before s.ends
@@ -237,26 +208,22 @@ whole_before text begin k c v s stands never w =
 
 spelling_stops : (text : List ℕ) (begin k : ℕ) → Skips text 0 begin → StopsAt (ValueStands begin) text begin k → Begins IsSpelling (take (k + 1) text) → ⊥
 spelling_stops text begin k s h b =
-    let other = take (k + 1) text ++ b.rest in
-    let w : IsSpelling other = b.whole in
-    let o = skips_too text other k 0 begin (agree text k b.rest h.within) h.behind s in
-    h.none (record { rest = b.rest; whole = record { room = _; value = w.value; rest = w.spelled.after; stands = spelled_at other begin w.value o w.spelled } })
+    (stops_later IsSpelling (ValueStands begin) text begin begin k (omega arith) (λ other n a le w.
+    search (rules, spelled_at other begin w.value (skips_too text other n 0 begin a le s) w.spelled)) h).none b
 
 spelling_within_stops : (room : ℕ) (text : List ℕ) (begin k : ℕ) → Skips text 0 begin → StopsAt (ValueStandsIn room begin) text begin k
     → Begins (IsSpellingWithin room) (take (k + 1) text) → ⊥
 spelling_within_stops room text begin k s h b =
-    let other = take (k + 1) text ++ b.rest in
-    let w : IsSpellingWithin room other = b.whole in
-    let o = skips_too text other k 0 begin (agree text k b.rest h.within) h.behind s in
-    let v = spelled_at other begin w.value o w.spelled in
-    search rules
+    (stops_later (IsSpellingWithin room) (ValueStandsIn room begin) text begin begin k (omega arith) (λ other n a le w.
+    let v = spelled_at other begin w.value (skips_too text other n 0 begin a le s) w.spelled in
+    search rules) h).none b
 
 unclosed_stops : (U : List ℕ → Type 0) (room : ℕ) (text : List ℕ) (begin k : ℕ) → Skips text 0 begin → ((x : List ℕ) → IsUnclosedValue room x → U x)
     → StopsAt (From U begin) text begin k → IsUnclosedText room (take (k + 1) text) → ⊥
 unclosed_stops U room text begin k s on h u =
-    let e : take (k + 1) text ++ [] ≡ take (k + 1) text = append-nil (take (k + 1) text) in
-    let o = skips_too text (take (k + 1) text ++ []) k 0 begin (agree text k [] h.within) h.behind s in
-    h.none (record { rest = []; whole = on (drop begin (take (k + 1) text ++ [])) (unclosed_at room (take (k + 1) text ++ []) begin o (subst (IsUnclosedText room) (sym e) u)) })
+    (stops_later (IsUnclosedText room) (From U begin) text begin begin k (omega arith) (λ other n a le w.
+    on (drop begin other) (unclosed_at room other begin (skips_too text other n 0 begin a le s) w)) h).none
+    (record { rest = []; whole = subst (IsUnclosedText room) (sym (append-nil (take (k + 1) text))) u })
 
 pub value_refused : (text : List ℕ) (begin : ℕ) (fault : FormFault) → Skips text 0 begin → IsValueFault (ValueStands begin) text begin fault
     → IsValueEnd 64 GoesValue (λ most. ValueStandsIn most begin) IsUnclosedValue text begin fault
@@ -284,8 +251,7 @@ value_refused text begin (Bad k) s h b only whole =
         | inr u ↦ unclosed_stops (Anywhere IsUnclosedValue) u.0 text begin k s (λ x i. (u.0, i)) b.1 u.1
       ],
     )
-value_refused text begin Memory s h b only whole = tt
-value_refused text begin _ s h b only whole = absurd h
+value_refused text begin _ s h b only whole = search rules
 
 -- ---- an octet behind the value
 

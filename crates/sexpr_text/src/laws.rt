@@ -15,11 +15,13 @@ pub fn one_value()
 {}
 
 /// The canonical text of a value spells it, that is, it is also in advanced form (RFC 9804, sections 6.2 and 6.4).
+#[tactic(auto, using(crate::proofs::Printed::canonical_spelled))]
 pub fn canonical_is_advanced()
     ensures { (v : Value) → Spells (canon v) v }
 {}
 
 /// The printed text of a value spells it (RFC 9804, section 6.4), if the value's octets are below 256.
+#[tactic(auto, using(crate::proofs::Printed::printed_spelled))]
 pub fn printed_is_advanced()
     ensures { (v : Value) → HasOctets v → Spells (adv v) v }
 {}
@@ -40,6 +42,7 @@ pub fn one_refusal_in_any_form()
 
 /// At an octet that is refused as Bad, in any form, no text of a value continues. That is, no text that spells or
 /// braces a value begins with the octets up to and including this one.
+#[tactic(auto, using(crate::proofs::OneRefusal::bad_is_bad))]
 pub fn bad_is_bad()
     ensures { (text : List ℕ) (at : ℕ) → RefusesText text (Bad at) → (at < length text) × ¬ Begins IsSomeText (take (at + 1) text) }
 {}

@@ -1,15 +1,16 @@
 use Rattle.std.proofs.Common.{[], refl, arith}
 use Rattle.std.proofs.lemmas.Result.{err_from_is_err_and}
-use Rattle.sexpr_core.proofs.ValueSteps.{value_none, string_value, deep_list, in_list, list_passed, no_members, member_passed, members_passed, members_end, in_member}
+use Rattle.sexpr_core.proofs.Faults.{value_ended, list_deep, list_fault}
+use Rattle.sexpr_core.proofs.ValueSteps.{string_value, list_passed, no_members, member_passed, members_passed, members_end, in_member}
 use Rattle.sexpr_core.proofs.Errors.{err_matched}
 use Rattle.sexpr_core.proofs.checker.+passing.Goals as goal
 
 pub pass_list-returns-then-room-eq0 : goal.pass_list-returns-then-room-eq0
-pass_list-returns-then-room-eq0 t c = deep_list _ _ _ c.if-room-eq0.true c.requires.begins
+pass_list-returns-then-room-eq0 t c = list_deep _ _ _ c.if-room-eq0.true c.requires.begins.spelled
 
 pub pass_list-returns-in_err-end : goal.pass_list-returns-in_err-end
 pass_list-returns-in_err-end t c =
-    err_matched _ _ _ _ c.from_residual.ensures.1 (in_list _ _ _ _ _ (omega arith) c.requires.begins c.in_err-end.ensures)
+    err_matched _ _ _ _ c.from_residual.ensures.1 (list_fault _ _ _ _ _ _ (omega arith) c.requires.begins.spelled c.in_err-end.ensures)
 
 pub pass_list-returns : goal.pass_list-returns
 pass_list-returns t c = list_passed _ _ _ _ _ (omega arith) c.requires.begins c.in_ok-end.ensures
@@ -36,7 +37,7 @@ pass_members-returns t c =
     members_end _ c.args.text.now _ before.0 c.loop-octet.i _ before.1 before.2 c.in_default.ensures
 
 pub pass_value-returns-in_default : goal.pass_value-returns-in_default
-pass_value-returns-in_default t c = value_none _ c.args.text.now c.args.at c.in_default.ensures
+pass_value-returns-in_default t c = value_ended _ _ c.in_default.ensures
 
 pub pass_value-returns-in_err-read : goal.pass_value-returns-in_err-read
 pass_value-returns-in_err-read t c = err_matched _ _ _ _ c.from_residual.ensures.1 (c.in_err-read.ensures c.args.room)

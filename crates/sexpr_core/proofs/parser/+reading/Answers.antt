@@ -1,14 +1,15 @@
 use Rattle.std.proofs.Common.{◌-◌, arith}
-use Rattle.sexpr_core.proofs.ValueSteps.{value_none, string_value, deep_list, in_list, list_read, list_short, no_members, more_members, members_end, in_member}
+use Rattle.sexpr_core.proofs.Faults.{value_ended, list_deep, list_fault}
+use Rattle.sexpr_core.proofs.ValueSteps.{string_value, list_read, list_short, no_members, more_members, members_end, in_member}
 use Rattle.sexpr_core.proofs.Errors.{err_matched}
 use Rattle.sexpr_core.proofs.parser.+reading.Goals as goal
 
 pub read_list-returns-then-room-eq0 : goal.read_list-returns-then-room-eq0
-read_list-returns-then-room-eq0 t c = deep_list _ _ _ c.if-room-eq0.true c.requires.begins
+read_list-returns-then-room-eq0 t c = list_deep _ _ _ c.if-room-eq0.true c.requires.begins.spelled
 
 pub read_list-returns-in_err-read : goal.read_list-returns-in_err-read
 read_list-returns-in_err-read t c =
-    err_matched _ _ _ _ c.from_residual-in_err-read.ensures.1 (in_list _ _ _ _ _ (omega arith) c.requires.begins c.in_err-read.ensures)
+    err_matched _ _ _ _ c.from_residual-in_err-read.ensures.1 (list_fault _ _ _ _ _ _ (omega arith) c.requires.begins.spelled c.in_err-read.ensures)
 
 pub read_list-overflow_cast-size : goal.read_list-overflow_cast-size
 read_list-overflow_cast-size t c =
@@ -47,7 +48,7 @@ read_members-returns t c =
     members_end _ c.args.text.now _ _ c.loop-octet.i _ _ c.loop-octet.invariant c.in_default.ensures
 
 pub read_value-returns-in_default : goal.read_value-returns-in_default
-read_value-returns-in_default t c = value_none _ c.args.text.now c.args.at c.in_default.ensures
+read_value-returns-in_default t c = value_ended _ _ c.in_default.ensures
 
 pub read_value-returns-in_err-read : goal.read_value-returns-in_err-read
 read_value-returns-in_err-read t c = err_matched _ _ _ _ c.from_residual.ensures.1 (c.in_err-read.ensures c.args.room)

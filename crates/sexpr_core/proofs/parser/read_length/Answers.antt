@@ -1,5 +1,6 @@
 use Rattle.std.proofs.Common.{◌+◌, ◌-◌, ◌*◌, inl, inr, arith}
-use Rattle.sexpr_core.proofs.Steps.{first_spelled, more_capped, more_spelled, later_short, later_bad}
+use Rattle.sexpr_core.proofs.Faults.{length_short}
+use Rattle.sexpr_core.proofs.Steps.{first_spelled, more_capped, more_spelled, later_bad}
 use Rattle.sexpr_core.proofs.parser.read_length.Goals as goal
 use Rattle.sexpr_core.proofs.parser.read_length.Goals.{then-number-eq0-via-then-number-eq0, then-number-eq0-via-else-number-eq0+then-octet-lt48, then-number-eq0-via-else-number-eq0+else-octet-lt48+then-octet-gt57}
 
@@ -29,4 +30,4 @@ loop-octet-preserved c = record {
 }
 
 pub returns : goal.returns
-returns c = later_short c.args.text.now c.args.at c.loop-octet.i c.loop-octet.invariant.written c.loop-octet.invariant.spelled c.in_default.ensures
+returns c = length_short _ _ _ c.loop-octet.invariant.spelled c.in_default.ensures

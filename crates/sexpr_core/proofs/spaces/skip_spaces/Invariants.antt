@@ -1,9 +1,9 @@
 use Rattle.std.proofs.Common.{◌-◌, length}
-use Rattle.sexpr_core.proofs.Spans.{SpacesTo}
+use Rattle.sexpr_core.specs.Reading.{Passed, is_whitespace}
 use Rattle.sexpr_core.proofs.spaces.skip_spaces.Given as goal
 
 abbrev pub invariant-loop-octet : goal.invariant-loop-octet
-invariant-loop-octet l = SpacesTo l.text l.at l.i
+invariant-loop-octet l = Passed is_whitespace l.text l.at l.i
 
 abbrev pub decreases-loop-octet : goal.decreases-loop-octet
 decreases-loop-octet l = length l.text - l.i

@@ -1,9 +1,10 @@
+use Rattle.std.proofs.Common.{sym, append-nil}
 use Rattle.sexpr_core.specs.Value.{sexp_value}
-use Rattle.sexpr_core.proofs.TreeLaws.{nothing_written, member_written, list_written}
+use Rattle.sexpr_core.proofs.TreeLaws.{member_written, list_written}
 use Rattle.sexpr_core.proofs.writer.+append_tree.Goals as goal
 
 pub loop-member-init : goal.loop-member-init
-loop-member-init t c = nothing_written _
+loop-member-init t c = sym (append-nil _)
 
 pub loop-member-preserved : goal.loop-member-preserved
 loop-member-preserved t c =

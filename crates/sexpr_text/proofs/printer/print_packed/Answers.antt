@@ -1,5 +1,5 @@
-use Rattle.std.proofs.Common.{[], ◌++◌, refl}
-use Rattle.sexpr_text.proofs.Printed.{packed_one, packed_between, in_two, in_three}
+use Rattle.std.proofs.Common.{[], ◌∷◌, ◌++◌, ap, refl}
+use Rattle.sexpr_text.proofs.Printed.{packed_one, in_two, in_three}
 use Rattle.sexpr_text.proofs.printer.print_packed.Goals as goal
 
 pub loop-rest-init : goal.loop-rest-init
@@ -18,4 +18,4 @@ returns g c =
     let (packed, t, e) = c.loop-rest.invariant in
     in_two g.S.Sink.takes g.met.S.Sink.both _
     (in_three g.S.Sink.takes g.met.S.Sink.both _ c.put_octet.ensures t c.print_piece-2.ensures refl) c.put_octet-2.ensures
-    (packed_between packed _ _ e)
+    (ap (λ s. 124 ∷ (s ++ 124 ∷ [])) e)

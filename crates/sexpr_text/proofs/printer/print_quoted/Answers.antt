@@ -1,4 +1,7 @@
-use Rattle.sexpr_text.proofs.Printed.{quoted_one, quoted_between, in_two, in_three}
+use Rattle.std.proofs.Common.{[], ◌∷◌, ◌++◌, ap}
+use Rattle.std.proofs.lemmas.List.{take_all}
+use Rattle.sexpr_text.specs.AdvancedForm.{quoted_body}
+use Rattle.sexpr_text.proofs.Printed.{quoted_one, in_two, in_three}
 use Rattle.sexpr_text.proofs.printer.print_quoted.Goals as goal
 
 pub loop-octet-init : goal.loop-octet-init
@@ -12,4 +15,4 @@ loop-octet-preserved g c =
 pub returns : goal.returns
 returns g c =
     in_three g.S.Sink.takes g.met.S.Sink.both _ c.put_octet.ensures c.loop-octet.invariant c.put_octet-2.ensures
-    (quoted_between _ _ c.loop-octet-test.false)
+    (ap (λ s. 34 ∷ (quoted_body s ++ 34 ∷ [])) (take_all _ _ c.loop-octet-test.false))

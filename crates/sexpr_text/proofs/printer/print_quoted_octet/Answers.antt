@@ -1,8 +1,7 @@
-use Rattle.sexpr_text.proofs.Printed.{quoted_plain, quoted_escaped}
 use Rattle.sexpr_text.proofs.printer.print_quoted_octet.Goals as goal
 
 pub returns-then-is_escaped : goal.returns-then-is_escaped
-returns-then-is_escaped g c = rw (← quoted_escaped c.args.octet c.if-is_escaped.ensures) c.put.ensures
+returns-then-is_escaped g c = rw (← c.if-is_escaped.ensures) c.put.ensures
 
 pub returns : goal.returns
-returns g c = rw (← quoted_plain c.args.octet c.if-is_escaped.ensures) c.put_octet.ensures
+returns g c = rw (← c.if-is_escaped.ensures) c.put_octet.ensures

@@ -1,13 +1,13 @@
-use Rattle.std.proofs.Common.{arith}
+use Rattle.std.proofs.Common.{[], ◌∷◌, arith}
 use Rattle.std.proofs.lemmas.Result.{IfErr-weaker}
-use Rattle.sexpr_text.proofs.RefusedParts.{hexadecimal_refused, letter_refused}
-use Rattle.sexpr_text.proofs.StringEnds.{nothing_left, letter_goes, hexadecimal_end}
+use Rattle.sexpr_text.proofs.RefusedParts.{piece_refused, letter_refused}
+use Rattle.sexpr_text.proofs.StringEnds.{nothing_left, letter_goes, octet_end}
 use Rattle.sexpr_text.proofs.quoted_strings.read_escape.Goals as goal
 use Rattle.sexpr_text.proofs.quoted_strings.read_escape.Goals.{in_default-octet-via-then-octet-lt48, in_default-octet-via-else-octet-lt48+else-octet-lt52}
 
 pub returns-in-120-clause-refused : goal.returns-in-120-clause-refused
 returns-in-120-clause-refused c =
-    IfErr-weaker c.read_hexadecimal_escape.result _ _ (λ fault h. hexadecimal_refused _ _ _ fault c.in-Some.ensures c.in-120.is h) c.read_hexadecimal_escape.ensures.refused
+    IfErr-weaker c.read_hexadecimal_escape.result _ _ (λ fault h. piece_refused (92 ∷ []) _ _ _ 120 fault c.in-Some.ensures c.in-120.is h) c.read_hexadecimal_escape.ensures.refused
 
 pub returns-in_default-octet-clause-refused : goal.returns-in_default-octet-clause-refused
 returns-in_default-octet-clause-refused c = elim c.in_default-octet.branch [
@@ -22,4 +22,4 @@ returns-in_default-clause-begun c = nothing_left _ _ _ letter_goes c.requires c.
 
 pub returns-in-120-clause-begun : goal.returns-in-120-clause-begun
 returns-in-120-clause-begun c =
-    IfErr-weaker c.read_hexadecimal_escape.result _ _ (λ fault h. hexadecimal_end _ _ _ fault c.in-Some.ensures c.in-120.is h) c.read_hexadecimal_escape.ensures.begun
+    IfErr-weaker c.read_hexadecimal_escape.result _ _ (λ fault h. octet_end (92 ∷ []) _ _ _ 120 fault c.in-Some.ensures c.in-120.is h) c.read_hexadecimal_escape.ensures.begun

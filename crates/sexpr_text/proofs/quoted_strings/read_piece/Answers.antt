@@ -1,6 +1,7 @@
+use Rattle.std.proofs.Common.{[]}
 use Rattle.sexpr_text.proofs.StringLaws.{raw_piece}
-use Rattle.sexpr_text.proofs.RefusedParts.{escape_refused}
-use Rattle.sexpr_text.proofs.StringEnds.{escape_end}
+use Rattle.sexpr_text.proofs.RefusedParts.{piece_refused}
+use Rattle.sexpr_text.proofs.StringEnds.{octet_end}
 use Rattle.sexpr_core.proofs.Errors.{err_kept}
 use Rattle.sexpr_text.proofs.quoted_strings.read_piece.Goals as goal
 
@@ -10,8 +11,8 @@ returns-then-octet-ne92-clause-read c = raw_piece _ _ _ _ _ c.requires.begins c.
 pub returns-in_err-escape-clause-refused : goal.returns-in_err-escape-clause-refused
 returns-in_err-escape-clause-refused c =
     err_kept _ _ _ c.from_residual-in_err-escape.ensures.1
-    (escape_refused _ _ _ _ c.requires.begins c.if-octet-ne92.false c.in_err-escape.ensures.refused)
+    (piece_refused [] _ _ _ 92 _ c.requires.begins c.if-octet-ne92.false c.in_err-escape.ensures.refused)
 
 pub returns-in_err-escape-clause-begun : goal.returns-in_err-escape-clause-begun
 returns-in_err-escape-clause-begun c =
-    err_kept _ _ _ c.from_residual-in_err-escape.ensures.1 (escape_end _ _ _ _ c.requires.begins c.if-octet-ne92.false c.in_err-escape.ensures.begun)
+    err_kept _ _ _ c.from_residual-in_err-escape.ensures.1 (octet_end [] _ _ _ 92 _ c.requires.begins c.if-octet-ne92.false c.in_err-escape.ensures.begun)

@@ -1,6 +1,6 @@
-use Rattle.std.proofs.Common.{sym, ◌∙◌}
+use Rattle.std.proofs.Common.{sym, ◌∙◌, arith}
 use Rattle.std.proofs.lemmas.Result.{IfOk-weaker, IfErr-weaker}
-use Rattle.sexpr_text.proofs.CountedLaws.{counted_ended, marked_stands, verbatim_fits, verbatim_string, counted_string, counted_right}
+use Rattle.sexpr_text.proofs.CountedLaws.{counted_ended, marked_stands, verbatim_fits, verbatim_string, counted_string, octets_few, counted_elsewhere}
 use Rattle.sexpr_text.proofs.RefusedParts.{short_refused, marked_missed, count_missed}
 use Rattle.sexpr_text.proofs.MarkedEnds.{count_short, verbatim_end, counted_end, count_end}
 use Rattle.sexpr_core.proofs.Errors.{err_kept}
@@ -25,8 +25,9 @@ returns-in_err-read-clause-only c = λ a rest s.
 
 pub returns-then-len-count-clause-only : goal.returns-then-len-count-clause-only
 returns-then-len-count-clause-only c = λ a rest s.
-    absurd (counted_right _ _ _ _ _ _ _ _ _ a rest c.requires.short c.requires.begins c.requires.digit c.read_count-count.ensures.read c.read_count-count.ensures.ends
-    c.in-Some.ensures c.if-octet-eq58.false c.in_ok-read.ensures.read (c.len.ensures ∙ c.in_ok-read.read.octets.ok.0) c.if-len-count.true s)
+    let few = octets_few _ _ _ _ c.in_ok-read.ensures.read in
+    absurd (counted_elsewhere _ _ _ _ _ _ _ _ _ a rest (omega (arith, few, c.requires.short)) c.requires.begins c.requires.digit c.read_count-count.ensures.read
+    c.read_count-count.ensures.ends c.in-Some.ensures c.if-octet-eq58.false c.in_ok-read.ensures.read (c.len.ensures ∙ c.in_ok-read.read.octets.ok.0) c.if-len-count.true s)
 
 pub returns-clause-read : goal.returns-clause-read
 returns-clause-read c =

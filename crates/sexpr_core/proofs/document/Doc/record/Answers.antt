@@ -18,12 +18,10 @@ returns-clause-countable c =
 
 pub returns-clause-place : goal.returns-clause-place
 returns-clause-place c =
-    let here : (v : Value) → v ≡ c.args.self.now → IsPlace (canon v) c.index.result.now (node_at v c.args.n) → IsPlace (canon c.args.self.now) c.index.result.now (node_at c.args.self.now c.args.n) =
-    λ v e p. subst (λ (w : Value). IsPlace (canon w) c.index.result.now (node_at w c.args.n)) e p in
-    here _ c.self.view_is (rw c.index.ensures (table_place _ _ _ c.args.n c.index.result.now c.self.invariant (rw c.self.view_is c.requires)))
+    subst (λ (w : Value). IsPlace (canon w) c.index.result.now (node_at w c.args.n)) c.self.view_is
+    (rw c.index.ensures (table_place _ _ _ c.args.n c.index.result.now c.self.invariant (rw c.self.view_is c.requires)))
 
 pub returns-clause-start : goal.returns-clause-start
 returns-clause-start c =
-    let here : (v : Value) → v ≡ c.args.self.now → start_of v c.args.n ≡ Some c.index.result.now.start → start_of c.args.self.now c.args.n ≡ Some c.index.result.now.start =
-    λ v e p. subst (λ (w : Value). start_of w c.args.n ≡ Some c.index.result.now.start) e p in
-    here _ c.self.view_is (rw c.index.ensures (table_start _ _ _ c.args.n c.index.result.now c.self.invariant (rw c.self.view_is c.requires)))
+    subst (λ (w : Value). start_of w c.args.n ≡ Some c.index.result.now.start) c.self.view_is
+    (rw c.index.ensures (table_start _ _ _ c.args.n c.index.result.now c.self.invariant (rw c.self.view_is c.requires)))
