@@ -1,4 +1,4 @@
-use Rattle.std.proofs.Common.{refl, sym, subst, ◌∙◌, arith}
+use Rattle.std.proofs.Common.{refl, sym, subst, ◌∙◌, arith, rules}
 use Rattle.std.proofs.lemmas.Result.{err_from_is_err_and}
 use Rattle.sexpr_core.specs.Reading.{AreSpaces}
 use Rattle.sexpr_core.proofs.BraceLaws.{no_opening, opens, body_is, read_once, read_short, braced_limits, not_opened, body_missed, body_unread, braced_before}
@@ -47,8 +47,7 @@ returns-in_err-body-clause-refused c =
     (λ v b. c.in_err-body.ensures.only b.braced.body b.braced.after _ b.braced.packed (body_is _ _ _ v c.skip_spaces-begin.ensures c.in-Some.ensures b.braced)))
 
 pub check_body-requires : goal.check_body-requires
-check_body-requires c =
-    rw c.deref.ensures.value (read_short _ _ _ _ _ (omega (arith, c.if-text-gt-MOST_OCTETS.false)) c.in_ok-body.ensures.read)
+check_body-requires c = search (rules, read_short)
 
 pub returns-in_err-check_body-clause-refused : goal.returns-in_err-check_body-clause-refused
 returns-in_err-check_body-clause-refused c =

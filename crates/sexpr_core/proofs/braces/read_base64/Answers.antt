@@ -1,4 +1,4 @@
-use Rattle.std.proofs.Common.{sym, subst}
+use Rattle.std.proofs.Common.{sym, subst, rules}
 use Rattle.sexpr_core.specs.Reading.{IsBase64}
 use Rattle.sexpr_core.proofs.BraceLaws.{body_octets, body_not_packed, packed_refused}
 use Rattle.sexpr_core.proofs.Spans.{same_body, unpacked_end}
@@ -23,6 +23,4 @@ returns-in_err-octets-clause-refused c =
     (packed_refused _ _ _ _ _ _ c.in_ok-symbols.ensures.read c.requires.apart c.in_err-octets.ensures.refused c.in_err-octets.ensures.only)
 
 pub returns-in_err-octets-clause-begun : goal.returns-in_err-octets-clause-begun
-returns-in_err-octets-clause-begun c =
-    err_kept _ _ _ c.from_residual-in_err-octets.ensures.1
-    (unpacked_end _ _ _ _ _ _ c.in_ok-symbols.ensures.read c.requires.apart c.in_err-octets.ensures.refused)
+returns-in_err-octets-clause-begun c = search (rules, err_kept, unpacked_end)

@@ -1,4 +1,4 @@
-use Rattle.std.proofs.Common.{[], refl, arith}
+use Rattle.std.proofs.Common.{[], refl, arith, rules}
 use Rattle.std.proofs.lemmas.Result.{err_from_is_err_and}
 use Rattle.sexpr_core.proofs.Faults.{value_ended, list_deep, list_fault}
 use Rattle.sexpr_core.proofs.ValueSteps.{string_value, list_passed, no_members, member_passed, members_passed, members_end, in_member}
@@ -9,8 +9,7 @@ pub pass_list-returns-then-room-eq0 : goal.pass_list-returns-then-room-eq0
 pass_list-returns-then-room-eq0 t c = list_deep _ _ _ c.if-room-eq0.true c.requires.begins.spelled
 
 pub pass_list-returns-in_err-end : goal.pass_list-returns-in_err-end
-pass_list-returns-in_err-end t c =
-    err_matched _ _ _ _ c.from_residual.ensures.1 (list_fault _ _ _ _ _ _ (omega arith) c.requires.begins.spelled c.in_err-end.ensures)
+pass_list-returns-in_err-end t c = search (rules, err_matched, list_fault)
 
 pub pass_list-returns : goal.pass_list-returns
 pass_list-returns t c = list_passed _ _ _ _ _ (omega arith) c.requires.begins c.in_ok-end.ensures

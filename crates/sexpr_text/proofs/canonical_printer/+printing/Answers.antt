@@ -1,4 +1,4 @@
-use Rattle.std.proofs.Common.{[], ◌∷◌, ◌++◌, length, sym, ◌∙◌, ap, append_assoc, arith, rules}
+use Rattle.std.proofs.Common.{[], ◌∷◌, ◌++◌, length, ap, append_assoc, arith, rules}
 use Rattle.sexpr_text.proofs.Converted.{opens_list, opens_hint, opens_plain, value_shortens, member_next, member_printed, printed_end}
 use Rattle.sexpr_text.proofs.Printed.{in_two, in_three}
 use Rattle.sexpr_text.proofs.canonical_printer.+printing.Goals as goal
@@ -7,16 +7,10 @@ pub print_first-returns-in_default : goal.print_first-returns-in_default
 print_first-returns-in_default g t c v behind e = let short = value_shortens _ v behind e in absurd (omega (arith, short, c.in_default.ensures.cases))
 
 pub print_first-print_members-requires : goal.print_first-print_members-requires
-print_first-print_members-requires g t c κs within =
-    let (v, behind, e) = c.requires in
-    let (vs, is, rest) = opens_list v behind _ (sym e ∙ c.in-Some.ensures.cases.0 ∙ ap (λ k. k ∷ c.in-Some.behind.now) c.in-40.is) in
-    (search rules, (within, (vs, behind, rest)))
+print_first-print_members-requires g t c κs within = search (rules, opens_list)
 
 pub print_first-print_hinted-requires : goal.print_first-print_hinted-requires
-print_first-print_hinted-requires g t c =
-    let (v, behind, e) = c.requires in
-    let (hint, octets, is, rest) = opens_hint v behind _ (sym e ∙ c.in-Some.ensures.cases.0 ∙ ap (λ k. k ∷ c.in-Some.behind.now) c.in-91.is) in
-    (hint, octets, behind, rest)
+print_first-print_hinted-requires g t c = search (rules, opens_hint)
 
 pub print_first-print_verbatim-requires : goal.print_first-print_verbatim-requires
 print_first-print_verbatim-requires g t c =
@@ -25,14 +19,10 @@ print_first-print_verbatim-requires g t c =
     (octets, behind, whole)
 
 pub print_first-returns-in-40 : goal.print_first-returns-in-40
-print_first-returns-in-40 g t c v behind e =
-    let (vs, is, rest) = opens_list v behind _ (sym e ∙ c.in-Some.ensures.cases.0 ∙ ap (λ k. k ∷ c.in-Some.behind.now) c.in-40.is) in
-    rw is (c.print_members.ensures vs behind rest)
+print_first-returns-in-40 g t c v behind e = search (rules, opens_list)
 
 pub print_first-returns-in-91 : goal.print_first-returns-in-91
-print_first-returns-in-91 g t c v behind e =
-    let (hint, octets, is, rest) = opens_hint v behind _ (sym e ∙ c.in-Some.ensures.cases.0 ∙ ap (λ k. k ∷ c.in-Some.behind.now) c.in-91.is) in
-    rw is (c.print_hinted.ensures hint octets behind rest)
+print_first-returns-in-91 g t c v behind e = search (rules, opens_hint)
 
 pub print_first-returns-in_default-first : goal.print_first-returns-in_default-first
 print_first-returns-in_default-first g t c v behind e =

@@ -41,5 +41,4 @@ overflow_add-number c =
     search rules
 
 pub loop-octet-preserved : goal.loop-octet-preserved
-loop-octet-preserved c octets behind e =
-    (length_goes_on _ _ _ _ octets behind c.in-Some.ensures.cases.0 (c.loop-octet.invariant octets behind e) c.if-octet-eq58.false).2
+loop-octet-preserved c octets behind e = search (rules, length_goes_on)

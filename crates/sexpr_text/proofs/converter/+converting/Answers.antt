@@ -1,4 +1,4 @@
-use Rattle.std.proofs.Common.{◌-◌, refl, arith}
+use Rattle.std.proofs.Common.{◌-◌, refl, arith, rules}
 use Rattle.std.proofs.lemmas.Result.{IfOk-weaker, IfErr-weaker}
 use Rattle.sexpr_text.proofs.RefusedParts.{part_fault, string_missed, members_missed, member_missed}
 use Rattle.sexpr_text.proofs.Trees.{no_value, string_at, inside_list, member_at, no_members_end}
@@ -59,8 +59,7 @@ pub convert_value-returns-in-None-clause-only : goal.convert_value-returns-in-No
 convert_value-returns-in-None-clause-only t c = λ v rest h. absurd (no_value _ _ _ v rest c.in-None.ensures h)
 
 pub convert_value-returns-in-Some-eq91-clause-read : goal.convert_value-returns-in-Some-eq91-clause-read
-convert_value-returns-in-Some-eq91-clause-read t c =
-    IfOk-weaker c.convert_hinted.result _ _ (λ to p. roomier c.args.room _ _ to c.args.form _ _ p) c.convert_hinted.ensures.read
+convert_value-returns-in-Some-eq91-clause-read t c = search (rules, IfOk-weaker, roomier)
 
 pub convert_value-returns-in-Some-eq91-clause-only : goal.convert_value-returns-in-Some-eq91-clause-only
 convert_value-returns-in-Some-eq91-clause-only t c = λ v rest h. c.convert_hinted.ensures.only c.args.room v rest h
@@ -70,8 +69,7 @@ convert_value-returns-in-Some-clause-read t c =
     IfOk-weaker c.convert_string.result _ _ (λ to p. string_converted _ _ _ _ c.args.form p.0 _ _ p.1 p.2) c.convert_string.ensures.read
 
 pub convert_list-returns-clause-refused : goal.convert_list-returns-clause-refused
-convert_list-returns-clause-refused t c =
-    IfErr-weaker c.convert_members.result _ _ (λ fault h. members_missed _ _ fault c.requires.begins h) c.convert_members.ensures.refused
+convert_list-returns-clause-refused t c = search (rules, IfErr-weaker, members_missed)
 
 pub convert_value-returns-in-Some-clause-refused : goal.convert_value-returns-in-Some-clause-refused
 convert_value-returns-in-Some-clause-refused t c =

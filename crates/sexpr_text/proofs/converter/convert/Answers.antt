@@ -1,4 +1,4 @@
-use Rattle.std.proofs.Common.{inl, inr}
+use Rattle.std.proofs.Common.{inl, inr, rules}
 use Rattle.std.proofs.lemmas.Bool.{both_ways}
 use Rattle.std.proofs.lemmas.Result.{IfOk-weaker, IfErr-weaker}
 use Rattle.sexpr_text.proofs.WholeTexts.{braced_text, spelled_text}
@@ -9,14 +9,10 @@ pub returns-then-opens_braces-clause-read : goal.returns-then-opens_braces-claus
 returns-then-opens_braces-clause-read c = IfOk-weaker c.convert_braces.result _ _ (λ out p. (p.0, inr p.1, p.2)) c.convert_braces.ensures.read
 
 pub returns-then-opens_braces-clause-only : goal.returns-then-opens_braces-clause-only
-returns-then-opens_braces-clause-only c = λ v h.
-    let brace = c.opens_braces.ensures.0 c.if-opens_braces.true in
-    c.convert_braces.ensures.only v (braced_text _ brace.0 _ v c.skip_spaces-begin.ensures brace.1 h)
+returns-then-opens_braces-clause-only c = search (rules, braced_text)
 
 pub returns-then-opens_braces-clause-refused : goal.returns-then-opens_braces-clause-refused
-returns-then-opens_braces-clause-refused c =
-    let brace = c.opens_braces.ensures.0 c.if-opens_braces.true in
-    IfErr-weaker c.convert_braces.result _ _ (λ fault h. braces_refused _ brace.0 _ fault c.skip_spaces-begin.ensures brace.1 h) c.convert_braces.ensures.refused
+returns-then-opens_braces-clause-refused c = search (rules, IfErr-weaker, braces_refused)
 
 pub returns-clause-read : goal.returns-clause-read
 returns-clause-read c = IfOk-weaker c.convert_advanced.result _ _ (λ out p. (p.0, inl p.1, p.2)) c.convert_advanced.ensures.read

@@ -1,21 +1,15 @@
-use Rattle.std.proofs.Common.{[], ◌∷◌, arith}
+use Rattle.std.proofs.Common.{[], ◌∷◌, rules}
 use Rattle.std.proofs.lemmas.Result.{IfErr-weaker}
 use Rattle.sexpr_text.proofs.RefusedParts.{piece_refused, letter_refused}
 use Rattle.sexpr_text.proofs.StringEnds.{nothing_left, letter_goes, octet_end}
 use Rattle.sexpr_text.proofs.quoted_strings.read_escape.Goals as goal
-use Rattle.sexpr_text.proofs.quoted_strings.read_escape.Goals.{in_default-octet-via-then-octet-lt48, in_default-octet-via-else-octet-lt48+else-octet-lt52}
 
 pub returns-in-120-clause-refused : goal.returns-in-120-clause-refused
 returns-in-120-clause-refused c =
     IfErr-weaker c.read_hexadecimal_escape.result _ _ (λ fault h. piece_refused (92 ∷ []) _ _ _ 120 fault c.in-Some.ensures c.in-120.is h) c.read_hexadecimal_escape.ensures.refused
 
 pub returns-in_default-octet-clause-refused : goal.returns-in_default-octet-clause-refused
-returns-in_default-octet-clause-refused c = elim c.in_default-octet.branch [
-  | in_default-octet-via-then-octet-lt48 w ↦ IfErr-weaker c.read_letter.result _ _ (λ fault h.
-      letter_refused _ _ _ fault c.in-Some.ensures (λ e. omega arith) (λ e. omega arith) (λ e. omega arith) (λ low high. omega arith) h) c.read_letter.ensures.refused
-  | in_default-octet-via-else-octet-lt48+else-octet-lt52 w ↦ IfErr-weaker c.read_letter.result _ _ (λ fault h.
-      letter_refused _ _ _ fault c.in-Some.ensures (λ e. omega arith) (λ e. omega arith) (λ e. omega arith) (λ low high. omega arith) h) c.read_letter.ensures.refused
-]
+returns-in_default-octet-clause-refused c = search (rules, IfErr-weaker, letter_refused)
 
 pub returns-in_default-clause-begun : goal.returns-in_default-clause-begun
 returns-in_default-clause-begun c = nothing_left _ _ _ letter_goes c.requires c.in_default.ensures

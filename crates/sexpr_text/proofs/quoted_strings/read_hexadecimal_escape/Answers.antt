@@ -1,3 +1,4 @@
+use Rattle.std.proofs.Common.{rules}
 use Rattle.sexpr_text.proofs.Marked.{hexadecimal_piece}
 use Rattle.sexpr_text.proofs.StringLaws.{hexadecimal_escape, second_octet}
 use Rattle.sexpr_text.proofs.RefusedParts.{high_refused, low_refused}
@@ -19,8 +20,7 @@ pub returns-clause-read : goal.returns-clause-read
 returns-clause-read c = hexadecimal_escape _ _ _ _ c.in_ok-high.ensures.read c.in_ok-low.ensures.read
 
 pub returns-in_err-low-clause-refused : goal.returns-in_err-low-clause-refused
-returns-in_err-low-clause-refused c =
-    err_kept _ _ _ c.from_residual-in_err-low.ensures.1 (low_refused _ _ _ _ c.in_ok-high.ensures.read c.in_err-low.ensures.refused)
+returns-in_err-low-clause-refused c = search (rules, err_kept, low_refused)
 
 pub returns-in_err-high-clause-refused : goal.returns-in_err-high-clause-refused
 returns-in_err-high-clause-refused c = err_kept _ _ _ c.from_residual.ensures.1 (high_refused _ _ _ c.in_err-high.ensures.refused)
@@ -29,5 +29,4 @@ pub returns-in_err-high-clause-begun : goal.returns-in_err-high-clause-begun
 returns-in_err-high-clause-begun c = err_kept _ _ _ c.from_residual.ensures.1 (high_end _ _ _ c.in_err-high.ensures.begun)
 
 pub returns-in_err-low-clause-begun : goal.returns-in_err-low-clause-begun
-returns-in_err-low-clause-begun c =
-    err_kept _ _ _ c.from_residual-in_err-low.ensures.1 (low_end _ _ _ _ c.in_ok-high.ensures.read c.in_err-low.ensures.begun)
+returns-in_err-low-clause-begun c = search (rules, err_kept, low_end)

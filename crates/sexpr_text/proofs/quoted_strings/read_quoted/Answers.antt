@@ -1,5 +1,4 @@
-use Rattle.std.proofs.Common.{subst}
-use Rattle.sexpr_core.specs.Reading.{StandsAt}
+use Rattle.std.proofs.Common.{rules}
 use Rattle.sexpr_text.proofs.StringLaws.{more_quoted, quoted_read, quoted_left, left_ended, left_next}
 use Rattle.sexpr_text.proofs.RefusedParts.{quoted_refused}
 use Rattle.sexpr_text.proofs.StringEnds.{quoted_end, quoted_short}
@@ -7,8 +6,7 @@ use Rattle.sexpr_core.proofs.Errors.{err_kept}
 use Rattle.sexpr_text.proofs.quoted_strings.read_quoted.Goals as goal
 
 pub returns-then-octet-eq34-clause-read : goal.returns-then-octet-eq34-clause-read
-returns-then-octet-eq34-clause-read c =
-    quoted_read _ _ _ _ c.requires c.loop-octet.invariant (subst (StandsAt c.args.text.now c.loop-octet.i) c.if-octet-eq34.true c.in-Some.ensures)
+returns-then-octet-eq34-clause-read c = search (rules, quoted_read)
 
 pub returns-in_err-i-clause-only : goal.returns-in_err-i-clause-only
 returns-in_err-i-clause-only c = λ s a rest q e.

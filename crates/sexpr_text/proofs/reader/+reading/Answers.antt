@@ -1,4 +1,4 @@
-use Rattle.std.proofs.Common.{◌-◌, arith}
+use Rattle.std.proofs.Common.{◌-◌, arith, rules}
 use Rattle.std.proofs.lemmas.Result.{IfErr-weaker}
 use Rattle.sexpr_core.specs.Value.{sexp_value}
 use Rattle.sexpr_text.proofs.RefusedParts.{part_fault, string_missed, members_missed, member_missed}
@@ -57,13 +57,10 @@ pub read_tree-returns-in-Some-eq91-clause-only : goal.read_tree-returns-in-Some-
 read_tree-returns-in-Some-eq91-clause-only t c = λ v rest h. c.read_hinted.ensures.only c.args.room v rest h
 
 pub read_list-returns-in_err-members-clause-refused : goal.read_list-returns-in_err-members-clause-refused
-read_list-returns-in_err-members-clause-refused t c =
-    err_kept _ _ _ c.from_residual.ensures.1 (members_missed _ _ _ c.requires.begins c.in_err-members.ensures.refused)
+read_list-returns-in_err-members-clause-refused t c = search (rules, err_kept, members_missed)
 
 pub read_tree-returns-in_err-octets-in-Some-clause-refused : goal.read_tree-returns-in_err-octets-in-Some-clause-refused
-read_tree-returns-in_err-octets-in-Some-clause-refused t c =
-    err_kept _ _ _ c.from_residual.ensures.1
-    (string_missed _ _ _ _ c.in-Some.ensures c.in-Some.field-0-test.0.1 c.in-Some.field-0-test.1 c.in_err-octets-in-Some.ensures.refused)
+read_tree-returns-in_err-octets-in-Some-clause-refused t c = search (rules, err_kept, string_missed)
 
 pub read_tree-returns-in-Some-eq91-clause-refused : goal.read_tree-returns-in-Some-eq91-clause-refused
 read_tree-returns-in-Some-eq91-clause-refused t c = IfErr-weaker c.read_hinted.result _ _ (λ fault h. part_fault _ _ _ fault h) c.read_hinted.ensures.refused

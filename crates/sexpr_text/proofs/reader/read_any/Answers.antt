@@ -1,3 +1,4 @@
+use Rattle.std.proofs.Common.{rules}
 use Rattle.std.proofs.lemmas.Bool.{both_ways}
 use Rattle.std.proofs.lemmas.Result.{IfErr-weaker}
 use Rattle.sexpr_text.proofs.WholeTexts.{braced_text, spelled_text}
@@ -5,9 +6,7 @@ use Rattle.sexpr_text.proofs.OneRefusal.{spelling_refused, braces_refused}
 use Rattle.sexpr_text.proofs.reader.read_any.Goals as goal
 
 pub returns-then-opens_braces-clause-only : goal.returns-then-opens_braces-clause-only
-returns-then-opens_braces-clause-only c = λ v h.
-    let brace = c.opens_braces.ensures.0 c.if-opens_braces.true in
-    c.unwrap_braces.ensures.only v (braced_text _ brace.0 _ v c.skip_spaces-begin.ensures brace.1 h)
+returns-then-opens_braces-clause-only c = search (rules, braced_text)
 
 pub returns-clause-only : goal.returns-clause-only
 returns-clause-only c = λ v h.
@@ -15,9 +14,7 @@ returns-clause-only c = λ v h.
     (spelled_text _ _ v c.skip_spaces-begin.ensures (λ brace. both_ways _ c.if-opens_braces.false (c.opens_braces.ensures.1 brace)) h)
 
 pub returns-then-opens_braces-clause-refused : goal.returns-then-opens_braces-clause-refused
-returns-then-opens_braces-clause-refused c =
-    let brace = c.opens_braces.ensures.0 c.if-opens_braces.true in
-    IfErr-weaker c.unwrap_braces.result _ _ (λ fault h. braces_refused _ brace.0 _ fault c.skip_spaces-begin.ensures brace.1 h) c.unwrap_braces.ensures.refused
+returns-then-opens_braces-clause-refused c = search (rules, IfErr-weaker, braces_refused)
 
 pub returns-clause-refused : goal.returns-clause-refused
 returns-clause-refused c =

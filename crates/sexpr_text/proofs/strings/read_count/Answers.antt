@@ -1,4 +1,4 @@
-use Rattle.std.proofs.Common.{arith}
+use Rattle.std.proofs.Common.{arith, rules}
 use Rattle.sexpr_text.proofs.StringLaws.{count_first, count_more}
 use Rattle.sexpr_text.proofs.strings.read_count.Goals as goal
 
@@ -9,5 +9,4 @@ pub loop-octet-init : goal.loop-octet-init
 loop-octet-init c = (count_first _ _ _ c.requires.begins c.requires.digit.0 c.requires.digit.1, omega arith)
 
 pub loop-octet-preserved : goal.loop-octet-preserved
-loop-octet-preserved c =
-    (count_more _ _ _ _ _ _ c.loop-octet.invariant.0 c.loop-octet.invariant.1 (omega arith) (omega arith) c.in-Some.ensures (omega arith), omega arith)
+loop-octet-preserved c = search (rules, count_more)

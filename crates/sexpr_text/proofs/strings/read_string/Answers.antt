@@ -1,4 +1,4 @@
-use Rattle.std.proofs.Common.{sym, arith}
+use Rattle.std.proofs.Common.{sym, arith, rules}
 use Rattle.sexpr_text.proofs.CountedLaws.{marked_string, nothing_stands, uncounted_stands, quoted_string}
 use Rattle.sexpr_text.proofs.RefusedParts.{uncounted_missed}
 use Rattle.sexpr_text.proofs.StringEnds.{nothing_left}
@@ -15,9 +15,7 @@ returns-in_err-read-clause-only c = λ a rest s.
     err_kept _ _ _ c.from_residual.ensures.1 (c.in_err-read.ensures.only k.0 a rest k.1 k.2)
 
 pub returns-in_err-read-clause-refused : goal.returns-in_err-read-clause-refused
-returns-in_err-read-clause-refused c =
-    err_kept _ _ _ c.from_residual.ensures.1
-    (uncounted_missed _ _ _ _ c.in-Some.ensures (λ d. omega (arith, c.if-is_ascii_digit.ensures.cases)) (sym c.if-stands_in_token.ensures) c.in_err-read.ensures.refused)
+returns-in_err-read-clause-refused c = search (rules, err_kept, uncounted_missed)
 
 pub returns-clause-read : goal.returns-clause-read
 returns-clause-read c = marked_string _ _ _ _ c.in_ok-read.ensures.read

@@ -1,4 +1,4 @@
-use Rattle.std.proofs.Common.{Some, None, sym, ◌∙◌, arith}
+use Rattle.std.proofs.Common.{Some, None, sym, ◌∙◌, arith, rules}
 use Rattle.sexpr_core.proofs.NodeLaws.{ordered, shown, ends_within, string_from_label, list_from_label}
 use Rattle.sexpr_core.proofs.handle.Node.kind.Goals as goal
 
@@ -15,8 +15,7 @@ piece-requires-in-Hinted-clause-within c =
     rw c.text-text.ensures (omega (arith, places.1, places.2, ends_within _ _ _ c.record-record.ensures.place))
 
 pub piece-requires-in-Hinted-clause-ordered : goal.piece-requires-in-Hinted-clause-ordered
-piece-requires-in-Hinted-clause-ordered c =
-    (rw c.in-Hinted.is at (ordered _ _ _ c.record-record.ensures.place)).0
+piece-requires-in-Hinted-clause-ordered c = search (rules, ordered)
 
 pub piece-requires-in-Hinted-2-clause-ordered : goal.piece-requires-in-Hinted-2-clause-ordered
 piece-requires-in-Hinted-2-clause-ordered c =
@@ -36,6 +35,4 @@ returns-in-Hinted c =
     rw (c.piece-in-Hinted.ensures, c.piece-in-Hinted-2.ensures, c.text-text.ensures) (string_from_label _ (Some _) _ (sym shape)) ∙ c.self.view_is
 
 pub of-requires-clause-listed : goal.of-requires-clause-listed
-of-requires-clause-listed c =
-    let shape = rw c.in-List.is at (shown _ _ _ c.record-record.ensures.place) in
-    list_from_label _ _ (sym shape)
+of-requires-clause-listed c = search (rules, shown, list_from_label)

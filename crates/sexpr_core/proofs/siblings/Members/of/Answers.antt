@@ -1,4 +1,4 @@
-use Rattle.std.proofs.Common.{arith}
+use Rattle.std.proofs.Common.{arith, rules}
 use Rattle.sexpr_core.proofs.NodeLaws.{size_is, list_of}
 use Rattle.sexpr_core.proofs.siblings.Members.of.Goals as goal
 
@@ -15,5 +15,4 @@ invariant_of-result c =
     (list_of _ c.args.n _ c.requires.known c.requires.listed (size_is _ _ _ c.record-size.ensures.place)).siblings_of
 
 pub returns : goal.returns
-returns c =
-    (list_of _ c.args.n _ c.requires.known c.requires.listed (size_is _ _ _ c.record-size.ensures.place)).list_is
+returns c = search (rules, list_of, size_is)

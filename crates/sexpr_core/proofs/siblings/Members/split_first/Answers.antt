@@ -1,4 +1,4 @@
-use Rattle.std.proofs.Common.{sym, ◌∙◌, arith}
+use Rattle.std.proofs.Common.{arith, rules}
 use Rattle.sexpr_core.proofs.NodeLaws.{size_is, split}
 use Rattle.sexpr_core.proofs.siblings.Members.split_first.Goals as goal
 
@@ -12,6 +12,4 @@ invariant_of-others c =
     (split _ c.self.inside.from c.self.inside.to _ c.self.invariant c.if-self.false (size_is _ _ _ c.record-size.ensures.place)).others
 
 pub returns : goal.returns
-returns c =
-    let s = split _ c.self.inside.from c.self.inside.to _ c.self.invariant c.if-self.false (size_is _ _ _ c.record-size.ensures.place) in
-    sym c.self.view_is ∙ rw c.at-first.ensures s.first_is
+returns c = search (rules, split, size_is)

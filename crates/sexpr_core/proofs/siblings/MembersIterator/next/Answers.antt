@@ -1,4 +1,4 @@
-use Rattle.std.proofs.Common.{sym, ◌∙◌, rules, arith}
+use Rattle.std.proofs.Common.{rules, arith}
 use Rattle.sexpr_core.proofs.NodeLaws.{size_is, split}
 use Rattle.sexpr_core.proofs.siblings.MembersIterator.next.Goals as goal
 
@@ -12,11 +12,7 @@ invariant_of-self c =
     (split _ c.self.inside.from c.self.inside.to _ c.self.invariant c.if-self.false (size_is _ _ _ c.record-size.ensures.place)).others
 
 pub returns-clause-steps : goal.returns-clause-steps
-returns-clause-steps c =
-    let s = split _ c.self.inside.from c.self.inside.to _ c.self.invariant c.if-self.false (size_is _ _ _ c.record-size.ensures.place) in
-    sym c.self.view_is ∙ rw c.at.ensures s.first_is
+returns-clause-steps c = search (rules, split, size_is)
 
 pub returns-clause-goes : goal.returns-clause-goes
-returns-clause-goes c =
-    let s = split _ c.self.inside.from c.self.inside.to _ c.self.invariant c.if-self.false (size_is _ _ _ c.record-size.ensures.place) in
-    rw (← c.self.view_is, s.first_is) (search rules)
+returns-clause-goes c = search (rules, split, size_is)
