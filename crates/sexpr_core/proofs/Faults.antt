@@ -24,8 +24,7 @@ length_begins : (n x y : _) (c : ℕ) → c ∷ x ≡ decimal n ++ y → IsDigit
 length_begins n x y c e = search (rules, decimal_starts n)
 
 pub length_first : (at c : ℕ) (xs ys : List ℕ) → xs ≡ c ∷ ys → (IsDigit c → ⊥) → FaultAt IsLength IsLength at xs (Bad at)
-length_first at c xs ys q h = FaultAt-first IsLength IsLength at c xs ys q (length_ended [] refl)
-    (λ t x y is e. h (length_begins is.number x (58 ∷ [] ++ y) c (e ∙ ap (λ s. s ++ y) is.is ∙ append_assoc (decimal is.number) (58 ∷ []) y)))
+length_first at c xs ys q h = search (rules, FaultAt-first, length_ended, length_begins, append_assoc)
 
 pub length_short : (n : ℕ) (xs ys : List ℕ) → xs ≡ decimal n ++ ys → ys ≡ [] → Front IsLength xs
 length_short n xs ys e f = record {
@@ -106,8 +105,7 @@ pub closing_ended : (xs : List ℕ) → xs ≡ [] → Front IsClosing xs
 closing_ended xs e = Front-none IsClosing (93 ∷ verbatim []) xs e (omega arith) (record { octets = []; is = refl })
 
 pub closing_first : (at c : ℕ) (xs ys : List ℕ) → xs ≡ c ∷ ys → (c ≡ 93 → ⊥) → FaultAt IsClosing IsClosing at xs (Bad at)
-closing_first at c xs ys q h = FaultAt-first IsClosing IsClosing at c xs ys q (closing_ended [] refl)
-    (λ t x y is e. let q : c ∷ x ≡ 93 ∷ (verbatim is.octets ++ y) = e ∙ ap (λ s. s ++ y) is.is in h cc)
+closing_first at c xs ys q h = search (rules, FaultAt-first, closing_ended)
 
 pub closing_fault :
     (at : ℕ) (xs ys : List ℕ) (e : FormFault) → xs ≡ 93 ∷ ys → FaultAt IsVerbatim IsVerbatim (at + 1) ys e →
@@ -124,8 +122,7 @@ hint_fault at xs e h = FaultAt-head IsHinted IsVerbatim IsHinted IsVerbatim at x
 pub hinted_fault :
     (at to : ℕ) (hint xs ys : List ℕ) (e : FormFault) → xs ≡ verbatim hint ++ ys →
     to ≡ at + length (verbatim hint) → FaultAt IsClosing IsClosing to ys e → FaultAt IsHinted IsHinted at xs e
-hinted_fault at to hint xs ys e q p h =
-    FaultAt-tail IsHinted IsClosing IsHinted IsClosing at to (verbatim hint) xs ys e q p (Behind-hint hint) (Behind-hint hint) h
+hinted_fault at to hint xs ys e q p h = search (rules, FaultAt-tail, Behind-hint)
 
 -- ---- a value
 
@@ -143,20 +140,17 @@ value_never (list vs) c x y nd nb np e = np cc
 pub value_first :
     (room at c : ℕ) (xs ys : List ℕ) → xs ≡ c ∷ ys → (IsDigit c → ⊥) → (c ≡ 91 → ⊥) → (c ≡ 40 → ⊥) →
     FaultAt IsCanon (IsCanonWithin room) at xs (Bad at)
-value_first room at c xs ys q nd nb np = FaultAt-first IsCanon (IsCanonWithin room) at c xs ys q (value_ended room [] refl)
-    (λ t x y is e. value_never is.value c x y nd nb np (e ∙ ap (λ s. s ++ y) is.is))
+value_first room at c xs ys q nd nb np = search (rules, FaultAt-first, value_ended, value_never)
 
 pub plain_fault :
     (room at c : ℕ) (xs ys : List ℕ) (e : FormFault) → xs ≡ c ∷ ys → IsDigit c → FaultAt IsVerbatim IsVerbatim at xs e →
     FaultAt IsCanon (IsCanonWithin room) at xs e
-plain_fault room at c xs ys e q low h =
-    FaultAt-from IsCanon IsVerbatim (IsCanonWithin room) IsVerbatim at c xs ys e q (From-digit c low) (From-digit_within room c low) h
+plain_fault room at c xs ys e q low h = search (rules, FaultAt-from, From-digit, From-digit_within)
 
 pub bracket_fault :
     (room at : ℕ) (xs ys : List ℕ) (e : FormFault) → xs ≡ 91 ∷ ys → FaultAt IsHinted IsHinted (at + 1) ys e →
     FaultAt IsCanon (IsCanonWithin room) at xs e
-bracket_fault room at xs ys e q h =
-    FaultAt-tail IsCanon IsHinted (IsCanonWithin room) IsHinted at (at + 1) (91 ∷ []) xs ys e q refl Behind-bracket (Behind-bracket_within room) h
+bracket_fault room at xs ys e q h = search (rules, FaultAt-tail, Behind-bracket, Behind-bracket_within)
 
 pub list_deep : (room : ℕ) (xs ys : List ℕ) → room ≡ 0 → xs ≡ 40 ∷ ys → IsDeep IsCanon (IsCanonWithin room) xs
 list_deep room xs ys z q =
@@ -181,9 +175,7 @@ behind_members :
     (room at to : ℕ) (vs : Values) (xs ys : List ℕ) (e : FormFault) → depths vs ≤ room → xs ≡ canons vs ++ ys →
     to ≡ at + length (canons vs) → FaultAt IsMembers (IsMembersWithin room) to ys e →
     FaultAt IsMembers (IsMembersWithin room) at xs e
-behind_members room at to vs xs ys e fits q p h =
-    FaultAt-tail IsMembers IsMembers (IsMembersWithin room) (IsMembersWithin room) at to (canons vs) xs ys e q p
-    (Behind-members vs) (Behind-members_within room vs fits) h
+behind_members room at to vs xs ys e fits q p h = search (rules, FaultAt-tail, Behind-members, Behind-members_within)
 
 pub members_short :
     (room at : ℕ) (vs : Values) (xs : List ℕ) → depths vs ≤ room → xs ≡ canons vs ++ [] →

@@ -90,8 +90,7 @@ fault_tail T U S V at a ys _ o p h = h
 pub FaultAt-tail :
     (T U S V : List ℕ → Type 0) (at to : ℕ) (a xs ys : List ℕ) (e : FormFault) → xs ≡ a ++ ys → to ≡ at + length a → Behind T U a → Behind S V a →
     FaultAt U V to ys e → FaultAt T S at xs e
-FaultAt-tail T U S V at to a xs ys e q r o p h =
-    subst (λ s. FaultAt T S at s e) (sym q) (fault_tail T U S V at a ys e o p (subst (λ k. FaultAt U V k ys e) r h))
+FaultAt-tail T U S V at to a xs ys e q r o p h = search (rules, fault_tail)
 
 -- ---- a choice by the first octet
 
@@ -112,8 +111,7 @@ fault_from T U S V at c ys _ o p h = h
 pub FaultAt-from :
     (T U S V : List ℕ → Type 0) (at c : ℕ) (xs ys : List ℕ) (e : FormFault) → xs ≡ c ∷ ys → From c T U → From c S V →
     FaultAt U V at xs e → FaultAt T S at xs e
-FaultAt-from T U S V at c xs ys e q o p h =
-    subst (λ s. FaultAt T S at s e) (sym q) (fault_from T U S V at c ys e o p (subst (λ s. FaultAt U V at s e) q h))
+FaultAt-from T U S V at c xs ys e q o p h = search (rules, fault_from)
 
 -- ---- faults at the first octet
 
@@ -125,8 +123,7 @@ Front-none T t xs e some is = record { rest = t; some = some; whole = subst T (a
 pub FaultAt-first :
     (T S : List ℕ → Type 0) (at c : ℕ) (xs ys : List ℕ) → xs ≡ c ∷ ys → Front S [] →
     ((t x y : List ℕ) → T t → c ∷ x ≡ t ++ y → ⊥) → FaultAt T S at xs (Bad at)
-FaultAt-first T S at c xs ys e front never =
-    let h : FaultAt T S at (c ∷ ys) (Bad at) = search rules in subst (λ s. FaultAt T S at s (Bad at)) (sym e) h
+FaultAt-first T S at c xs ys e front never = search (rules)
 
 -- ---- texts of a narrower sort
 

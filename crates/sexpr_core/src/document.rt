@@ -83,6 +83,7 @@ impl<'a> Doc<'a> {
     }
 
     /// The record of the node with this number, from 0: its place in the text. The document must have this node.
+    #[tactic(auto, using(crate::proofs::NodeLaws::table_length, crate::proofs::NodeLaws::table_place, crate::proofs::NodeLaws::table_start))]
     pub(crate) fn record(&self, n: usize) -> Record
         requires { n < size self.now }
         ensures place { IsPlace (canon self.now) result (node_at self.now n) }

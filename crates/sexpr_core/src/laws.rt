@@ -42,6 +42,7 @@ pub fn equality_is_of_canonical_forms()
 
 /// Each octet of a tree's value is below 256. The call walks the tree, with recursion as deep as the tree, and does nothing
 /// else.
+#[tactic(auto, using(crate::proofs::TreeLaws::more_octets, crate::proofs::TreeLaws::list_octets))]
 pub fn octets_are_below_256(tree: &Sexp)
     ensures { HasOctets (sexp_value tree.now) }
 {

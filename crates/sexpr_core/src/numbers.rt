@@ -39,6 +39,7 @@ impl<'a> Doc<'a> {
     }
 
     /// The number of member i, from 0, of the list with number n. The list must have this member.
+    #[tactic(auto, using(crate::proofs::NodeLaws::member_of, crate::proofs::NodeLaws::member_is, crate::proofs::NodeLaws::size_is))]
     fn member_number(&self, n: usize, i: usize) -> usize
         requires known { n < size self.now }
         requires has_it { i < length (members_of (node_at self.now n)) }

@@ -54,12 +54,7 @@ part_later G H U V text front at i fault le e on step h = search (rules, end_lat
 -- the octets `seen` of a piece, which these others could complete, stand in front of a digit
 digit_end : (front text seen rest : List ℕ) (at i : ℕ) (fault : FormFault) (p : Piece) → at ≤ i → drop at text ≡ seen ++ drop i text
     → ((behind : List ℕ) → IsPiece p behind) → front ++ (seen ++ rest) ≡ piece_text p → IsFrontEnd GoesDigit text i fault → IsFrontEnd (GoesPiece front) text at fault
-digit_end front text seen rest at i fault p le e right is h = front_later GoesDigit (GoesPiece front) text seen at i fault le e (λ part y q g. record {
-  piece = p;
-  rest = rest;
-  right = right;
-  spelled = ap (λ t. front ++ ((seen ++ t) ++ rest)) g ∙ ap (λ t. front ++ (t ++ rest)) (append-nil seen) ∙ is;
-}) h
+digit_end front text seen rest at i fault p le e right is h = search (rules, front_later, append-nil)
 
 pub high_end : (text : List ℕ) (at : ℕ) (fault : FormFault) → IsFrontEnd GoesDigit text at fault → IsFrontEnd (GoesPiece (92 ∷ 120 ∷ [])) text at fault
 high_end text at fault h =

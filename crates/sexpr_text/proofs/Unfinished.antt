@@ -21,8 +21,7 @@ use Rattle.sexpr_text.proofs.Beginnings.{count_begins, string_part, hint_part, b
 -- ---- between marks
 
 inside_mark : (m : ℕ) (s body r t zs : List ℕ) → s ≡ m ∷ (body ++ m ∷ []) → t ≡ m ∷ zs → s ++ r ≡ t → body ++ m ∷ r ≡ zs
-inside_mark m s body r t zs e f h =
-    let q : m ∷ (body ++ m ∷ r) ≡ m ∷ zs = sym (closed m s body r e) ∙ h ∙ f in cc
+inside_mark m s body r t zs e f h = search (rules, closed)
 
 differs : (m n : ℕ) (s body r t zs : List ℕ) → s ≡ m ∷ (body ++ m ∷ []) → t ≡ n ∷ zs → s ++ r ≡ t → m ≡ n
 differs m n s body r t zs e f h = head_is m n (body ++ m ∷ r) zs (sym (closed m s body r e) ∙ h ∙ f)
@@ -112,8 +111,7 @@ unclosed_value_first [] t h = atom_first t h
 unclosed_value_first (vs ∷ inner) t h = (40, h.0, h.1, refl)
 
 pub unclosed_value_visible : (lists : List Values) (t : List ℕ) → UnclosedValue lists t → StartsVisible t
-unclosed_value_visible lists t h =
-    let f = unclosed_value_first lists t h in subst StartsVisible (sym f.2) (start_visible f.0 f.3)
+unclosed_value_visible lists t h = search (rules, unclosed_value_first, start_visible)
 
 -- an octet that begins no string begins none that isn't closed
 pub unclosed_string_differs : (t x : List ℕ) (d : ℕ) → IsUnclosedString t → is_string_start d ≡ false → t ≡ d ∷ x → ⊥

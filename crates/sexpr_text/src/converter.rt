@@ -168,6 +168,7 @@ fn convert_token(
 
 /// Appends the string of a token to the output: in canonical form its length, a colon and its octets, in advanced form
 /// the token itself. Err if memory ran out: then a part of it may have been appended.
+#[tactic(auto, using(crate::proofs::Printed::token_printed))]
 fn write_token(form: Form, octets: &[u8], out: &mut Vec<u8>) -> Result<(), AllocError>
     requires { IsToken octets.now }
     ensures { OnOk result (out.new.items ≡ out.old.items ++ written_string form octets.now) }

@@ -40,6 +40,7 @@ fn plain_end(text: &[u8], at: usize) -> usize
 
 /// Reads the quoted string whose opening quote is at `at`, and borrows its octets from the text. None if it has a
 /// backslash or does not end: then `read_quoted` is called.
+#[tactic(auto, using(sexpr_core::proofs::Steps::slice_read, crate::proofs::StringLaws::plain_quoted))]
 pub(crate) fn lend_quoted<'t>(text: &'t [u8], at: usize) -> Option<ReadString<'t>>
     requires { StandsAt text.now at 34 }
     ensures { IfSome result (λ read. Reads IsQuoted text.now at (cow_slice_items read.octets) read.end) }

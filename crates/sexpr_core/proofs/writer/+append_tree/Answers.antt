@@ -1,10 +1,6 @@
-use Rattle.std.proofs.Common.{sym, append-nil}
 use Rattle.sexpr_core.specs.Value.{sexp_value}
 use Rattle.sexpr_core.proofs.TreeLaws.{member_written, list_written}
 use Rattle.sexpr_core.proofs.writer.+append_tree.Goals as goal
-
-pub loop-member-init : goal.loop-member-init
-loop-member-init t c = sym (append-nil _)
 
 pub loop-member-preserved : goal.loop-member-preserved
 loop-member-preserved t c =

@@ -3,9 +3,6 @@ use Rattle.sexpr_core.proofs.TreeLaws.{more_octets, list_octets}
 use Rattle.sexpr_text.proofs.Printed.{member_behind, list_between, in_three}
 use Rattle.sexpr_text.proofs.printer.+print_tree.Goals as goal
 
-pub loop-i-init : goal.loop-i-init
-loop-i-init g t c = (g.met.S.Sink.nothing _, tt)
-
 pub loop-i-preserved : goal.loop-i-preserved
 loop-i-preserved g t c = (
   in_three g.S.Sink.takes g.met.S.Sink.both _ c.loop-i.invariant.0 c.print_gap.ensures (rw c.member-item.is at c.print_tree.ensures.printed)

@@ -4,9 +4,6 @@ use Rattle.sexpr_text.specs.AdvancedForm.{quoted_body}
 use Rattle.sexpr_text.proofs.Printed.{quoted_one, in_two, in_three}
 use Rattle.sexpr_text.proofs.printer.print_quoted.Goals as goal
 
-pub loop-octet-init : goal.loop-octet-init
-loop-octet-init g c = g.met.S.Sink.nothing _
-
 pub loop-octet-preserved : goal.loop-octet-preserved
 loop-octet-preserved g c =
     in_two g.S.Sink.takes g.met.S.Sink.both _ c.loop-octet.invariant c.print_quoted_octet.ensures

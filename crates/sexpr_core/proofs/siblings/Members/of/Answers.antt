@@ -2,9 +2,6 @@ use Rattle.std.proofs.Common.{arith, rules}
 use Rattle.sexpr_core.proofs.NodeLaws.{size_is, list_of}
 use Rattle.sexpr_core.proofs.siblings.Members.of.Goals as goal
 
-pub overflow_add-result : goal.overflow_add-result
-overflow_add-result c = omega arith
-
 pub overflow_add-result-2 : goal.overflow_add-result-2
 overflow_add-result-2 c =
     let l = list_of _ c.args.n _ c.requires.known c.requires.listed (size_is _ _ _ c.record-size.ensures.place) in
