@@ -1,13 +1,13 @@
 -- Entries and access lists along the way of their reading: the fault that is named of them, and what is none.
-use Rattle.std.proofs.Common.{◌≡◌, ℕ, inl, inr, Bool, true, false, cond, List, [], ◌∷◌, ◌++◌, refl, ap, subst, ◌∙◌, rules, ◌+◌, drop, length, Option, Some, None, length-append}
-use Rattle.std.specs.Prelude.{codes, not, ◌&&◌}
+use Rattle.std.proofs.Common.{◌≡◌, ℕ, inl, inr, Bool, true, false, cond, List, [], ◌∷◌, ◌++◌, refl, ap, ◌∙◌, rules, ◌+◌, drop, Option, Some, None}
+use Rattle.std.specs.Prelude.{codes, not, ◌&&◌, if◌then◌else◌}
 use Rattle.std.specs.List.{AllZip}
 use Rattle.sexpr_core.specs.Value.{Value, plain, group, IsNotHeaded}
 use Rattle.spki_cert.specs.declared.entry.Entry.{Entry}
 use Rattle.spki_cert.specs.declared.entry.Subject.{Subject}
 use Rattle.spki_cert.specs.Fields.{SubjectOf, RelativeOf, plains, is_headed, PrincipalOf, WhoOf, behind_head}
 use Rattle.spki_cert.specs.Structures.{EntryOf, AclOf, IsVersion, BeginsWell}
-use Rattle.spki_cert.specs.StructureFaults.{behind_version, entry_fault, at_item, each_looked, acl_version_fault, outer_fault, entries_fault, acl_fault}
+use Rattle.spki_cert.specs.StructureFaults.{behind_version, entry_fault, at_item, acl_version_fault, outer_fault, entries_fault, acl_fault}
 use Rattle.spki_cert.proofs.Looking.{same_others, not-headed, behind-group, of-form, of-no_form, one-look}
 use Rattle.spki_cert.proofs.SubjectFaultLaws.{name-is_no_principal, string-is_no_principal, principal-else}
 use Rattle.spki_tag.specs.Faults.{first_fault, unless}
@@ -28,13 +28,6 @@ use Rattle.spki_cert.specs.FieldFaults.{fault_at, is_name, subject_fault, entry_
 pub relative-is_no_subject : (v : Value) (names : List (List ℕ)) → RelativeOf v names → (s : Subject) → SubjectOf v s → ⊥
 relative-is_no_subject v names relative s (inl read) = name-is_no_principal v (plains names) relative.written s.principal read.0
 relative-is_no_subject v names relative s (inr read) = search (rules, same_others, string-is_no_principal)
-
--- ---- entries in a row
-
-pub items-push : {A : Type 0} (R : Value → A → Type 0) (vs : List Value) (es : List A) (v : Value) (e : A) → AllZip R vs es → R v e → AllZip R (vs ++ v ∷ []) (es ++ e ∷ [])
-items-push R [] [] v e zip here = (here, tt)
-items-push R (x ∷ xs) (y ∷ ys) v e zip here = (zip.0, items-push R xs ys v e zip.1 here)
-items-push R vs es v e zip here = absurd zip
 
 -- ---- access lists
 
@@ -59,25 +52,12 @@ unversioned v all first others e f other = search (rules, not-headed)
 -- a list whose entries are read is an access list
 pub acl-read : (v : Value) (all members : List Value) (es : List Entry) → v ≡ group (plain (codes "acl") ∷ all) → BeginsWell all → members ≡ behind_version all
     → AllZip EntryOf members es → AclOf v es
-acl-read v [] members es e well f zip =
-    record { version = []; entries = []; version_is = tt; written = e; each = subst (λ (vs : List Value). AllZip EntryOf vs es) f zip }
-acl-read v (first ∷ others) members es e well f zip = by (is_headed (codes "version") first) refl
+acl-read v [] members es e well f zip = record { version = []; entries = []; version_is = tt; written = e; each = rw f at zip }
+acl-read v (first ∷ others) members es e well f zip = by (is_headed (codes "version") first) refl (rw f at zip)
   where
-    by : (b : Bool) → is_headed (codes "version") first ≡ b → AclOf v es
-    by true here = record {
-      version = first ∷ [];
-      entries = others;
-      version_is = well here;
-      written = e;
-      each = subst (λ (vs : List Value). AllZip EntryOf vs es) (f ∙ ap (λ (b : Bool). cond b others (first ∷ others)) here) zip;
-    }
-    by false here = record {
-      version = [];
-      entries = first ∷ others;
-      version_is = tt;
-      written = e;
-      each = subst (λ (vs : List Value). AllZip EntryOf vs es) (f ∙ ap (λ (b : Bool). cond b others (first ∷ others)) here) zip;
-    }
+    by : (b : Bool) → is_headed (codes "version") first ≡ b → AllZip EntryOf (if b then others else first ∷ others) es → AclOf v es
+    by true here each = record { version = first ∷ []; entries = others; version_is = well here; written = e; each = each }
+    by false here each = record { version = []; entries = first ∷ others; version_is = tt; written = e; each = each }
 
 -- ---- the fault that is named of an entry or of an access list, along the way of its reading
 
@@ -111,21 +91,18 @@ subject-absolute v p names e (inr read) = subject-tested v false e (relative-for
 
 -- ---- entries
 
-abbrev entry_looked : Bool → List Value → Option CertFaultKind
+abbrev pub entry_looked : Bool → List Value → Option CertFaultKind
 entry_looked headed rest =
     first_fault (
     unless headed Shape ∷ fault_at 0 Shape entry_subject_fault rest ∷ fields_fault entry_field_fault (drop 1 rest)
     ∷ unless (not (is_both_ways (drop 1 rest))) Shape ∷ unless (has (codes "tag") (drop 1 rest)) Shape ∷ []
     )
 
-abbrev pub IsEntered : Value → List Value → Type 0
-IsEntered v rest = v ≡ group (plain (codes "entry") ∷ rest)
-
 pub entry-unheaded : (v : Value) → IsNotHeaded v (codes "entry") → entry_fault v ≡ Some Shape
 unfolding entry_fault
 entry-unheaded v other = of-no_form (codes "entry") v Shape _ other
 
-pub entry-form : (v : Value) (rest : List Value) → IsEntered v rest → entry_fault v ≡ entry_looked true rest
+pub entry-form : (v : Value) (rest : List Value) → v ≡ group (plain (codes "entry") ∷ rest) → entry_fault v ≡ entry_looked true rest
 unfolding entry_fault
 entry-form v rest e = of-form entry_looked (codes "entry") v rest e
 
@@ -133,65 +110,28 @@ entry-form v rest e = of-form entry_looked (codes "entry") v rest e
 abbrev pub parts_looked : Option CertFaultKind → Option CertFaultKind → Bool → Bool → Option CertFaultKind
 parts_looked subject fields both tag = first_fault (subject ∷ fields ∷ unless (not both) Shape ∷ unless tag Shape ∷ [])
 
-pub entry-parts : (v subject : Value) (rest fields : List Value) → IsEntered v rest → rest ≡ subject ∷ fields
-    → entry_fault v ≡ parts_looked (entry_subject_fault subject) (fields_fault entry_field_fault fields) (is_both_ways fields) (has (codes "tag") fields)
-entry-parts v subject rest fields e f = entry-form v rest e ∙ ap (entry_looked true) f
-
-pub entry-looked : (v subject : Value) (rest fields : List Value) (found others : Option CertFaultKind) (both tag : Bool) → IsEntered v rest
+pub entry-looked : (v subject : Value) (rest fields : List Value) (found others : Option CertFaultKind) (both tag : Bool) → v ≡ group (plain (codes "entry") ∷ rest)
     → rest ≡ subject ∷ fields → entry_subject_fault subject ≡ found → fields_fault entry_field_fault fields ≡ others
     → is_both_ways fields ≡ both → has (codes "tag") fields ≡ tag
     → entry_fault v ≡ parts_looked found others both tag
-entry-looked v subject rest fields found others both tag e f g h i j = search (rules, entry-parts v subject rest fields e f)
+entry-looked v subject rest fields found others both tag e f g h i j = search (rules, entry-form v rest e)
 
 -- ---- the outer list
 
 abbrev outer_looked : Bool → List Value → Option CertFaultKind
 outer_looked headed rest = first_fault (unless headed Shape ∷ acl_version_fault rest ∷ [])
 
-abbrev IsListed : Value → List Value → Type 0
-IsListed v rest = v ≡ group (plain (codes "acl") ∷ rest)
-
 pub outer-unheaded : (v : Value) → IsNotHeaded v (codes "acl") → outer_fault v ≡ Some Shape
 unfolding outer_fault
 outer-unheaded v other = of-no_form (codes "acl") v Shape _ other
 
-pub outer-form : (v : Value) (rest : List Value) → IsListed v rest → outer_fault v ≡ outer_looked true rest
+pub outer-form : (v : Value) (rest : List Value) → v ≡ group (plain (codes "acl") ∷ rest) → outer_fault v ≡ outer_looked true rest
 unfolding outer_fault
 outer-form v rest e = of-form outer_looked (codes "acl") v rest e
 
--- ---- items one after the other
-
--- the first fault among all is that among those that are left
-abbrev pub LeftItems : (Value → Option CertFaultKind) → List Value → List Value → List Value → Type 0
-LeftItems fault_of all before rest = first_fault (each_looked fault_of 1 all) ≡ first_fault (each_looked fault_of (length before + 1) rest)
-
-pub items-all : (fault_of : Value → Option CertFaultKind) (all : List Value) → LeftItems fault_of all [] all
-items-all fault_of all = refl
-
-items-found : (fault_of : Value → Option CertFaultKind) (all before rest others : List Value) (v : Value) (found : Option CertFaultKind)
-    → LeftItems fault_of all before rest → rest ≡ v ∷ others → fault_of v ≡ found
-    → first_fault (each_looked fault_of 1 all) ≡ first_fault (at_item (length before + 1) found ∷ each_looked fault_of (length before + 1 + 1) others)
-items-found fault_of all before rest others v found left e f = search rules
-
--- a fault with its parts
-pub fault-parts : (fault : CertFault) (item : ℕ) (kind : CertFaultKind) → item ≡ fault.item → kind ≡ fault.kind → Some (record { item = item; kind = kind }) ≡ Some fault
-fault-parts fault item kind e f = λ i. Some (record { item = e i; kind = f i })
-
-pub items-fault : (fault_of : Value → Option CertFaultKind) (all before rest others : List Value) (v : Value) (fault : CertFault)
-    → LeftItems fault_of all before rest → rest ≡ v ∷ others → fault_of v ≡ Some fault.kind → length before + 1 ≡ fault.item
-    → first_fault (each_looked fault_of 1 all) ≡ Some fault
-items-fault fault_of all before rest others v fault left e f g = search (rules, items-found, fault-parts)
-
-pub items-next : (fault_of : Value → Option CertFaultKind) (all before rest others : List Value) (v : Value)
-    → LeftItems fault_of all before rest → rest ≡ v ∷ others → fault_of v ≡ None → LeftItems fault_of all (before ++ v ∷ []) others
-items-next fault_of all before rest others v left e f = search (rules, items-found, length-append)
-
-pub items-none : (fault_of : Value → Option CertFaultKind) (all before rest : List Value) → LeftItems fault_of all before rest → rest ≡ [] → first_fault (each_looked fault_of 1 all) ≡ None
-items-none fault_of all before rest left e = left ∙ ap (λ (vs : List Value). first_fault (each_looked fault_of (length before + 1) vs)) e
-
 -- ---- access lists
 
-acl-parts : (v : Value) (rest : List Value) → IsListed v rest → acl_fault v ≡ first_fault (at_item 0 (outer_fault v) ∷ entries_fault (behind_version rest) ∷ [])
+acl-parts : (v : Value) (rest : List Value) → v ≡ group (plain (codes "acl") ∷ rest) → acl_fault v ≡ first_fault (at_item 0 (outer_fault v) ∷ entries_fault (behind_version rest) ∷ [])
 unfolding acl_fault
 acl-parts v rest e = ap (λ (vs : List Value). first_fault (at_item 0 (outer_fault v) ∷ entries_fault (behind_version vs) ∷ [])) (behind-group v (plain (codes "acl")) rest e)
 
@@ -199,6 +139,6 @@ pub acl-outer : (v : Value) (kind : CertFaultKind) → outer_fault v ≡ Some ki
 unfolding acl_fault
 acl-outer v kind e = ap (λ (x : Option CertFaultKind). first_fault (at_item 0 x ∷ entries_fault (behind_version (behind_head v)) ∷ [])) e
 
-pub acl-entries : (v : Value) (rest entries : List Value) (found : Option CertFault) → IsListed v rest → outer_fault v ≡ None → entries ≡ behind_version rest → entries_fault entries ≡ found
+pub acl-entries : (v : Value) (rest entries : List Value) (found : Option CertFault) → v ≡ group (plain (codes "acl") ∷ rest) → outer_fault v ≡ None → entries ≡ behind_version rest → entries_fault entries ≡ found
     → acl_fault v ≡ found
 acl-entries v rest entries found e f g h = search (rules, acl-parts v rest e, one-look (entries_fault entries))

@@ -1,12 +1,12 @@
 -- A value has no fault as an entry or as an access list exactly where it is one.
 use Rattle.std.proofs.Common.{◌≡◌, ℕ, ◌+◌, List, [], ◌∷◌, ◌++◌, length, arith, Bool, true, false, ◌&&◌, ◌||◌, Option, Some, None, refl, sym, ap, ◌∙◌, rules}
-use Rattle.std.specs.Prelude.{codes, ◌↔◌, not, if◌then◌else◌}
+use Rattle.std.specs.Prelude.{codes, ◌↔◌, if◌then◌else◌}
 use Rattle.std.specs.List.{AllZip}
 use Rattle.std.proofs.Math.Bool.{and-false}
-use Rattle.std.proofs.lemmas.Bool.{not-true}
+use Rattle.std.proofs.lemmas.Bool.{or_parts}
 use Rattle.sexpr_core.specs.Value.{Value, plain, group}
 use Rattle.spki_tag.specs.Reading.{ReadsAs}
-use Rattle.spki_tag.specs.Faults.{first_fault, unless}
+use Rattle.spki_tag.specs.Faults.{first_fault}
 use Rattle.spki_cert.specs.declared.fault.CertFault.{CertFault}
 use Rattle.spki_cert.specs.declared.fault.CertFaultKind.{CertFaultKind}
 use Rattle.spki_cert.specs.declared.fault.CertFaultKind.TheVariants.{Shape}
@@ -16,20 +16,16 @@ use Rattle.spki_cert.specs.Readings.{DateOf}
 use Rattle.spki_cert.specs.Fields.{is_headed, behind_head, Sole, Given, ValidOf, IsTimeField, IsField, propagate, tag, time, comment, AreFields, propagates, WindowOf, directly, in_valid}
 use Rattle.spki_cert.specs.StructureFaults.{IsRefusedAt, behind_version, entry_fault, at_item, each_looked, acl_version_fault, outer_fault, entries_fault, acl_fault}
 use Rattle.spki_cert.specs.Structures.{EntryOf, AclOf, IsVersion, BeginsWell}
-use Rattle.spki_cert.specs.FieldFaults.{sole_fault, entry_subject_fault, has, fields_fault, version_fault, entry_field_fault, is_both_ways}
+use Rattle.spki_cert.specs.FieldFaults.{sole_fault, has, version_fault, is_both_ways}
 use Rattle.spki_cert.specs.Inner.Gathering.{is_word_among}
-use Rattle.spki_cert.proofs.Looking.{behind-group, unless-none, none-found, sole-read}
+use Rattle.spki_cert.proofs.Looking.{Reads, is-group, unless-none, unless_not-none, behind-none, none-found}
 use Rattle.spki_cert.proofs.FieldLaws.{none-headed, headed-none, other-word, time-first, time-last, time-valid, field-tag}
-use Rattle.spki_cert.proofs.EntryFaultLaws.{entries-behind, entry-unversioned, acl-read, entry-form, entry-parts, parts_looked, entry-looked, outer-form, acl-entries}
-use Rattle.spki_cert.proofs.FieldFaultLaws.{is-headed, has-given, version-faultless}
+use Rattle.spki_cert.proofs.EntryFaultLaws.{entries-behind, entry-unversioned, acl-read, entry_looked, entry-looked, outer-form, acl-entries}
+use Rattle.spki_cert.proofs.FieldFaultLaws.{has-given, version-faultless}
 use Rattle.spki_cert.proofs.SubjectFaultNone.{entry_subject-none}
-use Rattle.spki_cert.proofs.FieldFaultNone.{given-read, entry_fields-none, version-read}
+use Rattle.spki_cert.proofs.FieldFaultNone.{given-read, entry_fields-none, versions-read}
 
 -- ---- windows
-
-neither : (valid first last : Bool) → valid ≡ true → (valid && (first || last)) ≡ false → (first ≡ false) × (last ≡ false)
-neither true false false e f = (refl, refl)
-neither valid first last e f = absurd (cc)
 
 -- words of fields that say nothing of validity
 abbrev pub untimed_words : List (List ℕ)
@@ -38,21 +34,21 @@ untimed_words =
 
 -- a field with a head other than these is one of validity
 abbrev pub TimedBy : (Value → Type 0) → Type 0
-TimedBy IsOne = (v : Value) (word : List ℕ) (rest : List Value) → v ≡ group (plain word ∷ rest) → is_word_among untimed_words word ≡ false → IsOne v → IsTimeField v
+TimedBy IsOne = (v : Value) (word : List ℕ) → is_headed word v ≡ true → is_word_among untimed_words word ≡ false → IsOne v → IsTimeField v
 
 module _ (IsOne : Value → Type 0) (timed : TimedBy IsOne) (fields : List Value) (read : AreFields IsOne fields) where
   pub window-read : is_both_ways fields ≡ false → (w : Window) × WindowOf fields w
   window-read one =
-      let first = given-read (codes "not-before") (Sole DateOf) IsOne (λ v rest e f. time-first v rest e (timed v (codes "not-before") rest e refl f)) fields read in
-      let last = given-read (codes "not-after") (Sole DateOf) IsOne (λ v rest e f. time-last v rest e (timed v (codes "not-after") rest e refl f)) fields read in
-      let valid = given-read (codes "valid") ValidOf IsOne (λ v rest e f. time-valid v rest e (timed v (codes "valid") rest e refl f)) fields read in
+      let first = given-read (codes "not-before") (Sole DateOf) IsOne (λ v h f. time-first v h (timed v (codes "not-before") h refl f)) fields read in
+      let last = given-read (codes "not-after") (Sole DateOf) IsOne (λ v h f. time-last v h (timed v (codes "not-after") h refl f)) fields read in
+      let valid = given-read (codes "valid") ValidOf IsOne (λ v h f. time-valid v h (timed v (codes "valid") h refl f)) fields read in
       by first.0 last.0 valid.0 first.1 last.1 valid.1
     where
       by : (first last : Option (List ℕ)) (valid : Option Window) → Given (codes "not-before") (Sole DateOf) fields first → Given (codes "not-after") (Sole DateOf) fields last
           → Given (codes "valid") ValidOf fields valid → (w : Window) × WindowOf fields w
       by first last None e f g = (record { not_before = first; not_after = last }, directly g (e, f))
       by first last (Some w) e f g =
-          let none = neither (has (codes "valid") fields) (has (codes "not-before") fields) (has (codes "not-after") fields) (has-given (codes "valid") ValidOf fields (Some w) g) one in
+          let none = or_parts (has (codes "not-before") fields) (has (codes "not-after") fields) (rw (has-given (codes "valid") ValidOf fields (Some w) g) at one) in
           (w, in_valid g (none-headed (codes "not-before") fields none.0) (none-headed (codes "not-after") fields none.1))
 
 pub window-one_way : (fields : List Value) (w : Window) → WindowOf fields w → is_both_ways fields ≡ false
@@ -61,32 +57,25 @@ window-one_way fields w (in_valid given first last) = search (rules, headed-none
 
 -- ---- entries
 
-field-timed : TimedBy IsField
-field-timed v word rest e other (propagate written) = absurd (other-word untimed_words v word rest e other (codes "propagate", [], written, refl))
-field-timed v word rest e other (tag behind t written read) = absurd (other-word untimed_words v word rest e other (codes "tag", behind, written, refl))
-field-timed v word rest e other (time f) = f
-field-timed v word rest e other (comment xs written) = absurd (other-word untimed_words v word rest e other (codes "comment", xs, written, refl))
+pub field-timed : TimedBy IsField
+field-timed v word h other (time f) = f
+field-timed v word h other (propagate e) = absurd (other-word untimed_words v word h other (codes "propagate", [], e, refl))
+field-timed v word h other (tag rest t e read) = absurd (other-word untimed_words v word h other (codes "tag", rest, e, refl))
+field-timed v word h other (comment xs e) = absurd (other-word untimed_words v word h other (codes "comment", xs, e, refl))
 
 pub some-given : {A : Type 0} (word : List ℕ) (R : List Value → A → Type 0) (fields : List Value) (o : Option A) → Given word R fields o → has word fields ≡ true
     → (a : A) × Given word R fields (Some a)
 some-given word R fields None given e = absurd (let f = sym (has-given word R fields None given) ∙ e in cc)
 some-given word R fields (Some a) given e = (a, given)
 
-abbrev SomeEntry : Value → Type 0
-SomeEntry v = (e : Entry) × EntryOf v e
-
-entry-of : (v subject : Value) (fields : List Value) → v ≡ group (plain (codes "entry") ∷ subject ∷ fields)
-    → parts_looked (entry_subject_fault subject) (fields_fault entry_field_fault fields) (is_both_ways fields) (has (codes "tag") fields) ≡ None → SomeEntry v
-entry-of v subject fields e f =
-    let who = none-found (entry_subject_fault subject) _ f in
-    let each = none-found (fields_fault entry_field_fault fields) _ who.1 in
-    let one = none-found (unless (not (is_both_ways fields)) Shape) _ each.1 in
-    let tagged = none-found (unless (has (codes "tag") fields) Shape) [] one.1 in
-    let named = (entry_subject-none subject).0 who.0 in
-    let read = (entry_fields-none fields).0 each.0 in
-    let window = window-read IsField field-timed fields read (not-true (is_both_ways fields) (unless-none (not (is_both_ways fields)) Shape one.0)) in
+entry-of : (v : Value) (rest : List Value) → v ≡ group (plain (codes "entry") ∷ rest) → entry_looked true rest ≡ None → Reads EntryOf v
+entry-of v [] e f = absurd (cc)
+entry-of v (subject ∷ fields) e f =
+    let named = (entry_subject-none subject).0 (search (rules, none-found)) in
+    let read = (entry_fields-none fields).0 (search (rules, none-found)) in
+    let window = window-read IsField field-timed fields read (search (rules, none-found, unless_not-none)) in
     let found = given-read (codes "tag") (Sole ReadsAs) IsField field-tag fields read in
-    let given = some-given (codes "tag") (Sole ReadsAs) fields found.0 found.1 (unless-none (has (codes "tag") fields) Shape tagged.0) in (
+    let given = some-given (codes "tag") (Sole ReadsAs) fields found.0 found.1 (search (rules, none-found, unless-none)) in (
       record { subject = named.0; propagate = propagates fields; tag = given.0; window = window.0 },
       record {
         subject = subject;
@@ -100,15 +89,9 @@ entry-of v subject fields e f =
       },
     )
 
-entry-read : (v : Value) → entry_fault v ≡ None → SomeEntry v
+entry-read : (v : Value) → entry_fault v ≡ None → Reads EntryOf v
 unfolding entry_fault
-entry-read v e =
-    let looks = none-found (unless (is_headed (codes "entry") v) Shape) _ e in
-    let form = is-headed (codes "entry") v (unless-none (is_headed (codes "entry") v) Shape looks.0) in by form.0 form.1
-  where
-    by : (rest : List Value) → v ≡ group (plain (codes "entry") ∷ rest) → SomeEntry v
-    by [] f = absurd (let g = sym (entry-form v [] f) ∙ e in cc)
-    by (subject ∷ fields) f = entry-of v subject fields f (sym (entry-parts v subject (subject ∷ fields) fields f refl) ∙ e)
+entry-read v e = let found = behind-none (codes "entry") v Shape _ e in entry-of v (behind_head v) found.0 found.1
 
 entry-faultless : (v : Value) (e : Entry) → EntryOf v e → entry_fault v ≡ None
 entry-faultless v e read =
@@ -117,7 +100,7 @@ entry-faultless v e read =
     ((entry_fields-none read.fields).1 read.are_fields) (window-one_way read.fields e.window read.window_is)
     (has-given (codes "tag") (Sole ReadsAs) read.fields (Some e.tag) read.tag_is)
 
-pub entry-none : (v : Value) → (entry_fault v ≡ None) ↔ SomeEntry v
+pub entry-none : (v : Value) → (entry_fault v ≡ None) ↔ Reads EntryOf v
 entry-none v = (entry-read v, λ some. entry-faultless v some.0 some.1)
 
 pub entry-refused : (v : Value) (kind : CertFaultKind) → entry_fault v ≡ Some kind → (e : Entry) → EntryOf v e → ⊥
@@ -129,8 +112,8 @@ pub at-none : (item : ℕ) (found : Option CertFaultKind) → at_item item found
 at-none item None e = refl
 at-none item (Some kind) e = absurd (cc)
 
-module _ {A : Type 0} (fault_of : Value → Option CertFaultKind) (R : Value → A → Type 0) (none : (v : Value) → (fault_of v ≡ None) ↔ ((a : A) × R v a)) where
-  each-read : (n : ℕ) (vs : List Value) → first_fault (each_looked fault_of n vs) ≡ None → (xs : List A) × AllZip R vs xs
+module _ {A : Type 0} (fault_of : Value → Option CertFaultKind) (R : Value → A → Type 0) (none : (v : Value) → (fault_of v ≡ None) ↔ Reads R v) where
+  each-read : (n : ℕ) (vs : List Value) → first_fault (each_looked fault_of n vs) ≡ None → Reads (AllZip R) vs
   each-read n [] e = ([], tt)
   each-read n (v ∷ vs) e =
       let looks = none-found (at_item n (fault_of v)) _ e in
@@ -143,7 +126,7 @@ module _ {A : Type 0} (fault_of : Value → Option CertFaultKind) (R : Value →
   each-faultless n (v ∷ vs) [] zip = absurd zip
   each-faultless n (v ∷ vs) (a ∷ xs) zip = search (rules, each-faultless (n + 1) vs xs zip.1)
 
-  pub each-none : (n : ℕ) (vs : List Value) → (first_fault (each_looked fault_of n vs) ≡ None) ↔ ((xs : List A) × AllZip R vs xs)
+  pub each-none : (n : ℕ) (vs : List Value) → (first_fault (each_looked fault_of n vs) ≡ None) ↔ Reads (AllZip R) vs
   each-none n vs = (each-read n vs, λ some. each-faultless n vs some.0 some.1)
 
   -- the first that has a fault
@@ -183,55 +166,48 @@ entries-refused vs fault e =
 
 -- ---- access lists
 
-abbrev SomeList : Value → Type 0
-SomeList v = (es : List Entry) × AclOf v es
-
-version-looked : (headed : Bool) (found : Option CertFaultKind) → headed ≡ true → (if headed then found else None) ≡ None → found ≡ None
-version-looked true found h e = e
-version-looked false found h e = absurd (cc)
-
 begins-well : (vs : List Value) → acl_version_fault vs ≡ None → BeginsWell vs
 begins-well [] e = tt
-begins-well (v ∷ vs) e =
-    λ h.
-    let form = is-headed (codes "version") v h in
-    let found : sole_fault Shape version_fault (behind_head v) ≡ None = version-looked (is_headed (codes "version") v) (sole_fault Shape version_fault (behind_head v)) h e in
-    let sole = sole-read Shape version_fault form.0 (ap (sole_fault Shape version_fault) (sym (behind-group v (plain (codes "version")) form.0 form.1)) ∙ found) in
-    form.1 ∙ ap (λ (ws : List Value). group (plain (codes "version") ∷ ws)) (sole.1 ∙ ap (λ (w : Value). w ∷ []) (version-read sole.0 sole.2))
+begins-well (v ∷ vs) e = λ h. is-group (codes "version") v h ∙ ap (λ (ws : List Value). group (plain (codes "version") ∷ ws)) (versions-read (behind_head v) (rw h at e))
 
-outer-read : (v : Value) → outer_fault v ≡ None → (rest : List Value) × (v ≡ group (plain (codes "acl") ∷ rest)) × BeginsWell rest
+version-well : (vs : List Value) → BeginsWell vs → acl_version_fault vs ≡ None
+version-well [] well = refl
+version-well (v ∷ vs) well = by (is_headed (codes "version") v) refl
+  where
+    by : (b : Bool) → is_headed (codes "version") v ≡ b → (if b then sole_fault Shape version_fault (behind_head v) else None) ≡ None
+    by true e = ap (λ (w : Value). sole_fault Shape version_fault (behind_head w)) (well e) ∙ version-faultless (plain (codes "0") ∷ []) refl
+    by false e = refl
+
+outer-read : (v : Value) → outer_fault v ≡ None → (v ≡ group (plain (codes "acl") ∷ behind_head v)) × BeginsWell (behind_head v)
 unfolding outer_fault
-outer-read v e = search (rules, none-found, is-headed, unless-none, begins-well, behind-group)
+outer-read v e = search (rules, none-found, is-group, unless-none, begins-well)
 
-acl-whole : (v : Value) → acl_fault v ≡ None → SomeList v
+pub outer-well : (v : Value) (all : List Value) → v ≡ group (plain (codes "acl") ∷ all) → BeginsWell all → outer_fault v ≡ None
+outer-well v all e well = outer-form v all e ∙ ap (λ (found : Option CertFaultKind). first_fault (found ∷ [])) (version-well all well)
+
+acl-whole : (v : Value) → acl_fault v ≡ None → Reads AclOf v
 unfolding acl_fault entries_fault
 acl-whole v e =
     let looks = none-found (at_item 0 (outer_fault v)) _ e in
-    let items = none-found (entries_fault (behind_version (behind_head v))) [] looks.1 in
     let outer = outer-read v (at-none 0 (outer_fault v) looks.0) in
-    let entries = (each-none entry_fault EntryOf entry-none 1 (behind_version (behind_head v))).0 items.0 in (
-      entries.0,
-      acl-read v outer.0 (behind_version (behind_head v)) entries.0 outer.1 outer.2
-          (ap behind_version (behind-group v (plain (codes "acl")) outer.0 outer.1)) entries.1,
-    )
+    let entries = (each-none entry_fault EntryOf entry-none 1 (behind_version (behind_head v))).0 (none-found _ [] looks.1).0 in
+    (entries.0, acl-read v (behind_head v) _ entries.0 outer.0 outer.1 refl entries.1)
 
-outer-faultless : (v : Value) (version entries : List Value) (es : List Entry) → v ≡ group (plain (codes "acl") ∷ (version ++ entries)) → IsVersion version → AllZip EntryOf entries es
-    → outer_fault v ≡ None
-unfolding outer_fault
-outer-faultless v [] [] es e is zip = search (rules, outer-form)
-outer-faultless v [] (x ∷ xs) (a ∷ es) e is zip = let other = entry-unversioned x a zip.0 in search (rules, outer-form)
-outer-faultless v (w ∷ []) entries es e is zip = let fine = version-faultless (plain (codes "0") ∷ []) refl in search (rules, outer-form)
-outer-faultless v version entries es e is zip = absurd (search rules)
+well-begun : (version entries : List Value) (es : List Entry) → IsVersion version → AllZip EntryOf entries es → BeginsWell (version ++ entries)
+well-begun [] [] es is zip = tt
+well-begun [] (x ∷ xs) (a ∷ es) is zip = λ h. absurd (let f = entry-unversioned x a zip.0 in cc)
+well-begun (w ∷ []) entries es is zip = λ h. is
+well-begun version entries es is zip = absurd (search rules)
 
 acl-faultless : (v : Value) (es : List Entry) → AclOf v es → acl_fault v ≡ None
 unfolding entries_fault
 acl-faultless v es read =
     acl-entries v (read.version ++ read.entries) read.entries None read.written
-    (outer-faultless v read.version read.entries es read.written read.version_is read.each)
+    (outer-well v (read.version ++ read.entries) read.written (well-begun read.version read.entries es read.version_is read.each))
     (sym (entries-behind read.version read.entries es read.version_is read.each))
     ((each-none entry_fault EntryOf entry-none 1 read.entries).1 (es, read.each))
 
-pub acl-none : (v : Value) → (acl_fault v ≡ None) ↔ SomeList v
+pub acl-none : (v : Value) → (acl_fault v ≡ None) ↔ Reads AclOf v
 acl-none v = (acl-whole v, λ some. acl-faultless v some.0 some.1)
 
 pub acl-refused : (v : Value) (fault : CertFault) → acl_fault v ≡ Some fault → (es : List Entry) → AclOf v es → ⊥

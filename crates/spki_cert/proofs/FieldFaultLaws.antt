@@ -1,10 +1,9 @@
 -- The fault that is named of a field, and of fields one after the other, along the way of their reading.
-use Rattle.std.proofs.Common.{◌≡◌, ◌≢◌, ℕ, List, [], ◌∷◌, ◌++◌, Bool, true, false, Option, Some, None, refl, sym, ap, ◌∙◌, inl, inr, rules}
+use Rattle.std.proofs.Common.{◌≡◌, ◌≢◌, ℕ, List, [], ◌∷◌, ◌++◌, Bool, true, false, Option, Some, None, refl, sym, ap, ◌∙◌, inr, rules}
 use Rattle.std.specs.Prelude.{codes, not, is_some, if◌then◌else◌, ◌||◌, ◌&&◌}
 use Rattle.std.specs.List.{AllByRecursion}
-use Rattle.std.proofs.lemmas.Slice.Eq.{bytes_eq-Decides}
-use Rattle.sexpr_core.specs.Value.{Value, plain, group, members, IsNotHeaded}
-use Rattle.sexpr_core.specs.Nodes.{values-members}
+use Rattle.std.proofs.lemmas.Bool.{false_from_ne_true, true_from_ne_false}
+use Rattle.sexpr_core.specs.Value.{Value, plain, group, IsNotHeaded}
 use Rattle.sexpr_core.specs.Value as sexpr
 use Rattle.spki_tag.specs.Faults.{first_fault, unless, tag_fault, IsNamed}
 use Rattle.spki_cert.specs.declared.window.Window.{Window}
@@ -17,9 +16,8 @@ use Rattle.spki_tag.specs.declared.fault.TagFault.{TagFault}
 use Rattle.spki_cert.specs.declared.fields.Known.{Known}
 use Rattle.spki_cert.specs.declared.fields.Place.{Place}
 use Rattle.spki_cert.specs.declared.fields.Place.TheVariants as places
-use Rattle.spki_cert.specs.Inner.Gathering.{IsTagKind, is_word_among, IsNew, AreRead, KnownOf, IsOneWay, IsBothWays, fault_in, IssuerAt, WhoAt}
-use Rattle.spki_cert.proofs.Looking.{headed-by, not-headed, behind-group, of-form, first-of, one-look}
-use Rattle.spki_cert.proofs.SubjectFaultLaws.{headed-else}
+use Rattle.spki_cert.specs.Inner.Gathering.{IsTagKind, is_word_among, IsNew, AreRead, KnownOf, IsOneWay, IsBothWays, fault_in}
+use Rattle.spki_cert.proofs.Looking.{headed-by, not-headed, head-group, is-group, behind-group, of-form, first-of, one-look, headed-else}
 
 -- ---- versions
 
@@ -54,29 +52,25 @@ no-online (v ∷ vs) all = search (rules, has-more, no-online vs all.1)
 
 -- ---- limits
 
-abbrev limit_looked : Bool → Bool → Bool → List Value → Option CertFaultKind
-limit_looked first last online rest =
-    if first then sole_fault Shape date_fault rest else (if last then sole_fault Shape date_fault rest else (if online then Some Online else Some Shape))
-
 pub limit-first : (v : Value) (rest : List Value) → v ≡ group (plain (codes "not-before") ∷ rest) → limit_fault v ≡ sole_fault Shape date_fault rest
 unfolding limit_fault
-limit-first v rest e = of-form (λ b vs. limit_looked b (is_headed (codes "not-after") v) (is_headed (codes "online") v) vs) (codes "not-before") v rest e
+limit-first v rest e = search (rules, headed-by, behind-group)
 
 pub limit-last : (v : Value) (rest : List Value) → v ≡ group (plain (codes "not-after") ∷ rest) → limit_fault v ≡ sole_fault Shape date_fault rest
 unfolding limit_fault
 limit-last v rest e = search (rules, headed-else, headed-by, behind-group)
 
-limit-neither : (v : Value) (b : Bool) → IsNotHeaded v (codes "not-before") → IsNotHeaded v (codes "not-after") → is_headed (codes "online") v ≡ b
-    → limit_fault v ≡ (if b then Some Online else Some Shape)
+limit-by : (v : Value) (online : Bool) → is_headed (codes "not-before") v ≡ false → is_headed (codes "not-after") v ≡ false → is_headed (codes "online") v ≡ online
+    → limit_fault v ≡ (if online then Some Online else Some Shape)
 unfolding limit_fault
-limit-neither v b p q e = λ i. limit_looked (not-headed (codes "not-before") v p i) (not-headed (codes "not-after") v q i) (e i) (behind_head v)
+limit-by v online e f g = search rules
 
 pub limit-online : (v : Value) (rest : List Value) → IsNotHeaded v (codes "not-before") → IsNotHeaded v (codes "not-after") → v ≡ group (plain (codes "online") ∷ rest)
     → limit_fault v ≡ Some Online
-limit-online v rest p q e = limit-neither v true p q (headed-by v (codes "online") rest e)
+limit-online v rest p q e = search (rules, limit-by v true, not-headed, headed-by)
 
 pub limit-other : (v : Value) → IsNotHeaded v (codes "not-before") → IsNotHeaded v (codes "not-after") → IsNotHeaded v (codes "online") → limit_fault v ≡ Some Shape
-limit-other v p q r = limit-neither v false p q (not-headed (codes "online") v r)
+limit-other v p q r = search (rules, limit-by v false, not-headed)
 
 -- ---- one field behind others
 
@@ -147,13 +141,9 @@ time-limit v e = ap (λ (b : Bool). if b then fields_fault limit_fault (behind_h
 
 -- ---- fields of entries
 
-abbrev entry_looked : Bool → Bool → Bool → List Value → Option CertFaultKind → Option CertFaultKind
-entry_looked tag propagate comment rest found =
-    if tag then sole_fault Shape kind_of_tag rest else (if propagate then unless_none rest Shape else (if comment then None else found))
-
 pub entry-tag_field : (v : Value) (rest : List Value) → v ≡ group (plain (codes "tag") ∷ rest) → entry_field_fault v ≡ sole_fault Shape kind_of_tag rest
 unfolding entry_field_fault
-entry-tag_field v rest e = of-form (λ b vs. entry_looked b (is_headed (codes "propagate") v) (is_headed (codes "comment") v) vs (time_fault v)) (codes "tag") v rest e
+entry-tag_field v rest e = search (rules, headed-by, behind-group)
 
 pub entry-propagate : (v : Value) (rest : List Value) → v ≡ group (plain (codes "propagate") ∷ rest) → entry_field_fault v ≡ unless_none rest Shape
 unfolding entry_field_fault
@@ -165,19 +155,13 @@ entry-comment v rest e = search (rules, headed-else, headed-by)
 
 pub entry-else : (v : Value) → is_headed (codes "tag") v ≡ false → is_headed (codes "propagate") v ≡ false → is_headed (codes "comment") v ≡ false → entry_field_fault v ≡ time_fault v
 unfolding entry_field_fault
-entry-else v p q r = λ i. entry_looked (p i) (q i) (r i) (behind_head v) (time_fault v)
+entry-else v p q r = search rules
 
 pub entry-time : (v : Value) (found : Option CertFaultKind) → IsNotHeaded v (codes "tag") → IsNotHeaded v (codes "propagate") → IsNotHeaded v (codes "comment") → time_fault v ≡ found
     → entry_field_fault v ≡ found
 entry-time v found p q r e = entry-else v (not-headed (codes "tag") v p) (not-headed (codes "propagate") v q) (not-headed (codes "comment") v r) ∙ e
 
 -- ---- fields of certificates
-
-abbrev cert_looked : Bool → Bool → Bool → Bool → List Value → Option CertFaultKind → Option CertFaultKind
-cert_looked issuer subject version unread rest found =
-    if issuer then sole_fault Shape issuer_fault rest else (
-    if subject then sole_fault Shape subject_fault rest else (if version then sole_fault Shape version_fault rest else (if unread then None else found))
-    )
 
 pub cert-issuer_field : (v : Value) (rest : List Value) → v ≡ group (plain (codes "issuer") ∷ rest) → cert_field_fault v ≡ sole_fault Shape issuer_fault rest
 unfolding cert_field_fault
@@ -191,41 +175,28 @@ pub cert-version_field : (v : Value) (rest : List Value) → v ≡ group (plain 
 unfolding cert_field_fault
 cert-version_field v rest e = search (rules, headed-else, headed-by, behind-group)
 
--- a field that isn't looked at, by its head
-unread-word : (word : List ℕ) (v : Value) (rest : List Value) → v ≡ group (plain word ∷ rest)
-    → cert_field_fault (group (plain word ∷ rest)) ≡ None → cert_field_fault v ≡ None
-unread-word word v rest e f = ap cert_field_fault e ∙ f
-
-unread-none : (word : List ℕ) (rest : List Value) → is_headed (codes "issuer") (group (plain word ∷ rest)) ≡ false
-    → is_headed (codes "subject") (group (plain word ∷ rest)) ≡ false → is_headed (codes "version") (group (plain word ∷ rest)) ≡ false
-    → is_unread (group (plain word ∷ rest)) ≡ true → cert_field_fault (group (plain word ∷ rest)) ≡ None
-unfolding cert_field_fault
-unread-none word rest p q r s = search rules
-
 pub cert-unread : (v : Value) → IsUnread v → cert_field_fault v ≡ None
-cert-unread v (display xs e) = unread-word (codes "display") v xs e (unread-none (codes "display") xs refl refl refl refl)
-cert-unread v (issuer_info xs e) = unread-word (codes "issuer-info") v xs e (unread-none (codes "issuer-info") xs refl refl refl refl)
-cert-unread v (subject_info xs e) = unread-word (codes "subject-info") v xs e (unread-none (codes "subject-info") xs refl refl refl refl)
+unfolding cert_field_fault
+cert-unread v (display xs e) = search (rules, headed-else, headed-by)
+cert-unread v (issuer_info xs e) = search (rules, headed-else, headed-by)
+cert-unread v (subject_info xs e) = search (rules, headed-else, headed-by)
 
 pub cert-else : (v : Value) → is_headed (codes "issuer") v ≡ false → is_headed (codes "subject") v ≡ false → is_headed (codes "version") v ≡ false → is_unread v ≡ false
     → cert_field_fault v ≡ entry_field_fault v
 unfolding cert_field_fault
-cert-else v p q r s = λ i. cert_looked (p i) (q i) (r i) (s i) (behind_head v) (entry_field_fault v)
+cert-else v p q r s = search rules
 
-pub is-headed : (word : List ℕ) (v : Value) → is_headed word v ≡ true → (rest : List Value) × (v ≡ group (plain word ∷ rest))
-is-headed word (sexpr.list (sexpr.more (sexpr.string None head) others)) e =
-    let same : head ≡ word = (bytes_eq-Decides head word).0 e in
-    (members others, λ i. sexpr.list (sexpr.more (sexpr.string None (same i)) (sym (values-members others) i)))
-is-headed word v e = absurd (cc)
+pub unread-read : (v : Value) → is_unread v ≡ true → IsUnread v
+unread-read v e = by (is_headed (codes "display") v) (is_headed (codes "issuer-info") v) (is_headed (codes "subject-info") v) refl refl refl e
+  where
+    by : (a b d : Bool) → is_headed (codes "display") v ≡ a → is_headed (codes "issuer-info") v ≡ b → is_headed (codes "subject-info") v ≡ d → (a || b || d) ≡ true → IsUnread v
+    by true b d f g h k = display (behind_head v) (is-group (codes "display") v f)
+    by false true d f g h k = issuer_info (behind_head v) (is-group (codes "issuer-info") v g)
+    by false false true f g h k = subject_info (behind_head v) (is-group (codes "subject-info") v h)
+    by false false false f g h k = absurd (cc)
 
 not-unread : (v : Value) → (IsUnread v → ⊥) → is_unread v ≡ false
-not-unread v other = by (is_headed (codes "display") v) (is_headed (codes "issuer-info") v) (is_headed (codes "subject-info") v) refl refl refl
-  where
-    by : (a b d : Bool) → is_headed (codes "display") v ≡ a → is_headed (codes "issuer-info") v ≡ b → is_headed (codes "subject-info") v ≡ d → (a || b || d) ≡ false
-    by true b d e f g = absurd (let h = is-headed (codes "display") v e in other (display h.0 h.1))
-    by false true d e f g = absurd (let h = is-headed (codes "issuer-info") v f in other (issuer_info h.0 h.1))
-    by false false true e f g = absurd (let h = is-headed (codes "subject-info") v g in other (subject_info h.0 h.1))
-    by false false false e f g = refl
+not-unread v other = false_from_ne_true (is_unread v) (λ e. other (unread-read v e))
 
 pub cert-common : (v : Value) (found : Option CertFaultKind) → IsNotHeaded v (codes "issuer") → IsNotHeaded v (codes "subject") → IsNotHeaded v (codes "version") → (IsUnread v → ⊥)
     → entry_field_fault v ≡ found → cert_field_fault v ≡ found
@@ -238,39 +209,26 @@ headless word (sexpr.list (sexpr.more (sexpr.string None head) others)) e = absu
 headless word v e = refl
 
 headless-limit : (v : Value) → head_of v ≡ None → limit_fault v ≡ Some Shape
-unfolding limit_fault
-headless-limit v e = λ i. limit_looked (headless (codes "not-before") v e i) (headless (codes "not-after") v e i) (headless (codes "online") v e i) (behind_head v)
+headless-limit v e = search (rules, limit-by v false, headless)
 
 headless-entry : (v : Value) → head_of v ≡ None → entry_field_fault v ≡ Some Shape
 headless-entry v e = search (rules, entry-else, headless, time-limit, headless-limit)
 
-headless-cert : (v : Value) → head_of v ≡ None → cert_field_fault v ≡ Some Shape
-headless-cert v e = search (rules, cert-else, headless, headless-entry)
-
-pub headless-field : (place : Place) (v : Value) → head_of v ≡ None → fault_in place v ≡ Some Shape
+headless-field : (place : Place) (v : Value) → head_of v ≡ None → fault_in place v ≡ Some Shape
 headless-field places.Entry v e = headless-entry v e
-headless-field places.Certificate v e = headless-cert v e
-
-head-group : (v : Value) (head : List ℕ) → head_of v ≡ Some head → (rest : List Value) × (v ≡ group (plain head ∷ rest))
-head-group (sexpr.list (sexpr.more (sexpr.string None word) others)) head e =
-    let same : word ≡ head = cc in (members others, λ i. sexpr.list (sexpr.more (sexpr.string None (same i)) (sym (values-members others) i)))
-head-group v head e = absurd (cc)
+headless-field places.Certificate v e = search (rules, cert-else, headless, headless-entry)
 
 -- a field whose head isn't new, or that has none
 pub field-not_new : (place : Place) (before : List Value) (heads : List (List ℕ)) (k : Known) (v : Value) → AreRead before heads k
     → ((head : List ℕ) → IsNew v heads head → ⊥) → first_fault (field_looked (fault_in place) before v) ≡ Some Shape
 field-not_new place before heads k v read none = by (head_of v) refl
   where
-    among : (head : List ℕ) (rest : List Value) → v ≡ group (plain head ∷ rest) → (b : Bool) → is_word_among heads head ≡ b → b ≡ true
-    among head rest e true f = refl
-    among head rest e false f = absurd (none head (record { rest = rest; written = e; fresh = f }))
-
     by : (o : Option (List ℕ)) → head_of v ≡ o → first_fault (field_looked (fault_in place) before v) ≡ Some Shape
     by None e = field-misfit (fault_in place) before v (headless-field place v e)
     by (Some head) e =
         let form = head-group v head e in
-        field-again (fault_in place) before v
-        (again-headed head before v form.0 form.1 ∙ sym (read.heads_are head) ∙ among head form.0 form.1 (is_word_among heads head) refl)
+        let again = true_from_ne_false (is_word_among heads head) (λ f. none head (record { rest = behind_head v; written = form; fresh = f })) in
+        field-again (fault_in place) before v (again-headed head before v (behind_head v) form ∙ sym (read.heads_are head) ∙ again)
 
 pub field-is_new : (before : List Value) (heads : List (List ℕ)) (k : Known) (v : Value) (head : List ℕ) → AreRead before heads k → IsNew v heads head
     → is_again before v ≡ false
@@ -281,26 +239,11 @@ field-is_new before heads k v head read new = again-headed head before v new.res
 pub both-known : (fields : List Value) (k : Known) → KnownOf fields k → is_both_ways fields ≡ (is_some k.valid && (is_some k.limits.not_before || is_some k.limits.not_after))
 both-known fields k known = search (rules, has-given)
 
-both-given : (limits : Window) (valid : Option Window) → IsBothWays limits valid → (is_some valid && (is_some limits.not_before || is_some limits.not_after)) ≡ true
-both-given limits None both = absurd both
-both-given limits (Some w) (inl e) = ap (λ (b : Bool). b || is_some limits.not_after) e
-both-given limits (Some w) (inr e) = search rules
-
-one-given : (limits : Window) (valid : Option Window) (w : Window) → IsOneWay limits valid w → (is_some valid && (is_some limits.not_before || is_some limits.not_after)) ≡ false
-one-given limits None w one = refl
-one-given limits (Some window) w one = λ i. is_some (one.0 i) || is_some (one.1 i)
-
 pub both-ways : (fields : List Value) (k : Known) → KnownOf fields k → IsBothWays k.limits k.valid → is_both_ways fields ≡ true
-both-ways fields k known both = both-known fields k known ∙ both-given k.limits k.valid both
+both-ways fields k known both = search (rules, both-known fields k known)
 
 pub one-way : (fields : List Value) (k : Known) (w : Window) → KnownOf fields k → IsOneWay k.limits k.valid w → is_both_ways fields ≡ false
-one-way fields k w known one = both-known fields k known ∙ one-given k.limits k.valid w one
+one-way fields k w known one = search (rules, both-known fields k known)
 
 pub has-tag : (fields : List Value) (k : Known) → KnownOf fields k → has (codes "tag") fields ≡ is_some k.tag
 has-tag fields k known = has-given (codes "tag") (Sole ReadsAs) fields k.tag known.tag_is
-
-pub has-issuer : (fields : List Value) (k : Known) → KnownOf fields k → has (codes "issuer") fields ≡ is_some k.issuer
-has-issuer fields k known = has-given (codes "issuer") IssuerAt fields k.issuer known.issuer_is
-
-pub has-subject : (fields : List Value) (k : Known) → KnownOf fields k → has (codes "subject") fields ≡ is_some k.subject
-has-subject fields k known = has-given (codes "subject") WhoAt fields k.subject known.subject_is

@@ -3,15 +3,13 @@ use Rattle.std.proofs.Common.{◌≡◌, ℕ, ◌+◌, ◌≤◌, Bool, true, fa
 use Rattle.std.specs.List.{AllByRecursion, list_any}
 use Rattle.sexpr_core.specs.Value.{Value, plain, group}
 use Rattle.spki_cert.specs.Fields.{is_headed, behind_head, contents, AreOnce, Given, Sole, IsLimitField, ValidOf, IsTimeField, limit, valid, IsField, propagate, tag, time, comment, IssuerIn, WhoIn, IsUnread, IsCertField, common, version, issuer, subject, unread}
-use Rattle.spki_cert.proofs.Looking.{head-same, same_others, apart, headed-by, behind-group}
+use Rattle.std.proofs.lemmas.Bool.{false_from_ne_true}
+use Rattle.spki_cert.proofs.Looking.{Reads, other-head, head-same, headed-by, behind-group, headed-else}
 use Rattle.std.specs.Prelude.{codes}
 use Rattle.spki_cert.specs.declared.window.Window.{Window}
 use Rattle.spki_cert.specs.Readings.{DateOf}
 use Rattle.spki_cert.specs.Inner.Gathering.{Headed, AddsLimit, first, last, is_word_among, IsSilent, Says, gather, KnownOf, IsNew, AreRead}
-use Rattle.spki_cert.proofs.SubjectFaultLaws.{headed-else}
-use Rattle.spki_tag.specs.Tag as tags
 use Rattle.spki_tag.specs.Reading.{ReadsAs}
-use Rattle.spki_cert.specs.declared.principal.Principal.{Principal}
 use Rattle.std.proofs.lemmas.List.Folds.{list_any-append}
 use Rattle.spki_cert.specs.declared.fields.Known.{Known}
 use Rattle.spki_cert.specs.declared.fields.Said.{Said}
@@ -103,15 +101,16 @@ given-else word R xs a given e = absurd (let f = given.1 in cc)
 -- ---- one limit
 
 -- what is read behind the head of a limit
-pub first-limit : (v : Value) (rest : List Value) → v ≡ group (plain (codes "not-before") ∷ rest) → IsLimitField v → (date : List ℕ) × Sole DateOf rest date
-first-limit v rest e (word, behind, date, inl is, written, read) =
-    (date, subst (λ (vs : List Value). Sole DateOf vs date) (same_others v (codes "not-before") behind rest (written ∙ ap (λ (w : List ℕ). group (plain w ∷ behind)) is) e) read)
-first-limit v rest e (word, behind, date, inr is, written, read) = absurd (search (rules, apart))
+pub first-limit : (v : Value) → is_headed (codes "not-before") v ≡ true → IsLimitField v → Reads (Sole DateOf) (behind_head v)
+first-limit v h (word, rest, date, inl is, e, read) = (date, rw (behind-group v (plain word) rest e) read)
+first-limit v h (word, rest, date, inr is, e, read) = absurd (let same = head-same v word (codes "not-before") rest e h in cc)
 
-pub last-limit : (v : Value) (rest : List Value) → v ≡ group (plain (codes "not-after") ∷ rest) → IsLimitField v → (date : List ℕ) × Sole DateOf rest date
-last-limit v rest e (word, behind, date, inr is, written, read) =
-    (date, subst (λ (vs : List Value). Sole DateOf vs date) (same_others v (codes "not-after") behind rest (written ∙ ap (λ (w : List ℕ). group (plain w ∷ behind)) is) e) read)
-last-limit v rest e (word, behind, date, inl is, written, read) = absurd (search (rules, apart))
+pub last-limit : (v : Value) → is_headed (codes "not-after") v ≡ true → IsLimitField v → Reads (Sole DateOf) (behind_head v)
+last-limit v h (word, rest, date, inl is, e, read) = absurd (let same = head-same v word (codes "not-after") rest e h in cc)
+last-limit v h (word, rest, date, inr is, e, read) = (date, rw (behind-group v (plain word) rest e) read)
+
+pub limit-not_valid : (v : Value) → IsLimitField v → is_headed (codes "valid") v ≡ false
+limit-not_valid v (word, rest, date, is, e, read) = search rules
 
 -- ---- several limits
 
@@ -145,8 +144,11 @@ abbrev pub HeadAmong : List (List ℕ) → Value → Type 0
 HeadAmong words v = (word : List ℕ) × (rest : List Value) × (v ≡ group (plain word ∷ rest)) × (is_word_among words word ≡ true)
 
 -- its head is no other word
-pub other-word : (words : List (List ℕ)) (v : Value) (word : List ℕ) (rest : List Value) → v ≡ group (plain word ∷ rest) → is_word_among words word ≡ false → HeadAmong words v → ⊥
-other-word words v word rest e unknown among = search (rules, head-same, headed-by)
+pub other-word : (words : List (List ℕ)) (v : Value) (word : List ℕ) → is_headed word v ≡ true → is_word_among words word ≡ false → HeadAmong words v → ⊥
+other-word words v word h unknown among = search (rules, head-same)
+
+pub among-else : (words : List (List ℕ)) (v : Value) (word : List ℕ) → is_word_among words word ≡ false → HeadAmong words v → is_headed word v ≡ false
+among-else words v word unknown among = false_from_ne_true (is_headed word v) (λ h. other-word words v word h unknown among)
 
 abbrev pub time_words : List (List ℕ)
 time_words = codes "not-before" ∷ codes "not-after" ∷ codes "valid" ∷ []
@@ -154,7 +156,7 @@ time_words = codes "not-before" ∷ codes "not-after" ∷ codes "valid" ∷ []
 abbrev pub field_words : List (List ℕ)
 field_words = codes "propagate" ∷ codes "tag" ∷ codes "comment" ∷ time_words
 
-abbrev unread_words : List (List ℕ)
+abbrev pub unread_words : List (List ℕ)
 unread_words = codes "display" ∷ codes "issuer-info" ∷ codes "subject-info" ∷ []
 
 pub time-head : (v : Value) → IsTimeField v → HeadAmong time_words v
@@ -166,52 +168,46 @@ time-head_field v f = search rules
 pub field-head : (v : Value) → IsField v → HeadAmong field_words v
 field-head v f = search (rules, time-head_field)
 
-unread-head : (v : Value) → IsUnread v → HeadAmong unread_words v
+pub unread-head : (v : Value) → IsUnread v → HeadAmong unread_words v
 unread-head v u = search rules
 
 -- ---- validity
 
-pub time-first : (v : Value) (rest : List Value) → v ≡ group (plain (codes "not-before") ∷ rest) → IsTimeField v → (date : List ℕ) × Sole DateOf rest date
-time-first v rest e (limit l) = first-limit v rest e l
-time-first v rest e (valid limits w written read) = absurd (apart (codes "not-before") v _ _ e written refl refl)
+pub time-first : (v : Value) → is_headed (codes "not-before") v ≡ true → IsTimeField v → Reads (Sole DateOf) (behind_head v)
+time-first v h (limit l) = first-limit v h l
+time-first v h (valid limits w e read) = absurd (other-head (codes "not-before") v _ e h refl)
 
-pub time-last : (v : Value) (rest : List Value) → v ≡ group (plain (codes "not-after") ∷ rest) → IsTimeField v → (date : List ℕ) × Sole DateOf rest date
-time-last v rest e (limit l) = last-limit v rest e l
-time-last v rest e (valid limits w written read) = absurd (apart (codes "not-after") v _ _ e written refl refl)
+pub time-last : (v : Value) → is_headed (codes "not-after") v ≡ true → IsTimeField v → Reads (Sole DateOf) (behind_head v)
+time-last v h (limit l) = last-limit v h l
+time-last v h (valid limits w e read) = absurd (other-head (codes "not-after") v _ e h refl)
 
-abbrev limit_words : List (List ℕ)
-limit_words = codes "not-before" ∷ codes "not-after" ∷ []
-
-limit-head : (v : Value) → IsLimitField v → HeadAmong limit_words v
-limit-head v l = search rules
-
-pub time-valid : (v : Value) (rest : List Value) → v ≡ group (plain (codes "valid") ∷ rest) → IsTimeField v → (w : Window) × ValidOf rest w
-time-valid v rest e (limit l) = absurd (other-word limit_words v (codes "valid") rest e refl (limit-head v l))
-time-valid v rest e (valid limits w written read) = (w, subst (λ (vs : List Value). ValidOf vs w) (same_others v (codes "valid") limits rest written e) read)
+pub time-valid : (v : Value) → is_headed (codes "valid") v ≡ true → IsTimeField v → Reads ValidOf (behind_head v)
+time-valid v h (limit l) = absurd (let f = limit-not_valid v l in cc)
+time-valid v h (valid limits w e read) = (w, rw (behind-group v (plain (codes "valid")) limits e) read)
 
 -- ---- fields of entries
 
-pub field-tag : (v : Value) (rest : List Value) → v ≡ group (plain (codes "tag") ∷ rest) → IsField v → (t : tags.Tag) × Sole ReadsAs rest t
-field-tag v rest e (propagate written) = absurd (other-word (codes "propagate" ∷ []) v (codes "tag") rest e refl (codes "propagate", [], written, refl))
-field-tag v rest e (tag behind t written read) = (t, subst (λ (vs : List Value). Sole ReadsAs vs t) (same_others v (codes "tag") behind rest written e) read)
-field-tag v rest e (time f) = absurd (other-word time_words v (codes "tag") rest e refl (time-head v f))
-field-tag v rest e (comment xs written) = absurd (other-word (codes "comment" ∷ []) v (codes "tag") rest e refl (codes "comment", xs, written, refl))
+pub field-tag : (v : Value) → is_headed (codes "tag") v ≡ true → IsField v → Reads (Sole ReadsAs) (behind_head v)
+field-tag v h (tag rest t e read) = (t, rw (behind-group v (plain (codes "tag")) rest e) read)
+field-tag v h (time f) = absurd (other-word time_words v (codes "tag") h refl (time-head v f))
+field-tag v h (propagate e) = absurd (other-head (codes "tag") v _ e h refl)
+field-tag v h (comment xs e) = absurd (other-head (codes "tag") v _ e h refl)
 
 -- ---- fields of certificates
 
-pub cert-issuer : (v : Value) (rest : List Value) → v ≡ group (plain (codes "issuer") ∷ rest) → IsCertField v → (i : Principal × Option (List ℕ)) × IssuerIn rest i
-cert-issuer v rest e (common f) = absurd (other-word field_words v (codes "issuer") rest e refl (field-head v f))
-cert-issuer v rest e (version written) = absurd (other-word (codes "version" ∷ []) v (codes "issuer") rest e refl (codes "version", plain (codes "0") ∷ [], written, refl))
-cert-issuer v rest e (issuer behind i written read) = (i, subst (λ (vs : List Value). IssuerIn vs i) (same_others v (codes "issuer") behind rest written e) read)
-cert-issuer v rest e (subject behind s written read) = absurd (other-word (codes "subject" ∷ []) v (codes "issuer") rest e refl (codes "subject", behind, written, refl))
-cert-issuer v rest e (unread u) = absurd (other-word unread_words v (codes "issuer") rest e refl (unread-head v u))
+pub cert-issuer : (v : Value) → is_headed (codes "issuer") v ≡ true → IsCertField v → Reads IssuerIn (behind_head v)
+cert-issuer v h (common f) = absurd (other-word field_words v (codes "issuer") h refl (field-head v f))
+cert-issuer v h (issuer rest i e read) = (i, rw (behind-group v (plain (codes "issuer")) rest e) read)
+cert-issuer v h (version e) = absurd (other-head (codes "issuer") v _ e h refl)
+cert-issuer v h (subject rest s e read) = absurd (other-head (codes "issuer") v _ e h refl)
+cert-issuer v h (unread u) = absurd (other-word unread_words v (codes "issuer") h refl (unread-head v u))
 
-pub cert-subject : (v : Value) (rest : List Value) → v ≡ group (plain (codes "subject") ∷ rest) → IsCertField v → (s : Option Principal × List (List ℕ)) × WhoIn rest s
-cert-subject v rest e (common f) = absurd (other-word field_words v (codes "subject") rest e refl (field-head v f))
-cert-subject v rest e (version written) = absurd (other-word (codes "version" ∷ []) v (codes "subject") rest e refl (codes "version", plain (codes "0") ∷ [], written, refl))
-cert-subject v rest e (issuer behind i written read) = absurd (other-word (codes "issuer" ∷ []) v (codes "subject") rest e refl (codes "issuer", behind, written, refl))
-cert-subject v rest e (subject behind s written read) = (s, subst (λ (vs : List Value). WhoIn vs s) (same_others v (codes "subject") behind rest written e) read)
-cert-subject v rest e (unread u) = absurd (other-word unread_words v (codes "subject") rest e refl (unread-head v u))
+pub cert-subject : (v : Value) → is_headed (codes "subject") v ≡ true → IsCertField v → Reads WhoIn (behind_head v)
+cert-subject v h (common f) = absurd (other-word field_words v (codes "subject") h refl (field-head v f))
+cert-subject v h (subject rest s e read) = (s, rw (behind-group v (plain (codes "subject")) rest e) read)
+cert-subject v h (version e) = absurd (other-head (codes "subject") v _ e h refl)
+cert-subject v h (issuer rest i e read) = absurd (other-head (codes "subject") v _ e h refl)
+cert-subject v h (unread u) = absurd (other-word unread_words v (codes "subject") h refl (unread-head v u))
 
 -- ---- each field has a head
 
@@ -223,10 +219,10 @@ field-word v f = (let h = field-head v f in (h.0, h.1, h.2))
 
 pub cert-word : (v : Value) → IsCertField v → HasHead v
 cert-word v (common f) = field-word v f
-cert-word v (version written) = (codes "version", plain (codes "0") ∷ [], written)
-cert-word v (issuer rest i written read) = (codes "issuer", rest, written)
-cert-word v (subject rest s written read) = (codes "subject", rest, written)
 cert-word v (unread u) = (let h = unread-head v u in (h.0, h.1, h.2))
+cert-word v (version e) = (codes "version", plain (codes "0") ∷ [], e)
+cert-word v (issuer rest i e read) = (codes "issuer", rest, e)
+cert-word v (subject rest s e read) = (codes "subject", rest, e)
 
 -- ---- what is known of fields that were read one after the other
 

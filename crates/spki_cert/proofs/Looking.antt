@@ -1,15 +1,15 @@
 -- Lists that are the same, and what is looked at in a list whose form is known.
 use Rattle.std.proofs.Common.{◌≡◌, ℕ, List, [], ◌∷◌, ◌++◌, refl, sym, ap, ◌∙◌, append_assoc, Bool, true, false, None, rules, Option, Some, Result, Ok, Err, subst}
-use Rattle.std.specs.Str.{bytes_eq}
 use Rattle.sexpr_core.specs.Value.{IsNotHeaded, Value, plain, group, members, IsNoString}
+use Rattle.std.proofs.lemmas.Bool.{false_from_ne_true}
 use Rattle.std.proofs.lemmas.Slice.Eq.{bytes_eq-Decides}
-use Rattle.spki_cert.specs.Fields.{is_headed, behind_head}
+use Rattle.spki_cert.specs.Fields.{is_headed, behind_head, Sole}
 use Rattle.sexpr_core.specs.Value as sexpr
 use Rattle.sexpr_core.specs.Nodes.{members-values, values-members}
-use Rattle.std.specs.Prelude.{IfErr}
+use Rattle.std.specs.Prelude.{IfErr, not, ◌↔◌}
 use Rattle.std.specs.Result.{IsErrAnd}
 use Rattle.spki_tag.specs.Faults.{first_fault, unless}
-use Rattle.spki_cert.specs.FieldFaults.{unless_none, sole_fault, is_plain}
+use Rattle.spki_cert.specs.FieldFaults.{head_of, unless_none, sole_fault, is_plain}
 
 -- ---- lists that are the same have the same members, and those with two heads are not the same
 
@@ -32,6 +32,10 @@ same_second v word s t vs ws e f = search (rules, group-injective (plain word �
 pub same_others : (v : Value) (word : List ℕ) (vs ws : List Value) → v ≡ group (plain word ∷ vs) → v ≡ group (plain word ∷ ws) → vs ≡ ws
 same_others v word vs ws e f = search (rules, group-injective (plain word ∷ vs) (plain word ∷ ws) (sym e ∙ f))
 
+-- a value with this head isn't one with another
+pub other-head : (word : List ℕ) (v w : Value) → v ≡ w → is_headed word v ≡ true → is_headed word w ≡ false → ⊥
+other-head word v w e here other = absurd (let f : true ≡ false = sym here ∙ ap (is_headed word) e ∙ other in cc)
+
 -- no value has this head and another one
 pub apart : (word : List ℕ) (v u w : Value) → v ≡ u → v ≡ w → is_headed word u ≡ true → is_headed word w ≡ false → ⊥
 apart word v u w e f here other = absurd (let g : true ≡ false = sym here ∙ ap (is_headed word) (sym e ∙ f) ∙ other in cc)
@@ -48,6 +52,11 @@ head-same v head word rest e f = (bytes_eq-Decides head word).0 (ap (is_headed w
 pub headed-by : (v : Value) (head : List ℕ) (rest : List Value) → v ≡ group (plain head ∷ rest) → is_headed head v ≡ true
 headed-by v head rest e = ap (is_headed head) e ∙ (bytes_eq-Decides head head).1 refl
 
+-- a value with one head hasn't another one
+pub headed-else : (word other : List ℕ) (v : Value) (rest : List Value) → v ≡ group (plain word ∷ rest) → is_headed other (group (plain word ∷ rest)) ≡ false
+    → is_headed other v ≡ false
+headed-else word other v rest e f = ap (is_headed other) e ∙ f
+
 -- ---- a walk over members
 
 -- where a member stands among all
@@ -60,21 +69,19 @@ moved all seen others v e = e ∙ sym (append_assoc seen (v ∷ []) others)
 
 -- ---- heads
 
+-- a list is its head and what stands behind it
+pub head-group : (v : Value) (head : List ℕ) → head_of v ≡ Some head → v ≡ group (plain head ∷ behind_head v)
+head-group (sexpr.list (sexpr.more (sexpr.string None word) others)) head e = cc (values-members others)
+head-group v head e = absurd (cc)
+
+pub is-group : (word : List ℕ) (v : Value) → is_headed word v ≡ true → v ≡ group (plain word ∷ behind_head v)
+is-group word (sexpr.list (sexpr.more (sexpr.string None head) others)) e =
+    let same : head ≡ word = (bytes_eq-Decides head word).0 e in cc (values-members others)
+is-group word v e = absurd (cc)
+
 -- a value without this head isn't headed so
 pub not-headed : (word : List ℕ) (v : Value) → IsNotHeaded v word → is_headed word v ≡ false
-not-headed word (sexpr.list (sexpr.more (sexpr.string None head) others)) other = by (bytes_eq head word) refl
-  where
-    by : (b : Bool) → bytes_eq head word ≡ b → bytes_eq head word ≡ false
-    by true e =
-        let same : head ≡ word = (bytes_eq-Decides head word).0 e in
-        absurd (other (members others) (λ i. sexpr.list (sexpr.more (sexpr.string None (same i)) (sym (values-members others) i))))
-    by false e = e
-not-headed word v other = refl
-
--- a value with one head hasn't another
-pub other-head : (word other : List ℕ) (v : Value) → bytes_eq word other ≡ false → is_headed word v ≡ true → is_headed other v ≡ false
-other-head word other (sexpr.list (sexpr.more (sexpr.string None head) others)) e f = search (rules, bytes_eq-Decides head word)
-other-head word other v e f = refl
+not-headed word v other = false_from_ne_true (is_headed word v) (λ e. other (behind_head v) (is-group word v e))
 
 -- ---- what is looked at in a value whose form is known
 
@@ -87,6 +94,11 @@ of-form F word v rest e = λ i. F (headed-by v word rest e i) (behind-group v (p
 pub of-no_form : {A : Type 0} (word : List ℕ) (v : Value) (fault : A) (looked : List (Option A)) → IsNotHeaded v word
     → first_fault (unless (is_headed word v) fault ∷ looked) ≡ Some fault
 of-no_form word v fault looked other = ap (λ (b : Bool). first_fault (unless b fault ∷ looked)) (not-headed word v other)
+
+-- a string that passes a test
+pub plain-passes : (passes : List ℕ → Bool) (v : Value) → is_plain passes v ≡ true → (octets : List ℕ) × (v ≡ plain octets) × (passes octets ≡ true)
+plain-passes passes (sexpr.string None octets) e = (octets, refl, e)
+plain-passes passes v e = absurd (cc)
 
 pub no-plain : (passes : List ℕ → Bool) (v : Value) → IsNoString v → is_plain passes v ≡ false
 no-plain passes (sexpr.string None octets) other = absurd (other octets refl)
@@ -112,6 +124,16 @@ pub unless-none : {A : Type 0} (b : Bool) (fault : A) → unless b fault ≡ Non
 unless-none true fault e = refl
 unless-none false fault e = absurd (cc)
 
+-- the first look is at the head
+pub behind-none : {A : Type 0} (word : List ℕ) (v : Value) (fault : A) (looks : List (Option A)) → first_fault (unless (is_headed word v) fault ∷ looks) ≡ None
+    → (v ≡ group (plain word ∷ behind_head v)) × (first_fault looks ≡ None)
+behind-none word v fault looks e =
+    let found = none-found (unless (is_headed word v) fault) looks e in (is-group word v (unless-none (is_headed word v) fault found.0), found.1)
+
+pub unless_not-none : {A : Type 0} (b : Bool) (fault : A) → unless (not b) fault ≡ None → b ≡ false
+unless_not-none true fault e = absurd (cc)
+unless_not-none false fault e = refl
+
 -- ---- one value and nothing behind it
 
 pub none-some : {A : Type 0} (vs : List Value) (fault : A) → (vs ≡ [] → ⊥) → unless_none vs fault ≡ Some fault
@@ -130,6 +152,20 @@ pub sole-read : {A : Type 0} (other : A) (fault_of : Value → Option A) (vs : L
     → (v : Value) × (vs ≡ v ∷ []) × (fault_of v ≡ None)
 sole-read other fault_of (v ∷ []) e = (v, refl, (none-found (fault_of v) (None ∷ []) e).0)
 sole-read other fault_of vs e = absurd (search (rules, none-found))
+
+-- ---- what is read
+
+-- something is read in it
+abbrev pub Reads : {V A : Type 0} → (V → A → Type 0) → V → Type 0
+Reads {A = A} R v = (a : A) × R v a
+
+-- one value and nothing behind it has no fault exactly if that value is read
+pub sole-none : {A B : Type 0} (other : A) (fault_of : Value → Option A) (R : Value → B → Type 0) → ((v : Value) → (fault_of v ≡ None) ↔ Reads R v)
+    → (vs : List Value) → (sole_fault other fault_of vs ≡ None) ↔ Reads (Sole R) vs
+sole-none other fault_of R none vs = (
+  λ e. let one = sole-read other fault_of vs e in let read = (none one.0).0 one.2 in (read.0, (one.0, one.1, read.1)),
+  λ some. sole-one other fault_of vs [] some.1.0 some.1.1 ((none some.1.0).1 (some.0, some.1.2)) refl,
+)
 
 -- ---- errors that are passed on
 

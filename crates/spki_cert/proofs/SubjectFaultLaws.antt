@@ -1,8 +1,9 @@
 -- Keys, hashes, dates, principals, subjects and issuers along the way of their reading: the fault that is named of
 -- each, and what is none.
-use Rattle.std.proofs.Common.{◌≡◌, ◌≢◌, ℕ, List, [], ◌∷◌, length, drop, arith, Bool, true, false, Option, Some, None, refl, sym, ap, ◌∙◌, rules, ◌++◌, inl, inr}
+use Rattle.std.proofs.Common.{◌≡◌, ◌≢◌, ℕ, List, [], ◌∷◌, length, drop, arith, Bool, true, false, Option, Some, None, refl, ap, ◌∙◌, rules, ◌++◌, inl, inr}
 use Rattle.std.specs.Prelude.{codes, is_some, if◌then◌else◌, ◌==◌, not}
 use Rattle.std.specs.Str.{bytes_eq}
+use Rattle.std.proofs.lemmas.Bool.{false_from_ne_true}
 use Rattle.std.proofs.lemmas.Slice.Eq.{bytes_eq-Decides}
 use Rattle.sexpr_core.specs.Value.{Value, plain, group, members, IsNoString, IsNotHeaded}
 use Rattle.sexpr_core.specs.Value as sexpr
@@ -10,12 +11,12 @@ use Rattle.sexpr_core.specs.Nodes.{values-members}
 use Rattle.spki_tag.specs.Tag.{is_date}
 use Rattle.spki_tag.specs.Faults.{first_fault, unless}
 use Rattle.spki_cert.specs.declared.hash.HashAlg.{HashAlg}
-use Rattle.spki_cert.specs.declared.hash.HashAlg.TheVariants.{Sha1, Sha256, Sha512}
+use Rattle.spki_cert.specs.declared.hash.HashAlg.TheVariants.{Sha1}
 use Rattle.spki_cert.specs.declared.fault.CertFaultKind.{CertFaultKind}
 use Rattle.spki_cert.specs.declared.fault.CertFaultKind.TheVariants.{Shape, HashAlg as UnknownAlg, DigestLength, BadDate, Threshold, Keyholder}
 use Rattle.spki_cert.specs.Readings.{IsAlgorithm, alg_name, digest_len, AreUris, IsNoKey, IsNoHash}
-use Rattle.spki_cert.specs.FieldFaults.{fault_at, is_plain, any_octets, begins_plain, behind_key, key_fault, date_fault, alg_fault, hash_fault, alg_named, is_alg, is_sized, digest_fits, are_uris, is_string, principal_fault, is_name, are_names, names_fault, subject_fault, issuer_name_fault, issuer_fault}
-use Rattle.spki_cert.proofs.Looking.{headed-by, not-headed, of-form, of-no_form, no-plain, first-of, same_others, apart, behind-group, one-look}
+use Rattle.spki_cert.specs.FieldFaults.{fault_at, is_plain, any_octets, begins_plain, behind_key, key_fault, date_fault, alg_fault, hash_fault, alg_named, is_alg, digest_fits, are_uris, is_string, principal_fault, is_name, are_names, names_fault, subject_fault, issuer_name_fault, issuer_fault}
+use Rattle.spki_cert.proofs.Looking.{headed-by, not-headed, is-group, of-form, of-no_form, no-plain, first-of, same_others, apart, behind-group, one-look, headed-else}
 use Rattle.spki_cert.specs.Inner.Gathering.{digest_fault, NamesWho}
 use Rattle.spki_cert.specs.declared.principal.Principal.{Principal}
 use Rattle.spki_cert.specs.declared.principal.Principal.TheVariants.{Key, Hash}
@@ -29,10 +30,12 @@ use Rattle.std.specs.List.{list_all}
 pub begins-plain : (v : Value) → IsAlgorithm v → begins_plain v ≡ true
 begins-plain v (alg, parts, e) = ap begins_plain e
 
+pub algorithm : (v : Value) → begins_plain v ≡ true → IsAlgorithm v
+algorithm (sexpr.list (sexpr.more (sexpr.string None octets) vs)) e = (octets, members vs, cc (values-members vs))
+algorithm v e = absurd (cc)
+
 pub begins-other : (v : Value) → (IsAlgorithm v → ⊥) → begins_plain v ≡ false
-begins-other (sexpr.list (sexpr.more (sexpr.string None octets) vs)) other =
-    absurd (other (octets, members vs, λ i. sexpr.list (sexpr.more (sexpr.string None octets) (sym (values-members vs) i))))
-begins-other v other = refl
+begins-other v other = false_from_ne_true (begins_plain v) (λ e. other (algorithm v e))
 
 pub key-unheaded : (v : Value) → IsNotHeaded v (codes "public-key") → key_fault v ≡ Some Shape
 unfolding key_fault
@@ -63,15 +66,8 @@ pub named-alg : (alg : HashAlg) → alg_named (alg_name alg) ≡ Some alg
 named-alg Sha1 = refl
 named-alg alg = refl
 
-pub named-no_alg : (word : List ℕ) → ((alg : HashAlg) → word ≢ alg_name alg) → alg_named word ≡ None
-named-no_alg word other = by (bytes_eq word (codes "sha1")) (bytes_eq word (codes "sha256")) (bytes_eq word (codes "sha512")) refl refl refl
-  where
-    by : (a b c : Bool) → bytes_eq word (codes "sha1") ≡ a → bytes_eq word (codes "sha256") ≡ b → bytes_eq word (codes "sha512") ≡ c
-        → (if a then Some Sha1 else (if b then Some Sha256 else (if c then Some Sha512 else None))) ≡ None
-    by true b c e f g = absurd (other Sha1 ((bytes_eq-Decides word (codes "sha1")).0 e))
-    by false true c e f g = absurd (other Sha256 ((bytes_eq-Decides word (codes "sha256")).0 f))
-    by false false true e f g = absurd (other Sha512 ((bytes_eq-Decides word (codes "sha512")).0 g))
-    by false false false e f g = refl
+pub named-read : (word : List ℕ) → is_alg word ≡ true → (alg : HashAlg) × (word ≡ alg_name alg)
+named-read word e = search (rules, bytes_eq-Decides)
 
 pub alg-list : (v : Value) (vs : List Value) → v ≡ group vs → alg_fault v ≡ Some Shape
 unfolding alg_fault
@@ -81,15 +77,16 @@ pub alg-hinted : (v : Value) (hint octets : List ℕ) → v ≡ sexpr.string (So
 unfolding alg_fault
 alg-hinted v hint octets e = ap (λ (w : Value). first_fault (unless (is_string w) Shape ∷ unless (is_plain is_alg w) UnknownAlg ∷ [])) e
 
-alg-plain : (v : Value) (octets : List ℕ) (found : Option HashAlg) → v ≡ plain octets → alg_named octets ≡ found → alg_fault v ≡ first_fault (None ∷ unless (is_some found) UnknownAlg ∷ [])
+alg-plain : (v : Value) (octets : List ℕ) (b : Bool) → v ≡ plain octets → is_alg octets ≡ b → alg_fault v ≡ first_fault (None ∷ unless b UnknownAlg ∷ [])
 unfolding alg_fault
-alg-plain v octets found e f = search rules
+alg-plain v octets b e f = search rules
 
 pub alg-other : (v : Value) (octets : List ℕ) → v ≡ plain octets → ((alg : HashAlg) → octets ≢ alg_name alg) → alg_fault v ≡ Some UnknownAlg
-alg-other v octets e other = alg-plain v octets None e (named-no_alg octets other)
+alg-other v octets e other =
+    alg-plain v octets false e (false_from_ne_true (is_alg octets) (λ f. let alg = named-read octets f in other alg.0 alg.1))
 
 pub alg-known : (v : Value) (alg : HashAlg) → v ≡ plain (alg_name alg) → alg_fault v ≡ None
-alg-known v alg e = alg-plain v (alg_name alg) (Some alg) e (named-alg alg)
+alg-known v alg e = alg-plain v (alg_name alg) true e (ap (λ (o : Option HashAlg). is_some o) (named-alg alg))
 
 -- ---- hashes
 
@@ -104,20 +101,17 @@ hash_looked headed rest =
     ∷ []
     )
 
-abbrev IsHashed : Value → List Value → Type 0
-IsHashed v rest = v ≡ group (plain (codes "hash") ∷ rest)
-
 pub hash-unheaded : (v : Value) → IsNotHeaded v (codes "hash") → hash_fault v ≡ Some Shape
 unfolding hash_fault
 hash-unheaded v other = of-no_form (codes "hash") v Shape _ other
 
-pub hash-form : (v : Value) (rest : List Value) → IsHashed v rest → hash_fault v ≡ hash_looked true rest
+pub hash-form : (v : Value) (rest : List Value) → v ≡ group (plain (codes "hash") ∷ rest) → hash_fault v ≡ hash_looked true rest
 unfolding hash_fault
 hash-form v rest e = of-form hash_looked (codes "hash") v rest e
 
 -- what is found in a digest and in what stands behind it
 pub hash-digest : (v word digest : Value) (rest more others : List Value) (alg : HashAlg) (found : Option CertFaultKind) (uris : Bool)
-    → IsHashed v rest → rest ≡ word ∷ more → word ≡ plain (alg_name alg) → more ≡ digest ∷ others
+    → v ≡ group (plain (codes "hash") ∷ rest) → rest ≡ word ∷ more → word ≡ plain (alg_name alg) → more ≡ digest ∷ others
     → digest_fault alg digest ≡ found → are_uris others ≡ uris → hash_fault v ≡ first_fault (found ∷ unless uris Shape ∷ [])
 unfolding hash_fault
 hash-digest v word digest rest more others alg found uris e f g h i j = search (rules, hash-form, alg-known, named-alg, first-of)
@@ -127,10 +121,13 @@ uris-are [] are = refl
 uris-are (v ∷ []) are = headed-by v (codes "uri") are.0 are.1
 uris-are (v ∷ w ∷ vs) are = absurd are
 
+pub uris-read : (vs : List Value) → are_uris vs ≡ true → AreUris vs
+uris-read [] e = tt
+uris-read (v ∷ []) e = (behind_head v, is-group (codes "uri") v e)
+uris-read (v ∷ w ∷ vs) e = absurd (cc)
+
 pub others-are : (vs : List Value) → (AreUris vs → ⊥) → are_uris vs ≡ false
-others-are [] other = absurd (other tt)
-others-are (v ∷ []) other = not-headed (codes "uri") v (λ uris e. other (uris, e))
-others-are (v ∷ w ∷ vs) other = refl
+others-are vs other = false_from_ne_true (are_uris vs) (λ e. other (uris-read vs e))
 
 -- ---- digests
 
@@ -186,11 +183,6 @@ plains-push (name ∷ seen) octets = ap (λ (vs : List Value). plain name ∷ vs
 
 -- ---- the fault that is named of a principal, a subject or an issuer, along the way of its reading
 
--- a value with one head hasn't another one
-pub headed-else : (word other : List ℕ) (v : Value) (rest : List Value) → v ≡ group (plain word ∷ rest) → is_headed other (group (plain word ∷ rest)) ≡ false
-    → is_headed other v ≡ false
-headed-else word other v rest e f = ap (is_headed other) e ∙ f
-
 -- ---- principals
 
 pub principal-hash : (v : Value) (rest : List Value) (found : Option CertFaultKind) → v ≡ group (plain (codes "hash") ∷ rest) → hash_fault v ≡ found → principal_fault v ≡ found
@@ -227,9 +219,6 @@ some-names (v ∷ vs) some = refl
 
 -- ---- subjects
 
-abbrev subject_looked : Bool → Bool → Option CertFaultKind → Option CertFaultKind
-subject_looked threshold keyholder found = first_fault (unless (not threshold) Threshold ∷ unless (not keyholder) Keyholder ∷ found ∷ [])
-
 pub subject-threshold : (v : Value) (rest : List Value) → v ≡ group (plain (codes "k-of-n") ∷ rest) → subject_fault v ≡ Some Threshold
 unfolding subject_fault
 subject-threshold v rest e = search (rules, headed-by)
@@ -246,8 +235,9 @@ subject-principal v found a b c e = search (rules, not-headed, one-look)
 pub subject-names : (v : Value) (rest : List Value) (found : Option CertFaultKind) → v ≡ group (plain (codes "name") ∷ rest) → names_fault rest ≡ found → subject_fault v ≡ found
 unfolding subject_fault
 subject-names v rest found e f =
-    (λ i. subject_looked (headed-else (codes "name") (codes "k-of-n") v rest e refl i) (headed-else (codes "name") (codes "keyholder") v rest e refl i)
-    (if headed-by v (codes "name") rest e i then names_fault (behind-group v (plain (codes "name")) rest e i) else principal_fault v))
+    (λ i. first_fault (unless (not (headed-else (codes "name") (codes "k-of-n") v rest e refl i)) Threshold
+    ∷ unless (not (headed-else (codes "name") (codes "keyholder") v rest e refl i)) Keyholder
+    ∷ (if headed-by v (codes "name") rest e i then names_fault (behind-group v (plain (codes "name")) rest e i) else principal_fault v) ∷ []))
     ∙ one-look (names_fault rest) ∙ f
 
 -- ---- issuers
@@ -256,9 +246,6 @@ pub issuer-principal : (v : Value) (found : Option CertFaultKind) → IsNotHeade
 unfolding issuer_fault
 issuer-principal v found other e = ap (λ (b : Bool). if b then issuer_name_fault (behind_head v) else principal_fault v) (not-headed (codes "name") v other) ∙ e
 
-abbrev IsNamed : Value → List Value → Type 0
-IsNamed v rest = v ≡ group (plain (codes "name") ∷ rest)
-
-pub issuer-form : (v : Value) (rest : List Value) → IsNamed v rest → issuer_fault v ≡ issuer_name_fault rest
+pub issuer-form : (v : Value) (rest : List Value) → v ≡ group (plain (codes "name") ∷ rest) → issuer_fault v ≡ issuer_name_fault rest
 unfolding issuer_fault
 issuer-form v rest e = of-form (λ b vs. if b then issuer_name_fault vs else principal_fault v) (codes "name") v rest e

@@ -25,7 +25,6 @@ use std::alloc::Global;
 /// `RelativeInEntry` for a name without a principal.
 fn entry_subject<'a>(alloc: Global, node: &Node<'_, 'a>) -> Result<Subject<'a>, CertFaultKind>
     ensures found { IfOk result (λ subject. SubjectOf node.now subject) }
-    ensures faultless { IfOk result (λ _. entry_subject_fault node.now ≡ None) }
     ensures named { IfErr result (λ kind. kind ≢ CertFaultKind.Memory → entry_subject_fault node.now ≡ Some kind) }
 {
     let Who { principal, names } = written_subject_of(alloc, node)?;
@@ -111,7 +110,6 @@ fn entries_of<'a>(alloc: Global, members: Members<'_, 'a>) -> Result<Vec<Entry<'
 fn behind_version<'d, 'a>(node: &Node<'d, 'a>) -> Result<Members<'d, 'a>, CertFaultKind>
     ensures found { IfOk result (λ entries. (all : List Value) × (node.now ≡ group (plain (codes "acl") ∷ all))
         × BeginsWell all × (entries ≡ behind_version all)) }
-    ensures faultless { IfOk result (λ _. outer_fault node.now ≡ None) }
     ensures named { IfErr result (λ kind. outer_fault node.now ≡ Some kind) }
 {
     let Some(all) = node.headed(b"acl") else {

@@ -49,7 +49,6 @@ fn issued_to<'a>(who: Who<'a>, issuer: &Principal<'a>) -> Subject<'a>
 /// if the issuer or the subject is missing, or if limits are given alone and there is a `(valid ..)` too.
 fn parts_of<'a>(alloc: Global, members: Members<'_, 'a>) -> Result<CertParts<'a>, CertFaultKind>
     ensures found { IfOk result (λ parts. PartsOf members.entry parts) }
-    ensures faultless { IfOk result (λ _. parts_fault members.entry ≡ None) }
     ensures named { IfErr result (λ kind. kind ≢ CertFaultKind.Memory → parts_fault members.entry ≡ Some kind) }
 {
     let Fields { propagate, known } = fields_of(alloc, Place::Certificate, members)?;

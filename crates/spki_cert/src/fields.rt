@@ -73,7 +73,6 @@ fn from_tag_fault(fault: TagFault) -> CertFaultKind
 /// exactly one member.
 fn tag_in(alloc: Global, members: Members) -> Result<Tag, CertFaultKind>
     ensures found { IfOk result (λ tag. Sole ReadsAs members.entry tag) }
-    ensures faultless { IfOk result (λ _. sole_fault CertFaultKind.Shape kind_of_tag members.entry ≡ None) }
     ensures named { IfErr result (λ kind. kind ≢ CertFaultKind.Memory → sole_fault CertFaultKind.Shape kind_of_tag members.entry ≡ Some kind) }
 {
     let Some((value, more)) = members.split_first() else {
@@ -95,7 +94,6 @@ fn tag_in(alloc: Global, members: Members) -> Result<Tag, CertFaultKind>
 /// is not exactly one member.
 fn issuer_in<'a>(members: Members<'_, 'a>) -> Result<Issuer<'a>, CertFaultKind>
     ensures found { IfOk result (λ issuer. IssuerAt members.entry issuer) }
-    ensures faultless { IfOk result (λ _. sole_fault CertFaultKind.Shape issuer_fault members.entry ≡ None) }
     ensures named { IfErr result (λ kind. sole_fault CertFaultKind.Shape issuer_fault members.entry ≡ Some kind) }
     ensures fault { IfErr result (λ kind. kind ≢ CertFaultKind.Memory) }
 {
@@ -114,7 +112,6 @@ fn issuer_in<'a>(members: Members<'_, 'a>) -> Result<Issuer<'a>, CertFaultKind>
 /// there is not exactly one member.
 fn subject_in<'a>(alloc: Global, members: Members<'_, 'a>) -> Result<Who<'a>, CertFaultKind>
     ensures found { IfOk result (λ who. WhoAt members.entry who) }
-    ensures faultless { IfOk result (λ _. sole_fault CertFaultKind.Shape subject_fault members.entry ≡ None) }
     ensures named { IfErr result (λ kind. kind ≢ CertFaultKind.Memory → sole_fault CertFaultKind.Shape subject_fault members.entry ≡ Some kind) }
 {
     let Some((value, more)) = members.split_first() else {

@@ -81,7 +81,6 @@ fn names_behind<'a>(
 /// they are none: `Shape` if there is no name.
 fn read_name_members<'a>(alloc: Global, members: Members<'_, 'a>) -> Result<Who<'a>, CertFaultKind>
     ensures found { IfOk result (λ who. NamesWho members.entry who.principal who.names.items) }
-    ensures faultless { IfOk result (λ _. names_fault members.entry ≡ None) }
     ensures named { IfErr result (λ kind. kind ≢ CertFaultKind.Memory → names_fault members.entry ≡ Some kind) }
 {
     let Some((first, others)) = members.split_first() else {
@@ -114,7 +113,6 @@ pub(crate) fn written_subject_of<'a>(
     node: &Node<'_, 'a>,
 ) -> Result<Who<'a>, CertFaultKind>
     ensures found { IfOk result (λ who. WhoOf node.now who.principal who.names.items) }
-    ensures faultless { IfOk result (λ _. subject_fault node.now ≡ None) }
     ensures named { IfErr result (λ kind. kind ≢ CertFaultKind.Memory → subject_fault node.now ≡ Some kind) }
 {
     if let Some(_) = node.headed(b"k-of-n") {
@@ -136,7 +134,6 @@ pub(crate) fn written_subject_of<'a>(
 /// Reads an issuer from its node: a principal, or `(name PRINCIPAL N)` with exactly one name. Err is its fault.
 pub(crate) fn issuer_of<'a>(node: &Node<'_, 'a>) -> Result<Issuer<'a>, CertFaultKind>
     ensures found { IfOk result (λ issuer. IssuerOf node.now issuer.principal issuer.name) }
-    ensures faultless { IfOk result (λ _. issuer_fault node.now ≡ None) }
     ensures named { IfErr result (λ kind. issuer_fault node.now ≡ Some kind) }
     ensures fault { IfErr result (λ kind. kind ≢ CertFaultKind.Memory) }
 {

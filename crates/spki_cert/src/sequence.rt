@@ -49,7 +49,6 @@ fn item_of<'a>(alloc: Global, node: &Node<'_, 'a>) -> Result<SeqItem<'a>, CertFa
 /// signature. Err is `StraySignature` for a signature if there is none, or `UnsignedCert` if anything but a signature
 /// or an operation follows it.
 fn check_place(node: &Node, waits: Option<usize>, number: usize) -> Result<(), CertFault>
-    ensures found { IfOk result (λ _. IsInPlace (is_some waits) node.now) }
     ensures faultless { IfOk result (λ _. place_fault waits number node.now ≡ None) }
     ensures named { IfErr result (λ fault. place_fault waits number node.now ≡ Some fault) }
 {

@@ -11,7 +11,6 @@ use sexpr_core::syntax::{Members, NodeKind};
 /// other string, otherwise `Shape`.
 pub(crate) fn check_version(members: Members) -> Result<(), CertFaultKind>
     ensures found { IfOk result (λ _. members.entry ≡ plain (codes "0") ∷ []) }
-    ensures faultless { IfOk result (λ _. sole_fault CertFaultKind.Shape version_fault members.entry ≡ None) }
     ensures named { IfErr result (λ kind. sole_fault CertFaultKind.Shape version_fault members.entry ≡ Some kind) }
 {
     let Some((number, more)) = members.split_first() else {

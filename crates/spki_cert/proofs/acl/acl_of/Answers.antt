@@ -1,15 +1,16 @@
 use Rattle.std.proofs.Common.{rules}
 use Rattle.spki_cert.proofs.EntryFaultLaws.{acl-read, acl-entries, acl-outer}
+use Rattle.spki_cert.proofs.EntryFaultNone.{outer-well}
 use Rattle.spki_cert.proofs.acl.acl_of.Goals as goal
 
 pub returns-in-Ok-clause-acl : goal.returns-in-Ok-clause-acl
 returns-in-Ok-clause-acl c = search (rules, acl-read)
 
 pub returns-in-Ok-clause-named : goal.returns-in-Ok-clause-named
-returns-in-Ok-clause-named c = search (rules, acl-entries)
+returns-in-Ok-clause-named c = search (rules, acl-entries, outer-well)
 
 pub returns-in-Ok-clause-faultless : goal.returns-in-Ok-clause-faultless
-returns-in-Ok-clause-faultless c = search (rules, acl-entries)
+returns-in-Ok-clause-faultless c = search (rules, acl-entries, outer-well)
 
 pub returns-in-Err-clause-named : goal.returns-in-Err-clause-named
 returns-in-Err-clause-named c = λ _. acl-outer c.args.node.now c.in-Err.kind c.in-Err.ensures.named

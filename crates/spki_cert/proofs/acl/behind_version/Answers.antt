@@ -1,7 +1,7 @@
 use Rattle.sexpr_core.specs.Value.{plain}
 use Rattle.std.proofs.Common.{◌∙◌}
 use Rattle.std.specs.Prelude.{codes}
-use Rattle.spki_cert.proofs.Looking.{carried, same_others, headed-by, not-headed, behind-group}
+use Rattle.spki_cert.proofs.Looking.{carried, same_others, headed-by, behind-group}
 use Rattle.spki_cert.proofs.EntryFaultLaws.{unversioned, outer-unheaded, outer-form}
 use Rattle.spki_cert.proofs.acl.behind_version.Goals as goal
 
@@ -15,24 +15,9 @@ returns-in_default-headed-2-clause-found c =
 pub returns-in_default-clause-named : goal.returns-in_default-clause-named
 returns-in_default-clause-named c = outer-unheaded c.args.node.now c.in_default.ensures
 
-pub returns-in_default-split_first-clause-faultless : goal.returns-in_default-split_first-clause-faultless
-returns-in_default-split_first-clause-faultless c = outer-form c.args.node.now _ c.in-Some-headed.ensures ∙ rw c.in_default-split_first.ensures
-
-pub returns-in_default-headed-2-clause-faultless : goal.returns-in_default-headed-2-clause-faultless
-returns-in_default-headed-2-clause-faultless c =
-    let other = not-headed (codes "version") _ c.in_default-headed-2.ensures in
-    outer-form c.args.node.now _ c.in-Some-headed.ensures ∙ rw (c.in-Some-split_first.ensures, other)
-
 pub returns-in_err-check_version-clause-named : goal.returns-in_err-check_version-clause-named
 returns-in_err-check_version-clause-named c =
     let headed = headed-by _ (codes "version") _ c.in-Some-headed-2.ensures in
     let behind = behind-group _ (plain (codes "version")) _ c.in-Some-headed-2.ensures in
     carried _ _ _ c.from_residual.ensures.1
     (outer-form c.args.node.now _ c.in-Some-headed.ensures ∙ rw (c.in-Some-split_first.ensures, headed, behind, c.in_err-check_version.ensures.named))
-
-pub returns-clause-faultless : goal.returns-clause-faultless
-returns-clause-faultless c =
-    let headed = headed-by _ (codes "version") _ c.in-Some-headed-2.ensures in
-    let behind = behind-group _ (plain (codes "version")) _ c.in-Some-headed-2.ensures in
-    outer-form c.args.node.now _ c.in-Some-headed.ensures
-    ∙ rw (c.in-Some-split_first.ensures, headed, behind, c.in_ok-check_version.ensures.faultless)

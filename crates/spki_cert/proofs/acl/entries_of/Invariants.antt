@@ -1,14 +1,15 @@
-use Rattle.std.proofs.Common.{◌≡◌, ◌++◌, List, length}
+use Rattle.std.proofs.Common.{◌≡◌, ◌+◌, ◌++◌, List, length}
 use Rattle.std.specs.List.{AllZip}
-use Rattle.sexpr_core.specs.Value.{Value}
+use Rattle.spki_tag.specs.Faults.{first_fault}
+use Rattle.spki_cert.specs.declared.entry.Entry.{Entry}
 use Rattle.spki_cert.specs.Structures.{EntryOf}
-use Rattle.spki_cert.specs.StructureFaults.{entry_fault}
-use Rattle.spki_cert.proofs.EntryFaultLaws.{LeftItems}
+use Rattle.spki_cert.specs.StructureFaults.{entry_fault, each_looked, entries_fault}
 use Rattle.spki_cert.proofs.acl.entries_of.Given as goal
 
+-- what is read of the rest stands behind the entries so far, and the first fault is that among the rest
 abbrev pub invariant-loop-member : goal.invariant-loop-member
-invariant-loop-member l = (seen : List Value) × (l.fn.members ≡ seen ++ l.rest) × AllZip EntryOf seen l.entries.items
-    × LeftItems entry_fault l.fn.members seen l.rest
+invariant-loop-member l = ((es : List Entry) → AllZip EntryOf l.rest es → AllZip EntryOf l.fn.members (l.entries.items ++ es))
+    × (entries_fault l.fn.members ≡ first_fault (each_looked entry_fault (length l.entries.items + 1) l.rest))
 
 abbrev pub decreases-loop-member : goal.decreases-loop-member
 decreases-loop-member l = length l.rest

@@ -4,6 +4,7 @@ use Rattle.spki_cert.specs.declared.fault.CertFaultKind.TheVariants.{Memory}
 use Rattle.spki_cert.proofs.Looking.{carried}
 use Rattle.std.proofs.lemmas.Result.{IfErr-weaker}
 use Rattle.spki_cert.proofs.EntryFaultNone.{entry-refused}
+use Rattle.spki_cert.proofs.SubjectFaultNone.{entry_subject-none}
 use Rattle.std.specs.Prelude.{is_some}
 use Rattle.spki_tag.specs.Tag as tags
 use Rattle.spki_cert.specs.StructureFaults.{entry_fault}
@@ -28,25 +29,25 @@ pub returns-in_err-propagate-clause-named : goal.returns-in_err-propagate-clause
 returns-in_err-propagate-clause-named c =
     carried c.from_residual-in_err-propagate.result _ (λ (kind : CertFaultKind). kind ≢ Memory → entry_fault c.args.node.now ≡ Some kind) c.from_residual-in_err-propagate.ensures.1
     (λ known. entry-looked c.args.node.now _ _ c.in-Some-split_first.rest _ _ _ _ c.in-Some.ensures c.in-Some-split_first.ensures
-    c.in_ok-subject.ensures.faultless (c.in_err-propagate.ensures.named known) refl refl)
+    ((entry_subject-none _).1 (_, c.in_ok-subject.ensures.found)) (c.in_err-propagate.ensures.named known) refl refl)
 
 pub returns-in_default-one_way-clause-named : goal.returns-in_default-one_way-clause-named
 returns-in_default-one_way-clause-named c = λ _.
     entry-looked c.args.node.now _ _ c.in-Some-split_first.rest _ _ _ _ c.in-Some.ensures c.in-Some-split_first.ensures
-    c.in_ok-subject.ensures.faultless c.in_ok-propagate.ensures.faultless
+    ((entry_subject-none _).1 (_, c.in_ok-subject.ensures.found)) c.in_ok-propagate.ensures.faultless
     (both-ways c.in-Some-split_first.rest c.in_ok-propagate.field-0.known c.in_ok-propagate.ensures.found.1 c.in_default-one_way.ensures) refl
 
 pub returns-in_default-tag-clause-named : goal.returns-in_default-tag-clause-named
 returns-in_default-tag-clause-named c = λ _.
     entry-looked c.args.node.now _ _ c.in-Some-split_first.rest _ _ _ _ c.in-Some.ensures c.in-Some-split_first.ensures
-    c.in_ok-subject.ensures.faultless c.in_ok-propagate.ensures.faultless
+    ((entry_subject-none _).1 (_, c.in_ok-subject.ensures.found)) c.in_ok-propagate.ensures.faultless
     (one-way c.in-Some-split_first.rest c.in_ok-propagate.field-0.known _ c.in_ok-propagate.ensures.found.1 c.in-Some-one_way.ensures)
     (has-tag c.in-Some-split_first.rest c.in_ok-propagate.field-0.known c.in_ok-propagate.ensures.found.1 ∙ ap (λ (t : Option tags.Tag). is_some t) c.in_default-tag.is)
 
 pub returns-clause-faultless : goal.returns-clause-faultless
 returns-clause-faultless c =
     entry-looked c.args.node.now _ _ c.in-Some-split_first.rest _ _ _ _ c.in-Some.ensures c.in-Some-split_first.ensures
-    c.in_ok-subject.ensures.faultless c.in_ok-propagate.ensures.faultless
+    ((entry_subject-none _).1 (_, c.in_ok-subject.ensures.found)) c.in_ok-propagate.ensures.faultless
     (one-way c.in-Some-split_first.rest c.in_ok-propagate.field-0.known _ c.in_ok-propagate.ensures.found.1 c.in-Some-one_way.ensures)
     (has-tag c.in-Some-split_first.rest c.in_ok-propagate.field-0.known c.in_ok-propagate.ensures.found.1 ∙ ap (λ (t : Option tags.Tag). is_some t) c.in-Some-tag.is)
 

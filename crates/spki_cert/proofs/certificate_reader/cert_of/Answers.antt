@@ -1,11 +1,12 @@
-use Rattle.std.proofs.Common.{◌≢◌, Option, ℕ, List, ◌≡◌, Some, None, true, false, refl, ap}
+use Rattle.std.proofs.Common.{◌≢◌, Option, ℕ, List, ◌≡◌, Some, true, false, refl, ap}
 use Rattle.spki_tag.specs.Tag as tags
 use Rattle.spki_cert.specs.declared.fault.CertFaultKind.{CertFaultKind}
 use Rattle.spki_cert.specs.declared.fault.CertFaultKind.TheVariants.{Memory}
 use Rattle.spki_cert.proofs.Looking.{carried}
 use Rattle.std.specs.Prelude.{is_some}
 use Rattle.spki_cert.specs.StructureFaults.{cert_fault}
-use Rattle.spki_cert.proofs.SequenceFaultLaws.{cert-unheaded, cert-looked, tagged-right}
+use Rattle.spki_cert.proofs.SequenceFaultLaws.{cert-unheaded, cert-looked}
+use Rattle.spki_cert.proofs.SequenceFaultNone.{cert-parts}
 use Rattle.spki_cert.proofs.certificate_reader.cert_of.Goals as goal
 
 pub returns-in_default-clause-named : goal.returns-in_default-clause-named
@@ -18,18 +19,15 @@ returns-in_err-issuer-clause-named c =
 
 pub returns-in-None-None-clause-named : goal.returns-in-None-None-clause-named
 returns-in-None-None-clause-named c = λ _.
-    cert-looked c.args.node.now c.in-Some.members None false c.in-Some.ensures c.in_ok-issuer.ensures.faultless
-    (tagged-right c.in-Some.members c.in_ok-issuer.field-0 false false c.in_ok-issuer.field-0.propagate c.in_ok-issuer.ensures.found
-    (ap (λ (x : Option (List ℕ)). is_some x) c.in-None-None.is-0) (ap (λ (x : Option tags.Tag). is_some x) c.in-None-None.is-1) refl)
+    cert-parts c.args.node.now c.in-Some.members c.in_ok-issuer.field-0 false false c.in_ok-issuer.field-0.propagate c.in-Some.ensures c.in_ok-issuer.ensures.found
+    (ap (λ (x : Option (List ℕ)). is_some x) c.in-None-None.is-0) (ap (λ (x : Option tags.Tag). is_some x) c.in-None-None.is-1) refl
 
 pub returns-then-propagate-clause-named : goal.returns-then-propagate-clause-named
 returns-then-propagate-clause-named c = λ _.
-    cert-looked c.args.node.now c.in-Some.members None false c.in-Some.ensures c.in_ok-issuer.ensures.faultless
-    (tagged-right c.in-Some.members c.in_ok-issuer.field-0 true false true c.in_ok-issuer.ensures.found
-    (ap (λ (x : Option (List ℕ)). is_some x) c.in-Some-None.is-0) (ap (λ (x : Option tags.Tag). is_some x) c.in-Some-None.is-1) c.if-propagate.true)
+    cert-parts c.args.node.now c.in-Some.members c.in_ok-issuer.field-0 true false true c.in-Some.ensures c.in_ok-issuer.ensures.found
+    (ap (λ (x : Option (List ℕ)). is_some x) c.in-Some-None.is-0) (ap (λ (x : Option tags.Tag). is_some x) c.in-Some-None.is-1) c.if-propagate.true
 
 pub returns-clause-named : goal.returns-clause-named
 returns-clause-named c = λ _.
-    cert-looked c.args.node.now c.in-Some.members None false c.in-Some.ensures c.in_ok-issuer.ensures.faultless
-    (tagged-right c.in-Some.members c.in_ok-issuer.field-0 true true c.in_ok-issuer.field-0.propagate c.in_ok-issuer.ensures.found
-    (ap (λ (x : Option (List ℕ)). is_some x) c.in-Some-Some.is-0) (ap (λ (x : Option tags.Tag). is_some x) c.in-Some-Some.is-1) refl)
+    cert-parts c.args.node.now c.in-Some.members c.in_ok-issuer.field-0 true true c.in_ok-issuer.field-0.propagate c.in-Some.ensures c.in_ok-issuer.ensures.found
+    (ap (λ (x : Option (List ℕ)). is_some x) c.in-Some-Some.is-0) (ap (λ (x : Option tags.Tag). is_some x) c.in-Some-Some.is-1) refl

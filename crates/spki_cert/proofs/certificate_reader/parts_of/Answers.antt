@@ -23,9 +23,3 @@ returns-in_default-subject-clause-named c = λ _.
     let known = c.in_ok-propagate.ensures.found.1 in
     parts-known c.args.members _ false _ None known c.in_ok-propagate.ensures.faultless (one-way c.args.members _ _ known c.in-Some.ensures)
     c.in-Some-issuer.is c.in_default-subject.is
-
-pub returns-clause-faultless : goal.returns-clause-faultless
-returns-clause-faultless c =
-    let known = c.in_ok-propagate.ensures.found.1 in
-    parts-known c.args.members _ false _ _ known c.in_ok-propagate.ensures.faultless (one-way c.args.members _ _ known c.in-Some.ensures)
-    c.in-Some-issuer.is c.in-Some-subject.is

@@ -4,13 +4,14 @@ use Rattle.sexpr_core.specs.Value.{Value}
 use Rattle.spki_cert.specs.declared.fault.CertFaultKind.TheVariants.{Shape}
 use Rattle.spki_cert.specs.FieldFaults.{unless_none}
 use Rattle.spki_cert.proofs.FieldFaultLaws.{entry-tag_field, entry-propagate, entry-comment, entry-time}
+use Rattle.spki_cert.proofs.FieldFaultNone.{tags-none}
 use Rattle.spki_cert.proofs.fields.read_common_field.Goals as goal
 
 pub returns-in_err-tag_in-clause-named : goal.returns-in_err-tag_in-clause-named
 returns-in_err-tag_in-clause-named c = search (rules, carried, entry-tag_field)
 
 pub returns-in-Some-clause-faultless : goal.returns-in-Some-clause-faultless
-returns-in-Some-clause-faultless c = entry-tag_field c.args.field.now _ c.in-Some.ensures ∙ c.in_ok-tag_in.ensures.faultless
+returns-in-Some-clause-faultless c = entry-tag_field c.args.field.now _ c.in-Some.ensures ∙ (tags-none _).1 (_, c.in_ok-tag_in.ensures.found)
 
 pub returns-then-is_empty-clause-faultless : goal.returns-then-is_empty-clause-faultless
 returns-then-is_empty-clause-faultless c =

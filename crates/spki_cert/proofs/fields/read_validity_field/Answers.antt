@@ -1,6 +1,5 @@
 use Rattle.std.proofs.Common.{◌∙◌, rules}
-use Rattle.spki_cert.proofs.Looking.{carried, not-headed}
-use Rattle.spki_cert.proofs.SubjectFaultLaws.{headed-else}
+use Rattle.spki_cert.proofs.Looking.{carried, not-headed, headed-else}
 use Rattle.spki_cert.proofs.FieldFaultLaws.{time-valid as time-valid_field, time-limit, limit-first, limit-last, limit-online, limit-other}
 use Rattle.spki_cert.proofs.fields.read_validity_field.Goals as goal
 

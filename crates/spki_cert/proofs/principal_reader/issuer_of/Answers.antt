@@ -1,15 +1,12 @@
 use Rattle.spki_cert.specs.declared.fault.CertFaultKind.TheVariants.{Shape}
 use Rattle.spki_cert.proofs.Looking.{carried, no-plain, none-some}
-use Rattle.std.proofs.Common.{◌∙◌, arith, rules}
-use Rattle.spki_cert.specs.FieldFaults.{issuer_fault, any_octets}
+use Rattle.std.proofs.Common.{◌∙◌, rules}
+use Rattle.spki_cert.specs.FieldFaults.{any_octets}
 use Rattle.spki_cert.proofs.SubjectFaultLaws.{issuer-principal, issuer-form}
 use Rattle.spki_cert.proofs.principal_reader.issuer_of.Goals as goal
 
 pub returns-in_err-principal-clause-named : goal.returns-in_err-principal-clause-named
 returns-in_err-principal-clause-named c = search (rules, carried, issuer-principal)
-
-pub returns-in_default-clause-faultless : goal.returns-in_default-clause-faultless
-returns-in_default-clause-faultless c = issuer-principal c.args.node.now _ c.in_default.ensures c.in_ok-principal.ensures.faultless
 
 pub returns-in_default-split_first-clause-named : goal.returns-in_default-split_first-clause-named
 returns-in_default-split_first-clause-named c = issuer-form c.args.node.now _ c.in-Some.ensures ∙ rw c.in_default-split_first.ensures
@@ -35,7 +32,3 @@ returns-then-not-is_empty-clause-named c =
     let some = none-some c.in-Some-split_first-2.more Shape (λ e. absurd (let f = c.if-not-is_empty.ensures.1 e in cc)) in
     issuer-form c.args.node.now _ c.in-Some.ensures
     ∙ rw (c.in-Some-split_first.ensures, c.in_ok-principal-2.ensures.faultless, c.in-Some-split_first-2.ensures, c.in-Some-plain_octets.ensures, some)
-
-pub returns-clause-faultless : goal.returns-clause-faultless
-unfolding issuer_fault
-returns-clause-faultless c = grind (arith, issuer-form)

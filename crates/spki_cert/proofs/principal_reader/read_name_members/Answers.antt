@@ -1,5 +1,5 @@
 use Rattle.spki_cert.proofs.Looking.{carried, no-plain}
-use Rattle.spki_cert.proofs.SubjectFaultLaws.{principal-names, some-names, are-plains}
+use Rattle.spki_cert.proofs.SubjectFaultLaws.{principal-names, some-names}
 use Rattle.std.proofs.Common.{arith, ◌++◌, ◌∙◌, ap, List, ℕ, rules}
 use Rattle.spki_cert.specs.FieldFaults.{names_fault}
 use Rattle.spki_cert.proofs.principal_reader.read_name_members.Goals as goal
@@ -18,10 +18,6 @@ pub returns-in_err-names-clause-named : goal.returns-in_err-names-clause-named
 unfolding names_fault
 returns-in_err-names-clause-named c = search (rules, carried)
 
-pub returns-in-Some-plain_octets-clause-faultless : goal.returns-in-Some-plain_octets-clause-faultless
-unfolding names_fault
-returns-in-Some-plain_octets-clause-faultless c = search (rules, are-plains)
-
 pub returns-in_err-principal-clause-named : goal.returns-in_err-principal-clause-named
 unfolding names_fault
 returns-in_err-principal-clause-named c = search (rules, carried, no-plain)
@@ -33,7 +29,3 @@ returns-then-is_empty-clause-named c = λ _. grind (arith, no-plain)
 pub returns-in_err-names-2-clause-named : goal.returns-in_err-names-2-clause-named
 unfolding names_fault
 returns-in_err-names-2-clause-named c = grind (arith, carried, some-names, no-plain)
-
-pub returns-clause-faultless : goal.returns-clause-faultless
-unfolding names_fault
-returns-clause-faultless c = grind (arith, are-plains, some-names, no-plain)

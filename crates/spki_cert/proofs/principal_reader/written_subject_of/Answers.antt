@@ -13,12 +13,6 @@ returns-in-Some-headed-clause-named c = λ _. subject-keyholder c.args.node.now 
 pub returns-in_err-principal-clause-named : goal.returns-in_err-principal-clause-named
 returns-in_err-principal-clause-named c = search (rules, carried, subject-principal)
 
-pub returns-in_default-headed-2-clause-faultless : goal.returns-in_default-headed-2-clause-faultless
-returns-in_default-headed-2-clause-faultless c = search (rules, subject-principal)
-
-pub returns-clause-faultless : goal.returns-clause-faultless
-returns-clause-faultless c = search (rules, subject-names)
-
 pub returns-clause-named : goal.returns-clause-named
 returns-clause-named c =
     IfErr-weaker c.read_name_members.result _ _ (λ kind named known. subject-names c.args.node.now _ _ c.in-Some-headed-2.ensures (named known)) c.read_name_members.ensures.named

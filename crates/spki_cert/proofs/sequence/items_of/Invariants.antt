@@ -1,15 +1,15 @@
-use Rattle.std.proofs.Common.{◌≡◌, ◌++◌, List, length, false}
+use Rattle.std.proofs.Common.{◌≡◌, ◌+◌, ◌++◌, List, length}
 use Rattle.std.specs.List.{AllZip}
-use Rattle.sexpr_core.specs.Value.{Value}
-use Rattle.spki_cert.specs.Structures.{ItemOf, AreInPlace}
-use Rattle.spki_cert.specs.Inner.Gathering.{Waits}
-use Rattle.spki_cert.proofs.SequenceFaultLaws.{LeftSequence}
+use Rattle.spki_tag.specs.Faults.{first_fault}
+use Rattle.spki_cert.specs.declared.certificate.SeqItem.{SeqItem}
+use Rattle.spki_cert.specs.Structures.{ItemOf}
+use Rattle.spki_cert.specs.StructureFaults.{items_looked, items_fault}
 use Rattle.spki_cert.proofs.sequence.items_of.Given as goal
 
+-- what is read of the rest stands behind the items so far, and the first fault is that among the rest
 abbrev pub invariant-loop-member : goal.invariant-loop-member
-invariant-loop-member l =
-    (seen : List Value) × (l.fn.members ≡ seen ++ l.rest) × AllZip ItemOf seen l.items.items × AreInPlace false seen × Waits seen l.waits
-    × LeftSequence l.fn.members seen l.waits l.rest
+invariant-loop-member l = ((is : List SeqItem) → AllZip ItemOf l.rest is → AllZip ItemOf l.fn.members (l.items.items ++ is))
+    × (items_fault l.fn.members ≡ first_fault (items_looked l.waits (length l.items.items + 1) l.rest))
 
 abbrev pub decreases-loop-member : goal.decreases-loop-member
 decreases-loop-member l = length l.rest

@@ -1,8 +1,7 @@
-use Rattle.std.proofs.Common.{arith, rules}
+use Rattle.std.proofs.Common.{arith}
 use Rattle.std.proofs.lemmas.Bool.{not-true}
 use Rattle.spki_cert.specs.FieldFaults.{version_fault}
 use Rattle.spki_cert.proofs.Looking.{none-some}
-use Rattle.spki_cert.proofs.FieldFaultLaws.{version-faultless}
 use Rattle.spki_cert.proofs.version.check_version.Goals as goal
 
 pub returns-in-List-clause-named : goal.returns-in-List-clause-named
@@ -16,9 +15,6 @@ returns-in-String-Some-default-clause-named c = grind arith
 pub returns-then-ne-clause-named : goal.returns-then-ne-clause-named
 unfolding version_fault
 returns-then-ne-clause-named c = grind (arith, not-true)
-
-pub returns-then-is_empty-clause-faultless : goal.returns-then-is_empty-clause-faultless
-returns-then-is_empty-clause-faultless c = version-faultless c.args.members (search rules)
 
 pub returns-else-is_empty-clause-named : goal.returns-else-is_empty-clause-named
 unfolding version_fault
