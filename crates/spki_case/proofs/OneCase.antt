@@ -105,11 +105,12 @@ case-one v c d read other =
     }
 
 -- a canonical text is that of one value
+pub one_text : (text : List ℕ) (v w : Value) → text ≡ canon v → text ≡ canon w → v ≡ w
+one_text text v w e f = (canon_one v w [] [] (ap (λ (octets : List ℕ). octets ++ []) (sym e ∙ f))).0
+
 pub text-one : (text : List ℕ) (c d : Case) → IsCaseText text c → IsCaseText text d → c ≡ d
 text-one text c d read other =
-    let same : read.value ≡ other.value =
-    (canon_one read.value other.value [] [] (ap (λ (octets : List ℕ). octets ++ []) (sym read.written ∙ other.written))).0 in
-    case-one other.value c d (subst (λ (w : Value). CaseOf w c) same read.is) other.is
+    case-one other.value c d (subst (λ (w : Value). CaseOf w c) (one_text text read.value other.value read.written other.written) read.is) other.is
 
 -- ---- a value that is no case, or no accepted list, has one fault
 
@@ -168,10 +169,6 @@ well_formed text v TooDeep within written found refused = no_refusal text TooDee
 well_formed text v Short within written found refused = no_refusal text Short v tt refused within written
 well_formed text v Memory within written found refused = found refl
 well_formed text v form within written found refused = no_refusal text form v tt refused within written
-
--- a canonical text is that of one value
-pub one_text : (text : List ℕ) (v w : Value) → text ≡ canon v → text ≡ canon w → v ≡ w
-one_text text v w e f = (canon_one v w [] [] (ap (λ (octets : List ℕ). octets ++ []) (sym e ∙ f))).0
 
 -- ---- cases
 

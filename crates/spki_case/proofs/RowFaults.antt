@@ -1,25 +1,21 @@
 -- The fault that is named of a row along the way of its reading. A value has none as a row, and the parts of a case
 -- have none, exactly where they are such.
-use Rattle.std.proofs.Common.{◌≡◌, ◌≢◌, ◌⊎◌, inl, inr, sym, ℕ, ◌+◌, length, List, [], ◌∷◌, Bool, true, false, Option, Some, None, refl, ap, ◌∙◌, rules}
+use Rattle.std.proofs.Common.{◌≡◌, ◌≢◌, inl, inr, sym, ℕ, List, true, Some, None, refl, ◌∙◌, rules}
 use Rattle.std.specs.Prelude.{codes, ◌↔◌}
-use Rattle.std.specs.Str.{bytes_eq}
 use Rattle.sexpr_core.specs.Value.{Value, canon, HasOctets}
-use Rattle.spki_tag.specs.Faults.{first_fault, unless, request_fault}
+use Rattle.spki_tag.specs.Faults.{request_fault}
 use Rattle.spki_cert.specs.declared.hash.HashAlg.{HashAlg}
-use Rattle.spki_cert.specs.declared.hash.HashAlg.TheVariants.{Sha1, Sha256, Sha512}
-use Rattle.spki_cert.specs.declared.fault.CertFaultKind.{CertFaultKind}
-use Rattle.spki_cert.specs.declared.fault.CertFaultKind.TheVariants.{HashAlg as OtherAlg}
-use Rattle.spki_cert.specs.Readings.{HashOf, alg_name}
+use Rattle.spki_cert.specs.declared.hash.HashAlg.TheVariants.{Sha256}
+use Rattle.spki_cert.specs.Readings.{HashOf}
 use Rattle.spki_cert.specs.Fields.{behind_head}
-use Rattle.spki_cert.specs.FieldFaults.{key_fault, hash_fault, date_fault}
+use Rattle.spki_cert.specs.FieldFaults.{key_fault, date_fault}
 use Rattle.spki_cert.specs.declared.fault.CertFault.{CertFault}
-use Rattle.spki_cert.proofs.EntryFaultLaws.{LeftItems, items-fault}
 use Rattle.spki_cert.proofs.SequenceFaultLaws.{IsTriple, triple-read, triple-form}
 use Rattle.spki_case.specs.Case.{begins_sha256, sha256_fault, row_fault, rows_fault, Row, Case, RowOf, Parts, acl_value, sequence_value, case_value, CaseOf, IsOuter}
 use Rattle.std.specs.List.{AllZip}
 use Rattle.spki_tag.proofs.Faultless.{request_none_exactly}
 use Rattle.spki_cert.specs.StructureFaults.{acl_fault, sequence_fault}
-use Rattle.spki_cert.proofs.Looking.{none-found}
+use Rattle.spki_cert.proofs.Looking.{Reads, none-found, unless-none, behind-group}
 use Rattle.spki_cert.proofs.SubjectFaultNone.{key-none, hash-none, date-none}
 use Rattle.spki_cert.proofs.EntryFaultNone.{each-none, acl-none}
 use Rattle.spki_cert.proofs.SequenceFaultNone.{sequence-none}
@@ -31,79 +27,31 @@ use Rattle.spki_case.specs.RowsForm.{accepted_value, NoRows}
 
 -- ---- the fault that is named of a row, along the way of its reading
 
--- ---- hashes
-
-abbrev looked : Option CertFaultKind → Bool → Option CertFaultKind
-looked found sha256 = first_fault (found ∷ unless sha256 OtherAlg ∷ [])
-
-pub sha256-hash : (v : Value) (kind : CertFaultKind) → hash_fault v ≡ Some kind → sha256_fault v ≡ Some kind
-unfolding sha256_fault
-sha256-hash v kind e = ap (λ (x : Option CertFaultKind). looked x (begins_sha256 (behind_head v))) e
-
-abbrev by_sha256 : HashAlg → Bool
-by_sha256 alg = bytes_eq (alg_name alg) (codes "sha256")
-
-sha256-tested : (v : Value) (alg : HashAlg) (digest : List ℕ) (b : Bool) → hash_fault v ≡ None → HashOf v alg digest → by_sha256 alg ≡ b → sha256_fault v ≡ looked None b
-unfolding sha256_fault
-sha256-tested v alg digest b e read f = search rules
-
-pub sha256-whole : (v : Value) (alg : HashAlg) (digest : List ℕ) → hash_fault v ≡ None → HashOf v alg digest → alg ≡ Sha256 → sha256_fault v ≡ None
-sha256-whole v alg digest e read f = sha256-tested v alg digest true e read (ap by_sha256 f)
-
-pub sha256-other : (v : Value) (alg : HashAlg) (digest : List ℕ) → hash_fault v ≡ None → HashOf v alg digest → alg ≢ Sha256 → sha256_fault v ≡ Some OtherAlg
-sha256-other v Sha1 digest e read other = sha256-tested v Sha1 digest false e read refl
-sha256-other v Sha256 digest e read other = absurd (other refl)
-sha256-other v Sha512 digest e read other = sha256-tested v Sha512 digest false e read refl
-
-pub not-sha256 : (alg : HashAlg) → (alg ≡ Sha1) ⊎ (alg ≡ Sha512) → alg ≢ Sha256
-not-sha256 alg (inl e) f = absurd (let g : Sha1 ≡ Sha256 = sym e ∙ f in cc)
-not-sha256 alg (inr e) f = absurd (let g : Sha512 ≡ Sha256 = sym e ∙ f in cc)
-
 -- ---- rows
 
 pub row-looks : IsTriple (codes "by") row_fault key_fault sha256_fault
 unfolding row_fault
 row-looks = record { looked = λ v. refl }
 
--- ---- rows one after the other
-
-pub first-row : (all before rest others : List Value) (v : Value) (fault : CertFault) → LeftItems row_fault all before rest → rest ≡ v ∷ others
-    → row_fault v ≡ Some fault.kind → length before + 1 ≡ fault.item → rows_fault all ≡ Some fault
-unfolding rows_fault
-first-row all before rest others v fault left e f g = items-fault row_fault all before rest others v fault left e f g
-
 -- ---- a value has no fault as a row, and the parts of a case have none, exactly where they are such
 
 -- ---- hashes
 
-abbrev SomeDigest : Value → Type 0
-SomeDigest v = (digest : List ℕ) × HashOf v Sha256 digest
+digest-of : (v : Value) (alg : HashAlg) (digest : List ℕ) → HashOf v alg digest → begins_sha256 (behind_head v) ≡ true → Reads (λ w d. HashOf w Sha256 d) v
+digest-of v Sha256 digest read e = (digest, read)
+digest-of v alg digest read e = absurd (search (rules, behind-group))
 
-other-alg : (v : Value) (alg : HashAlg) → sha256_fault v ≡ None → sha256_fault v ≡ Some OtherAlg → SomeDigest v
-other-alg v alg e f = absurd (let g = sym e ∙ f in cc)
-
-digest-of : (v : Value) (alg : HashAlg) (digest : List ℕ) → hash_fault v ≡ None → HashOf v alg digest → sha256_fault v ≡ None → SomeDigest v
-digest-of v Sha1 digest e read f = other-alg v Sha1 f (sha256-other v Sha1 digest e read (λ g. absurd (cc)))
-digest-of v Sha256 digest e read f = (digest, read)
-digest-of v Sha512 digest e read f = other-alg v Sha512 f (sha256-other v Sha512 digest e read (λ g. absurd (cc)))
-
-sha256-read : (v : Value) → sha256_fault v ≡ None → SomeDigest v
+pub sha256-none : (v : Value) → (sha256_fault v ≡ None) ↔ Reads (λ w d. HashOf w Sha256 d) v
 unfolding sha256_fault
-sha256-read v e = search (rules, none-found, hash-none, digest-of)
-
-sha256-faultless : (v : Value) (digest : List ℕ) → HashOf v Sha256 digest → sha256_fault v ≡ None
-sha256-faultless v digest read = sha256-whole v Sha256 digest ((hash-none v).1 (Sha256, digest, read)) read refl
+sha256-none v = (λ e. search (rules, none-found, unless-none, hash-none, digest-of), λ some. search (rules, hash-none, behind-group))
 
 -- ---- rows
 
-abbrev SomeRow : Value → Type 0
-SomeRow v = (row : Row) × RowOf v row
-
-row-read : (v : Value) → row_fault v ≡ None → SomeRow v
+row-read : (v : Value) → row_fault v ≡ None → Reads RowOf v
 row-read v e =
     let three = triple-read row-looks v e in
     let octets = (key-none three.first).0 three.first_is in
-    let digest = sha256-read three.second three.second_is in (
+    let digest = (sha256-none three.second).0 three.second_is in (
       record { key = octets.0; digest = digest.0; value = canon three.third },
       record {
         key = three.first;
@@ -116,16 +64,11 @@ row-read v e =
       },
     )
 
-row-faultless : (v : Value) (row : Row) → RowOf v row → row_fault v ≡ None
+pub row-none : (v : Value) → (row_fault v ≡ None) ↔ Reads RowOf v
 unfolding row_fault
-row-faultless v row read =
-    let key = (key-none read.key).1 (row.key, read.key_is) in let hash = sha256-faultless read.hash row.digest read.digest_is in
-    search (rules, triple-form row-looks)
+row-none v = (row-read v, λ some. search (rules, key-none, sha256-none, triple-form row-looks))
 
-pub row-none : (v : Value) → (row_fault v ≡ None) ↔ SomeRow v
-row-none v = (row-read v, λ some. row-faultless v some.0 some.1)
-
-pub rows-none : (vs : List Value) → (rows_fault vs ≡ None) ↔ ((rows : List Row) × AllZip RowOf vs rows)
+pub rows-none : (vs : List Value) → (rows_fault vs ≡ None) ↔ Reads (AllZip RowOf) vs
 unfolding rows_fault
 rows-none vs = each-none row_fault RowOf row-none 1 vs
 

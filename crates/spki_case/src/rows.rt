@@ -80,7 +80,6 @@ fn fault_of_row(fault: CertFault) -> RowsFault
 /// of KEY or of HASH, or `Shape`, the first from the left. Allocates nothing.
 fn row_at<'a>(node: &Node<'_, 'a>) -> Result<Row<'a>, CertFaultKind>
     ensures row { IfOk result (λ row. RowOf node.now (row_of row)) }
-    ensures faultless { IfOk result (λ _. row_fault node.now ≡ None) }
     ensures named { IfErr result (λ kind. row_fault node.now ≡ Some kind) }
 {
     let Some(rest) = node.headed(b"by") else {
@@ -111,7 +110,6 @@ fn row_at<'a>(node: &Node<'_, 'a>) -> Result<Row<'a>, CertFaultKind>
 /// hash by SHA-1 or SHA-512.
 fn sha256_of<'a>(node: &Node<'_, 'a>) -> Result<Octets<'a>, CertFaultKind>
     ensures digest { IfOk result (λ digest. HashOf node.now HashAlg.Sha256 digest) }
-    ensures faultless { IfOk result (λ _. sha256_fault node.now ≡ None) }
     ensures named { IfErr result (λ kind. sha256_fault node.now ≡ Some kind) }
 {
     let (alg, digest) = hash_of(node)?;

@@ -1,14 +1,15 @@
-use Rattle.std.proofs.Common.{◌≡◌, ◌++◌, List, map, length}
+use Rattle.std.proofs.Common.{◌≡◌, ◌+◌, ◌++◌, List, map, length}
 use Rattle.std.specs.List.{AllZip}
-use Rattle.sexpr_core.specs.Value.{Value}
-use Rattle.spki_case.specs.Case.{RowOf, row_fault}
+use Rattle.spki_tag.specs.Faults.{first_fault}
+use Rattle.spki_cert.specs.StructureFaults.{each_looked}
+use Rattle.spki_case.specs.Case.{Row, RowOf, row_fault, rows_fault}
 use Rattle.spki_case.specs.View.{row_of}
-use Rattle.spki_cert.proofs.EntryFaultLaws.{LeftItems}
 use Rattle.spki_case.proofs.rows.read_rows.Given as goal
 
+-- what is read of the rest stands behind the rows so far, and the first fault is that among the rest
 abbrev pub invariant-loop-member : goal.invariant-loop-member
-invariant-loop-member l = (seen : List Value) × (l.fn.members ≡ seen ++ l.rest) × AllZip RowOf seen (map row_of l.rows.items)
-    × LeftItems row_fault l.fn.members seen l.rest
+invariant-loop-member l = ((rows : List Row) → AllZip RowOf l.rest rows → AllZip RowOf l.fn.members (map row_of l.rows.items ++ rows))
+    × (rows_fault l.fn.members ≡ first_fault (each_looked row_fault (length l.rows.items + 1) l.rest))
 
 abbrev pub decreases-loop-member : goal.decreases-loop-member
 decreases-loop-member l = length l.rest
