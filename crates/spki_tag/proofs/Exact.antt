@@ -1,11 +1,11 @@
 -- What two tags leave together contains a request exactly if both do.
-use Rattle.std.proofs.Common.{◌≡◌, ℕ, Bool, true, false, ◌&&◌, ◌||◌, not, List, [], ◌∷◌, ◌++◌, length, Option, Some, None, refl, sym, ap, ◌∙◌, subst, true≢false, arith, eqb-true, rules}
+use Rattle.std.proofs.Common.{◌≡◌, inl, inr, ℕ, Bool, true, false, ◌&&◌, ◌||◌, not, List, [], ◌∷◌, ◌++◌, length, Option, Some, None, refl, sym, ap, ◌∙◌, subst, true≢false, arith, eqb-true, rules}
 use Rattle.std.specs.Prelude.{if◌then◌else◌, nat_eq}
 use Rattle.std.specs.List.{starts_with}
 use Rattle.std.specs.Str.{bytes_eq}
 use Rattle.std.specs.Cmp.Lexicographic.{same_text, bytes_decides}
 use Rattle.std.proofs.Math.Bool.{and_self, and-true, and-false, and_comm, or-false, or_assoc, and-or_distrib_left, and-or_distrib_right}
-use Rattle.std.proofs.lemmas.Bool.{and_parts}
+use Rattle.std.proofs.lemmas.Bool.{and_parts, not-true, or_cases, cond_both}
 use Rattle.spki_tag.specs.Tag.{is_time, is_date, Tag, Tags, tags, Limit, Ordering, alpha, time, date, star, string, prefix, range, list, set, none, more, contains, contain_each, some_contains, is_above, is_below, is_ordered, is_nothing, is_normal, each_normal, is_set_or_star}
 use Rattle.spki_tag.specs.Request as request
 use Rattle.spki_tag.specs.Request.{Request, Requests, IsRequest, AreRequests}
@@ -25,13 +25,14 @@ twice false b c d = refl
 thrice : (a b c d e f : Bool) → ((a && d) && (b && e) && (c && f)) ≡ ((a && b && c) && (d && e && f))
 thrice a b c d e f = ap (λ x. x && (c && f)) (twice a d b e) ∙ twice (a && b) (d && e) c f
 
--- what is said of a member, what is said of it alone, and what is said of the others
-pub three_parts : (b n r : Bool) → (not b && n && r) ≡ true → (b ≡ false) × (n ≡ true) × (r ≡ true)
-three_parts true n r h = absurd (true≢false (sym h))
-three_parts false n r h = let both = and_parts n r h in (refl, both.0, both.1)
+-- what is said of the first of some tags, what is said of it alone, and what is said of the others
+pub three_parts : (bar : Tag → Bool) (t : Tag) (ts : Tags) → each_normal bar (more t ts) ≡ true
+    → (bar t ≡ false) × (is_normal t ≡ true) × (each_normal bar ts ≡ true)
+three_parts bar t ts h = search (rules, and_parts, not-true)
 
-pub all_three : (b n r : Bool) → b ≡ false → n ≡ true → r ≡ true → (not b && n && r) ≡ true
-all_three b n r h k j = λ i. not (h i) && k i && j i
+pub all_three : (bar : Tag → Bool) (t : Tag) (ts : Tags) → bar t ≡ false → is_normal t ≡ true → each_normal bar ts ≡ true
+    → each_normal bar (more t ts) ≡ true
+all_three bar t ts h k j = λ i. not (h i) && k i && j i
 
 -- ---- orderings
 
@@ -67,30 +68,51 @@ ordering-exact date alpha x = sym (and-true (is_date x))
 ordering-exact date time x = and_never (is_date x) (is_time x) (λ h k. time_or_date x k h)
 ordering-exact date date x = sym (and_self (is_date x))
 
+-- ---- what tags without members leave together has no members either
+
+-- a string, a prefix, a range, or (* set)
+abbrev pub IsBare : Tag → Type 0
+IsBare star = ⊥
+IsBare (list head ts) = ⊥
+IsBare (set (more t ts)) = ⊥
+IsBare t = Unit {0}
+
+ranged-bare : (o : Option Ordering) (l u : Option Limit) → IsBare (ranged o l u)
+ranged-bare None l u = tt
+ranged-bare (Some o) l u = cond_both (exclude l u) nothing (range o l u) IsBare (λ _. tt) (λ _. tt)
+
+pub string-bare : (s : List ℕ) (b : Tag) → IsBare (string_meet s b)
+string-bare s b = cond_both (contains b (request.string s)) (string s) nothing IsBare (λ _. tt) (λ _. tt)
+
+pub range-bare : (o : Ordering) (l u : Option Limit) (b : Tag) → IsBare (range_meet o l u b)
+range-bare o l u (string s) = string-bare s (range o l u)
+range-bare o l u (prefix p) = search (rules, ranged-bare)
+range-bare o l u (range p m v) = ranged-bare (ordering_meet o p) (greater_low l m) (lesser_up u v)
+range-bare o l u b = tt
+
+pub prefix-bare : (p : List ℕ) (b : Tag) → IsBare (prefix_meet p b)
+prefix-bare p (string s) = string-bare s (prefix p)
+prefix-bare p (prefix q) =
+    cond_both (starts_with nat_eq p q) (prefix p) (if starts_with nat_eq q p then prefix q else nothing) IsBare (λ _. tt)
+    (λ _. cond_both (starts_with nat_eq q p) (prefix q) nothing IsBare (λ _. tt) (λ _. tt))
+prefix-bare p (range o l u) = search (rules, ranged-bare)
+prefix-bare p b = tt
+
+bare-list : (t : Tag) (head : List ℕ) (gs : Requests) → IsBare t → contains t (request.list head gs) ≡ false
+bare-list star head gs h = absurd h
+bare-list (list other ts) head gs h = absurd h
+bare-list (set (more t ts)) head gs h = absurd h
+bare-list t head gs h = refl
+
 -- ---- ranges
 
 ranged-string : (o : Option Ordering) (l u : Option Limit) (x : List ℕ)
     → contains (ranged o l u) (request.string x) ≡ (ordered_in o x && is_above l x && is_below u x)
 ranged-string None l u x = refl
-ranged-string (Some o) l u x = by (exclude l u) refl
-  where
-    shut : (a b c : Bool) → (b ≡ true → c ≡ true → false ≡ true) → false ≡ (a && b && c)
-    shut true true true f = f refl refl
-    shut a b c f = refl
-
-    by : (t : Bool) → exclude l u ≡ t
-        → contains (if t then nothing else range o l u) (request.string x) ≡ (is_ordered o x && is_above l x && is_below u x)
-    by true e = shut _ _ _ (exclude-none l u x e)
-    by false e = refl
-
-ranged-list : (o : Option Ordering) (l u : Option Limit) (head : List ℕ) (gs : Requests)
-    → contains (ranged o l u) (request.list head gs) ≡ false
-ranged-list None l u head gs = refl
-ranged-list (Some o) l u head gs = by (exclude l u)
-  where
-    by : (t : Bool) → contains (if t then nothing else range o l u) (request.list head gs) ≡ false
-    by true = refl
-    by false = refl
+ranged-string (Some o) l u x =
+    cond_both (exclude l u) nothing (range o l u)
+    (λ t. contains t (request.string x) ≡ (is_ordered o x && is_above l x && is_below u x))
+    (λ e. and_never (is_ordered o x && is_above l x) _ (λ h k. exclude-none l u x e (and_parts (is_ordered o x) _ h).1 k)) (λ _. refl)
 
 ranges : (o p : Ordering) (l u m v : Option Limit) (x : List ℕ)
     → contains (ranged (ordering_meet o p) (greater_low l m) (lesser_up u v)) (request.string x)
@@ -100,50 +122,31 @@ ranges o p l u m v x = search (rules, ranged-string, ordering-exact, greater_low
 -- ---- strings
 
 string-exact : (s : List ℕ) (b : Tag) (g : Request) → contains (string_meet s b) g ≡ (contains (string s) g && contains b g)
-string-exact s b g = by (contains b (request.string s)) refl g
-  where
-    by : (t : Bool) → contains b (request.string s) ≡ t → (g : Request)
-        → contains (if t then string s else nothing) g ≡ (contains (string s) g && contains b g)
-    by true e (request.string x) = and_left _ _ (λ h. subst (λ y. contains b (request.string y) ≡ true) (same_text s x (sym h)) e)
-    by true e (request.list head gs) = refl
-    by false e (request.string x) =
-        and_never _ _ (λ h k. sym e ∙ subst (λ y. contains b (request.string y) ≡ true) (sym (same_text s x (sym h))) k)
-    by false e (request.list head gs) = refl
+string-exact s b (request.list head gs) = bare-list (string_meet s b) head gs (string-bare s b)
+string-exact s b (request.string x) =
+    cond_both (contains b (request.string s)) (string s) nothing
+    (λ t. contains t (request.string x) ≡ (bytes_eq s x && contains b (request.string x)))
+    (λ e. and_left _ _ (λ h. subst (λ y. contains b (request.string y) ≡ true) (same_text s x (sym h)) e))
+    (λ e. and_never _ _ (λ h k. sym e ∙ subst (λ y. contains b (request.string y) ≡ true) (sym (same_text s x (sym h))) k))
 
 -- ---- ranges and prefixes
 
 range-exact : (o : Ordering) (l u : Option Limit) (b : Tag) (g : Request) → IsRequest g → is_set_or_star b ≡ false
     → contains (range_meet o l u b) g ≡ (contains (range o l u) g && contains b g)
+range-exact o l u b (request.list head gs) k n = bare-list (range_meet o l u b) head gs (range-bare o l u b)
 range-exact o l u (string s) g k n = string-exact s (range o l u) g ∙ and_comm (contains (string s) g) (contains (range o l u) g)
 range-exact o l u (prefix p) (request.string x) k n = search (rules, ranges, least_above-exact)
-range-exact o l u (prefix p) (request.list head gs) k n = search (rules, ranged-list)
 range-exact o l u (range p m v) (request.string x) k n = ranges o p l u m v x
-range-exact o l u (range p m v) (request.list head gs) k n = search (rules, ranged-list)
 range-exact o l u (list other us) (request.string x) k n = sym (and-false _)
-range-exact o l u (list other us) (request.list head gs) k n = refl
 range-exact o l u b g k n = absurd (true≢false n)
 
 prefix-exact : (p : List ℕ) (b : Tag) (g : Request) → IsRequest g → is_set_or_star b ≡ false
     → contains (prefix_meet p b) g ≡ (contains (prefix p) g && contains b g)
+prefix-exact p b (request.list head gs) k n = bare-list (prefix_meet p b) head gs (prefix-bare p b)
 prefix-exact p (string s) g k n = string-exact s (prefix p) g ∙ and_comm (contains (string s) g) (contains (prefix p) g)
-prefix-exact p (prefix q) (request.string x) k n =
-    by (starts_with nat_eq p q) (starts_with nat_eq q p) ∙ prefixes-exact p q x
-  where
-    by : (s t : Bool) → contains (if s then prefix p else (if t then prefix q else nothing)) (request.string x)
-        ≡ (if s then starts_with nat_eq x p else (if t then starts_with nat_eq x q else false))
-    by true t = refl
-    by false true = refl
-    by false false = refl
-prefix-exact p (prefix q) (request.list head gs) k n = by (starts_with nat_eq p q) (starts_with nat_eq q p)
-  where
-    by : (s t : Bool) → contains (if s then prefix p else (if t then prefix q else nothing)) (request.list head gs) ≡ false
-    by true t = refl
-    by false true = refl
-    by false false = refl
+prefix-exact p (prefix q) (request.string x) k n = prefixes-exact p q x
 prefix-exact p (range o l u) (request.string x) k n = search (rules, ranges, least_above-exact)
-prefix-exact p (range o l u) (request.list head gs) k n = search (rules, ranged-list)
 prefix-exact p (list other us) (request.string x) k n = sym (and-false _)
-prefix-exact p (list other us) (request.list head gs) k n = refl
 prefix-exact p b g k n = absurd (true≢false n)
 
 -- ---- sets
@@ -167,10 +170,8 @@ row-exact : (f : Tag → Tag) (t : Bool) (g : Request) (bs : Tags)
     → each_normal is_set_or_star bs ≡ true → some_contains (tags (row f bs)) g ≡ (t && some_contains bs g)
 row-exact f t g none e n = sym (and-false t)
 row-exact f t g (more b bs) e n =
-    kept-exact (f b) (row f bs) g
-    ∙ (λ i. e b ((three_parts (is_set_or_star b) (is_normal b) (each_normal is_set_or_star bs) n).0)
-    ((three_parts (is_set_or_star b) (is_normal b) (each_normal is_set_or_star bs) n).1) i
-    || row-exact f t g bs e ((three_parts (is_set_or_star b) (is_normal b) (each_normal is_set_or_star bs) n).2) i)
+    let p = three_parts is_set_or_star b bs n in
+    kept-exact (f b) (row f bs) g ∙ (λ i. e b p.0 p.1 i || row-exact f t g bs e p.2 i)
     ∙ sym (and-or_distrib_left t (contains b g) (some_contains bs g))
 
 across-exact : (a : Tag) (f : Tag → Tag) (b : Tag) (g : Request) → is_normal b ≡ true
@@ -205,21 +206,18 @@ nothing-none t g h = absurd (true≢false (sym h))
 pub has_nothing-none : (ts : List Tag) (gs : Requests) → has_nothing ts ≡ true → contain_each (tags ts) gs ≡ false
 has_nothing-none [] gs h = absurd (true≢false (sym h))
 has_nothing-none (t ∷ ts) request.none h = refl
-has_nothing-none (t ∷ ts) (request.more g gs) h = by (is_nothing t) refl (has_nothing-none ts gs) h
-  where
-    by : (b : Bool) → is_nothing t ≡ b → (has_nothing ts ≡ true → contain_each (tags ts) gs ≡ false)
-        → (b || has_nothing ts) ≡ true → (contains t g && contain_each (tags ts) gs) ≡ false
-    by true e rest k = ap (λ c. c && contain_each (tags ts) gs) (nothing-none t g e)
-    by false e rest k = ap (λ c. contains t g && c) (rest k) ∙ and-false _
+has_nothing-none (t ∷ ts) (request.more g gs) h = elim (or_cases (is_nothing t) (has_nothing ts) h) [
+  | inl e ↦ ap (λ c. c && contain_each (tags ts) gs) (nothing-none t g e)
+  | inr e ↦ ap (λ c. contains t g && c) (has_nothing-none ts gs e) ∙ and-false _
+]
 
-listed-exact : (head : List ℕ) (ts : List Tag) (g : Request) → contains (listed head ts) g ≡ contains (list head (tags ts)) g
-listed-exact head ts g = by (has_nothing ts) refl g
-  where
-    by : (b : Bool) → has_nothing ts ≡ b → (g : Request)
-        → contains (if b then nothing else list head (tags ts)) g ≡ contains (list head (tags ts)) g
-    by true e (request.string x) = refl
-    by true e (request.list requested gs) = sym (and-false _) ∙ sym (ap (λ c. bytes_eq head requested && c) (has_nothing-none ts gs e))
-    by false e g = refl
+pub listed-exact : (head : List ℕ) (ts : List Tag) (g : Request) → contains (listed head ts) g ≡ contains (list head (tags ts)) g
+listed-exact head ts (request.string x) =
+    cond_both (has_nothing ts) nothing (list head (tags ts)) (λ t. contains t (request.string x) ≡ false) (λ _. refl) (λ _. refl)
+listed-exact head ts (request.list requested gs) =
+    cond_both (has_nothing ts) nothing (list head (tags ts))
+    (λ t. contains t (request.list requested gs) ≡ contains (list head (tags ts)) (request.list requested gs))
+    (λ e. sym (ap (λ c. bytes_eq head requested && c) (has_nothing-none ts gs e) ∙ and-false _)) (λ _. refl)
 
 list-exact : (head : List ℕ) (ts : Tags) (f : Tags → List Tag) (b : Tag) (g : Request) → IsRequest g
     → is_set_or_star b ≡ false → is_normal b ≡ true
@@ -228,22 +226,19 @@ list-exact : (head : List ℕ) (ts : Tags) (f : Tags → List Tag) (b : Tag) (g 
     → contains (list_meet head f b) g ≡ (contains (list head ts) g && contains b g)
 list-exact head ts f star g k n m e = absurd (true≢false n)
 list-exact head ts f (set us) g k n m e = absurd (true≢false n)
-list-exact head ts f (list other us) g k n m e = by (bytes_eq head other) refl g k
-  where
-    by : (b : Bool) → bytes_eq head other ≡ b → (g : Request) → IsRequest g
-        → contains (if b then listed head (f us) else nothing) g ≡ (contains (list head ts) g && contains (list other us) g)
-    by true h (request.string x) k = listed-exact head (f us) (request.string x)
-    by true h (request.list requested gs) k =
-        listed-exact head (f us) (request.list requested gs)
-        ∙ (λ i. sym (and_self (bytes_eq head requested)) i && e us gs k.2 m i)
-        ∙ twice (bytes_eq head requested) (bytes_eq head requested) (contain_each ts gs) (contain_each us gs)
-        ∙ ap (λ z. (bytes_eq head requested && contain_each ts gs) && (bytes_eq z requested && contain_each us gs)) (same_text head other (sym h))
-    by false h (request.string x) k = refl
-    by false h (request.list requested gs) k =
-        and_never (bytes_eq head requested && contain_each ts gs) (bytes_eq other requested && contain_each us gs) (λ p q.
-        sym h ∙ (bytes_decides head other).1
-        (same_text head requested (sym ((and_parts (bytes_eq head requested) (contain_each ts gs) p).0))
-        ∙ sym (same_text other requested (sym ((and_parts (bytes_eq other requested) (contain_each us gs) q).0)))))
+list-exact head ts f (list other us) (request.string x) k n m e =
+    cond_both (bytes_eq head other) (listed head (f us)) nothing (λ t. contains t (request.string x) ≡ false)
+    (λ _. listed-exact head (f us) (request.string x)) (λ _. refl)
+list-exact head ts f (list other us) (request.list requested gs) k n m e =
+    cond_both (bytes_eq head other) (listed head (f us)) nothing
+    (λ t. contains t (request.list requested gs)
+    ≡ ((bytes_eq head requested && contain_each ts gs) && (bytes_eq other requested && contain_each us gs)))
+    (λ h. listed-exact head (f us) (request.list requested gs) ∙ (λ i. sym (and_self (bytes_eq head requested)) i && e us gs k.2 m i)
+    ∙ twice (bytes_eq head requested) (bytes_eq head requested) (contain_each ts gs) (contain_each us gs)
+    ∙ ap (λ z. (bytes_eq head requested && contain_each ts gs) && (bytes_eq z requested && contain_each us gs)) (same_text head other (sym h)))
+    (λ h. and_never (bytes_eq head requested && contain_each ts gs) (bytes_eq other requested && contain_each us gs) (λ p q.
+    sym h ∙ (bytes_decides head other).1 (same_text head requested (sym (and_parts (bytes_eq head requested) _ p).0)
+    ∙ sym (same_text other requested (sym (and_parts (bytes_eq other requested) _ q).0)))))
 list-exact head ts f b (request.string x) k n m e = refl
 list-exact head ts f b (request.list requested gs) k n m e = sym (and-false _)
 
@@ -269,10 +264,9 @@ mutual
   each-exact (more t ts) none gs k m n = ap (λ ws. contain_each (more t ws) gs) (tags-items ts) ∙ sym (and-true _)
   each-exact (more t ts) (more u us) request.none k m n = refl
   each-exact (more t ts) (more u us) (request.more g gs) k m n =
-      (λ i. meet-exact t u g k.0 ((three_parts (is_nothing t) (is_normal t) (each_normal is_nothing ts) m).1)
-      ((three_parts (is_nothing u) (is_normal u) (each_normal is_nothing us) n).1) i
-      && each-exact ts us gs k.1 ((three_parts (is_nothing t) (is_normal t) (each_normal is_nothing ts) m).2)
-      ((three_parts (is_nothing u) (is_normal u) (each_normal is_nothing us) n).2) i)
+      let p = three_parts is_nothing t ts m in
+      let q = three_parts is_nothing u us n in
+      (λ i. meet-exact t u g k.0 p.1 q.1 i && each-exact ts us gs k.1 p.2 q.2 i)
       ∙ twice (contains t g) (contains u g) (contain_each ts gs) (contain_each us gs)
 
   pairs-exact : (ms bs : Tags) (g : Request) → IsRequest g → each_normal is_set_or_star ms ≡ true
@@ -280,8 +274,7 @@ mutual
       → some_contains (tags (pairs ms bs)) g ≡ (some_contains ms g && some_contains bs g)
   pairs-exact none bs g k m n = refl
   pairs-exact (more a ms) bs g k m n =
+      let p = three_parts is_set_or_star a ms m in
       append-exact (row (meet a) bs) (pairs ms bs) g
-      ∙ (λ i. row-exact (meet a) (contains a g) g bs
-      (λ b p q. meet-exact a b g k ((three_parts (is_set_or_star a) (is_normal a) (each_normal is_set_or_star ms) m).1) q) n i
-      || pairs-exact ms bs g k ((three_parts (is_set_or_star a) (is_normal a) (each_normal is_set_or_star ms) m).2) n i)
+      ∙ (λ i. row-exact (meet a) (contains a g) g bs (λ b r q. meet-exact a b g k p.1 q) n i || pairs-exact ms bs g k p.2 n i)
       ∙ sym (and-or_distrib_right (contains a g) (some_contains ms g) (some_contains bs g))

@@ -1,10 +1,10 @@
 -- The walk over the tags in a value, and what is found on it.
-use Rattle.std.proofs.Common.{◌≡◌, ℕ, ◌+◌, ◌≤◌, ◌<◌, Bool, true, false, List, [], ◌∷◌, ◌++◌, length, Option, Some, None, refl, ap, ◌∙◌, arith, length-append, nat_lt, rules}
+use Rattle.std.proofs.Common.{◌≡◌, ℕ, ◌+◌, ◌≤◌, ◌<◌, false, List, [], ◌∷◌, ◌++◌, length, Option, Some, None, refl, sym, ap, subst, ◌∙◌, arith, length-append, nat_lt, rules}
 use Rattle.std.specs.Prelude.{codes, if◌then◌else◌}
 use Rattle.std.specs.List.{AllByRecursion}
 use Rattle.std.specs.Str.{bytes_eq}
-use Rattle.std.specs.Cmp.Lexicographic.{same_text}
-use Rattle.std.proofs.lemmas.Bool.Decides.{nat_tests}
+use Rattle.std.specs.Cmp.Lexicographic.{bytes_decides}
+use Rattle.std.proofs.lemmas.Bool.{lt-ltb, le-ltb, false_from_ne_true, cond_both}
 use Rattle.sexpr_core.specs.Value as value
 use Rattle.sexpr_core.specs.Value.{Value, Values, plain, members}
 use Rattle.spki_tag.specs.declared.fault.TagFault.{TagFault}
@@ -36,23 +36,17 @@ looks-append n (u ∷ us) vs = search (rules, nat_lt, looks-append (n + 1) us vs
 abbrev pub IsFine : Value → Type 0
 IsFine v = own_fault v ≡ None
 
-below : (n : ℕ) → n < most_read → nat_lt n 1024 ≡ true
-below n h = grind (arith, nat_tests)
-
-not_below : (n : ℕ) → most_read ≤ n → nat_lt n 1024 ≡ false
-not_below n h = grind (arith, nat_tests)
-
 pub look-past : (n : ℕ) (v : Value) (vs : List Value) → n < most_read → own_fault v ≡ None
     → first_fault (looks n (v ∷ vs)) ≡ first_fault (looks (n + 1) vs)
-look-past n v vs h e = search (rules, below)
+look-past n v vs h e = search (rules, lt-ltb)
 
 pub look-own : (n : ℕ) (v : Value) (vs : List Value) (fault : TagFault) → n < most_read → own_fault v ≡ Some fault
     → first_fault (looks n (v ∷ vs)) ≡ Some fault
-look-own n v vs fault h e = search (rules, below)
+look-own n v vs fault h e = search (rules, lt-ltb)
 
 pub look-full : (n : ℕ) (v : Value) (vs : List Value) → most_read ≤ n
     → first_fault (looks n (v ∷ vs)) ≡ Some faults.TooManyNodes
-look-full n v vs h = search (rules, not_below)
+look-full n v vs h = search (rules, le-ltb)
 
 pub looks-fine : (n : ℕ) (vs : List Value) → n + length vs ≤ most_read → AllByRecursion IsFine vs
     → first_fault (looks n vs) ≡ None
@@ -61,33 +55,22 @@ looks-fine n (v ∷ vs) h each = look-past n v vs (omega arith) each.0 ∙ looks
 
 -- ---- nothing is wrong with a tag that is written
 
-pub both : (Q : Value → Type 0) (us vs : List Value) → AllByRecursion Q us → AllByRecursion Q vs → AllByRecursion Q (us ++ vs)
+pub both : {A : Type 0} (Q : A → Type 0) (us vs : List A) → AllByRecursion Q us → AllByRecursion Q vs → AllByRecursion Q (us ++ vs)
 both Q [] vs h k = k
 both Q (u ∷ us) vs h k = (h.0, both Q us vs h.1 k)
 
 pub limits-fine : (low up : Option Limit) → limits_fault (low_values low ++ up_values up) ≡ None
 limits-fine None None = refl
-limits-fine None (Some u) = up_by u.strict u.octets
-  where
-    up_by : (s : Bool) (x : List ℕ)
-        → limits_fault (plain (if s then codes "l" else codes "le") ∷ plain x ∷ []) ≡ None
-    up_by true x = refl
-    up_by false x = refl
-limits-fine (Some l) None = low_by l.strict l.octets
-  where
-    low_by : (s : Bool) (x : List ℕ)
-        → limits_fault (plain (if s then codes "g" else codes "ge") ∷ plain x ∷ []) ≡ None
-    low_by true x = refl
-    low_by false x = refl
-limits-fine (Some l) (Some u) = both_by l.strict u.strict l.octets u.octets
-  where
-    both_by : (s t : Bool) (x y : List ℕ)
-        → limits_fault (plain (if s then codes "g" else codes "ge") ∷ plain x
-        ∷ plain (if t then codes "l" else codes "le") ∷ plain y ∷ []) ≡ None
-    both_by true true x y = refl
-    both_by true false x y = refl
-    both_by false true x y = refl
-    both_by false false x y = refl
+limits-fine None (Some u) =
+    cond_both u.strict (codes "l") (codes "le") (λ w. limits_fault (plain w ∷ plain u.octets ∷ []) ≡ None) (λ _. refl) (λ _. refl)
+limits-fine (Some l) None =
+    cond_both l.strict (codes "g") (codes "ge") (λ w. limits_fault (plain w ∷ plain l.octets ∷ []) ≡ None) (λ _. refl) (λ _. refl)
+limits-fine (Some l) (Some u) =
+    cond_both l.strict (codes "g") (codes "ge") (λ w. limits_fault (plain w ∷ plain l.octets ∷ up_values (Some u)) ≡ None)
+    (λ _. cond_both u.strict (codes "l") (codes "le")
+    (λ x. limits_fault (plain (codes "g") ∷ plain l.octets ∷ plain x ∷ plain u.octets ∷ []) ≡ None) (λ _. refl) (λ _. refl))
+    (λ _. cond_both u.strict (codes "l") (codes "le")
+    (λ x. limits_fault (plain (codes "ge") ∷ plain l.octets ∷ plain x ∷ plain u.octets ∷ []) ≡ None) (λ _. refl) (λ _. refl))
 
 ordered-fine : (o : Ordering) (vs : List Value) → range_fault (plain (ordering_name o) ∷ vs) ≡ limits_fault vs
 ordered-fine alpha vs = refl
@@ -98,11 +81,7 @@ range-fine o low up = search (rules, ordered-fine, limits-fine)
 
 -- a plain list is no list that begins with the star
 pub head-apart : (head : List ℕ) → IsHead head → bytes_eq head (codes "*") ≡ false
-head-apart head h = by (bytes_eq head (codes "*")) refl
-  where
-    by : (b : Bool) → b ≡ bytes_eq head (codes "*") → b ≡ false
-    by true e = absurd (h (same_text head (codes "*") e))
-    by false e = refl
+head-apart head h = false_from_ne_true (bytes_eq head (codes "*")) (λ e. h ((bytes_decides head (codes "*")).0 e))
 
 pub list-fine : (head : List ℕ) (vs : Values) → IsHead head → IsFine (value.list (value.more (plain head) vs))
 list-fine head vs h = ap (λ b. if b then star_fault (members vs) else None) (head-apart head h)
@@ -112,13 +91,12 @@ pub tags_in-list : (head : List ℕ) (vs : Values) → IsHead head
     ≡ value.list (value.more (plain head) vs) ∷ plain head ∷ tags_in_all vs
 tags_in-list head vs h = search (rules, head-apart)
 
-pub one-part : (Q : Value → Type 0) (v : Value) (us vs : List Value) → us ≡ vs → AllByRecursion Q vs → AllByRecursion Q us
-one-part Q v us vs e h = rw e h
-
 mutual
   pub tag-fine : (w : Tag) → IsTag w → AllByRecursion IsFine (tags_in (tag_value w))
   tag-fine (range o low up) h = (range-fine o low up, tt)
-  tag-fine (list head further) h = search (rules, one-part, tags_in-list, list-fine, tags-fine further h.1)
+  tag-fine (list head further) h =
+      subst (AllByRecursion IsFine) (sym (tags_in-list head (tag_values further) h.0))
+      (list-fine head (tag_values further) h.0, (refl, tags-fine further h.1))
   tag-fine (set members) h = (refl, tags-fine members h)
   tag-fine w h = (refl, tt)
 

@@ -1,18 +1,17 @@
 -- The steps of the intersection, with what they need and what they find, and the rules that it follows.
-use Rattle.std.proofs.Common.{◌≡◌, ℕ, zero, suc, ◌+◌, ◌*◌, ◌<◌, ◌≤◌, min, Bool, true, false, ◌||◌, List, [], ◌∷◌, ◌++◌, length, drop, get_or, refl, sym, ap, ◌∙◌, true≢false, append_assoc, arith, add-one, le_trans, rules, not, map, nat_eq, length-append, append-nil}
+use Rattle.std.proofs.Common.{◌≡◌, ℕ, zero, suc, ◌+◌, ◌*◌, ◌<◌, ◌≤◌, min, Bool, true, false, ◌||◌, List, [], ◌∷◌, ◌++◌, length, take, drop, get_or, refl, sym, ap, ◌∙◌, true≢false, append_assoc, arith, le_trans, rules, not, map, nat_eq, length-take, append-nil}
 use Rattle.std.proofs.lemmas.Nat.{mul-le}
-use Rattle.std.proofs.Math.Seq.{drop-cons}
-use Rattle.std.proofs.lemmas.Bool.{and_parts, or_from, or_right}
+use Rattle.std.proofs.lemmas.List.{drop_more, take_all}
+use Rattle.std.proofs.lemmas.List.Elements.{filter-append}
+use Rattle.std.proofs.lemmas.Bool.{and_parts, or_parts, or_from, or_right, cond_both, cond-true, cond-false}
 use Rattle.spki_tag.specs.Tag.{Tag, Tags, tags, star, string, prefix, range, list, set, none, more, IsNormalTag, is_star, is_set, is_nothing, is_set_or_star, is_normal, each_normal, is_none_or_many, nodes, nodes_all, most_nodes, alpha, time, date}
-use Rattle.spki_tag.specs.Meet.{nothing, row, gather, has_nothing, across, meet, each_meet, pairs, members, kept, listed, StarRule, SetRule, StringRule, PrefixRule, PrefixesApart, RangeRule, PrefixAsRange, OrderingRule, TimesAndDates, side_by_side, ListRule, HeadsApart, ListsAndStrings}
+use Rattle.spki_tag.specs.Meet.{nothing, row, gather, has_nothing, across, meet, each_meet, pairs, members, kept, listed, SetRule, StringRule, PrefixRule, RangeRule, OrderingRule, side_by_side, ListRule, ListsAndStrings}
 use Rattle.spki_tag.proofs.Exact.{three_parts, tags-items, items-tags}
 use Rattle.spki_tag.proofs.NormalForms.{meet-normal_tag}
 use Rattle.std.specs.Prelude.{if◌then◌else◌}
 use Rattle.std.specs.List.{filter, flat_map, starts_with}
 use Rattle.std.specs.Str.{bytes_eq}
-use Rattle.std.specs.Cmp.Lexicographic.{same_text, other_text}
-use Rattle.std.proofs.lemmas.Slice.Eq.{starts_is}
-use Rattle.std.proofs.lemmas.Bool.Decides.{Decides-eqb}
+use Rattle.std.specs.Cmp.Lexicographic.{bytes_decides, nat_list_eq_equiv}
 
 -- ---- the steps of the intersection: what they need and what they find
 
@@ -35,7 +34,7 @@ row-same : (f g : Tag → Tag) (bs : Tags) → ((b : Tag) → is_set_or_star b �
     → each_normal is_set_or_star bs ≡ true → row f bs ≡ row g bs
 row-same f g none e h = refl
 row-same f g (more b bs) e h =
-    let parts = three_parts (is_set_or_star b) (is_normal b) (each_normal is_set_or_star bs) h in search (rules, row-same f g bs e parts.2)
+    let parts = three_parts is_set_or_star b bs h in search (rules, row-same f g bs e parts.2)
 
 across-same : (a : Tag) (f : Tag → Tag) (b : Tag) → is_set_or_star b ≡ false → f b ≡ across a f b
 across-same a f star h = absurd (true≢false h)
@@ -82,19 +81,16 @@ pub members_meet : (a b : Tag) → is_star a ≡ false → is_star b ≡ false �
     → IsNormalTag a → IsNormalTag b → nodes a * nodes b ≤ most_nodes → MembersMeet a b
 members_meet a b h k j n m few = search (rules, fewer, le_trans, mul-le, members-le, meet-by_members, meet-normal_tag)
 
+-- the member at a place, and those behind it
+cut : (ts : List Tag) (i : ℕ) (t : Tag) → i < length ts → t ≡ get_or ts i t → drop i ts ≡ t ∷ drop (i + 1) ts
+cut ts i t h e = drop_more ts i t h ∙ ap (λ (x : Tag). x ∷ drop (i + 1) ts) (sym e)
+
 -- A step of the loop over the members of the one.
 pub pairs-step : (ones others met out ms added : List Tag) (i : ℕ) (t : Tag) → i < length ones
     → met ++ pairs (tags (drop i ones)) (tags others) ≡ ms → t ≡ get_or ones i t
     → out ≡ met ++ added → added ≡ row (meet t) (tags others)
     → out ++ pairs (tags (drop (i + 1) ones)) (tags others) ≡ ms
-pairs-step ones others met out ms added i t h e u o r =
-    let rest : List Tag = pairs (tags (drop (i + 1) ones)) (tags others) in
-    let cut : drop i ones ≡ t ∷ drop (i + 1) ones =
-    drop-cons ones i t h ∙ ap (λ n. get_or ones i t ∷ drop n ones) (sym (add-one i))
-    ∙ ap (λ (x : Tag). x ∷ drop (i + 1) ones) (sym u) in
-    ap (λ (ts : List Tag). ts ++ rest) (o ∙ ap (λ (ts : List Tag). met ++ ts) r)
-    ∙ append_assoc met (row (meet t) (tags others)) rest
-    ∙ sym (ap (λ (ts : List Tag). met ++ pairs (tags ts) (tags others)) cut) ∙ e
+pairs-step ones others met out ms added i t h e u o r = rw (o, r, append_assoc) (rw (cut ones i t h u) at e)
 
 -- ---- lists
 
@@ -114,13 +110,7 @@ pub each_meet-rest : (ts us : List Tag) (i : ℕ) (t u : Tag) → i < length ts 
     → t ≡ get_or ts i t → u ≡ get_or us i u
     → each_meet (tags (drop i ts)) (tags (drop i us))
     ≡ meet t u ∷ each_meet (tags (drop (i + 1) ts)) (tags (drop (i + 1) us))
-each_meet-rest ts us i t u h k e f =
-    (λ x. each_meet (tags (cut ts t h e x)) (tags (cut us u k f x)))
-  where
-    cut : (ts : List Tag) (t : Tag) → i < length ts → t ≡ get_or ts i t → drop i ts ≡ t ∷ drop (i + 1) ts
-    cut ts t h e =
-        drop-cons ts i t h ∙ ap (λ n. get_or ts i t ∷ drop n ts) (sym (add-one i))
-        ∙ ap (λ (x : Tag). x ∷ drop (i + 1) ts) (sym e)
+each_meet-rest ts us i t u h k e f = λ x. each_meet (tags (cut ts i t h e x)) (tags (cut us i u k f x))
 
 pub has_nothing-found : (met ts : List Tag) (t : Tag) → is_nothing t ≡ true → has_nothing (met ++ t ∷ ts) ≡ true
 has_nothing-found [] ts t h = ap (λ b. b || has_nothing ts) h
@@ -128,12 +118,9 @@ has_nothing-found (m ∷ met) ts t h = or_right (is_nothing m) (has_nothing (met
 
 has_nothing-append : (ts us : List Tag) → has_nothing ts ≡ false → has_nothing us ≡ false → has_nothing (ts ++ us) ≡ false
 has_nothing-append [] us h k = k
-has_nothing-append (t ∷ ts) us h k = by (is_nothing t) h (λ j. has_nothing-append ts us j k)
-  where
-    by : (b : Bool) → (b || has_nothing ts) ≡ false → (has_nothing ts ≡ false → has_nothing (ts ++ us) ≡ false)
-        → (b || has_nothing (ts ++ us)) ≡ false
-    by true h rest = h
-    by false h rest = rest h
+has_nothing-append (t ∷ ts) us h k =
+    let p = or_parts (is_nothing t) (has_nothing ts) h in
+    or_from (is_nothing t) (has_nothing (ts ++ us)) p.0 (has_nothing-append ts us p.1 k)
 
 pub has_nothing-push : (ts : List Tag) (t : Tag) → has_nothing ts ≡ false → is_nothing t ≡ false
     → has_nothing (ts ++ t ∷ []) ≡ false
@@ -156,14 +143,12 @@ each_meet-end (t ∷ ts) (u ∷ us) h = absurd (omega (arith, h))
 pub normal-none : (ts : List Tag) → each_normal is_nothing (tags ts) ≡ true → has_nothing ts ≡ false
 normal-none [] h = refl
 normal-none (t ∷ ts) h =
-    or_from (is_nothing t) (has_nothing ts) ((three_parts (is_nothing t) (is_normal t) (each_normal is_nothing (tags ts)) h).0)
-    (normal-none ts ((three_parts (is_nothing t) (is_normal t) (each_normal is_nothing (tags ts)) h).2))
+    let p = three_parts is_nothing t (tags ts) h in or_from (is_nothing t) (has_nothing ts) p.0 (normal-none ts p.2)
 
 normal-drop : (ts : List Tag) (i : ℕ) → each_normal is_nothing (tags ts) ≡ true → each_normal is_nothing (tags (drop i ts)) ≡ true
 normal-drop ts zero h = h
 normal-drop [] (suc i) h = h
-normal-drop (t ∷ ts) (suc i) h =
-    normal-drop ts i ((three_parts (is_nothing t) (is_normal t) (each_normal is_nothing (tags ts)) h).2)
+normal-drop (t ∷ ts) (suc i) h = normal-drop ts i (three_parts is_nothing t (tags ts) h).2
 
 -- The end of the loop over the places of two lists.
 pub each_meet-last : (ts us met out all : List Tag) (i : ℕ) → min (length (drop i ts)) (length (drop i us)) ≡ 0
@@ -176,43 +161,28 @@ each_meet-last ts us met out all i h n m e k o = search (rules, append_assoc, ea
 
 -- ---- stars
 
-star_left : (t : Tag) → meet t star ≡ t
+pub star_left : (t : Tag) → meet t star ≡ t
 star_left (range ordering low up) = refl
 star_left t = refl
-
-pub star_rule : StarRule
-star_rule t = (refl, star_left t)
 
 -- ---- sets
 
 abbrev is_some : Tag → Bool
 is_some t = not (is_nothing t)
 
-kept-filter : (t : Tag) (ts us : List Tag) → filter is_some ts ≡ us → filter is_some (t ∷ ts) ≡ kept t us
-kept-filter t ts us e = by (is_nothing t) refl
-  where
-    by : (b : Bool) → is_nothing t ≡ b → filter is_some (t ∷ ts) ≡ kept t us
-    by true n = rw n e
-    by false n = rw n (ap (λ (vs : List Tag). t ∷ vs) e)
+turned : (b : Bool) (ts us : List Tag) → (if not b then ts else us) ≡ (if b then us else ts)
+turned true ts us = refl
+turned false ts us = refl
 
 row-filter : (f : Tag → Tag) (us : List Tag) → filter is_some (map f us) ≡ row f (tags us)
 row-filter f [] = refl
-row-filter f (u ∷ us) = kept-filter (f u) (map f us) (row f (tags us)) (row-filter f us)
-
-filter-append : (ts us : List Tag) → filter is_some (ts ++ us) ≡ filter is_some ts ++ filter is_some us
-filter-append [] us = refl
-filter-append (t ∷ ts) us = by (filter-append ts us) (is_nothing t) refl
-  where
-    by : filter is_some (ts ++ us) ≡ filter is_some ts ++ filter is_some us → (b : Bool) → is_nothing t ≡ b
-        → filter is_some (t ∷ (ts ++ us)) ≡ filter is_some (t ∷ ts) ++ filter is_some us
-    by rest true n = rw n rest
-    by rest false n = rw n (ap (λ (vs : List Tag). t ∷ vs) rest)
+row-filter f (u ∷ us) = turned (is_nothing (f u)) _ _ ∙ ap (kept (f u)) (row-filter f us)
 
 pairs-filter : (ts us : List Tag)
     → filter is_some (flat_map (λ one. map (meet one) us) ts) ≡ pairs (tags ts) (tags us)
 pairs-filter [] us = refl
 pairs-filter (t ∷ ts) us =
-    filter-append (map (meet t) us) (flat_map (λ one. map (meet one) us) ts)
+    filter-append is_some (map (meet t) us) (flat_map (λ one. map (meet one) us) ts)
     ∙ (λ i. row-filter (meet t) us i ++ pairs-filter ts us i)
 
 pub set_rule : SetRule
@@ -224,14 +194,10 @@ set_rule a b h k j n =
 
 pub same_string : (s x : List ℕ)
     → (if bytes_eq s x then string x else nothing) ≡ (if bytes_eq x s then string s else nothing)
-same_string s x = by (bytes_eq s x) (bytes_eq x s) refl refl
-  where
-    by : (a b : Bool) → a ≡ bytes_eq s x → b ≡ bytes_eq x s
-        → (if a then string x else nothing) ≡ (if b then string s else nothing)
-    by true true d e = ap string (sym (same_text s x d))
-    by false false d e = refl
-    by true false d e = absurd (other_text x s e (sym (same_text s x d)))
-    by false true d e = absurd (other_text s x d (sym (same_text x s e)))
+same_string s x =
+    cond_both (bytes_eq s x) (string x) nothing (λ t. t ≡ (if bytes_eq x s then string s else nothing))
+    (λ e. let same = (bytes_decides s x).0 e in ap string (sym same) ∙ sym (cond-true _ _ _ ((bytes_decides x s).1 (sym same))))
+    (λ e. sym (cond-false _ _ _ (sym (nat_list_eq_equiv.symm s x) ∙ e)))
 
 pub string_rule : StringRule
 string_rule s (string x) h = (refl, same_string s x)
@@ -246,49 +212,26 @@ range_rule alpha low up least most = refl
 range_rule time low up least most = refl
 range_rule date low up least most = refl
 
-pub prefix_as_range : PrefixAsRange
-prefix_as_range p o low up = (refl, refl)
-
 pub ordering_rule : OrderingRule
 ordering_rule alpha low up least most = (refl, refl)
 ordering_rule time low up least most = (refl, refl)
 ordering_rule date low up least most = (refl, refl)
 
-pub times_and_dates : TimesAndDates
-times_and_dates low up least most = (refl, refl)
-
 -- ---- prefixes
 
 longer : (p q : List ℕ) → starts_with nat_eq p q ≡ true → starts_with nat_eq q p ≡ true → p ≡ q
 longer p q h k =
-    let d = (starts_is Decides-eqb p q (starts_with nat_eq p q) refl).0 h in
-    let e = (starts_is Decides-eqb q p (starts_with nat_eq q p) refl).0 k in
-    same p q (drop (length q) p) (drop (length p) q) d e
-  where
-    same : (p q r s : List ℕ) → p ≡ q ++ r → q ≡ p ++ s → p ≡ q
-    same p q [] s d e = d ∙ append-nil q
-    same p q (x ∷ r) s d e =
-        absurd (omega (arith, ap length d, ap length e, length-append q (x ∷ r), length-append p s))
+    let e : q ≡ take (length q) p = (bytes_decides q _).0 h in
+    (bytes_decides p _).0 k ∙ take_all (length p) q (omega (arith, ap length e, length-take (length q) p))
 
 pub prefix_rule : PrefixRule
-prefix_rule p q h = (by (starts_with nat_eq p q) refl, ap (λ b. if b then prefix q else (if starts_with nat_eq p q then prefix p else nothing)) h)
-  where
-    by : (b : Bool) → starts_with nat_eq p q ≡ b
-        → (if b then prefix p else (if starts_with nat_eq q p then prefix q else nothing)) ≡ prefix q
-    by true e = ap prefix (longer p q e h)
-    by false e = ap (λ b. if b then prefix q else nothing) h
-
-pub prefixes_apart : PrefixesApart
-prefixes_apart p q h k = search rules
+prefix_rule p q h = (
+  cond_both (starts_with nat_eq p q) (prefix p) (if starts_with nat_eq q p then prefix q else nothing) (λ t. t ≡ prefix q)
+      (λ e. ap prefix (longer p q e h)) (λ e. ap (λ b. if b then prefix q else nothing) h),
+  ap (λ b. if b then prefix q else (if starts_with nat_eq p q then prefix p else nothing)) h,
+)
 
 -- ---- lists
-
-bytes_same : (octets : List ℕ) → bytes_eq octets octets ≡ true
-bytes_same octets = by (bytes_eq octets octets) refl
-  where
-    by : (b : Bool) → b ≡ bytes_eq octets octets → b ≡ true
-    by true e = refl
-    by false e = absurd (other_text octets octets e refl)
 
 each-left : (ts us further : List Tag) → length ts ≡ length us
     → each_meet (tags (ts ++ further)) (tags us) ≡ side_by_side ts us ++ further
@@ -304,13 +247,10 @@ each-right (t ∷ ts) (u ∷ us) further e = ap (λ (vs : List Tag). meet t u �
 each-right ts us further e = absurd (omega (arith, e))
 
 headed : (head : List ℕ) (ts us : Tags) → meet (list head ts) (list head us) ≡ listed head (each_meet ts us)
-headed head ts us = ap (λ b. if b then listed head (each_meet ts us) else nothing) (bytes_same head)
+headed head ts us = ap (λ b. if b then listed head (each_meet ts us) else nothing) (nat_list_eq_equiv.refl head)
 
 pub list_rule : ListRule
 list_rule head ts us further e = search (rules, headed, each-left, each-right)
-
-pub heads_apart : HeadsApart
-heads_apart head other ts us h = ap (λ b. if b then listed head (each_meet (tags ts) (tags us)) else nothing) h
 
 pub lists_and_strings : ListsAndStrings
 lists_and_strings head ts (string x) h = (refl, refl)

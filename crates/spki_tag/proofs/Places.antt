@@ -1,10 +1,10 @@
 -- The places in an index: those of the members that pass a test, two lists of places joined in one, what one more
 -- place changes, and what a tag leaves of the members at such places.
-use Rattle.std.proofs.Common.{◌≡◌, ℕ, ◌<◌, ◌≤◌, List, [], ◌∷◌, ◌++◌, length, take, drop, refl, sym, ap, ◌∙◌, arith, ◌-◌, append-nil, append_assoc, length-drop, ◌⊎◌, inl, inr, rules, suc, ◌+◌, Bool, true, false, ◌||◌, ◌&&◌, get_or, subst, length-take, Vec, Option, Some, None}
-use Rattle.std.proofs.lemmas.Bool.{lt-ltb, le-ltb}
-use Rattle.std.proofs.lemmas.List.{take_all, drop_all, take_more}
+use Rattle.std.proofs.Common.{◌≡◌, ℕ, ◌<◌, ◌≤◌, List, [], ◌∷◌, ◌++◌, length, take, drop, refl, sym, ap, ◌∙◌, arith, ◌-◌, append-nil, append_assoc, ◌⊎◌, inl, inr, rules, suc, ◌+◌, Bool, true, false, ◌||◌, ◌&&◌, get_or, subst, length-take, Vec, Option, Some, None}
+use Rattle.std.proofs.lemmas.Bool.{lt-ltb, le-ltb, cond_both}
+use Rattle.std.proofs.lemmas.List.{take_rest, drop_all, take_more}
 use Rattle.spki_tag.specs.Places.{merge, is_any, has_many_strings, is_one, is_lists, has_strings, place_if, ArePlacesOf, IsAdded}
-use Rattle.std.specs.Prelude.{if◌then◌else◌, ◌≢◌, slice_index_or, All}
+use Rattle.std.specs.Prelude.{if◌then◌else◌, slice_index_or, All}
 use Rattle.std.specs.Str.{bytes_eq}
 use Rattle.std.proofs.Math.Bool.{and-false, or-false}
 use Rattle.spki_tag.specs.Tag.{Tag, tags, star, string, prefix, range, list}
@@ -12,7 +12,7 @@ use Rattle.spki_tag.specs.Meet.{Kind, one, lists, kind, kinds_share, places_wher
 use Rattle.spki_tag.specs.declared.index.PlacesByKind.{PlacesByKind}
 use Rattle.std.specs.Borrow.{Bor}
 use Rattle.std.specs.BTreeMap.{is_at}
-use Rattle.std.specs.Cmp.Lexicographic.{slice_cmp, bytes_decides}
+use Rattle.std.specs.Cmp.Lexicographic.{slice_cmp, nat_list_eq_equiv}
 use Rattle.std.specs.Map.{lookup, KeepsOthers}
 use Rattle.std.specs.Option.{option_map_or, UnwrapsOrElse}
 use Rattle.std.specs.Ordering.{nat_cmp, eq_by_cmp}
@@ -41,9 +41,6 @@ pub merge-nil : (xs : List ℕ) → merge xs [] ≡ xs
 merge-nil [] = refl
 merge-nil (x ∷ xs) = ap (λ ys. x ∷ ys) (merge-nil xs)
 
-take-rest : (i : ℕ) (xs : List ℕ) → take (length xs - i) (drop i xs) ≡ drop i xs
-take-rest i xs = take_all (length xs - i) (drop i xs) (omega (arith, length-drop i xs))
-
 -- an end is reached
 merge-end : (xs ys : List ℕ) (i j : ℕ) → (length xs ≤ i) ⊎ (length ys ≤ j)
     → merge (drop i xs) (drop j ys) ≡ drop i xs ++ drop j ys
@@ -56,7 +53,7 @@ pub joined-end : (xs ys so_far with_xs with_both whole : List ℕ) (i j : ℕ) �
     → with_xs ≡ so_far ++ take (length xs - i) (drop i xs)
     → with_both ≡ with_xs ++ take (length ys - j) (drop j ys)
     → with_both ≡ whole
-joined-end xs ys so_far with_xs with_both whole i j h e f g = search (rules, take-rest, append_assoc, merge-end)
+joined-end xs ys so_far with_xs with_both whole i j h e f g = search (rules, take_rest, append_assoc, merge-end)
 
 -- ---- the places of members that pass a test, and those of two tests joined
 
@@ -67,14 +64,13 @@ pub places_where-push : (p : Tag → Bool) (n : ℕ) (ts : List Tag) (t : Tag)
     → places_where p n (ts ++ t ∷ []) ≡ places_where p n ts ++ place_if (p t) (n + length ts)
 places_where-push p n [] t = ap (λ m. place_if (p t) m) (omega arith)
 places_where-push p n (u ∷ ts) t =
-    by (p u) (places_where-push p (n + 1) ts t ∙ ap (λ m. places_where p (n + 1) ts ++ place_if (p t) m) (omega arith))
+    ap (λ ns. if p u then n ∷ ns else ns) (places_where-push p (n + 1) ts t) ∙ by (p u) (places_where p (n + 1) ts)
+    ∙ ap (λ m. places_where p n (u ∷ ts) ++ place_if (p t) m) (omega arith)
   where
-    by : (b : Bool)
-        → places_where p (n + 1) (ts ++ t ∷ []) ≡ places_where p (n + 1) ts ++ place_if (p t) (n + suc (length ts))
-        → (if b then n ∷ places_where p (n + 1) (ts ++ t ∷ []) else places_where p (n + 1) (ts ++ t ∷ []))
-        ≡ (if b then n ∷ places_where p (n + 1) ts else places_where p (n + 1) ts) ++ place_if (p t) (n + suc (length ts))
-    by true e = ap (λ ns. n ∷ ns) e
-    by false e = e
+    by : (b : Bool) (ns : List ℕ) → (if b then n ∷ (ns ++ place_if (p t) (n + 1 + length ts)) else ns ++ place_if (p t) (n + 1 + length ts))
+        ≡ (if b then n ∷ ns else ns) ++ place_if (p t) (n + 1 + length ts)
+    by true ns = refl
+    by false ns = refl
 
 -- tests that are true of the same tags
 pub places_where-same : (p q : Tag → Bool) → ((t : Tag) → p t ≡ q t) → (n : ℕ) (ts : List Tag)
@@ -87,12 +83,8 @@ places_where-same p q same n (t ∷ ts) =
 
 starts_above : (p : Tag → Bool) (n m : ℕ) (ts : List Tag) → n < m → StartsAbove n (places_where p m ts)
 starts_above p n m [] h = tt
-starts_above p n m (t ∷ ts) h = by (p t) (starts_above p n (m + 1) ts (omega arith))
-  where
-    by : (b : Bool) → StartsAbove n (places_where p (m + 1) ts)
-        → StartsAbove n (if b then m ∷ places_where p (m + 1) ts else places_where p (m + 1) ts)
-    by true k = h
-    by false k = k
+starts_above p n m (t ∷ ts) h =
+    cond_both (p t) (m ∷ places_where p (m + 1) ts) _ (StartsAbove n) (λ _. h) (λ _. starts_above p n (m + 1) ts (omega arith))
 
 -- the places of two tests that are never both true, joined
 pub merge-places : (p q : Tag → Bool) → ((t : Tag) → (p t && q t) ≡ false) → (n : ℕ) (ts : List Tag)
@@ -193,31 +185,20 @@ pub places-put : (old mid new : Entries) (key : Bor (List ℕ)) (v : Vec ℕ Glo
     → v.items ≡ places_in old key.now ++ place ∷ []
     → (q : List ℕ) → places_in new q ≡ places_in old q ++ place_if (bytes_eq q key.now) place
 places-put old mid new key v place kept here same e q =
-    ap (λ es. places_in es q) same ∙ by (btree_map_str_after key q old mid kept).2
-  where
-    by : ((bytes_eq q key.now ≡ true) × (bytes_eq key.now q ≡ true) × (q ≡ key.now) × (value_at mid q ≡ value_at mid key.now) × (value_at old q ≡ value_at old key.now))
-        ⊎ ((bytes_eq q key.now ≡ false) × (bytes_eq key.now q ≡ false) × (q ≢ key.now) × (value_at mid q ≡ value_at old q))
-        → places_in mid q ≡ places_in old q ++ place_if (bytes_eq q key.now) place
-    by (inl h) =
-        ap (λ o. option_map_or (λ x. x.items) o []) (h.3 ∙ here) ∙ e
-        ∙ (λ i. option_map_or (λ x. x.items) (sym h.4 i) [] ++ place_if (sym h.0 i) place)
-    by (inr h) =
-        ap (λ o. option_map_or (λ x. x.items) o []) h.3 ∙ sym (append-nil (places_in old q))
-        ∙ ap (λ b. places_in old q ++ place_if b place) (sym h.0)
+    let met : places_in mid q ≡ places_in old q ++ place_if (bytes_eq q key.now) place = elim (btree_map_str_after key q old mid kept).2 [
+      | inl h ↦
+          ap (λ o. option_map_or (λ x. x.items) o []) (h.3 ∙ here) ∙ e
+          ∙ (λ i. option_map_or (λ x. x.items) (sym h.4 i) [] ++ place_if (sym h.0 i) place)
+      | inr h ↦
+          ap (λ o. option_map_or (λ x. x.items) o []) h.3 ∙ sym (append-nil (places_in old q))
+          ∙ ap (λ b. places_in old q ++ place_if b place) (sym h.0)
+    ] in ap (λ es. places_in es q) same ∙ met
 
 -- ---- what a tag leaves of those that it can have a request in common with, and of the others
 
-bytes_eq_sym : (xs ys : List ℕ) → bytes_eq xs ys ≡ bytes_eq ys xs
-bytes_eq_sym xs ys = by (bytes_eq xs ys) (bytes_eq ys xs) refl refl
-  where
-    by : (a b : Bool) → bytes_eq xs ys ≡ a → bytes_eq ys xs ≡ b → a ≡ b
-    by true false e f = sym ((bytes_decides ys xs).1 (sym ((bytes_decides xs ys).0 e))) ∙ f
-    by false true e f = sym e ∙ (bytes_decides xs ys).1 (sym ((bytes_decides ys xs).0 f))
-    by a b e f = refl
-
 -- tags that can have no request in common leave nothing together
 pub meet-apart : (t u : Tag) → may_share t u ≡ false → meet t u ≡ nothing
-meet-apart (string octets) (string other) e = search (rules, bytes_eq_sym)
+meet-apart (string octets) (string other) e = search (rules, nat_list_eq_equiv.symm)
 meet-apart (string octets) (list head ts) e = refl
 meet-apart (prefix p) (list head ts) e = refl
 meet-apart (range o l u) (list head ts) e = refl
@@ -247,24 +228,18 @@ pub row-at_places : (t : Tag) (us : List Tag)
     → row (meet t) (tags us) ≡ row (meet t) (tags (tags_at us (places_where (may_share t) 1 us)))
 row-at_places t [] = refl
 row-at_places t (u ∷ us) =
-    by (may_share t u) refl
-    (row-at_places t us ∙ ap (λ vs. row (meet t) (tags vs)) (sym (tags_at-behind u us (may_share t) 2 1 us refl (omega arith))))
-  where
-    by : (b : Bool) → may_share t u ≡ b
-        → row (meet t) (tags us) ≡ row (meet t) (tags (tags_at (u ∷ us) (places_where (may_share t) 2 us)))
-        → kept (meet t u) (row (meet t) (tags us))
-        ≡ row (meet t) (tags (tags_at (u ∷ us) (if b then 1 ∷ places_where (may_share t) 2 us else places_where (may_share t) 2 us)))
-    by true e k = ap (kept (meet t u)) k
-    by false e k = ap (λ v. kept v (row (meet t) (tags us))) (meet-apart t u e) ∙ k
+    let rest = places_where (may_share t) 2 us in
+    let k : row (meet t) (tags us) ≡ row (meet t) (tags (tags_at (u ∷ us) rest)) =
+    row-at_places t us ∙ ap (λ vs. row (meet t) (tags vs)) (sym (tags_at-behind u us (may_share t) 2 1 us refl (omega arith))) in
+    cond_both (may_share t u) (1 ∷ rest) rest (λ ns. kept (meet t u) (row (meet t) (tags us)) ≡ row (meet t) (tags (tags_at (u ∷ us) ns)))
+    (λ e. ap (kept (meet t u)) k) (λ e. ap (λ v. kept v (row (meet t) (tags us))) (meet-apart t u e) ∙ k)
 
 -- each place is that of a tag
 pub places_where-within : (p : Tag → Bool) (n : ℕ) (ts : List Tag)
     → All (λ m. (n ≤ m) × (m < n + length ts)) (places_where p n ts)
 places_where-within p n [] = λ k d h. absurd (omega arith)
-places_where-within p n (t ∷ ts) = by (p t) (λ k d h. let w = places_where-within p (n + 1) ts k d h in (omega (arith, w.0), omega (arith, w.1)))
-  where
-    by : (b : Bool)
-        → All (λ m. (n ≤ m) × (m < n + suc (length ts))) (places_where p (n + 1) ts)
-        → All (λ m. (n ≤ m) × (m < n + suc (length ts))) (if b then n ∷ places_where p (n + 1) ts else places_where p (n + 1) ts)
-    by true w = All-cons (λ m. (n ≤ m) × (m < n + suc (length ts))) n _ (omega arith, omega arith) w
-    by false w = w
+places_where-within p n (t ∷ ts) =
+    let w : All (λ m. (n ≤ m) × (m < n + suc (length ts))) (places_where p (n + 1) ts) =
+    λ k d h. let v = places_where-within p (n + 1) ts k d h in (omega (arith, v.0), omega (arith, v.1)) in
+    cond_both (p t) (n ∷ places_where p (n + 1) ts) (places_where p (n + 1) ts) (All (λ m. (n ≤ m) × (m < n + suc (length ts))))
+    (λ _. All-cons (λ m. (n ≤ m) × (m < n + suc (length ts))) n _ (omega arith, omega arith) w) (λ _. w)

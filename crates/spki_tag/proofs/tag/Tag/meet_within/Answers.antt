@@ -1,6 +1,7 @@
 use Rattle.std.proofs.Common.{rules}
 use Rattle.spki_tag.proofs.Exact.{meet-exact}
-use Rattle.spki_tag.proofs.MeetSizes.{meet-le, meet-ldepth}
+use Rattle.spki_tag.proofs.MeetSizes.{meet-le}
+use Rattle.spki_tag.proofs.NormalForms.{meet-ldepth}
 use Rattle.spki_tag.proofs.tag.Tag.meet_within.Goals as goal
 
 pub returns-clause-exact : goal.returns-clause-exact
