@@ -25,71 +25,44 @@ below octets = Some (record { strict = true; octets = octets })
 abbrev hours : Tag
 hours = range time (at_least (codes "09:00:00")) (below (codes "17:00:00"))
 
-time-leap_second : contains hours (text_request (codes "12:30:60")) ≡ true
+-- a leap second, the limits themselves, a short form, and hour 24
+time-tried : (contains hours (text_request (codes "12:30:60")) ≡ true)
+    × (contains hours (text_request (codes "09:00:00")) ≡ true)
+    × (contains hours (text_request (codes "17:00:00")) ≡ false)
+    × (contains hours (text_request (codes "9:00")) ≡ false)
+    × (contains hours (text_request (codes "24:00:00")) ≡ false)
 unfolding is_time
-time-leap_second = refl
-
-time-at_least : contains hours (text_request (codes "09:00:00")) ≡ true
-unfolding is_time
-time-at_least = refl
-
-time-below : contains hours (text_request (codes "17:00:00")) ≡ false
-unfolding is_time
-time-below = refl
-
-time-short : contains hours (text_request (codes "9:00")) ≡ false
-unfolding is_time
-time-short = refl
-
-time-hour_24 : contains hours (text_request (codes "24:00:00")) ≡ false
-unfolding is_time
-time-hour_24 = refl
+time-tried = (refl, refl, refl, refl, refl)
 
 -- ---- the tag (* range date ge "2024")
 
 abbrev since_2024 : Tag
 since_2024 = range date (at_least (codes "2024")) None
 
-date-first : contains since_2024 (text_request (codes "2024-01-01_00:00:00")) ≡ true
+-- the first moment, a day that no calendar has, the moment before, and the year alone
+date-tried : (contains since_2024 (text_request (codes "2024-01-01_00:00:00")) ≡ true)
+    × (contains since_2024 (text_request (codes "2024-02-31_00:00:00")) ≡ true)
+    × (contains since_2024 (text_request (codes "2023-12-31_23:59:59")) ≡ false)
+    × (contains since_2024 (text_request (codes "2024")) ≡ false)
 unfolding is_date is_time
-date-first = refl
-
-date-no_calendar : contains since_2024 (text_request (codes "2024-02-31_00:00:00")) ≡ true
-unfolding is_date is_time
-date-no_calendar = refl
-
-date-before : contains since_2024 (text_request (codes "2023-12-31_23:59:59")) ≡ false
-unfolding is_date is_time
-date-before = refl
-
-date-year_alone : contains since_2024 (text_request (codes "2024")) ≡ false
-unfolding is_date is_time
-date-year_alone = refl
+date-tried = (refl, refl, refl, refl)
 
 -- ---- the tag (* range alpha ge a)
 
 abbrev from_a : Tag
 from_a = range alpha (at_least (codes "a")) None
 
-alpha-same : contains from_a (text_request (codes "a")) ≡ true
-alpha-same = refl
-
-alpha-longer : contains from_a (text_request (codes "ab")) ≡ true
-alpha-longer = refl
-
-alpha-empty : contains from_a (text_request []) ≡ false
-alpha-empty = refl
-
-alpha-list : contains from_a (request.list (codes "a") request.none) ≡ false
-alpha-list = refl
+alpha-tried : (contains from_a (text_request (codes "a")) ≡ true)
+    × (contains from_a (text_request (codes "ab")) ≡ true)
+    × (contains from_a (text_request []) ≡ false)
+    × (contains from_a (request.list (codes "a") request.none) ≡ false)
+alpha-tried = (refl, refl, refl, refl)
 
 -- ---- the tag (* prefix "")
 
-prefix-any : contains (prefix []) (text_request (codes "any")) ≡ true
-prefix-any = refl
-
-prefix-list : contains (prefix []) (request.list (codes "a") request.none) ≡ false
-prefix-list = refl
+prefix-tried : (contains (prefix []) (text_request (codes "any")) ≡ true)
+    × (contains (prefix []) (request.list (codes "a") request.none) ≡ false)
+prefix-tried = (refl, refl)
 
 -- ---- the tag (f (* set a b))
 
@@ -99,20 +72,13 @@ either = list (codes "f") (tags (set (tags (string (codes "a") ∷ string (codes
 abbrev f_of : List Request → Request
 f_of gs = request.list (codes "f") (request.requests gs)
 
-set-member : contains either (f_of (text_request (codes "a") ∷ [])) ≡ true
-set-member = refl
-
-set-longer : contains either (f_of (text_request (codes "b") ∷ text_request (codes "c") ∷ [])) ≡ true
-set-longer = refl
-
-set-shorter : contains either (f_of []) ≡ false
-set-shorter = refl
-
-set-string : contains either (text_request (codes "f")) ≡ false
-set-string = refl
-
-set-other : contains either (f_of (text_request (codes "c") ∷ [])) ≡ false
-set-other = refl
+-- a member, a longer list, a shorter one, a string, and no member
+set-tried : (contains either (f_of (text_request (codes "a") ∷ [])) ≡ true)
+    × (contains either (f_of (text_request (codes "b") ∷ text_request (codes "c") ∷ [])) ≡ true)
+    × (contains either (f_of []) ≡ false)
+    × (contains either (text_request (codes "f")) ≡ false)
+    × (contains either (f_of (text_request (codes "c") ∷ [])) ≡ false)
+set-tried = (refl, refl, refl, refl, refl)
 
 -- ---- first-run and shorter-request
 
@@ -127,26 +93,16 @@ shorter-request = refl
 
 -- ---- measures, normal form and writing
 
-either-nodes : nodes either ≡ 5
-either-nodes = refl
+measures-tried : (nodes either ≡ 5) × (ldepth either ≡ 1)
+measures-tried = (refl, refl)
 
-either-ldepth : ldepth either ≡ 1
-either-ldepth = refl
-
-normal-form-set_in_set : is_normal (set (tags (string (codes "a") ∷ set (tags (string (codes "b") ∷ string (codes "c") ∷ [])) ∷ []))) ≡ false
-normal-form-set_in_set = refl
-
-normal-form-star_in_set : is_normal (set (tags (string (codes "a") ∷ star ∷ []))) ≡ false
-normal-form-star_in_set = refl
-
-normal-form-one_member : is_normal (set (tags (string (codes "a") ∷ []))) ≡ false
-normal-form-one_member = refl
-
-normal-form-nothing_in_list : is_normal (list (codes "x") (tags (set (tags []) ∷ []))) ≡ false
-normal-form-nothing_in_list = refl
-
-normal-form-either : is_normal either ≡ true
-normal-form-either = refl
+-- a set in a set, a star in a set, a set of one member, a list with (* set), and a tag in normal form
+normal-form-tried : (is_normal (set (tags (string (codes "a") ∷ set (tags (string (codes "b") ∷ string (codes "c") ∷ [])) ∷ []))) ≡ false)
+    × (is_normal (set (tags (string (codes "a") ∷ star ∷ []))) ≡ false)
+    × (is_normal (set (tags (string (codes "a") ∷ []))) ≡ false)
+    × (is_normal (list (codes "x") (tags (set (tags []) ∷ []))) ≡ false)
+    × (is_normal either ≡ true)
+normal-form-tried = (refl, refl, refl, refl, refl)
 
 -- ---- what tags become in normal form
 
@@ -168,38 +124,21 @@ no_string = range alpha (at_least (codes "b")) (below (codes "a"))
 abbrev inner : Tag
 inner = set (tags (b ∷ c ∷ []))
 
-becomes-set_in_set : normal (set (tags (a ∷ inner ∷ d ∷ []))) ≡ set (tags (a ∷ b ∷ c ∷ d ∷ []))
-becomes-set_in_set = refl
-
-becomes-star_in_set : normal (set (tags (a ∷ star ∷ b ∷ []))) ≡ star
-becomes-star_in_set = refl
-
--- the star of a set in a set
-becomes-star_deeper : normal (set (tags (a ∷ set (tags (b ∷ star ∷ [])) ∷ []))) ≡ star
-becomes-star_deeper = refl
-
-becomes-one_member : normal (set (tags (a ∷ []))) ≡ a
-becomes-one_member = refl
-
--- from the inside out: the inner sets are one member, and then the outer one is
-becomes-one_deeper : normal (set (tags (set (tags (set (tags (a ∷ [])) ∷ [])) ∷ nothing ∷ []))) ≡ a
-becomes-one_deeper = refl
-
-becomes-nothing_in_list : normal (list (codes "x") (tags (a ∷ nothing ∷ b ∷ []))) ≡ nothing
-becomes-nothing_in_list = refl
-
--- a list that is (* set) has no place in a set
-becomes-nothing_deeper :
-    normal (set (tags (a ∷ list (codes "x") (tags (nothing ∷ [])) ∷ b ∷ []))) ≡ set (tags (a ∷ b ∷ []))
-becomes-nothing_deeper = refl
-
--- repeated members stay, in their order
-becomes-repeated : normal (set (tags (b ∷ a ∷ inner ∷ a ∷ []))) ≡ set (tags (b ∷ a ∷ b ∷ c ∷ a ∷ []))
-becomes-repeated = refl
-
--- so does a range without members
-becomes-range : normal (list (codes "x") (tags (no_string ∷ []))) ≡ list (codes "x") (tags (no_string ∷ []))
-becomes-range = refl
+becomes-tried : (normal (set (tags (a ∷ inner ∷ d ∷ []))) ≡ set (tags (a ∷ b ∷ c ∷ d ∷ [])))
+    × (normal (set (tags (a ∷ star ∷ b ∷ []))) ≡ star)
+    -- the star of a set in a set
+    × (normal (set (tags (a ∷ set (tags (b ∷ star ∷ [])) ∷ []))) ≡ star)
+    × (normal (set (tags (a ∷ []))) ≡ a)
+    -- from the inside out: the inner sets are one member, and then the outer one is
+    × (normal (set (tags (set (tags (set (tags (a ∷ [])) ∷ [])) ∷ nothing ∷ []))) ≡ a)
+    × (normal (list (codes "x") (tags (a ∷ nothing ∷ b ∷ []))) ≡ nothing)
+    -- a list that is (* set) has no place in a set
+    × (normal (set (tags (a ∷ list (codes "x") (tags (nothing ∷ [])) ∷ b ∷ []))) ≡ set (tags (a ∷ b ∷ [])))
+    -- repeated members stay, in their order
+    × (normal (set (tags (b ∷ a ∷ inner ∷ a ∷ []))) ≡ set (tags (b ∷ a ∷ b ∷ c ∷ a ∷ [])))
+    -- so does a range without members
+    × (normal (list (codes "x") (tags (no_string ∷ []))) ≡ list (codes "x") (tags (no_string ∷ [])))
+becomes-tried = (refl, refl, refl, refl, refl, refl, refl, refl, refl)
 
 written-range : canon (tag_value (range alpha (at_least (codes "b")) (below (codes "m")))) ≡ codes "(1:*5:range5:alpha2:ge1:b1:l1:m)"
 unfolding verbatim decimal
@@ -217,67 +156,31 @@ hinted = value.string (Some (codes "h")) (codes "x")
 abbrev starred_list : List Value → Value
 starred_list vs = group (word (codes "*") ∷ vs)
 
--- (* set () [h]x)
-fault-first_member : tag_fault (starred_list (word (codes "set") ∷ group [] ∷ hinted ∷ [])) ≡ Some EmptyList
-unfolding tag_fault
-fault-first_member = refl
-
--- (a (* online) ())
-fault-inside : tag_fault (group (word (codes "a") ∷ starred_list (word (codes "online") ∷ []) ∷ group [] ∷ [])) ≡ Some UnknownStar
-unfolding tag_fault
-fault-inside = refl
-
--- (() [h]x)
-fault-list_head : tag_fault (group (group [] ∷ hinted ∷ [])) ≡ Some ListHead
-unfolding tag_fault
-fault-list_head = refl
-
--- ([h]x ())
-fault-hinted_head : tag_fault (group (hinted ∷ group [] ∷ [])) ≡ Some Hint
-unfolding tag_fault
-fault-hinted_head = refl
-
--- (* prefix [h]x a): not one string
-fault-long_prefix : tag_fault (starred_list (word (codes "prefix") ∷ hinted ∷ word (codes "a") ∷ [])) ≡ Some UnknownStar
-unfolding tag_fault
-fault-long_prefix = refl
-
--- (* range beta [h]x): the ordering before the limits
-fault-ordering : tag_fault (starred_list (word (codes "range") ∷ word (codes "beta") ∷ hinted ∷ [])) ≡ Some RangeOrdering
-unfolding tag_fault
-fault-ordering = refl
-
--- (* range alpha (a) [h]x): a hint among the limits before a list
-fault-hint_among_limits :
-    tag_fault (starred_list (word (codes "range") ∷ word (codes "alpha") ∷ group (word (codes "a") ∷ []) ∷ hinted ∷ []))
-    ≡ Some Hint
-unfolding tag_fault
-fault-hint_among_limits = refl
-
--- (* range alpha g ([h]x)): a list among the limits, whatever it holds
-fault-list_among_limits :
-    tag_fault (starred_list (word (codes "range") ∷ word (codes "alpha") ∷ word (codes "g") ∷ group (hinted ∷ []) ∷ []))
-    ≡ Some RangeLimit
-unfolding tag_fault
-fault-list_among_limits = refl
-
--- (* online [h]x (tag)): nothing behind an unknown word is looked at
-fault-unknown_word : tag_fault (starred_list (word (codes "online") ∷ hinted ∷ group [] ∷ [])) ≡ Some UnknownStar
-unfolding tag_fault
-fault-unknown_word = refl
-
--- the 1,025th tag is one too many, whatever it is, and the 1,024th is looked at
-fault-one_too_many : first_fault (looks 1024 (hinted ∷ [])) ≡ Some TooManyNodes
-fault-one_too_many = refl
-
-fault-last_that_fits : first_fault (looks 1023 (hinted ∷ [])) ≡ Some Hint
-fault-last_that_fits = refl
-
--- (a (* set) [h]x) and (a [h]x (*)) as requests
-fault-star_in_request : request_fault (group (word (codes "a") ∷ starred_list (word (codes "set") ∷ []) ∷ hinted ∷ [])) ≡ Some StarInRequest
-unfolding request_fault
-fault-star_in_request = refl
-
-fault-hint_in_request : request_fault (group (word (codes "a") ∷ hinted ∷ starred_list [] ∷ [])) ≡ Some Hint
-unfolding request_fault
-fault-hint_in_request = refl
+fault-tried :
+    -- (* set () [h]x)
+    (tag_fault (starred_list (word (codes "set") ∷ group [] ∷ hinted ∷ [])) ≡ Some EmptyList)
+    -- (a (* online) ())
+    × (tag_fault (group (word (codes "a") ∷ starred_list (word (codes "online") ∷ []) ∷ group [] ∷ [])) ≡ Some UnknownStar)
+    -- (() [h]x)
+    × (tag_fault (group (group [] ∷ hinted ∷ [])) ≡ Some ListHead)
+    -- ([h]x ())
+    × (tag_fault (group (hinted ∷ group [] ∷ [])) ≡ Some Hint)
+    -- (* prefix [h]x a): not one string
+    × (tag_fault (starred_list (word (codes "prefix") ∷ hinted ∷ word (codes "a") ∷ [])) ≡ Some UnknownStar)
+    -- (* range beta [h]x): the ordering before the limits
+    × (tag_fault (starred_list (word (codes "range") ∷ word (codes "beta") ∷ hinted ∷ [])) ≡ Some RangeOrdering)
+    -- (* range alpha (a) [h]x): a hint among the limits before a list
+    × (tag_fault (starred_list (word (codes "range") ∷ word (codes "alpha") ∷ group (word (codes "a") ∷ []) ∷ hinted ∷ [])) ≡ Some Hint)
+    -- (* range alpha g ([h]x)): a list among the limits, whatever it holds
+    × (tag_fault (starred_list (word (codes "range") ∷ word (codes "alpha") ∷ word (codes "g") ∷ group (hinted ∷ []) ∷ []))
+    ≡ Some RangeLimit)
+    -- (* online [h]x (tag)): nothing behind an unknown word is looked at
+    × (tag_fault (starred_list (word (codes "online") ∷ hinted ∷ group [] ∷ [])) ≡ Some UnknownStar)
+    -- the 1,025th tag is one too many, whatever it is, and the 1,024th is looked at
+    × (first_fault (looks 1024 (hinted ∷ [])) ≡ Some TooManyNodes)
+    × (first_fault (looks 1023 (hinted ∷ [])) ≡ Some Hint)
+    -- (a (* set) [h]x) and (a [h]x (*)) as requests
+    × (request_fault (group (word (codes "a") ∷ starred_list (word (codes "set") ∷ []) ∷ hinted ∷ [])) ≡ Some StarInRequest)
+    × (request_fault (group (word (codes "a") ∷ hinted ∷ starred_list [] ∷ [])) ≡ Some Hint)
+unfolding tag_fault request_fault
+fault-tried = (refl, refl, refl, refl, refl, refl, refl, refl, refl, refl, refl, refl, refl)
