@@ -1,12 +1,13 @@
 -- A value without a fault is one that is written as a tag, or as a request.
-use Rattle.std.proofs.Common.{◌≡◌, ℕ, ◌+◌, ◌≤◌, ◌<◌, Bool, true, false, not, ◌↔◌, List, [], ◌∷◌, ◌++◌, map, length, Option, Some, None, Result, Ok, Err, inl, inr, refl, sym, ap, ◌∙◌, subst, arith, nat_lt, true≢false, rules, suc, ◌||◌}
+use Rattle.std.proofs.Common.{◌≡◌, ℕ, ◌+◌, ◌≤◌, ◌<◌, Bool, true, false, not, ◌↔◌, List, [], ◌∷◌, ◌++◌, map, length, Option, Some, None, Result, Ok, Err, inl, inr, refl, sym, ap, ◌∙◌, subst, arith, nat_lt, rules}
 use Rattle.std.specs.Prelude.{codes, if◌then◌else◌, slice_index, IfErr}
 use Rattle.std.specs.List.{AllByRecursion, list_any}
 use Rattle.std.specs.Str.{bytes_eq}
 use Rattle.std.specs.Cmp.Lexicographic.{same_text, other_text}
 use Rattle.std.proofs.lemmas.Bool.Decides.{nat_tests}
 use Rattle.sexpr_core.specs.Nodes.{values-members}
-use Rattle.std.proofs.lemmas.List.Elements.{All-from_recursion}
+use Rattle.std.proofs.lemmas.Bool.{not-true}
+use Rattle.std.proofs.lemmas.List.{get_or_default}
 use Rattle.sexpr_core.specs.Value.{HasOctets, HaveOctets, Value, Values, plain, values, members}
 use Rattle.sexpr_core.specs.Value as value
 use Rattle.spki_tag.specs.declared.fault.TagFault.{TagFault}
@@ -14,18 +15,21 @@ use Rattle.spki_tag.specs.declared.fault.TagFault.TheVariants as faults
 use Rattle.spki_tag.specs.Faults.{first_fault, unless, tags_in, tags_in_list, tags_in_set, tags_in_all, own_fault, list_fault, star_fault, form_fault, prefix_fault, range_fault, limits_fault, are_limits, is_ordering, is_hinted, looks, tag_fault, part_fault, request_fault, IsNamed}
 use Rattle.spki_tag.specs.Request as request
 use Rattle.spki_tag.specs.Request.{Request, Requests, AreOctets, IsHead, IsRequest, AreRequests, request_value, request_values}
-use Rattle.spki_tag.specs.Tag.{Tag, Tags, Ordering, alpha, time, date, star, string, prefix, range, list, set, none, more, IsTag, AreTags, tag_value, tag_values, ordering_name, starred, nodes}
+use Rattle.spki_tag.specs.Tag.{Tag, Tags, star, string, prefix, range, list, set, none, more, IsTag, AreTags, tag_value, tag_values, starred, nodes}
 use Rattle.spki_tag.specs.Reading.{most_read, IsNoTag, IsNoRequest}
 use Rattle.spki_tag.proofs.FaultWalk.{IsFine, tags-count, tag-past}
-use Rattle.spki_tag.proofs.Named.{limits-of}
+use Rattle.spki_tag.proofs.Named.{ordering-of, limits-of}
 use Rattle.spki_tag.proofs.RequestReading.{IsFinePart, request-faultless}
 
 -- ---- what was looked at
 
-look-none : {A : Type 0} (b : Bool) (most : A) (o : Option A) (fs : List (Option A))
-    → first_fault (unless b most ∷ o ∷ fs) ≡ None → (b ≡ true) × (o ≡ None) × (first_fault fs ≡ None)
-look-none true most None fs e = (refl, refl, e)
-look-none b most o fs e = absurd cc
+found-none : {A : Type 0} (o : Option A) (fs : List (Option A)) → first_fault (o ∷ fs) ≡ None → (o ≡ None) × (first_fault fs ≡ None)
+found-none None fs e = (refl, e)
+found-none (Some fault) fs e = absurd cc
+
+unless-none : (b : Bool) (fault : TagFault) → unless b fault ≡ None → b ≡ true
+unless-none true fault e = refl
+unless-none false fault e = absurd cc
 
 room : (n : ℕ) → nat_lt n 1024 ≡ true → n + 1 ≤ most_read
 room n h = grind (arith, nat_tests)
@@ -35,19 +39,16 @@ looks-none : (n : ℕ) (vs : List Value) → n ≤ most_read → first_fault (lo
     → AllByRecursion IsFine vs × (n + length vs ≤ most_read)
 looks-none n [] few e = (tt, omega arith)
 looks-none n (v ∷ vs) few e =
-    let p = look-none (nat_lt n 1024) faults.TooManyNodes (own_fault v) (looks (n + 1) vs) e in
-    let rest = looks-none (n + 1) vs (room n p.0) p.2 in
-    ((p.1, rest.0), omega (arith, rest.1))
+    let p = found-none (unless (nat_lt n 1024) faults.TooManyNodes) (own_fault v ∷ looks (n + 1) vs) e in
+    let q = found-none (own_fault v) (looks (n + 1) vs) p.1 in
+    let rest = looks-none (n + 1) vs (room n (unless-none _ _ p.0)) q.1 in
+    ((q.0, rest.0), omega (arith, rest.1))
 
 -- ---- the tag that a value is written as
 
-apart_left : (Q : Value → Type 0) (us vs : List Value) → AllByRecursion Q (us ++ vs) → AllByRecursion Q us
-apart_left Q [] vs h = tt
-apart_left Q (u ∷ us) vs h = (h.0, apart_left Q us vs h.1)
-
-apart_right : (Q : Value → Type 0) (us vs : List Value) → AllByRecursion Q (us ++ vs) → AllByRecursion Q vs
-apart_right Q [] vs h = h
-apart_right Q (u ∷ us) vs h = apart_right Q us vs h.1
+apart : (Q : Value → Type 0) (us vs : List Value) → AllByRecursion Q (us ++ vs) → AllByRecursion Q us × AllByRecursion Q vs
+apart Q [] vs h = (tt, h)
+apart Q (u ∷ us) vs h = let p = apart Q us vs h.1 in ((h.0, p.0), p.1)
 
 abbrev TagOf : Value → Type 0
 TagOf v = (w : Tag) × IsTag w × (tag_value w ≡ v)
@@ -58,23 +59,10 @@ TagsOf vs = (ws : Tags) × AreTags ws × (tag_values ws ≡ vs)
 pub none_is_not_some : {A : Type 0} (a : A) → Some a ≡ None → ⊥
 none_is_not_some a e = cc
 
--- the ordering with a name
-pub ordering-of : (name : List ℕ) → is_ordering name ≡ true → (o : Ordering) × (ordering_name o ≡ name)
-ordering-of name h = by (bytes_eq name (codes "alpha")) (bytes_eq name (codes "time")) (bytes_eq name (codes "date")) refl refl refl h
-  where
-    by : (a b c : Bool) → a ≡ bytes_eq name (codes "alpha") → b ≡ bytes_eq name (codes "time")
-        → c ≡ bytes_eq name (codes "date") → (a || b || c) ≡ true → (o : Ordering) × (ordering_name o ≡ name)
-    by true b c d e f h = (alpha, sym (same_text name (codes "alpha") d))
-    by false true c d e f h = (time, sym (same_text name (codes "time") e))
-    by false false true d e f h = (date, sym (same_text name (codes "date") f))
-    by false false false d e f h = absurd (true≢false (sym h))
-
 pub limits-none : (vs : List Value) → limits_fault vs ≡ None → are_limits vs ≡ true
-limits-none vs e = by (list_any is_hinted vs) (are_limits vs) e
-  where
-    by : (a b : Bool) → first_fault (unless (not a) faults.Hint ∷ unless b faults.RangeLimit ∷ []) ≡ None → b ≡ true
-    by false true e = refl
-    by a b e = absurd cc
+limits-none vs e =
+    let p = found-none (unless (not (list_any is_hinted vs)) faults.Hint) (unless (are_limits vs) faults.RangeLimit ∷ []) e in
+    unless-none (are_limits vs) faults.RangeLimit (found-none (unless (are_limits vs) faults.RangeLimit) [] p.1).0
 
 range-of : (vs : List Value) → range_fault vs ≡ None → TagOf (starred (codes "range") (values vs))
 range-of (value.string None name ∷ vs) e = by (is_ordering name) refl e
@@ -158,8 +146,9 @@ mutual
   tags-of : (vs : Values) → AllByRecursion IsFine (tags_in_all vs) → TagsOf vs
   tags-of value.none h = (none, tt, refl)
   tags-of (value.more v vs) h =
-      let p = tag-of v (apart_left IsFine (tags_in v) (tags_in_all vs) h) in
-      let q = tags-of vs (apart_right IsFine (tags_in v) (tags_in_all vs) h) in
+      let each = apart IsFine (tags_in v) (tags_in_all vs) h in
+      let p = tag-of v each.0 in
+      let q = tags-of vs each.1 in
       (more p.0 q.0, (p.1, q.1), λ i. value.more (p.2 i) (q.2 i))
 
 pub tag_none : (v : Value) → tag_fault v ≡ None → (w : Tag) × IsTag w × (tag_value w ≡ v) × (nodes w ≤ 1024)
@@ -181,30 +170,15 @@ tag_refused fault v (inr e) w h few spelled = absurd (none_is_not_some fault (sy
 
 -- ---- the request that a value is
 
-part-none : (v : Value) (fs : List (Option TagFault)) → first_fault (part_fault v ∷ fs) ≡ None
-    → IsFinePart v × (first_fault fs ≡ None)
-part-none v fs e = by (part_fault v) refl e
-  where
-    by : (o : Option TagFault) → part_fault v ≡ o → first_fault (o ∷ fs) ≡ None → IsFinePart v × (first_fault fs ≡ None)
-    by None d e = (d, e)
-    by (Some f) d e = absurd (none_is_not_some _ e)
-
 parts-none : (vs : List Value) → first_fault (map part_fault vs) ≡ None → AllByRecursion IsFinePart vs
 parts-none [] e = tt
-parts-none (v ∷ vs) e = let p = part-none v (map part_fault vs) e in (p.0, parts-none vs p.1)
+parts-none (v ∷ vs) e = let p = found-none (part_fault v) (map part_fault vs) e in (p.0, parts-none vs p.1)
 
 abbrev IsBytes : List ℕ → Type 0
 IsBytes b = (i : ℕ) → slice_index b i < 256
 
-bytes-behind : (x : ℕ) (xs : List ℕ) → IsBytes (x ∷ xs) → IsBytes xs
-bytes-behind x xs h i = h (suc i)
-
-each-octet : (octets : List ℕ) → IsBytes octets → AllByRecursion (λ octet. octet < 256) octets
-each-octet [] h = tt
-each-octet (x ∷ xs) h = (h 0, each-octet xs (bytes-behind x xs h))
-
 pub octets-of : (octets : List ℕ) → IsBytes octets → AreOctets octets
-octets-of octets h = All-from_recursion (λ octet. octet < 256) octets (each-octet octets h)
+octets-of octets h = λ k d below. rw (get_or_default octets k d 0 below) (h k)
 
 abbrev RequestFor : Value → Type 0
 RequestFor v = (g : Request) × IsRequest g × (request_value g ≡ v)
@@ -213,11 +187,7 @@ abbrev RequestsFor : Values → Type 0
 RequestsFor vs = (gs : Requests) × AreRequests gs × (request_values gs ≡ vs)
 
 starless : (head : List ℕ) → unless (not (bytes_eq head (codes "*"))) faults.StarInRequest ≡ None → IsHead head
-starless head e = by (bytes_eq head (codes "*")) refl e
-  where
-    by : (b : Bool) → b ≡ bytes_eq head (codes "*") → unless (not b) faults.StarInRequest ≡ None → IsHead head
-    by true d e = absurd (none_is_not_some _ e)
-    by false d e = other_text head (codes "*") d
+starless head e = other_text head (codes "*") (sym (not-true _ (unless-none _ _ e)))
 
 mutual
   request-of : (v : Value) → HasOctets v → AllByRecursion IsFinePart (value.nodes v) → RequestFor v
@@ -230,8 +200,9 @@ mutual
   requests-of : (vs : Values) → HaveOctets vs → AllByRecursion IsFinePart (value.nodes_all vs) → RequestsFor vs
   requests-of value.none o h = (request.none, tt, refl)
   requests-of (value.more v vs) o h =
-      let p = request-of v o.0 (apart_left IsFinePart (value.nodes v) (value.nodes_all vs) h) in
-      let q = requests-of vs o.1 (apart_right IsFinePart (value.nodes v) (value.nodes_all vs) h) in
+      let each = apart IsFinePart (value.nodes v) (value.nodes_all vs) h in
+      let p = request-of v o.0 each.0 in
+      let q = requests-of vs o.1 each.1 in
       (request.more p.0 q.0, (p.1, q.1), λ i. value.more (p.2 i) (q.2 i))
 
 pub request_none : (v : Value) → HasOctets v → request_fault v ≡ None → RequestFor v

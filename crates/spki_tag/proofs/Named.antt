@@ -1,10 +1,11 @@
 -- Which fault a reader names.
-use Rattle.std.proofs.Common.{◌≡◌, ◌≢◌, ℕ, ◌+◌, ◌≤◌, ◌<◌, Bool, true, false, ◌&&◌, ◌||◌, not, inl, inr, List, [], ◌∷◌, ◌++◌, map, length, Option, Some, None, Result, Ok, Err, refl, sym, ap, ◌∙◌, subst, arith, rules, append_assoc, true≢false}
+use Rattle.std.proofs.Common.{◌≡◌, ◌≢◌, ℕ, ◌+◌, ◌≤◌, ◌<◌, Bool, true, false, ◌||◌, not, inl, inr, List, [], ◌∷◌, ◌++◌, map, length, Option, Some, None, Result, Ok, Err, refl, sym, ap, ◌∙◌, subst, arith, rules, append_assoc, true≢false}
 use Rattle.std.specs.Prelude.{codes, if◌then◌else◌, IfErr}
 use Rattle.std.specs.Result.{IsErrAnd}
 use Rattle.std.specs.List.{list_any}
 use Rattle.std.specs.Str.{bytes_eq}
-use Rattle.std.specs.Cmp.Lexicographic.{same_text}
+use Rattle.std.specs.Cmp.Lexicographic.{same_text, bytes_decides}
+use Rattle.std.proofs.lemmas.Bool.{and_parts, or_cases, false_from_ne_true}
 use Rattle.sexpr_core.specs.Nodes.{members-values}
 use Rattle.sexpr_core.specs.Value as value
 use Rattle.sexpr_core.specs.Value.{Value, plain, values, group}
@@ -95,17 +96,12 @@ pub range-itself : (used : ℕ) (word : List ℕ) (vs : List Value) (fault : Tag
     → IsNamed fault (fault_after used (starred word (values vs)))
 range-itself used word vs fault h e n = search (rules, form-itself)
 
-form-unknown : (a b c : Bool) (p r : Option TagFault) → false ≡ a → false ≡ b → false ≡ c
-    → (if a then None else if b then p else if c then r else Some faults.UnknownStar) ≡ Some faults.UnknownStar
-form-unknown true b c p r d e f = absurd (true≢false (sym d))
-form-unknown false true c p r d e f = absurd (true≢false (sym e))
-form-unknown false false true p r d e f = absurd (true≢false (sym f))
-form-unknown false false false p r d e f = refl
-
 pub unknown-itself : (used : ℕ) (word : List ℕ) (vs : List Value) → used < most_read
     → false ≡ bytes_eq word (codes "set") → false ≡ bytes_eq word (codes "prefix") → false ≡ bytes_eq word (codes "range")
     → IsNamed faults.UnknownStar (fault_after used (starred word (values vs)))
-unknown-itself used word vs h d e f = search (rules, form-itself, named-first, form-unknown)
+unknown-itself used word vs h d e f =
+    form-itself used word vs _ h (named-first _ _ (λ i.
+    if sym d i then None else if sym e i then prefix_fault vs else if sym f i then range_fault vs else Some faults.UnknownStar))
 
 pub star-list : (vs : List Value) (v : Value) (us ws : List Value) → vs ≡ v ∷ ws → group us ≡ v
     → star_fault vs ≡ Some faults.UnknownStar
@@ -150,16 +146,20 @@ prefix-hinted vs v ws e none h = ap prefix_fault (e ∙ (λ i. h.2 i ∷ none i)
 
 -- ---- ranges
 
--- not the name of an ordering
-unordered : (name : List ℕ) → ((ordering : Ordering) → name ≢ ordering_name ordering) → is_ordering name ≡ false
-unordered name other = by (bytes_eq name (codes "alpha")) (bytes_eq name (codes "time")) (bytes_eq name (codes "date")) refl refl refl
+-- the ordering with a name
+pub ordering-of : (name : List ℕ) → is_ordering name ≡ true → (o : Ordering) × (ordering_name o ≡ name)
+ordering-of name h = by (bytes_eq name (codes "alpha")) (bytes_eq name (codes "time")) (bytes_eq name (codes "date")) refl refl refl h
   where
     by : (a b c : Bool) → a ≡ bytes_eq name (codes "alpha") → b ≡ bytes_eq name (codes "time")
-        → c ≡ bytes_eq name (codes "date") → (a || b || c) ≡ false
-    by true b c d e f = absurd (other alpha (same_text name (codes "alpha") d))
-    by false true c d e f = absurd (other time (same_text name (codes "time") e))
-    by false false true d e f = absurd (other date (same_text name (codes "date") f))
-    by false false false d e f = refl
+        → c ≡ bytes_eq name (codes "date") → (a || b || c) ≡ true → (o : Ordering) × (ordering_name o ≡ name)
+    by true b c d e f h = (alpha, sym (same_text name (codes "alpha") d))
+    by false true c d e f h = (time, sym (same_text name (codes "time") e))
+    by false false true d e f h = (date, sym (same_text name (codes "date") f))
+    by false false false d e f h = absurd (true≢false (sym h))
+
+-- not the name of an ordering
+unordered : (name : List ℕ) → ((ordering : Ordering) → name ≢ ordering_name ordering) → is_ordering name ≡ false
+unordered name other = false_from_ne_true (is_ordering name) (λ h. let o = ordering-of name h in other o.0 (sym o.1))
 
 pub ordering-other : (v : Value) (name : List ℕ) → plain name ≡ v → ((ordering : Ordering) → name ≢ ordering_name ordering)
     → (vs : List Value) → range_fault (v ∷ vs) ≡ Some faults.RangeOrdering
@@ -172,51 +172,28 @@ limit-of above from v (value.string (Some hint) octets) h = absurd (true≢false
 limit-of above from v (value.list us) h = absurd (true≢false (sym h))
 limit-of above from (value.string (Some hint) octets) (value.string None limit) h = absurd (true≢false (sym h))
 limit-of above from (value.list us) (value.string None limit) h = absurd (true≢false (sym h))
-limit-of above from (value.string None word) (value.string None limit) h = by (bytes_eq word above) (bytes_eq word from) refl refl h
-  where
-    by : (a b : Bool) → a ≡ bytes_eq word above → b ≡ bytes_eq word from → (a || b) ≡ true
-        → (l : Limit) × (limit_values above from (Some l) ≡ plain word ∷ plain limit ∷ [])
-    by true b d e h =
-        (record { strict = true; octets = limit }, ap (λ (x : List ℕ). plain x ∷ plain limit ∷ []) (sym (same_text word above d)))
-    by false true d e h =
-        (record { strict = false; octets = limit }, ap (λ (x : List ℕ). plain x ∷ plain limit ∷ []) (sym (same_text word from e)))
-    by false false d e h = absurd (true≢false (sym h))
+limit-of above from (value.string None word) (value.string None limit) h = elim (or_cases (bytes_eq word above) (bytes_eq word from) h) [
+  | inl d ↦ (record { strict = true; octets = limit }, ap (λ (x : List ℕ). plain x ∷ plain limit ∷ []) (sym ((bytes_decides word above).0 d)))
+  | inr d ↦ (record { strict = false; octets = limit }, ap (λ (x : List ℕ). plain x ∷ plain limit ∷ []) (sym ((bytes_decides word from).0 d)))
+]
 
 -- limits that are there
 pub limits-of : (vs : List Value) → are_limits vs ≡ true
     → (low : Option Limit) × (up : Option Limit) × (low_values low ++ up_values up ≡ vs)
 limits-of [] h = (None, None, refl)
-limits-of (v ∷ w ∷ []) h =
-    by (is_limit (codes "g") (codes "ge") v w) (is_limit (codes "l") (codes "le") v w) refl refl h
-  where
-    by : (a b : Bool) → is_limit (codes "g") (codes "ge") v w ≡ a → is_limit (codes "l") (codes "le") v w ≡ b
-        → (a || b) ≡ true → (low : Option Limit) × (up : Option Limit) × (low_values low ++ up_values up ≡ v ∷ w ∷ [])
-    by true b d e h =
-        let l = limit-of (codes "g") (codes "ge") v w d in
-        (Some l.0, None, l.1)
-    by false true d e h =
-        let u = limit-of (codes "l") (codes "le") v w e in
-        (None, Some u.0, u.1)
-    by false false d e h = absurd (true≢false (sym h))
+limits-of (v ∷ w ∷ []) h = elim (or_cases (is_limit (codes "g") (codes "ge") v w) (is_limit (codes "l") (codes "le") v w) h) [
+  | inl d ↦ let l = limit-of (codes "g") (codes "ge") v w d in (Some l.0, None, l.1)
+  | inr d ↦ let u = limit-of (codes "l") (codes "le") v w d in (None, Some u.0, u.1)
+]
 limits-of (v ∷ w ∷ x ∷ y ∷ []) h =
-    by (is_limit (codes "g") (codes "ge") v w) (is_limit (codes "l") (codes "le") x y) refl refl h
-  where
-    by : (a b : Bool) → is_limit (codes "g") (codes "ge") v w ≡ a → is_limit (codes "l") (codes "le") x y ≡ b
-        → (a && b) ≡ true
-        → (low : Option Limit) × (up : Option Limit) × (low_values low ++ up_values up ≡ v ∷ w ∷ x ∷ y ∷ [])
-    by true true d e h =
-        let l = limit-of (codes "g") (codes "ge") v w d in
-        let u = limit-of (codes "l") (codes "le") x y e in
-        (Some l.0, Some u.0, λ i. l.1 i ++ u.1 i)
-    by a b d e h = absurd (true≢false (sym h))
+    let d = and_parts (is_limit (codes "g") (codes "ge") v w) (is_limit (codes "l") (codes "le") x y) h in
+    let l = limit-of (codes "g") (codes "ge") v w d.0 in
+    let u = limit-of (codes "l") (codes "le") x y d.1 in
+    (Some l.0, Some u.0, λ i. l.1 i ++ u.1 i)
 limits-of vs h = absurd (true≢false (sym h))
 
 pub no_limits : (vs : List Value) → AreNoLimits vs → are_limits vs ≡ false
-no_limits vs none = by (are_limits vs) refl
-  where
-    by : (b : Bool) → are_limits vs ≡ b → b ≡ false
-    by true e = let l = limits-of vs e in absurd (none l.0 l.1 l.2)
-    by false e = refl
+no_limits vs none = false_from_ne_true (are_limits vs) (λ e. let l = limits-of vs e in none l.0 l.1 l.2)
 
 pub limits-hinted : (vs : List Value) → list_any is_hinted vs ≡ true → limits_fault vs ≡ Some faults.Hint
 limits-hinted vs h = ap (λ b. first_fault (unless (not b) faults.Hint ∷ unless (are_limits vs) faults.RangeLimit ∷ [])) h

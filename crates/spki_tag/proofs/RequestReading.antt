@@ -75,21 +75,14 @@ nodes-first : (v : Value) → (rest : List Value) × (value.nodes v ≡ v ∷ re
 nodes-first (value.string hint octets) = ([], refl)
 nodes-first (value.list vs) = (value.nodes_all vs, refl)
 
-found-first : (v : Value) (rest : List Value) (fault : TagFault) → part_fault v ≡ Some fault
-    → first_fault (map part_fault (v ∷ rest)) ≡ Some fault
-found-first v rest fault e = ap (λ (f : Option TagFault). first_fault (f ∷ map part_fault rest)) e
-
-found-past : (v : Value) (rest : List Value) → part_fault v ≡ None
-    → first_fault (map part_fault (v ∷ rest)) ≡ first_fault (map part_fault rest)
-found-past v rest e = ap (λ (f : Option TagFault). first_fault (f ∷ map part_fault rest)) e
-
 pub part-itself : (v : Value) (fault : TagFault) (f : Option TagFault) → part_fault v ≡ f → IsNamed fault f
     → IsNamed fault (request_fault v)
 unfolding request_fault
 part-itself v fault f own =
     let p = nodes-first v in
     named-by fault f _
-    (λ e. ap (λ (vs : List Value). first_fault (map part_fault vs)) p.1 ∙ found-first v p.0 fault (own ∙ e))
+    (λ e. ap (λ (vs : List Value). first_fault (map part_fault vs)) p.1
+    ∙ ap (λ (g : Option TagFault). first_fault (g ∷ map part_fault p.0)) (own ∙ e))
 
 pub group-itself : (us vs : List Value) (fault : TagFault) → us ≡ vs → IsNamed fault (group_fault vs)
     → IsNamed fault (request_fault (group us))
@@ -126,7 +119,7 @@ mutual
 
 pub parts-fine : (vs : List Value) → AllByRecursion IsFinePart vs → first_fault (map part_fault vs) ≡ None
 parts-fine [] h = refl
-parts-fine (v ∷ vs) h = found-past v vs h.0 ∙ parts-fine vs h.1
+parts-fine (v ∷ vs) h = ap (λ (f : Option TagFault). first_fault (f ∷ map part_fault vs)) h.0 ∙ parts-fine vs h.1
 
 -- ---- the members, one after the other
 

@@ -28,15 +28,10 @@ ordering_only time time e = refl
 ordering_only date date e = refl
 ordering_only a b e = absurd (apart _ _ refl e)
 
-low_word_only : (a b : Bool) → (if a then codes "g" else codes "ge") ≡ (if b then codes "g" else codes "ge") → a ≡ b
-low_word_only true false e = absurd (apart (codes "g") (codes "ge") refl e)
-low_word_only false true e = absurd (apart (codes "ge") (codes "g") refl e)
-low_word_only a b e = refl
-
-up_word_only : (a b : Bool) → (if a then codes "l" else codes "le") ≡ (if b then codes "l" else codes "le") → a ≡ b
-up_word_only true false e = absurd (apart (codes "l") (codes "le") refl e)
-up_word_only false true e = absurd (apart (codes "le") (codes "l") refl e)
-up_word_only a b e = refl
+word_only : (x y : List ℕ) → false ≡ bytes_eq x y → (a b : Bool) → (if a then x else y) ≡ (if b then x else y) → a ≡ b
+word_only x y other true false e = absurd (apart x y other e)
+word_only x y other false true e = absurd (apart x y other (sym e))
+word_only x y other a b e = refl
 
 low_is_not_up : (a b : Bool) → (if a then codes "g" else codes "ge") ≡ (if b then codes "l" else codes "le") → ⊥
 low_is_not_up true true e = apart (codes "g") (codes "l") refl e
@@ -49,7 +44,7 @@ same_limit k m e f = search rules
 
 up_only : (k m : Option Limit) → values (up_values k) ≡ values (up_values m) → k ≡ m
 up_only None None e = refl
-up_only (Some k) (Some m) e = same_limit k m (up_word_only k.strict m.strict cc) cc
+up_only (Some k) (Some m) e = same_limit k m (word_only (codes "l") (codes "le") refl k.strict m.strict cc) cc
 up_only k m e = absurd cc
 
 limits_only : (low up low' up' : Option Limit)
@@ -58,7 +53,7 @@ limits_only : (low up low' up' : Option Limit)
 limits_only None up None up' e = (refl, up_only up up' e)
 limits_only None (Some u) (Some m) up' e = absurd (low_is_not_up m.strict u.strict (sym cc))
 limits_only (Some k) up None (Some u) e = absurd (low_is_not_up k.strict u.strict cc)
-limits_only (Some k) up (Some m) up' e = (same_limit k m (low_word_only k.strict m.strict cc) cc, up_only up up' cc)
+limits_only (Some k) up (Some m) up' e = (same_limit k m (word_only (codes "g") (codes "ge") refl k.strict m.strict cc) cc, up_only up up' cc)
 limits_only low up low' up' e = absurd cc
 
 same_range : (o p : Ordering) (low up low' up' : Option Limit) → o ≡ p → (low ≡ low') × (up ≡ up')
