@@ -10,7 +10,7 @@ use Rattle.spki_tag.specs.Tag.{is_time, is_date, Tag, Tags, tags, Limit, Orderin
 use Rattle.spki_tag.specs.Request as request
 use Rattle.spki_tag.specs.Request.{Request, Requests, IsRequest, AreRequests}
 use Rattle.spki_tag.specs.Meet.{greater_low, lesser_up, exclude, ordering_meet, nothing, ranged, string_meet, range_meet, prefix_meet, items, kept, row, gather, has_nothing, listed, list_meet, across, set_across, meet, each_meet, pairs}
-use Rattle.spki_tag.proofs.Limits.{and_left, and_never, greater_low-exact, lesser_up-exact, exclude-none, least_above-exact, prefixes-exact}
+use Rattle.spki_tag.proofs.Limits.{and_left, and_never, greater_low-exact, lesser_up-exact, exclude-none, least_above_exact, prefixes-exact}
 
 -- ---- truth values
 
@@ -135,7 +135,7 @@ range-exact : (o : Ordering) (l u : Option Limit) (b : Tag) (g : Request) → Is
     → contains (range_meet o l u b) g ≡ (contains (range o l u) g && contains b g)
 range-exact o l u b (request.list head gs) k n = bare-list (range_meet o l u b) head gs (range-bare o l u b)
 range-exact o l u (string s) g k n = string-exact s (range o l u) g ∙ and_comm (contains (string s) g) (contains (range o l u) g)
-range-exact o l u (prefix p) (request.string x) k n = search (rules, ranges, least_above-exact)
+range-exact o l u (prefix p) (request.string x) k n = search (rules, ranges, least_above_exact)
 range-exact o l u (range p m v) (request.string x) k n = ranges o p l u m v x
 range-exact o l u (list other us) (request.string x) k n = sym (and-false _)
 range-exact o l u b g k n = absurd (true≢false n)
@@ -145,7 +145,7 @@ prefix-exact : (p : List ℕ) (b : Tag) (g : Request) → IsRequest g → is_set
 prefix-exact p b (request.list head gs) k n = bare-list (prefix_meet p b) head gs (prefix-bare p b)
 prefix-exact p (string s) g k n = string-exact s (prefix p) g ∙ and_comm (contains (string s) g) (contains (prefix p) g)
 prefix-exact p (prefix q) (request.string x) k n = prefixes-exact p q x
-prefix-exact p (range o l u) (request.string x) k n = search (rules, ranges, least_above-exact)
+prefix-exact p (range o l u) (request.string x) k n = search (rules, ranges, least_above_exact)
 prefix-exact p (list other us) (request.string x) k n = sym (and-false _)
 prefix-exact p b g k n = absurd (true≢false n)
 
@@ -195,9 +195,9 @@ pub tags-items : (ts : Tags) → tags (items ts) ≡ ts
 tags-items none = refl
 tags-items (more t ts) = ap (more t) (tags-items ts)
 
-pub items-tags : (ts : List Tag) → items (tags ts) ≡ ts
-items-tags [] = refl
-items-tags (t ∷ ts) = ap (λ (us : List Tag). t ∷ us) (items-tags ts)
+pub items_tags : (ts : List Tag) → items (tags ts) ≡ ts
+items_tags [] = refl
+items_tags (t ∷ ts) = ap (λ (us : List Tag). t ∷ us) (items_tags ts)
 
 nothing-none : (t : Tag) (g : Request) → is_nothing t ≡ true → contains t g ≡ false
 nothing-none (set none) g h = refl
@@ -245,16 +245,16 @@ list-exact head ts f b (request.list requested gs) k n m e = sym (and-false _)
 -- ---- tags
 
 mutual
-  pub meet-exact : (a b : Tag) (g : Request) → IsRequest g → is_normal a ≡ true → is_normal b ≡ true
+  pub meet_exact : (a b : Tag) (g : Request) → IsRequest g → is_normal a ≡ true → is_normal b ≡ true
       → contains (meet a b) g ≡ (contains a g && contains b g)
-  meet-exact star b g k m n = refl
-  meet-exact (string s) b g k m n = across-exact (string s) (string_meet s) b g n (λ c p q. string-exact s c g)
-  meet-exact (prefix s) b g k m n = across-exact (prefix s) (prefix_meet s) b g n (λ c p q. prefix-exact s c g k p)
-  meet-exact (range o l u) b g k m n = across-exact (range o l u) (range_meet o l u) b g n (λ c p q. range-exact o l u c g k p)
-  meet-exact (list head ts) b g k m n =
+  meet_exact star b g k m n = refl
+  meet_exact (string s) b g k m n = across-exact (string s) (string_meet s) b g n (λ c p q. string-exact s c g)
+  meet_exact (prefix s) b g k m n = across-exact (prefix s) (prefix_meet s) b g n (λ c p q. prefix-exact s c g k p)
+  meet_exact (range o l u) b g k m n = across-exact (range o l u) (range_meet o l u) b g n (λ c p q. range-exact o l u c g k p)
+  meet_exact (list head ts) b g k m n =
       across-exact (list head ts) (list_meet head (each_meet ts)) b g n
       (λ c p q. list-exact head ts (each_meet ts) c g k p q (λ us gs j r. each-exact ts us gs j m r))
-  meet-exact (set ms) b g k m n =
+  meet_exact (set ms) b g k m n =
       set_across-exact ms (pairs ms) b g n (λ bs r. pairs-exact ms bs g k ((and_parts _ _ m).1) r)
 
   each-exact : (ts us : Tags) (gs : Requests) → AreRequests gs → each_normal is_nothing ts ≡ true
@@ -266,7 +266,7 @@ mutual
   each-exact (more t ts) (more u us) (request.more g gs) k m n =
       let p = three_parts is_nothing t ts m in
       let q = three_parts is_nothing u us n in
-      (λ i. meet-exact t u g k.0 p.1 q.1 i && each-exact ts us gs k.1 p.2 q.2 i)
+      (λ i. meet_exact t u g k.0 p.1 q.1 i && each-exact ts us gs k.1 p.2 q.2 i)
       ∙ twice (contains t g) (contains u g) (contain_each ts gs) (contain_each us gs)
 
   pairs-exact : (ms bs : Tags) (g : Request) → IsRequest g → each_normal is_set_or_star ms ≡ true
@@ -276,5 +276,5 @@ mutual
   pairs-exact (more a ms) bs g k m n =
       let p = three_parts is_set_or_star a ms m in
       append-exact (row (meet a) bs) (pairs ms bs) g
-      ∙ (λ i. row-exact (meet a) (contains a g) g bs (λ b r q. meet-exact a b g k p.1 q) n i || pairs-exact ms bs g k p.2 n i)
+      ∙ (λ i. row-exact (meet a) (contains a g) g bs (λ b r q. meet_exact a b g k p.1 q) n i || pairs-exact ms bs g k p.2 n i)
       ∙ sym (and-or_distrib_right (contains a g) (some_contains ms g) (some_contains bs g))

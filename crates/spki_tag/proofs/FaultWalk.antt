@@ -107,19 +107,19 @@ mutual
 
 mutual
   -- there are as many tags in a written tag as nodes
-  pub tags-count : (w : Tag) → IsTag w → length (tags_in (tag_value w)) ≡ nodes w
-  tags-count (list head further) h = search (rules, tags_in-list, tags-count_all further h.1)
-  tags-count (set ws) h = omega (arith, tags-count_all ws h)
-  tags-count w h = refl
+  pub tags_count : (w : Tag) → IsTag w → length (tags_in (tag_value w)) ≡ nodes w
+  tags_count (list head further) h = search (rules, tags_in-list, tags-count_all further h.1)
+  tags_count (set ws) h = omega (arith, tags-count_all ws h)
+  tags_count w h = refl
 
   pub tags-count_all : (ws : Tags) → AreTags ws → length (tags_in_all (tag_values ws)) ≡ nodes_all ws
   tags-count_all none h = refl
   tags-count_all (more w ws) h =
-      omega (arith, length-append (tags_in (tag_value w)) (tags_in_all (tag_values ws)), tags-count w h.0, tags-count_all ws h.1)
+      omega (arith, length-append (tags_in (tag_value w)) (tags_in_all (tag_values ws)), tags_count w h.0, tags-count_all ws h.1)
 
 -- tags of few enough nodes
 pub tag-past : (n : ℕ) (w : Tag) → IsTag w → n + nodes w ≤ most_read → first_fault (looks n (tags_in (tag_value w))) ≡ None
-tag-past n w h few = search (rules, looks-fine, tags-count, tag-fine)
+tag-past n w h few = search (rules, looks-fine, tags_count, tag-fine)
 
 pub tags-past : (n : ℕ) (ws : Tags) → AreTags ws → n + nodes_all ws ≤ most_read
     → first_fault (looks n (tags_in_all (tag_values ws))) ≡ None

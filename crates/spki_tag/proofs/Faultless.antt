@@ -17,7 +17,7 @@ use Rattle.spki_tag.specs.Request as request
 use Rattle.spki_tag.specs.Request.{Request, Requests, AreOctets, IsHead, IsRequest, AreRequests, request_value, request_values}
 use Rattle.spki_tag.specs.Tag.{Tag, Tags, star, string, prefix, range, list, set, none, more, IsTag, AreTags, tag_value, tag_values, starred, nodes}
 use Rattle.spki_tag.specs.Reading.{most_read, IsNoTag, IsNoRequest}
-use Rattle.spki_tag.proofs.FaultWalk.{IsFine, tags-count, tag-past}
+use Rattle.spki_tag.proofs.FaultWalk.{IsFine, tags_count, tag-past}
 use Rattle.spki_tag.proofs.Named.{ordering-of, limits-of}
 use Rattle.spki_tag.proofs.RequestReading.{IsFinePart, request-faultless}
 
@@ -153,7 +153,7 @@ mutual
 
 pub tag_none : (v : Value) → tag_fault v ≡ None → (w : Tag) × IsTag w × (tag_value w ≡ v) × (nodes w ≤ 1024)
 unfolding tag_fault
-tag_none v e = search (rules, looks-none, tag-of, tags-count)
+tag_none v e = search (rules, looks-none, tag-of, tags_count)
 
 pub tag_some : (v : Value) → ((w : Tag) × IsTag w × (tag_value w ≡ v) × (nodes w ≤ 1024)) → tag_fault v ≡ None
 unfolding tag_fault

@@ -152,15 +152,15 @@ exclude-none low up x e h g = e
 
 -- ---- the least string above all that start with a string, from its last octet on
 
-pub least_above-less : (front : List ℕ) (octet : ℕ) → octet < 255
+pub least_above_less : (front : List ℕ) (octet : ℕ) → octet < 255
     → least_above (front ++ octet ∷ []) ≡ Some (front ++ (octet + 1) ∷ [])
-least_above-less [] octet h = search (rules, lt-ltb)
-least_above-less (first ∷ front) octet h = ap (above_from first) (least_above-less front octet h)
+least_above_less [] octet h = search (rules, lt-ltb)
+least_above_less (first ∷ front) octet h = ap (above_from first) (least_above_less front octet h)
 
-pub least_above-most : (front : List ℕ) (octet : ℕ) → 255 ≤ octet
+pub least_above_most : (front : List ℕ) (octet : ℕ) → 255 ≤ octet
     → least_above (front ++ octet ∷ []) ≡ least_above front
-least_above-most [] octet h = ap (λ b. if b then Some ((octet + 1) ∷ []) else None) (le-ltb octet 255 h)
-least_above-most (first ∷ front) octet h = ap (above_from first) (least_above-most front octet h)
+least_above_most [] octet h = ap (λ b. if b then Some ((octet + 1) ∷ []) else None) (le-ltb octet 255 h)
+least_above_most (first ∷ front) octet h = ap (above_from first) (least_above_most front octet h)
 
 -- ---- prefixes as ranges, and two prefixes
 
@@ -196,13 +196,13 @@ below_same c x None =
     (λ _. ap (λ r. is_lt (ordering_then r (slice_cmp nat_cmp x []))) (cmp_less c (c + 1) (omega arith))) (λ _. refl)
 
 -- A prefix holds the strings from itself to below the least string above all that start with it.
-pub least_above-exact : (p x : List ℕ) → AreOctets x
+pub least_above_exact : (p x : List ℕ) → AreOctets x
     → starts_with nat_eq x p ≡ (is_above (from p) x && is_below (strict_limit (least_above p)) x)
-least_above-exact [] [] k = refl
-least_above-exact [] (d ∷ x) k = refl
-least_above-exact (c ∷ p) [] k = refl
-least_above-exact (c ∷ p) (d ∷ x) k =
-    let rest = least_above-exact p x (λ j e h. k (suc j) e (omega (arith, h))) in
+least_above_exact [] [] k = refl
+least_above_exact [] (d ∷ x) k = refl
+least_above_exact (c ∷ p) [] k = refl
+least_above_exact (c ∷ p) (d ∷ x) k =
+    let rest = least_above_exact p x (λ j e h. k (suc j) e (omega (arith, h))) in
     elim (cases_order c d) [
       | inl e ↦
           subst (λ z. starts_with nat_eq (z ∷ x) (c ∷ p)

@@ -73,22 +73,22 @@ bare-le t c h = omega (arith, bare-one t h, nodes-some c)
 
 mutual
   -- What two tags leave together has no more nodes than their product.
-  pub meet-le : (a b : Tag) → nodes (meet a b) ≤ nodes a * nodes b
-  meet-le star b = omega (arith, one-mul (nodes b))
-  meet-le (string s) b = across-le (string s) (string_meet s) b (λ c. bare-le (string_meet s c) c (string-bare s c))
-  meet-le (prefix s) b = across-le (prefix s) (prefix_meet s) b (λ c. bare-le (prefix_meet s c) c (prefix-bare s c))
-  meet-le (range o l u) b = across-le (range o l u) (range_meet o l u) b (λ c. bare-le (range_meet o l u c) c (range-bare o l u c))
-  meet-le (list head ts) b =
+  pub meet_le : (a b : Tag) → nodes (meet a b) ≤ nodes a * nodes b
+  meet_le star b = omega (arith, one-mul (nodes b))
+  meet_le (string s) b = across-le (string s) (string_meet s) b (λ c. bare-le (string_meet s c) c (string-bare s c))
+  meet_le (prefix s) b = across-le (prefix s) (prefix_meet s) b (λ c. bare-le (prefix_meet s c) c (prefix-bare s c))
+  meet_le (range o l u) b = across-le (range o l u) (range_meet o l u) b (λ c. bare-le (range_meet o l u c) c (range-bare o l u c))
+  meet_le (list head ts) b =
       across-le (list head ts) (list_meet head (each_meet ts)) b
       (λ c. list-le head (nodes_all ts) (each_meet ts) c (λ us. each-le ts us))
-  meet-le (set ms) b = set_across-le ms (pairs ms) b (λ bs. pairs-le ms bs)
+  meet_le (set ms) b = set_across-le ms (pairs ms) b (λ bs. pairs-le ms bs)
 
   pub each-le : (ts us : Tags) → nodes_all (tags (each_meet ts us)) ≤ nodes_all ts * nodes_all us + nodes_all ts + nodes_all us
   each-le none us = omega (arith, ap nodes_all (tags-items us))
   each-le (more t ts) none = omega (arith, ap nodes_all (tags-items ts))
-  each-le (more t ts) (more u us) = omega (arith, meet-le t u, each-le ts us)
+  each-le (more t ts) (more u us) = omega (arith, meet_le t u, each-le ts us)
 
   pub pairs-le : (ms bs : Tags) → nodes_all (tags (pairs ms bs)) ≤ nodes_all ms * nodes_all bs
   pairs-le none bs = omega arith
   pairs-le (more a ms) bs =
-      omega (arith, append-nodes (row (meet a) bs) (pairs ms bs), row-le (meet a) (nodes a) bs (λ b. meet-le a b), pairs-le ms bs)
+      omega (arith, append-nodes (row (meet a) bs) (pairs ms bs), row-le (meet a) (nodes a) bs (λ b. meet_le a b), pairs-le ms bs)

@@ -6,8 +6,9 @@ use Rattle.std.proofs.lemmas.List.Elements.{filter-append}
 use Rattle.std.proofs.lemmas.Bool.{and_parts, or_parts, or_from, or_right, cond_both, cond-true, cond-false}
 use Rattle.spki_tag.specs.Tag.{Tag, Tags, tags, star, string, prefix, range, list, set, none, more, IsNormalTag, is_star, is_set, is_nothing, is_set_or_star, is_normal, each_normal, is_none_or_many, nodes, nodes_all, most_nodes, alpha, time, date}
 use Rattle.spki_tag.specs.Meet.{nothing, row, gather, has_nothing, across, meet, each_meet, pairs, members, kept, listed, SetRule, StringRule, PrefixRule, RangeRule, OrderingRule, side_by_side, ListRule, ListsAndStrings}
-use Rattle.spki_tag.proofs.Exact.{three_parts, tags-items, items-tags}
+use Rattle.spki_tag.proofs.Exact.{three_parts, tags-items, items_tags}
 use Rattle.spki_tag.proofs.NormalForms.{meet-normal_tag}
+use Rattle.spki_tag.proofs.Members.{nodes_le-of_read}
 use Rattle.std.specs.Prelude.{if◌then◌else◌}
 use Rattle.std.specs.List.{filter, flat_map, starts_with}
 use Rattle.std.specs.Str.{bytes_eq}
@@ -136,8 +137,8 @@ nothing-is_not t n = refl
 
 -- past the end of one the members of the other stay
 pub each_meet-end : (ts us : List Tag) → min (length ts) (length us) ≡ 0 → each_meet (tags ts) (tags us) ≡ ts ++ us
-each_meet-end [] us h = items-tags us
-each_meet-end (t ∷ ts) [] h = ap (λ (us : List Tag). t ∷ us) (items-tags ts) ∙ sym (append-nil (t ∷ ts))
+each_meet-end [] us h = items_tags us
+each_meet-end (t ∷ ts) [] h = ap (λ (us : List Tag). t ∷ us) (items_tags ts) ∙ sym (append-nil (t ∷ ts))
 each_meet-end (t ∷ ts) (u ∷ us) h = absurd (omega (arith, h))
 
 pub normal-none : (ts : List Tag) → each_normal is_nothing (tags ts) ≡ true → has_nothing ts ≡ false
@@ -236,13 +237,13 @@ prefix_rule p q h = (
 each-left : (ts us further : List Tag) → length ts ≡ length us
     → each_meet (tags (ts ++ further)) (tags us) ≡ side_by_side ts us ++ further
 each-left [] [] [] e = refl
-each-left [] [] (t ∷ further) e = ap (λ (vs : List Tag). t ∷ vs) (items-tags further)
+each-left [] [] (t ∷ further) e = ap (λ (vs : List Tag). t ∷ vs) (items_tags further)
 each-left (t ∷ ts) (u ∷ us) further e = ap (λ (vs : List Tag). meet t u ∷ vs) (each-left ts us further (omega (arith, e)))
 each-left ts us further e = absurd (omega (arith, e))
 
 each-right : (ts us further : List Tag) → length ts ≡ length us
     → each_meet (tags ts) (tags (us ++ further)) ≡ side_by_side ts us ++ further
-each-right [] [] further e = items-tags further
+each-right [] [] further e = items_tags further
 each-right (t ∷ ts) (u ∷ us) further e = ap (λ (vs : List Tag). meet t u ∷ vs) (each-right ts us further (omega (arith, e)))
 each-right ts us further e = absurd (omega (arith, e))
 
@@ -257,3 +258,7 @@ lists_and_strings head ts (string x) h = (refl, refl)
 lists_and_strings head ts (prefix x) h = (refl, refl)
 lists_and_strings head ts (range o l u) h = (refl, refl)
 lists_and_strings head ts z h = absurd h
+
+-- ---- what the proofs of the steps use
+
+pub ruleset meet_steps = (nodes_le-of_read, le_trans, mul-le, lists_meet, tags-members, members_meet, meet-by_members, nothing-is, each_meet-rest, has_nothing-found, nothing-is_not, true≢false, append_assoc, has_nothing-push)

@@ -5,7 +5,7 @@ use Rattle.spki_tag.specs.Request.{Request, requests}
 use Rattle.spki_tag.specs.Tag.{Tag, tags, contain_each, nodes, nodes_all}
 use Rattle.std.proofs.lemmas.List.{get_or_default}
 use Rattle.spki_tag.specs.Meet.{items}
-use Rattle.spki_tag.proofs.Exact.{items-tags}
+use Rattle.spki_tag.proofs.Exact.{items_tags}
 
 -- ---- the members of a tag one after the other, as loops visit them
 
@@ -32,7 +32,7 @@ contain_each-too_few (t ∷ ts) (g ∷ gs) h = search (rules, contain_each-too_f
 
 -- the members are those of one list
 pub tags_one : (ts us : List Tag) → tags ts ≡ tags us → ts ≡ us
-tags_one ts us e = sym (items-tags ts) ∙ ap items e ∙ items-tags us
+tags_one ts us e = sym (items_tags ts) ∙ ap items e ∙ items_tags us
 
 -- where the numbers of members differ, the members do
 pub lengths_differ : (ts us : List Tag) → length ts ≢ length us → IsTrue false ↔ (tags ts ≡ tags us)

@@ -28,9 +28,9 @@ pub named-memory : (found : Option TagFault) → IsNamed faults.Memory found
 unfolding IsNamed
 named-memory found = inl refl
 
-pub named-first : (fault : TagFault) (found : Option TagFault) → found ≡ Some fault → IsNamed fault found
+pub named_first : (fault : TagFault) (found : Option TagFault) → found ≡ Some fault → IsNamed fault found
 unfolding IsNamed
-named-first fault found e = inr e
+named_first fault found e = inr e
 
 pub named-by : (fault : TagFault) (f g : Option TagFault) → (f ≡ Some fault → g ≡ Some fault) → IsNamed fault f
     → IsNamed fault g
@@ -49,7 +49,7 @@ pub full : (used : ℕ) (v : Value) → most_read ≤ used → IsNamed faults.To
 unfolding fault_after
 full used v h =
     let p = tags_in-first v in
-    named-first faults.TooManyNodes _ (ap (λ (vs : List Value). first_fault (looks used vs)) p.1 ∙ look-full used v p.0 h)
+    named_first faults.TooManyNodes _ (ap (λ (vs : List Value). first_fault (looks used vs)) p.1 ∙ look-full used v p.0 h)
 
 pub itself : (used : ℕ) (v : Value) (fault : TagFault) (f : Option TagFault) → used < most_read → own_fault v ≡ f
     → IsNamed fault f → IsNamed fault (fault_after used v)
@@ -100,7 +100,7 @@ pub unknown-itself : (used : ℕ) (word : List ℕ) (vs : List Value) → used <
     → false ≡ bytes_eq word (codes "set") → false ≡ bytes_eq word (codes "prefix") → false ≡ bytes_eq word (codes "range")
     → IsNamed faults.UnknownStar (fault_after used (starred word (values vs)))
 unknown-itself used word vs h d e f =
-    form-itself used word vs _ h (named-first _ _ (λ i.
+    form-itself used word vs _ h (named_first _ _ (λ i.
     if sym d i then None else if sym e i then prefix_fault vs else if sym f i then range_fault vs else Some faults.UnknownStar))
 
 pub star-list : (vs : List Value) (v : Value) (us ws : List Value) → vs ≡ v ∷ ws → group us ≡ v
@@ -113,13 +113,13 @@ star-hinted vs v ws e h = ap star_fault (e ∙ ap (λ (x : Value). x ∷ ws) h.2
 
 -- ---- heads
 
-pub head-list : (v : Value) (us : List Value) → group us ≡ v → (vs : List Value)
+pub head_list : (v : Value) (us : List Value) → group us ≡ v → (vs : List Value)
     → (list_fault (v ∷ vs) ≡ Some faults.ListHead) × (group_fault (v ∷ vs) ≡ Some faults.ListHead)
-head-list v us e vs = search rules
+head_list v us e vs = search rules
 
-pub head-hinted : (v : Value) → IsHinted v → (vs : List Value)
+pub head_hinted : (v : Value) → IsHinted v → (vs : List Value)
     → (list_fault (v ∷ vs) ≡ Some faults.Hint) × (group_fault (v ∷ vs) ≡ Some faults.Hint)
-head-hinted v h vs = search rules
+head_hinted v h vs = search rules
 
 -- ---- prefixes
 
@@ -127,22 +127,22 @@ prefix-long : (v w : Value) (vs : List Value) → prefix_fault (v ∷ w ∷ vs) 
 prefix-long (value.string (Some hint) octets) w vs = refl
 prefix-long v w vs = refl
 
-pub prefix-more : (vs : List Value) (v : Value) (us : List Value) → vs ≡ v ∷ us → us ≢ []
+pub prefix_more : (vs : List Value) (v : Value) (us : List Value) → vs ≡ v ∷ us → us ≢ []
     → prefix_fault vs ≡ Some faults.UnknownStar
-prefix-more vs v [] e more = absurd (more refl)
-prefix-more vs v (u ∷ us) e more = ap prefix_fault e ∙ prefix-long v u us
+prefix_more vs v [] e more = absurd (more refl)
+prefix_more vs v (u ∷ us) e more = ap prefix_fault e ∙ prefix-long v u us
 
 prefix-group : (us ws : List Value) → prefix_fault (group us ∷ ws) ≡ Some faults.UnknownStar
 prefix-group us [] = refl
 prefix-group us (w ∷ ws) = refl
 
-pub prefix-list : (vs : List Value) (v : Value) (us ws : List Value) → vs ≡ v ∷ ws → group us ≡ v
+pub prefix_list : (vs : List Value) (v : Value) (us ws : List Value) → vs ≡ v ∷ ws → group us ≡ v
     → prefix_fault vs ≡ Some faults.UnknownStar
-prefix-list vs v us ws e f = ap prefix_fault (e ∙ ap (λ (x : Value). x ∷ ws) (sym f)) ∙ prefix-group us ws
+prefix_list vs v us ws e f = ap prefix_fault (e ∙ ap (λ (x : Value). x ∷ ws) (sym f)) ∙ prefix-group us ws
 
-pub prefix-hinted : (vs : List Value) (v : Value) (ws : List Value) → vs ≡ v ∷ ws → ws ≡ [] → IsHinted v
+pub prefix_hinted : (vs : List Value) (v : Value) (ws : List Value) → vs ≡ v ∷ ws → ws ≡ [] → IsHinted v
     → prefix_fault vs ≡ Some faults.Hint
-prefix-hinted vs v ws e none h = ap prefix_fault (e ∙ (λ i. h.2 i ∷ none i))
+prefix_hinted vs v ws e none h = ap prefix_fault (e ∙ (λ i. h.2 i ∷ none i))
 
 -- ---- ranges
 
@@ -195,19 +195,19 @@ limits-of vs h = absurd (true≢false (sym h))
 pub no_limits : (vs : List Value) → AreNoLimits vs → are_limits vs ≡ false
 no_limits vs none = false_from_ne_true (are_limits vs) (λ e. let l = limits-of vs e in none l.0 l.1 l.2)
 
-pub limits-hinted : (vs : List Value) → list_any is_hinted vs ≡ true → limits_fault vs ≡ Some faults.Hint
-limits-hinted vs h = ap (λ b. first_fault (unless (not b) faults.Hint ∷ unless (are_limits vs) faults.RangeLimit ∷ [])) h
+pub limits_hinted : (vs : List Value) → list_any is_hinted vs ≡ true → limits_fault vs ≡ Some faults.Hint
+limits_hinted vs h = ap (λ b. first_fault (unless (not b) faults.Hint ∷ unless (are_limits vs) faults.RangeLimit ∷ [])) h
 
-pub limits-other : (vs : List Value) → list_any is_hinted vs ≡ false → AreNoLimits vs
+pub limits_other : (vs : List Value) → list_any is_hinted vs ≡ false → AreNoLimits vs
     → limits_fault vs ≡ Some faults.RangeLimit
-limits-other vs h none = search (rules, no_limits)
+limits_other vs h none = search (rules, no_limits)
 
 -- ---- lists and sets
 
 pub no_room_for_head-named : (used : ℕ) (head : List ℕ) (vs : List Value) → IsHead head → used < most_read
     → most_read ≤ used + 1 → IsNamed faults.TooManyNodes (fault_after used (group (plain head ∷ vs)))
 unfolding fault_after
-no_room_for_head-named used head vs h room full = search (rules, named-first, tags_in-list, look-past, list-fine, look-full, full)
+no_room_for_head-named used head vs h room full = search (rules, named_first, tags_in-list, look-past, list-fine, look-full, full)
 
 pub list-members : (used : ℕ) (head : List ℕ) (vs : List Value) (fault : TagFault) → IsHead head → used + 1 < most_read
     → IsNamed fault (fault_after_all (used + 2) vs) → IsNamed fault (fault_after used (group (plain head ∷ vs)))
@@ -267,3 +267,9 @@ pub named-sure : (fault : TagFault) (found : Option TagFault) → IsNamed fault 
 unfolding IsNamed
 named-sure fault found (inl e) h = absurd (h e)
 named-sure fault found (inr e) h = e
+
+-- ---- what the readers' proofs use
+
+pub ruleset limits_read = (named_first, out_of_memory, limits_hinted, limits_other)
+
+pub ruleset tags_read = (named_first, out_of_memory, passed, prefix_more, prefix_list, prefix_hinted, head_list, head_hinted, prefix-itself, range-itself, unknown-itself, list-itself, no_room_for_head-named, list-members, set-members, star-itself, star-list, star-hinted, full, itself, at_first, read-faultless)

@@ -11,7 +11,7 @@ use Rattle.spki_tag.specs.Meet.{items, gather, nothing, has_nothing, listed, mem
 use Rattle.spki_tag.specs.Reading.{IsNormalOf, AreNormal, spread, set_of}
 use Rattle.spki_tag.proofs.Exact.{IsBare, string-bare, range-bare, prefix-bare, three_parts, all_three, append-exact, gather-exact, tags-items, listed-exact}
 use Rattle.spki_tag.proofs.FaultWalk.{both}
-use Rattle.spki_tag.proofs.MeetSizes.{append-nodes, gather-le, meet-le}
+use Rattle.spki_tag.proofs.MeetSizes.{append-nodes, gather-le, meet_le}
 
 -- ---- sets and lists of tags in normal form, and their own normal form
 
@@ -61,10 +61,10 @@ spread-members [] h = tt
 spread-members (t ∷ ts) h = both IsMember (in_place t) (spread ts) (in_place-members t h.0 h.1) (spread-members ts h.2)
 
 -- when none is left, all are put in their place
-pub spread-all : (front rest ts : List Tag) (n : ℕ) → front ++ spread rest ≡ spread ts → n ≡ length rest → n ≡ 0
+pub spread_all : (front rest ts : List Tag) (n : ℕ) → front ++ spread rest ≡ spread ts → n ≡ length rest → n ≡ 0
     → front ≡ spread ts
-spread-all front [] ts n e len h = sym (append-nil front) ∙ e
-spread-all front (t ∷ rest) ts n e len h = absurd (omega (arith, len, h))
+spread_all front [] ts n e len h = sym (append-nil front) ∙ e
+spread_all front (t ∷ rest) ts n e len h = absurd (omega (arith, len, h))
 
 -- ---- sets
 
@@ -282,8 +282,8 @@ deepest_flat a b h k =
     (meet_flat _ a b (record { written = h.written; normal = h.normal; flat = omega arith })
     (record { written = k.written; normal = k.normal; flat = omega arith })).0
 
-pub meet-ldepth : (a b : Tag) → IsNormalTag a → IsNormalTag b → ldepth (meet a b) ≤ max (ldepth a) (ldepth b)
-meet-ldepth a b h k = (deepest_flat a b h k).flat
+pub meet_ldepth : (a b : Tag) → IsNormalTag a → IsNormalTag b → ldepth (meet a b) ≤ max (ldepth a) (ldepth b)
+meet_ldepth a b h k = (deepest_flat a b h k).flat
 
 pub meet-normal_tag : (a b : Tag) → IsNormalTag a → IsNormalTag b → nodes a * nodes b ≤ most_nodes → IsNormalTag (meet a b)
-meet-normal_tag a b h k few = search (rules, deepest_flat, le_trans, meet-le)
+meet-normal_tag a b h k few = search (rules, deepest_flat, le_trans, meet_le)

@@ -120,16 +120,16 @@ lists-apart head (lists other) = and-false (bytes_eq head other)
 lists-apart head k = refl
 
 -- the places of what can share a string: those of the string and those of what has more strings
-pub places-of_string : (octets : List ℕ) (ts : List Tag)
+pub places_of_string : (octets : List ℕ) (ts : List Tag)
     → merge (places_where (λ t. is_one octets (kind t)) 1 ts) (places_where (λ t. has_many_strings (kind t)) 1 ts)
     ≡ places_where (λ t. kinds_share (one octets) (kind t)) 1 ts
-places-of_string octets ts = search (rules, merge-places, one-apart, places_where-same, one-shares)
+places_of_string octets ts = search (rules, merge-places, one-apart, places_where-same, one-shares)
 
 -- the places of what can share a list
-pub places-of_lists : (head : List ℕ) (ts : List Tag)
+pub places_of_lists : (head : List ℕ) (ts : List Tag)
     → merge (places_where (λ t. is_lists head (kind t)) 1 ts) (places_where (λ t. is_any (kind t)) 1 ts)
     ≡ places_where (λ t. kinds_share (lists head) (kind t)) 1 ts
-places-of_lists head ts = search (rules, merge-places, lists-apart, places_where-same, lists-share)
+places_of_lists head ts = search (rules, merge-places, lists-apart, places_where-same, lists-share)
 
 -- ---- members
 
@@ -152,9 +152,9 @@ places-push old new ts t place at kept added = record {
 }
 
 -- the next tag
-pub places-more : (old new : PlacesByKind) (ts : List Tag) (i : ℕ) (t : Tag) (k : Kind) → i < length ts → t ≡ get_or ts i t → k ≡ kind t
+pub places_more : (old new : PlacesByKind) (ts : List Tag) (i : ℕ) (t : Tag) (k : Kind) → i < length ts → t ≡ get_or ts i t → k ≡ kind t
     → ArePlacesOf old (take i ts) → IsAdded old new k (i + 1) → ArePlacesOf new (take (i + 1) ts)
-places-more old new ts i t k h read same kept added =
+places_more old new ts i t k h read same kept added =
     subst (ArePlacesOf new) (sym (take_more ts i t h ∙ ap (λ u. take i ts ++ u ∷ []) (sym read)))
     (places-push old new (take i ts) t (i + 1) (omega (arith, length-take i ts)) kept (subst (λ j. IsAdded old new j (i + 1)) same added))
 
@@ -197,16 +197,16 @@ places-put old mid new key v place kept here same e q =
 -- ---- what a tag leaves of those that it can have a request in common with, and of the others
 
 -- tags that can have no request in common leave nothing together
-pub meet-apart : (t u : Tag) → may_share t u ≡ false → meet t u ≡ nothing
-meet-apart (string octets) (string other) e = search (rules, nat_list_eq_equiv.symm)
-meet-apart (string octets) (list head ts) e = refl
-meet-apart (prefix p) (list head ts) e = refl
-meet-apart (range o l u) (list head ts) e = refl
-meet-apart (list head ts) (string other) e = refl
-meet-apart (list head ts) (prefix q) e = refl
-meet-apart (list head ts) (range o l u) e = refl
-meet-apart (list head ts) (list other us) e = ap (λ b. if b then listed head (each_meet ts us) else nothing) e
-meet-apart t u e = absurd cc
+pub meet_apart : (t u : Tag) → may_share t u ≡ false → meet t u ≡ nothing
+meet_apart (string octets) (string other) e = search (rules, nat_list_eq_equiv.symm)
+meet_apart (string octets) (list head ts) e = refl
+meet_apart (prefix p) (list head ts) e = refl
+meet_apart (range o l u) (list head ts) e = refl
+meet_apart (list head ts) (string other) e = refl
+meet_apart (list head ts) (prefix q) e = refl
+meet_apart (list head ts) (range o l u) e = refl
+meet_apart (list head ts) (list other us) e = ap (λ b. if b then listed head (each_meet ts us) else nothing) e
+meet_apart t u e = absurd cc
 
 -- the tags at places, in a list and behind its first tag
 tags_at-behind : (t : Tag) (ts : List Tag) (p : Tag → Bool) (m n : ℕ) (us : List Tag) → m ≡ n + 1 → 0 < n
@@ -224,15 +224,15 @@ tags_at-behind t ts p m n (u ∷ us) e h = by (p u) (tags_at-behind t ts p (m + 
     by false k = k
 
 -- what a tag leaves of some tags is what it leaves of those that it can have a request in common with
-pub row-at_places : (t : Tag) (us : List Tag)
+pub row_at_places : (t : Tag) (us : List Tag)
     → row (meet t) (tags us) ≡ row (meet t) (tags (tags_at us (places_where (may_share t) 1 us)))
-row-at_places t [] = refl
-row-at_places t (u ∷ us) =
+row_at_places t [] = refl
+row_at_places t (u ∷ us) =
     let rest = places_where (may_share t) 2 us in
     let k : row (meet t) (tags us) ≡ row (meet t) (tags (tags_at (u ∷ us) rest)) =
-    row-at_places t us ∙ ap (λ vs. row (meet t) (tags vs)) (sym (tags_at-behind u us (may_share t) 2 1 us refl (omega arith))) in
+    row_at_places t us ∙ ap (λ vs. row (meet t) (tags vs)) (sym (tags_at-behind u us (may_share t) 2 1 us refl (omega arith))) in
     cond_both (may_share t u) (1 ∷ rest) rest (λ ns. kept (meet t u) (row (meet t) (tags us)) ≡ row (meet t) (tags (tags_at (u ∷ us) ns)))
-    (λ e. ap (kept (meet t u)) k) (λ e. ap (λ v. kept v (row (meet t) (tags us))) (meet-apart t u e) ∙ k)
+    (λ e. ap (kept (meet t u)) k) (λ e. ap (λ v. kept v (row (meet t) (tags us))) (meet_apart t u e) ∙ k)
 
 -- each place is that of a tag
 pub places_where-within : (p : Tag → Bool) (n : ℕ) (ts : List Tag)

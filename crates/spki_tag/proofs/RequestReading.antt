@@ -13,7 +13,7 @@ use Rattle.spki_tag.specs.declared.fault.TagFault.{TagFault}
 use Rattle.spki_tag.specs.declared.fault.TagFault.TheVariants as faults
 use Rattle.spki_tag.specs.Faults.{first_fault, unless, IsNamed, part_fault, group_fault, request_fault}
 use Rattle.spki_tag.proofs.FaultWalk.{first-none, first-some, head-apart, both}
-use Rattle.spki_tag.proofs.Named.{named-by}
+use Rattle.spki_tag.proofs.Named.{named-by, named_first, out_of_memory, passed}
 
 -- ---- which requests are written as a value
 
@@ -153,7 +153,11 @@ pub request-faultless : (v : Value) (g : Request) → IsRequest g → request_va
 unfolding request_fault
 request-faultless v g h e = search (rules, parts-fine, request-fine)
 
-pub result-faultless : (r : Result Request TagFault) (v : Value) → IfOk r (λ g. IsRequest g)
+pub result_faultless : (r : Result Request TagFault) (v : Value) → IfOk r (λ g. IsRequest g)
     → IfOk r (λ g. request_value g ≡ v) → IfOk r (λ g. request_fault v ≡ None)
-result-faultless (Ok g) v h e = request-faultless v g h e
-result-faultless (Err fault) v h e = tt
+result_faultless (Ok g) v h e = request-faultless v g h e
+result_faultless (Err fault) v h e = tt
+
+-- ---- what the reader's proofs use
+
+pub ruleset requests_read = (named_first, out_of_memory, passed, group-itself, star-group, group-members, part-itself)

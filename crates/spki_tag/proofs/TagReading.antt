@@ -269,3 +269,7 @@ pub set_written : (ts : List Tag) (v : Value) (front out : List Value) → v ≡
     → out ≡ front ++ map tag_value ts → front ≡ plain (codes "*") ∷ plain (codes "set") ∷ []
     → v ≡ tag_value (set (tags ts))
 set_written ts v front out e f g = search (rules, tag_values-tags)
+
+-- ---- what the reader's proofs use
+
+pub ruleset members_read = (normal-of, so_far_push, list_is_read, set_is_read, members_fit, members_normal)

@@ -16,6 +16,7 @@ use std::slice;
 
 impl Tag {
     /// The members of a set, in order. A tag that is no set is its own only member.
+    #[tactic(auto, using(crate::proofs::Exact::items_tags))]
     pub(crate) fn members(&self) -> &[Tag]
         ensures { result.now ≡ members self.now }
     {
@@ -208,6 +209,7 @@ impl<'a> Index<'a> {
     /// # Errors
     ///
     /// `AllocError` if memory ran out.
+    #[tactic(auto, using(crate::proofs::Places::places_of_string, crate::proofs::Places::places_of_lists))]
     pub fn places(&self, alloc: Global, tag: &Tag) -> Result<Vec<usize>, AllocError>
         ensures { IfOk result (λ places. places.items ≡ places_where (may_share tag.now) 1 self.now) }
     {

@@ -1,4 +1,5 @@
 //! The intersection of tags (RFC 2693, section 6.3.1).
+#![tactic(auto, using(crate::proofs::MeetSteps::meet_steps))]
 
 ghost use Rattle.std.specs.Prelude.{◌≡◌, ◌+◌, ◌*◌, ◌<◌, ◌≤◌, ◌↔◌, ◌++◌, ◌&&◌, [], max, true, false, IfOk, OnOk, IsErrOf, MatchOption, All, length};
 ghost use Rattle.std.specs.Arc.{arc_slice_items};
@@ -169,6 +170,7 @@ impl Tag {
     /// # Errors
     ///
     /// `TooLarge` if the product of the numbers of their nodes is over `most`, and `Memory` if memory ran out.
+    #[tactic(auto, using(crate::proofs::Exact::meet_exact, crate::proofs::MeetSizes::meet_le, crate::proofs::NormalForms::meet_ldepth))]
     pub fn meet_within(&self, alloc: Global, other: &Tag, most: usize) -> Result<Tag, MeetFault>
         requires { most ≤ 1000000 }
         ensures value { IfOk result (λ c. c ≡ meet self.now other.now) }

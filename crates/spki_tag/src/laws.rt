@@ -12,11 +12,13 @@ ghost use Rattle.spki_tag.specs.Request.{AreOctets, Request, IsRequest, request_
 ghost use Rattle.spki_tag.specs.Tag.{Tag, IsTag, tag_value, tags, contains, is_above, is_below, is_normal, nodes};
 
 /// At most one tag is written as a value.
+#[tactic(auto, using(crate::proofs::TagReading::tag_only))]
 pub fn one_tag()
     ensures { (t w : Tag) → IsTag t → IsTag w → tag_value w ≡ tag_value t → w ≡ t }
 {}
 
 /// At most one request is written as a value.
+#[tactic(auto, using(crate::proofs::RequestReading::request_only))]
 pub fn one_request()
     ensures { (g h : Request) → request_value h ≡ request_value g → h ≡ g }
 {}
@@ -27,17 +29,20 @@ pub fn one_reading()
 {}
 
 /// A value is read as a tag without fault exactly if it is a written tag of at most 1,024 nodes.
+#[tactic(auto, using(crate::proofs::Faultless::tag_none_exactly))]
 pub fn tag_fault_none()
     ensures { (v : Value) → (tag_fault v ≡ None) ↔ ((w : Tag) × IsTag w × (tag_value w ≡ v) × (nodes w ≤ 1024)) }
 {}
 
 /// A value of octets is read as a request without fault exactly if it is a written request.
+#[tactic(auto, using(crate::proofs::Faultless::request_none_exactly))]
 pub fn request_fault_none()
     ensures { (v : Value) → HasOctets v
         → (request_fault v ≡ None) ↔ ((g : Request) × IsRequest g × (request_value g ≡ v)) }
 {}
 
 /// A tag has as many nodes as its written value contains tags, itself and those in it.
+#[tactic(auto, using(crate::proofs::FaultWalk::tags_count))]
 pub fn tags_counted()
     ensures { (t : Tag) → IsTag t → length (tags_in (tag_value t)) ≡ nodes t }
 {}
@@ -48,6 +53,7 @@ pub fn normal_form()
 {}
 
 /// A prefix contains the strings from itself to below the least string above all strings that start with it.
+#[tactic(auto, using(crate::proofs::Limits::least_above_exact))]
 pub fn prefix_is_range()
     ensures { (p x : List ℕ) → AreOctets x
         → starts_with nat_eq x p ≡ (is_above (from p) x && is_below (strict_limit (least_above p)) x) }
@@ -70,23 +76,27 @@ pub fn meet_rules()
 {}
 
 /// The intersection of two tags contains a request exactly if both tags do.
+#[tactic(auto, using(crate::proofs::Exact::meet_exact))]
 pub fn meet_exact()
     ensures { (a b : Tag) (g : Request) → IsRequest g → is_normal a ≡ true → is_normal b ≡ true
         → contains (meet a b) g ≡ (contains a g && contains b g) }
 {}
 
 /// The number of nodes of an intersection is at most the product of those of the two tags.
+#[tactic(auto, using(crate::proofs::MeetSizes::meet_le))]
 pub fn meet_bounded()
     ensures { (a b : Tag) → nodes (meet a b) ≤ nodes a * nodes b }
 {}
 
 /// If two tags can have no request in common by their kinds and strings, their intersection is `(* set)`.
+#[tactic(auto, using(crate::proofs::Places::meet_apart))]
 pub fn meet_apart()
     ensures { (t u : Tag) → may_share t u ≡ false → meet t u ≡ nothing }
 {}
 
 /// To intersect a tag with several tags, it is enough to take those at the places where the two may have a request in
 /// common: the intersections that are not `(* set)` are the same, in the same order.
+#[tactic(auto, using(crate::proofs::Places::row_at_places))]
 pub fn row_at_places()
     ensures { (t : Tag) (us : List Tag)
         → row (meet t) (tags us) ≡ row (meet t) (tags (tags_at us (places_where (may_share t) 1 us))) }

@@ -14,6 +14,7 @@ use std::alloc::{AllocError, Global};
 
 /// Appends a tag to the members of a set. If the tag is a set itself, its members are appended instead. Err if memory
 /// ran out.
+#[tactic(auto, using(crate::proofs::Exact::items_tags))]
 fn push_member(members: &mut Vec<Tag>, tag: Tag) -> Result<(), AllocError>
     ensures { OnOk result (members.new.items ≡ members.old.items ++ in_place tag) }
 {
@@ -33,6 +34,7 @@ fn push_member(members: &mut Vec<Tag>, tag: Tag) -> Result<(), AllocError>
 impl Tag {
     /// The set of these tags in normal form. The members of a set in it replace that set. A set with a member `(*)` is
     /// `(*)`, and a set with one member is that member. Err if memory ran out.
+    #[tactic(auto, using(crate::proofs::NormalForms::spread_all, crate::proofs::NormalForms::gathered_set))]
     pub(crate) fn set_of(alloc: Global, members: Vec<Tag>) -> Result<Tag, AllocError>
         requires room { nodes (set (tags members.items)) ≤ most_nodes }
         requires normal { AreNormal members.items }
@@ -49,6 +51,7 @@ impl Tag {
     }
 
     /// The list of a head and these tags, in normal form. If one of the tags is `(* set)`, so is the list.
+    #[tactic(auto, using(crate::proofs::NormalForms::any_nothing))]
     pub(crate) fn list_of(head: SharedOctets, further: Vec<Tag>) -> Tag
         requires head { IsHead (arc_slice_items head) }
         requires room { nodes (list (arc_slice_items head) (tags further.items)) ≤ most_nodes }

@@ -176,6 +176,7 @@ fn values_of<'d, 'a>(
 
 /// Reads the limits of a range from the members after its ordering. Err is `Hint` if a member has a display hint,
 /// `RangeLimit` if they are no limits, or `Memory`.
+#[tactic(auto, using(crate::proofs::Named::limits_read))]
 fn read_limits(alloc: Global, rest: Members<'_, '_>) -> Result<Limits, TagFault>
     ensures read { IfOk result (λ p. AreLimits (limit_of p.0) (limit_of p.1) rest.entry) }
     ensures named { IfErr result (λ fault. IsNamed fault (limits_fault rest.entry)) }
@@ -193,6 +194,7 @@ fn read_limits(alloc: Global, rest: Members<'_, '_>) -> Result<Limits, TagFault>
 /// Reads a range from the members after `*` and `range`: an ordering and limits. The limits may be any strings,
 /// whatever the ordering. Err is `RangeOrdering` without members, the fault of the ordering or of the limits, or
 /// `Memory`.
+#[tactic(auto, using(crate::proofs::Named::named_first, crate::proofs::Named::passed))]
 pub(crate) fn read_range(alloc: Global, further: Members<'_, '_>) -> Result<Leaf, TagFault>
     ensures read { IfOk result (λ leaf. tag_value (leaf_tag leaf) ≡ starred (codes "range") (values further.entry)) }
     ensures named { IfErr result (λ fault. IsNamed fault (range_fault further.entry)) }

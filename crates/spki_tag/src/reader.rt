@@ -1,4 +1,5 @@
 //! Reads tags.
+#![tactic(auto, using(crate::proofs::Named::tags_read, crate::proofs::TagReading::members_read, crate::proofs::Faultless::tag_refused))]
 
 ghost use Rattle.std.specs.Prelude.{◌≡◌, ◌+◌, ◌≤◌, ◌<◌, ◌∷◌, List, Some, None, IfOk, IfErr, IfSome, IsSome, IsOkUnless, codes};
 ghost use Rattle.sexpr_core.specs.Value.{Value, plain, group, values, node};

@@ -1,4 +1,5 @@
 //! Requests and their reader.
+#![tactic(auto, using(crate::proofs::RequestReading::requests_read))]
 
 ghost use Rattle.std.specs.Prelude.{◌≡◌, ◌∷◌, None, IfOk, IfErr, IfSome, IsSome};
 ghost use Rattle.sexpr_core.specs.Value.{plain, group, node};
@@ -143,6 +144,7 @@ impl Ground {
     /// The first fault, depth first from the left. `Hint`: a string with a display hint. `EmptyList`: a list without
     /// members. `ListHead`: a list that begins with a list. `StarInRequest`: a list that begins with `*`. `Memory`: memory
     /// ran out.
+    #[tactic(auto, using(crate::proofs::Faultless::result_refused, crate::proofs::RequestReading::result_faultless))]
     pub fn of(alloc: Global, value: &Node<'_, '_>) -> Result<Ground, TagFault>
         ensures request { IfOk result (λ g. IsRequest g) }
         ensures read { IfOk result (λ g. request_value g ≡ value.now) }

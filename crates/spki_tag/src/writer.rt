@@ -97,6 +97,7 @@ impl Tag {
     ///
     /// `AllocError` if memory ran out.
     #[cycle(write)]
+    #[tactic(auto, using(crate::proofs::TagReading::list_written, crate::proofs::TagReading::set_written))]
     pub fn write(&self, alloc: Global) -> Result<Sexp, AllocError>
         ensures { IfOk result (λ s. sexp_value s ≡ tag_value self.now) }
     {

@@ -1,15 +1,12 @@
-use Rattle.std.proofs.Common.{◌≡◌, ℕ, ◌≤◌, length, drop, List, ◌++◌, sym, ap, ◌∙◌, subst, arith, le_trans, append_assoc, true≢false, length-drop, ◌-◌, rules}
+use Rattle.std.proofs.Common.{◌≡◌, ℕ, ◌≤◌, length, drop, List, ◌++◌, sym, ap, ◌∙◌, subst, arith, le_trans, length-drop, ◌-◌, rules}
 use Rattle.std.proofs.lemmas.Nat.{mul-le}
 use Rattle.std.proofs.lemmas.List.{take_all}
 use Rattle.spki_tag.specs.Tag.{Tag, tags, nodes, nodes_all}
 use Rattle.spki_tag.specs.Meet.{meet, each_meet, pairs, row, may_share, places_where, tags_at}
-use Rattle.spki_tag.proofs.Places.{places_where-within, row-at_places}
+use Rattle.spki_tag.proofs.Places.{places_where-within, row_at_places}
 use Rattle.spki_tag.proofs.Members.{nodes_le-of_read}
-use Rattle.spki_tag.proofs.MeetSteps.{tags-members, members_meet, meet-by_members, pairs-step, lists_meet, each_meet-rest, has_nothing-found, has_nothing-push, nothing-is, nothing-is_not, each_meet-last}
+use Rattle.spki_tag.proofs.MeetSteps.{tags-members, members_meet, pairs-step, each_meet-last}
 use Rattle.spki_tag.proofs.intersection.+meet.Goals as goal
-
-pub push_row-meet_tags-requires : goal.push_row-meet_tags-requires
-push_row-meet_tags-requires t c = search (rules, nodes_le-of_read, le_trans, mul-le)
 
 pub meet_members-push_row-requires : goal.meet_members-push_row-requires
 meet_members-push_row-requires t c =
@@ -34,30 +31,15 @@ meet_members-loop-one-preserved t c =
     let found : places ≡ places_where (may_share one) 1 others =
     c.in_ok-places.ensures ∙ ap (places_where (may_share one) 1) c.in_ok-index.ensures in
     let same : row (meet one) (tags (tags_at others places)) ≡ row (meet one) (tags others) =
-    ap (λ (ps : List ℕ). row (meet one) (tags (tags_at others ps))) found ∙ sym (row-at_places one others) in
+    ap (λ (ps : List ℕ). row (meet one) (tags (tags_at others ps))) found ∙ sym (row_at_places one others) in
     let pushed : c.push_row.new.met.items ≡ c.loop-one.met.items ++ row (meet one) (tags (tags_at others places)) =
     rw c.deref.ensures.value at c.in_ok-push_row.ensures in
     pairs-step c.args.ones.now others c.loop-one.met.items c.push_row.new.met.items
     (pairs (tags c.args.ones.now) (tags others)) (row (meet one) (tags (tags_at others places)))
     c.loop-one.one-index one c.loop-one-test.true c.loop-one.invariant c.one-item.is pushed same
 
-pub meet_single-meet_lists-requires : goal.meet_single-meet_lists-requires
-meet_single-meet_lists-requires t c = search (rules, lists_meet)
-
 pub meet_tags-meet_members-requires : goal.meet_tags-meet_members-requires
 meet_tags-meet_members-requires t c = search (rules, tags-members, members_meet c.args.one.now c.args.other.now)
-
-pub meet_tags-returns-then-has_set : goal.meet_tags-returns-then-has_set
-meet_tags-returns-then-has_set t c = search (rules, tags-members, meet-by_members)
-
-pub meet_each-meet_tags-requires : goal.meet_each-meet_tags-requires
-meet_each-meet_tags-requires t c = search (rules, nodes_le-of_read, le_trans, mul-le)
-
-pub meet_each-returns-then-is_nothing : goal.meet_each-returns-then-is_nothing
-meet_each-returns-then-is_nothing t c = search (rules, nothing-is, each_meet-rest, has_nothing-found)
-
-pub meet_each-loop-i-preserved : goal.meet_each-loop-i-preserved
-meet_each-loop-i-preserved t c = search (rules, nothing-is_not, true≢false, append_assoc, each_meet-rest, has_nothing-push)
 
 pub meet_each-returns : goal.meet_each-returns
 meet_each-returns t c =

@@ -1,6 +1,6 @@
-use Rattle.std.proofs.Common.{arith, rules, [], refl}
-use Rattle.spki_tag.proofs.RequestReading.{so_far_weight, so_far_push, list_is_request, group-itself, star-group, group-members, so_far-named, part-itself}
-use Rattle.spki_tag.proofs.Named.{named-first, out_of_memory, passed}
+use Rattle.std.proofs.Common.{arith}
+use Rattle.spki_tag.proofs.RequestReading.{so_far_weight, so_far_push, list_is_request, so_far-named}
+use Rattle.spki_tag.proofs.Named.{passed}
 use Rattle.spki_tag.proofs.request.+read_request.Goals as goal
 
 pub read_request_members-read_request-requires : goal.read_request_members-read_request-requires
@@ -13,30 +13,6 @@ read_request_members-loop-first-preserved t c =
 pub read_headed-returns-clause-read : goal.read_headed-returns-clause-read
 read_headed-returns-clause-read t c = rw (c.list.ensures, c.in_ok-octets.ensures.items) (list_is_request _ _ _ c.in_ok-members.ensures.read)
 
-pub read_request_list-returns-in_err-head-in-Some-clause-named : goal.read_request_list-returns-in_err-head-in-Some-clause-named
-read_request_list-returns-in_err-head-in-Some-clause-named t c = search (rules, passed, group-itself, named-first)
-
-pub read_request_list-returns-in-None-clause-named : goal.read_request_list-returns-in-None-clause-named
-read_request_list-returns-in-None-clause-named t c = group-itself c.args.members [] _ c.in-None.ensures (named-first _ _ refl)
-
-pub read_request_list-returns-then-eq-clause-named : goal.read_request_list-returns-then-eq-clause-named
-read_request_list-returns-then-eq-clause-named t c = search (rules, group-itself, named-first, star-group)
-
 pub read_request_members-returns-in_err-read_request-clause-named : goal.read_request_members-returns-in_err-read_request-clause-named
 read_request_members-returns-in_err-read_request-clause-named t c =
     passed _ _ _ c.from_residual.ensures.1 (so_far-named _ _ _ _ _ _ c.loop-first.invariant c.in-Some.ensures c.in_err-read_request.ensures.named)
-
-pub read_request_members-returns-in_err-push-clause-named : goal.read_request_members-returns-in_err-push-clause-named
-read_request_members-returns-in_err-push-clause-named t c = out_of_memory _ _ c.from_residual-in_err-push.ensures.1
-
-pub read_headed-returns-in_err-members-clause-named : goal.read_headed-returns-in_err-members-clause-named
-read_headed-returns-in_err-members-clause-named t c = search (rules, passed, group-members)
-
-pub read_headed-returns-in_err-octets-clause-named : goal.read_headed-returns-in_err-octets-clause-named
-read_headed-returns-in_err-octets-clause-named t c = out_of_memory _ _ c.from_residual-in_err-octets.ensures.1
-
-pub read_request-returns-in_err-from_slice-in-String-None-default-clause-named : goal.read_request-returns-in_err-from_slice-in-String-None-default-clause-named
-read_request-returns-in_err-from_slice-in-String-None-default-clause-named t c = out_of_memory _ _ c.from_residual.ensures.1
-
-pub read_request-returns-in-String-Some-default-clause-named : goal.read_request-returns-in-String-Some-default-clause-named
-read_request-returns-in-String-Some-default-clause-named t c = search (rules, part-itself, named-first)
