@@ -1,8 +1,7 @@
 -- What a verifier is asked of certificates, and what its answers make of the evidence of a sequence and of the answer
 -- to a case.
-use Rattle.std.proofs.Common.{◌≡◌, ℕ, ◌+◌, List, [], ◌∷◌, ◌++◌, drop, Some, None, true, false, Bool, ◌&&◌, if◌then◌else◌, Option, option_and_then, refl, append_assoc, append-nil, rules, zero, suc, slice_get, subst, Result, Ok, Err, ◌<◌, sym, ◌∙◌, ap, map, length, take, get_or, arith, drop-cons, add-one}
+use Rattle.std.proofs.Common.{◌≡◌, ℕ, ◌+◌, List, [], ◌∷◌, ◌++◌, drop, Some, None, ◌&&◌, Option, option_and_then, refl, append_assoc, append-nil, rules, zero, suc, slice_get, subst, Result, Ok, Err, ◌<◌, sym, ◌∙◌, ap, map, length, take, get_or, arith, drop-cons, add-one}
 use Rattle.spki_cert.specs.declared.principal.Policy.{Policy}
-use Rattle.spki_cert.specs.declared.certificate.Signature as signature
 use Rattle.spki_cert.specs.Naming.{names, is_digest}
 use Rattle.spki_case.specs.Case.{Verified, Shown, issuer_of, octets_of, Case, keys_of, certificates}
 use Rattle.spki_decision.specs.declared.evidence.Stop.{Stop}
@@ -10,7 +9,8 @@ use Rattle.spki_decision.specs.declared.evidence.Stop.TheVariants.{KeyNotShown, 
 use Rattle.spki_decision.specs.Standing.{issuer_key, Stands, FailsBy, Signed, asked_of, asked_with, asked_in, every, StandsAs, FailsAt, AreShown, asked, before_all, IsAccepted, AgreeOn, FailsIn, signed_of, RefusedAt}
 use Rattle.spki_decision.specs.Judged.{PassesAs, IsEvidence}
 use Rattle.std.specs.List.{AllZip, AllByRecursion}
-use Rattle.std.proofs.lemmas.Option.{none-some}
+use Rattle.std.proofs.lemmas.Option.{none-some, same_Some, cond_some, option_and_then_some}
+use Rattle.std.proofs.lemmas.Bool.{and_parts}
 use Rattle.spki_cert.specs.declared.certificate.SeqItem.{SeqItem}
 use Rattle.spki_reduce.specs.Reduction.{Tuple}
 use Rattle.spki_decision.specs.declared.decision.Decision.{Decision}
@@ -22,9 +22,9 @@ use Rattle.spki_decision.specs.declared.explanation.Explanation.TheVariants as e
 use Rattle.spki_decision.specs.declared.reduction.EntryFold.{EntryFold}
 use Rattle.spki_decision.specs.declared.reduction.Reduction.{Reduction}
 use Rattle.spki_decision.specs.declared.reduction.Reduction.TheVariants as reduction
-use Rattle.spki_decision.specs.Granted.{Granted, IsTooLarge, IsDecision, IsReduction, AreFolds, IsFailure, SomeTooLarge}
+use Rattle.spki_decision.specs.Granted.{Granted, IsDecision, AreFolds, IsFailure, SomeTooLarge}
 use Rattle.spki_decision.specs.Answered.{IsDecided, IsExplained, IsReduced}
-use Rattle.spki_decision.proofs.Standing.{some_same, at_place, below}
+use Rattle.spki_decision.proofs.Standing.{at_place, below}
 use Rattle.std.proofs.lemmas.List.{get_or-map, length-map, length-take-le, length-append, take_more, take-append-drop}
 use Rattle.std.proofs.Math.Seq.{get_or-append_seam}
 use Rattle.spki_decision.specs.declared.evidence.Evidence.{Evidence}
@@ -46,36 +46,17 @@ module _ (policy : Policy) (keys : List (List ℕ)) where
   not_asked s SignerDiffers f = rw (f.2, f.3, f.4, f.5) refl
   not_asked s NotAccepted f = absurd (f.6 tt)
 
-  by_both : (s : Shown) (t : Signed) (holder : List ℕ) (x : signature.Signature) (digest signer : Bool)
-      → is_digest x.alg x.digest (octets_of s.certificate) ≡ digest → names policy x.signer holder ≡ signer
-      → issuer_key policy keys (issuer_of s.certificate) ≡ Some holder → s.signature ≡ Some x
-      → (if digest && signer
-      then Some (record { item = s.item; key = holder; message = octets_of s.certificate; value = x.value })
-      else None) ≡ Some t → PassesAs policy keys s t
-  by_both s t holder x true true d n k g e =
-      let same : record { item = s.item; key = holder; message = octets_of s.certificate; value = x.value } ≡ t = cc in
-      rw (← same) (record {
-        stands = record { issued = k; signature = x; signed = g; digest = d; signer = n; accepted = tt };
-        signed_is = refl;
-      })
-  by_both s t holder x true false d n k g e = absurd cc
-  by_both s t holder x false signer d n k g e = absurd cc
-
-  by_signature : (s : Shown) (t : Signed) (holder : List ℕ) (g : Option signature.Signature)
-      → s.signature ≡ g → issuer_key policy keys (issuer_of s.certificate) ≡ Some holder
-      → option_and_then (asked_with policy s holder) g ≡ Some t → PassesAs policy keys s t
-  by_signature s t holder None g k e = absurd cc
-  by_signature s t holder (Some x) g k e =
-      by_both s t holder x (is_digest x.alg x.digest (octets_of s.certificate)) (names policy x.signer holder) refl refl k g e
-
-  by_issuer : (s : Shown) (t : Signed) (k : Option (List ℕ)) → issuer_key policy keys (issuer_of s.certificate) ≡ k
-      → option_and_then (λ holder. option_and_then (asked_with policy s holder) s.signature) k ≡ Some t → PassesAs policy keys s t
-  by_issuer s t None k e = absurd cc
-  by_issuer s t (Some holder) k e = by_signature s t holder s.signature refl k e
-
   -- what is asked of a certificate that passes the first three tests
   pub asks : (s : Shown) (t : Signed) → asked_of policy keys s ≡ Some t → PassesAs policy keys s t
-  asks s t e = by_issuer s t (issuer_key policy keys (issuer_of s.certificate)) refl e
+  asks s t e =
+      option_and_then_some (λ holder. option_and_then (asked_with policy s holder) s.signature) (issuer_key policy keys (issuer_of s.certificate)) t e
+      (λ holder k f. option_and_then_some (asked_with policy s holder) s.signature t f (λ x g h.
+      let tests = cond_some (is_digest x.alg x.digest (octets_of s.certificate) && names policy x.signer holder) _ t h in
+      let both = and_parts (is_digest x.alg x.digest (octets_of s.certificate)) (names policy x.signer holder) tests.0 in
+      rw (← tests.1) (record {
+        stands = record { issued = k; signature = x; signed = g; digest = both.0; signer = both.1; accepted = tt };
+        signed_is = refl;
+      })))
 
   -- a certificate that stands stands by each verifier that accepts its signature
   pub accepted_too : (one other : Verified) (s : Shown) (holder : List ℕ) → (a : Stands policy keys one s holder)
@@ -114,11 +95,10 @@ module _ (policy : Policy) (keys : List (List ℕ)) (one other : Verified) where
   pub all_shown : (shown : List Shown) (ts : List Tuple) → AgreeOn one other (asked_in policy keys shown)
       → AllZip (StandsAs policy keys one) shown ts → AllZip (StandsAs policy keys other) shown ts
   all_shown [] [] agree a = tt
-  all_shown [] (t ∷ ts) agree a = absurd a
-  all_shown (s ∷ shown) [] agree a = absurd a
   all_shown (s ∷ shown) (t ∷ ts) agree a =
       let here = stands s a.0.holder (asked_in policy keys shown) agree a.0.stands in
       (record { holder = a.0.holder; stands = here.0; tuple_is = a.0.tuple_is }, all_shown shown ts here.1 a.1)
+  all_shown shown ts agree a = search
 
   fails_by : (s : Shown) (others : List Signed) (stop : Stop) → AgreeOn one other (before_all (asked_of policy keys s) others)
       → FailsBy policy keys one s stop → FailsBy policy keys other s stop
@@ -144,7 +124,7 @@ module _ (policy : Policy) (keys : List (List ℕ)) (verified : Verified) where
   accepted_here : (t : Signed) (others : List Signed) (place : ℕ) (s : Signed) → IsAccepted verified t
       → ((p : ℕ) → slice_get others p ≡ Some s → IsAccepted verified s)
       → slice_get (t ∷ others) place ≡ Some s → IsAccepted verified s
-  accepted_here t others zero s first later stands = subst (λ (u : Signed). IsAccepted verified u) (some_same t s stands) first
+  accepted_here t others zero s first later stands = subst (λ (u : Signed). IsAccepted verified u) (same_Some t s stands) first
   accepted_here t others (suc place) s first later stands = later place stands
 
   -- where every certificate stands, each signature that is asked of is accepted
@@ -176,14 +156,8 @@ granted_with : (c : Case) (one other : Verified) → AgreeOn one other (asked c)
 granted_with c one other agree n g = search (rules, shown_with)
 
 module _ (c : Case) (one other : Verified) (agree : AgreeOn one other (asked c)) where
-  shown_by : (ts : List Tuple) → AreShown c.policy one c.items ts → AreShown c.policy other c.items ts
-  shown_by = shown_with c one other agree
-
   shown_back : (ts : List Tuple) → AreShown c.policy other c.items ts → AreShown c.policy one c.items ts
   shown_back = shown_with c other one (swap one other (asked c) agree)
-
-  granted_by : (n : ℕ) → Granted n c one → Granted n c other
-  granted_by = granted_with c one other agree
 
   granted_back : (n : ℕ) → Granted n c other → Granted n c one
   granted_back = granted_with c other one (swap one other (asked c) agree)
@@ -191,46 +165,30 @@ module _ (c : Case) (one other : Verified) (agree : AgreeOn one other (asked c))
   pub failure_by : (item : ℕ) (stop : Stop) → IsFailure c one item stop → IsFailure c other item stop
   failure_by item stop f = search (rules, still_failing, shown_back)
 
-  large_by : IsTooLarge c one → IsTooLarge c other
-  large_by l = record {
-    place = l.place;
-    entry = l.entry;
-    stands = l.stands;
-    none_granted = λ n less g. l.none_granted n less (granted_back n g);
-    tuples = l.tuples;
-    shown = shown_by l.tuples l.shown;
-    at = l.at;
-    large = l.large;
-  }
-
   pub some_large_by : SomeTooLarge c one → SomeTooLarge c other
-  some_large_by l = record { tuples = l.tuples; shown = shown_by l.tuples l.shown; large = l.large }
+  some_large_by l = search (rules, shown_with)
 
   pub decision_by : (d : Decision) → IsDecision c one d → IsDecision c other d
-  decision_by (Yes n) d = record { granted = granted_by n d.granted; none_before = λ m less g. d.none_before m less (granted_back m g) }
+  decision_by (Yes n) d = search (rules, granted_with, granted_back, d.none_before)
   decision_by No d = λ n g. d n (granted_back n g)
 
   pub decided_by : (x : Result Decision GuardFault) → IsDecided c one x → IsDecided c other x
   decided_by (Ok d) a = (decision_by d a.0, λ ts shown. a.1 ts (shown_back ts shown))
-  decided_by (Err TooLarge) a = large_by a
+  decided_by (Err TooLarge) a = search (rules, shown_with, granted_back, a.none_granted)
   decided_by (Err Memory) a = absurd a
 
   pub explained_by : (x : Result Explanation GuardFault) → IsExplained c one x → IsExplained c other x
   explained_by (Ok (explanation.Evidence item stop)) a = failure_by item stop a
-  explained_by (Ok (explanation.Entries reasons)) a = search (rules, shown_by, granted_by, granted_back)
+  explained_by (Ok (explanation.Entries reasons)) a = search (rules, shown_with, granted_with, granted_back)
   explained_by (Err TooLarge) a = some_large_by a
   explained_by (Err Memory) a = absurd a
 
   pub folds_by : (folds : List EntryFold) → AreFolds c one folds → AreFolds c other folds
-  folds_by folds a =
-      record { tuples = a.tuples; shown = shown_by a.tuples a.shown; each = a.each; within_limit = a.within_limit; worked = a.worked }
-
-  reduction_by : (r : Reduction) → IsReduction c one r → IsReduction c other r
-  reduction_by (reduction.Evidence item stop) a = failure_by item stop a
-  reduction_by (reduction.Entries folds) a = folds_by folds.items a
+  folds_by folds a = search (rules, shown_with)
 
   pub reduced_by : (x : Result Reduction GuardFault) → IsReduced c one x → IsReduced c other x
-  reduced_by (Ok r) a = (reduction_by r a.0, a.1)
+  reduced_by (Ok (reduction.Evidence item stop)) a = (failure_by item stop a.0, a.1)
+  reduced_by (Ok (reduction.Entries folds)) a = (folds_by folds.items a.0, a.1)
   reduced_by (Err TooLarge) a = some_large_by a
   reduced_by (Err Memory) a = absurd a
 

@@ -1,6 +1,6 @@
 -- The chains of a case's entries with all certificates: when no step is too large, where they stop, what the entries
 -- become, and their work.
-use Rattle.std.proofs.Common.{◌≡◌, ℕ, ◌*◌, ◌<◌, ◌≤◌, List, ◌∷◌, Some, length, take, slice_get, subst, arith, rules, inl, ◌+◌, Bool, true, false, [], ◌++◌, fold, drop, refl, sym, ap, ◌∙◌, le_trans, ◌⊎◌, inr, zero, suc, Option, None, add-one, ◌-◌, map, get_or}
+use Rattle.std.proofs.Common.{◌≡◌, ℕ, ◌*◌, ◌<◌, ◌≤◌, List, ◌∷◌, Some, length, take, slice_get, subst, arith, rules, inl, ◌+◌, false, [], ◌++◌, fold, drop, refl, sym, ap, ◌∙◌, le_trans, ◌⊎◌, inr, zero, suc, Option, None, add-one, ◌-◌, map, get_or, ◌||◌, Vec, mul-le-mul_left, mul-le-mul_right, Global}
 use Rattle.std.proofs.lemmas.Option.{slice_get_within, get_or_from_slice_get, slice_get-get_or}
 use Rattle.spki_cert.specs.declared.entry.Entry.{Entry}
 use Rattle.spki_cert.specs.declared.principal.Policy.{Policy}
@@ -10,8 +10,7 @@ use Rattle.spki_reduce.specs.Joining.{TooLargeFor}
 use Rattle.spki_reduce.specs.Chain.{all_tags, TooLargeAt, IsWork, Takes, IsOver, IsOverworked, tuples_of, StopsAt, Excludes}
 use Rattle.spki_reduce.proofs.Chains.{too_large as large, too_large}
 use Rattle.spki_decision.specs.Requirements.{IsSmallFor, IsSmallWith, ArePlain}
-use Rattle.std.specs.Prelude.{◌||◌, Vec}
-use Rattle.std.proofs.Math.Nat.{mul-le-mul_left, mul-le-mul_right}
+use Rattle.std.proofs.Math.Bool.{or_assoc}
 use Rattle.std.proofs.lemmas.List.{take-append-drop, length-map, length-append, take_more}
 use Rattle.std.proofs.lemmas.Grind.{flat_map-append}
 use Rattle.spki_tag.specs.Meet.{meet}
@@ -22,7 +21,6 @@ use Rattle.std.proofs.lemmas.Bool.{cases_lt}
 use Rattle.spki_reduce.proofs.Working.{one_work, grows, over, none_taken, taken, within}
 use Rattle.spki_case.specs.Case.{Case, Verified, certificates}
 use Rattle.spki_decision.specs.Granted.{IsEntryWork, IsWithinWork, HasMuchWork, IsFailure, StopsAtItem, HasLargeTags, IsEntryFold, IsDated, EndsAtDate, AreFoldsOf, AreFolds, SmallBefore}
-use Rattle.std.specs.declared.alloc.Global.{Global}
 use Rattle.std.specs.List.{AllZip, AllByRecursion}
 use Rattle.std.proofs.Math.Seq.{take-length}
 use Rattle.std.proofs.lemmas.Slice.Zip.{AllZip-long, all_zipped_more}
@@ -44,11 +42,7 @@ module _ (most : ℕ) (tag : Tag) (tuples : List Tuple) where
   pub small_product : (n : ℕ) → n ≡ nodes_product (all_tags tuples) → nodes tag * n ≤ most → IsSmallFor most tuples tag
   small_product n counted small = record {
     none_large = λ e is policy l.
-        let over : most < nodes e.tag * nodes_product (all_tags tuples) = large most policy (five (entry_tuple e)) tuples l in
-        let over_here : most < nodes tag * nodes_product (all_tags tuples) =
-        subst (λ t. most < nodes t * nodes_product (all_tags tuples)) is over in
-        let within_limit : nodes tag * nodes_product (all_tags tuples) ≤ most = subst (λ m. nodes tag * m ≤ most) counted small in
-        omega arith;
+        let over = rw (is, ← counted) at (large most policy (five (entry_tuple e)) tuples l) in omega (arith, over, small);
   }
 
   -- what the tag and those of the first tuples leave
@@ -75,18 +69,10 @@ module _ (most : ℕ) (tag : Tag) (tuples : List Tuple) where
 
 -- ---- where no tag has a set, no step of a chain is too large if the sum of all nodes is small enough for each
 
-pub none_of : (a b : Bool) → a ≡ false → b ≡ false → (a || b) ≡ false
-none_of true b h k = absurd cc
-none_of false b h k = k
-
-or_assoc : (a b c : Bool) → (a || (b || c)) ≡ ((a || b) || c)
-or_assoc true b c = refl
-or_assoc false b c = refl
-
 pub append-sets : (ts us : List Tag) → some_nests_set (tags (ts ++ us)) ≡ (some_nests_set (tags ts) || some_nests_set (tags us))
 append-sets [] us = refl
 append-sets (t ∷ ts) us =
-    ap (λ b. nests_set t || b) (append-sets ts us) ∙ or_assoc (nests_set t) (some_nests_set (tags ts)) (some_nests_set (tags us))
+    ap (λ b. nests_set t || b) (append-sets ts us) ∙ sym (or_assoc (nests_set t) (some_nests_set (tags ts)) (some_nests_set (tags us)))
 
 -- the intersection of tags without sets has at most the nodes of all together
 left_within : (t : Tag) (ts : List Tag) → IsPlain t → some_nests_set (tags ts) ≡ false
@@ -111,40 +97,21 @@ module _ (most : ℕ) (tag : Tag) (tuples : List Tuple) (plain : PlainNodes) (gi
       let back = all_tags (drop place tuples) in
       let parted : all_tags tuples ≡ front ++ back =
       ap all_tags (sym (take-append-drop place tuples)) ∙ flat_map-append tags_of (take place tuples) (drop place tuples) in
-      let none_there : (some_nests_set (tags front) || some_nests_set (tags back)) ≡ false =
-      sym (append-sets front back) ∙ ap (λ ts. some_nests_set (tags ts)) (sym parted) ∙ given.no_set in
-      let sum : nodes_all (tags (all_tags tuples)) ≡ nodes_all (tags front) + nodes_all (tags back) =
-      ap (λ ts. nodes_all (tags ts)) parted ∙ append-nodes front back in
+      let none_there = rw (parted, append-sets front back) at given.no_set in
+      let few = rw (parted, append-nodes front back) at given.all_nodes in
       let left = left_within tag front (inl no_set) (neither (some_nests_set (tags front)) (some_nests_set (tags back)) none_there).0 in
-      omega (arith, left.few, sum, given.all_nodes)
+      omega (arith, left.few, few)
 
   pub small_plain : (nodes tag + plain.all) * plain.most ≤ most → IsSmallFor most tuples tag
   small_plain few =
-      all_small most tag tuples (length tuples) (omega arith)
-      (λ place tuple below there.
+      all_small most tag tuples (length tuples) (omega arith) (λ place tuple below there.
       small_with most (met (tag ∷ all_tags (take place tuples))) (nodes tag + plain.all) plain.most tuple (left_few place)
-      (each place tuple below there) few)
-    where
-      each : (place : ℕ) (tuple : Tuple) → place < length tuples → slice_get tuples place ≡ Some tuple
-          → nodes_product (tags_of tuple) ≤ plain.most
-      each place tuple below there =
-          let P : Tuple → Type 0 = λ t. nodes_product (tags_of t) ≤ plain.most in
-          subst P (get_or_from_slice_get tuples place tuple tuple there) (given.each_nodes place tuple below)
+      (subst (λ t. nodes_product (tags_of t) ≤ plain.most) (get_or_from_slice_get tuples place tuple tuple there) (given.each_nodes place tuple below))
+      few)
 
 -- ---- the work of the entries of a case, one after another
 
 module _ (c : Case) (tuples : List Tuple) where
-  -- ---- the code's steps
-
-  pub work_more : (place : ℕ) (e : Entry) (before n : ℕ) → slice_get c.entries place ≡ Some e → IsEntryWork c tuples place before
-      → IsWork c.policy (five (entry_tuple e)) tuples n → IsEntryWork c tuples (place + 1) (before + n)
-  work_more place e before n stands h here = search (rules, add-one)
-
-  pub too_much : (place : ℕ) (e : Entry) (before : ℕ) (left : Option ℕ) → slice_get c.entries place ≡ Some e
-      → IsEntryWork c tuples place before → Takes c.most_work left before
-      → IsOverworked left c.policy (five (entry_tuple e)) tuples → HasMuchWork c tuples
-  too_much place e before left stands h taken much = search (rules, over)
-
   -- ---- one work
 
   one_here : (places n m : ℕ) → IsEntryWork c tuples places n → IsEntryWork c tuples places m → n ≡ m
@@ -163,13 +130,10 @@ module _ (c : Case) (tuples : List Tuple) where
   front : (few many m : ℕ) → few ≤ many → IsEntryWork c tuples many m → (n : ℕ) × IsEntryWork c tuples few n × (n ≤ m)
   front few zero m fewer k =
       let same : few ≡ 0 = omega arith in (m, subst (λ s. IsEntryWork c tuples s m) (sym same) k, omega arith)
-  front few (suc many) m fewer k = front_by (cases_lt many few) (λ before. front few many k.0 before k.3)
-    where
-      front_by : (many < few) ⊎ (few ≤ many) → (few ≤ many → (n : ℕ) × IsEntryWork c tuples few n × (n ≤ k.0))
-          → (n : ℕ) × IsEntryWork c tuples few n × (n ≤ m)
-      front_by (inl at) so_far =
-          let same : few ≡ suc many = omega arith in (m, subst (λ s. IsEntryWork c tuples s m) (sym same) k, omega arith)
-      front_by (inr before) so_far = let less = so_far before in (less.0, less.1, omega (arith, less.2, k.6))
+  front few (suc many) m fewer k = elim (cases_lt many few) [
+    | inl at ↦ let same : few ≡ suc many = omega arith in (m, subst (λ s. IsEntryWork c tuples s m) (sym same) k, omega arith)
+    | inr before ↦ let less = front few many k.0 before k.3 in (less.0, less.1, omega (arith, less.2, k.6))
+  ]
 
   pub much : IsWithinWork c tuples → HasMuchWork c tuples → ⊥
   much all h =
@@ -205,12 +169,10 @@ module _ (c : Case) (e : Entry) (steps : List Step) (kept : List ShownCert) (sam
 module _ (policy : Policy) (verified : Verified) (items read : List SeqItem) (e : Evidence) (same : read ≡ items)
     (judged : IsEvidence policy verified read e) where
   pub all_stand : (steps : Vec Step Global) → e ≡ evidence.Verified steps → AreShown policy verified items (tuples_of steps.items)
-  all_stand steps is =
-      let shown : AreShown policy verified read (tuples_of steps.items) = rw is at judged in rw same at shown
+  all_stand steps is = rw same at (rw is at judged)
 
   pub one_fails : (item : ℕ) (stop : Stop) → e ≡ evidence.Fails item stop → FailsAt policy verified items item stop
-  one_fails item stop is =
-      let fails : FailsAt policy verified read item stop = rw is at judged in rw same at fails
+  one_fails item stop is = rw same at (rw is at judged)
 
 -- where every certificate stands there are as many steps as certificates
 pub as_many : (policy : Policy) (verified : Verified) (items : List SeqItem) (steps : List Step)
@@ -291,20 +253,19 @@ module _ (c : Case) (tuples : List Tuple) where
     pub too_large_here : TooLargeAt c.most_nodes c.policy (five (entry_tuple e)) tuples ⊎ IsOverworked old c.policy (five (entry_tuple e)) tuples
         → HasLargeTags c tuples ⊎ HasMuchWork c tuples
     too_large_here (inl h) = inl (search (rules, too_large))
-    too_large_here (inr h) = inr (too_much c tuples place e before.work old here before.worked before.takes h)
+    too_large_here (inr h) = inr (search (rules, over))
 
     pub one_folded : (fold : EntryFold) (new : Option ℕ) (n : ℕ) → IsEntryFold c tuples e fold
         → ¬ TooLargeAt c.most_nodes c.policy (five (entry_tuple e)) tuples → IsWork c.policy (five (entry_tuple e)) tuples n → Takes old new n
         → FoldedTo (place + 1) new (folds ++ fold ∷ [])
     one_folded fold new n exact small work takes =
         let below = slice_get_within c.entries place e here in
-        let same : Some (get_or c.entries place e) ≡ Some e = sym (slice_get-get_or c.entries place e below) ∙ here in
-        let read : get_or c.entries place e ≡ e = cc in
+        let read : get_or c.entries place e ≡ e = get_or_from_slice_get c.entries place e e here in
         record {
           each = rw (take_more c.entries place e below ∙ ap (λ x. take place c.entries ++ x ∷ []) read)
               (all_zipped_more (IsEntryFold c tuples) (take place c.entries) folds e fold before.each exact);
           within_limit = small_yet c tuples place e here small before.within_limit;
           work = before.work + n;
-          worked = work_more c tuples place e before.work n here before.worked work;
+          worked = search (rules, add-one);
           takes = taken c.most_work old new before.work n before.takes takes;
         }

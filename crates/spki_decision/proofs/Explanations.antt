@@ -1,7 +1,6 @@
 -- What the reasons of entries say of what is granted, and of decisions. A case has one explanation.
-use Rattle.std.proofs.Common.{◌≡◌, ◌↔◌, ◌⊎◌, inl, inr, ℕ, suc, ◌<◌, List, [], ◌∷◌, Option, Some, None, IsNone, slice_get, refl, ap, ◌∙◌, arith, rules, zero, ◌++◌, length, sym, subst}
+use Rattle.std.proofs.Common.{◌≡◌, ◌↔◌, ◌⊎◌, inl, inr, ℕ, suc, ◌<◌, List, [], ◌∷◌, Option, Some, None, IsNone, slice_get, refl, ap, ◌∙◌, arith, rules, zero, ◌++◌, length, sym, subst, IsSomeAnd, take_all}
 use Rattle.std.specs.List.{AllZip, AllByRecursion}
-use Rattle.std.specs.Option.{IsSomeAnd}
 use Rattle.std.proofs.lemmas.Slice.Zip.{AllZip-left, AllZip-right}
 use Rattle.spki_tag.specs.Request.{IsRequest}
 use Rattle.spki_cert.specs.declared.entry.Entry.{Entry}
@@ -27,13 +26,10 @@ use Rattle.spki_decision.specs.Standing.{AreShown, with_entries, tuple_of, Stand
 use Rattle.spki_decision.specs.Granted.{Supported, AllSmall, IsWithinWork, IsFailure, StopsAtItem, IsEntryFold, AreFolds, Granted, IsDecision}
 use Rattle.spki_decision.specs.declared.reduction.EntryFold.{EntryFold}
 use Rattle.spki_decision.specs.Explained.{IsReasonFor, LacksFirst, IsReason, reason_of, AreReasons, IsExplanation, IsFirstGrant, Agrees, IsSameExplanation}
-use Rattle.spki_decision.proofs.Standing.{granted, supported, some_same, one_list, one_test, never_both}
-use Rattle.std.proofs.lemmas.List.{take_all}
-use Rattle.std.proofs.lemmas.Option.{slice_get_within}
+use Rattle.spki_decision.proofs.Standing.{granted, supported, one_list, one_test, never_both}
+use Rattle.std.proofs.lemmas.Option.{slice_get_within, same_Some}
 use Rattle.spki_cert.specs.declared.certificate.SeqItem.{SeqItem}
 use Rattle.spki_reduce.proofs.Through.{HasTag, AreTagged, unstopped, one_stop}
-
--- ---- what the reasons of entries say of what is granted, and of decisions
 
 -- ---- one entry
 
@@ -48,8 +44,7 @@ module _ (c : Case) (tuples : List Tuple) (e : Entry) where
       → IsReason c tuples e (reason_of denial)
   reasoned f None folds met h s = s.0 refl
   reasoned f (Some denial.NotTheKey) folds met h s = first_denial f denial.NotTheKey folds met h
-  reasoned f (Some denial.TagLacks) folds met h s = first_denial f denial.TagLacks folds met h
-  reasoned f (Some denial.WindowLacks) folds met h s = first_denial f denial.WindowLacks folds met h
+  reasoned f (Some d) folds met h s = first_denial f d folds met h
 
   lacking : (root : FiveTuple) (denial : Denial) → IsFirstDenial c.policy root c.key c.request c.moment (Some denial)
       → Allows c.policy root c.key c.request c.moment → ⊥
@@ -134,9 +129,7 @@ each_reason : (c : Case) (es : List Entry) (tuples : List Tuple) (entries : List
 each_reason c es tuples [] [] [] h k = tt
 each_reason c es tuples (e ∷ entries) (fold ∷ folds) (reason ∷ reasons) h k =
     (k.0 es tuples e h.0, each_reason c es tuples entries folds reasons h.1 k.1)
-each_reason c es tuples [] [] (reason ∷ reasons) h k = absurd k
-each_reason c es tuples (e ∷ entries) (fold ∷ folds) [] h k = absurd k
-each_reason c es tuples entries folds reasons h k = absurd h
+each_reason c es tuples entries folds reasons h k = search
 
 -- the reasons for what the entries become
 pub reasons_for : (c : Case) (es : List Entry) (verified : Verified) (folds : List EntryFold) (reasons : List Reason) → IsRequest c.request
@@ -213,14 +206,9 @@ module _ (c : Case) (tuples : List Tuple) (tagged : AreTagged tuples) (e : Entry
   lacks : (root : FiveTuple) (a b : Denial) → IsFirstDenial c.policy root c.key c.request c.moment (Some a)
       → IsFirstDenial c.policy root c.key c.request c.moment (Some b) → a ≡ b
   lacks root denial.NotTheKey denial.NotTheKey h k = refl
-  lacks root denial.NotTheKey denial.TagLacks h k = absurd (h k.0)
-  lacks root denial.NotTheKey denial.WindowLacks h k = absurd (h k.0)
-  lacks root denial.TagLacks denial.NotTheKey h k = absurd (k h.0)
   lacks root denial.TagLacks denial.TagLacks h k = refl
-  lacks root denial.TagLacks denial.WindowLacks h k = absurd (never (in_each c.request root.tags) h.1 k.1)
-  lacks root denial.WindowLacks denial.NotTheKey h k = absurd (k h.0)
-  lacks root denial.WindowLacks denial.TagLacks h k = absurd (never (in_each c.request root.tags) k.1 h.1)
   lacks root denial.WindowLacks denial.WindowLacks h k = refl
+  lacks root a b h k = search (rules, never)
 
   one_denial : (a b : Denial) → LacksFirst c tuples e a → LacksFirst c tuples e b → a ≡ b
   one_denial a b h k = grind (arith, one_root, lacks)
@@ -264,16 +252,13 @@ module _ (c : Case) (tuples : List Tuple) (tagged : AreTagged tuples) where
       → ((place : ℕ) → slice_get rs place ≡ Some Grants → slice_get ss place ≡ Some Grants)
       → ((place : ℕ) → slice_get ss place ≡ Some Grants → slice_get rs place ≡ Some Grants) → rs ≡ ss
   each_one [] [] [] h k there back = refl
-  each_one [] (r ∷ rs) ss h k there back = absurd h
-  each_one [] [] (s ∷ ss) h k there back = absurd k
-  each_one (e ∷ es) [] ss h k there back = absurd h
-  each_one (e ∷ es) (r ∷ rs) [] h k there back = absurd k
   each_one (e ∷ es) (r ∷ rs) (s ∷ ss) h k there back =
       let here : r ≡ s =
-      one_reason c tuples tagged e r s (parted c tuples e r h.0) (parted c tuples e s k.0) (λ g. some_same s Grants (there 0 (ap Some g)))
-      (λ g. some_same r Grants (back 0 (ap Some g))) in
+      one_reason c tuples tagged e r s (parted c tuples e r h.0) (parted c tuples e s k.0) (λ g. same_Some s Grants (there 0 (ap Some g)))
+      (λ g. same_Some r Grants (back 0 (ap Some g))) in
       let others : rs ≡ ss = each_one es rs ss h.1 k.1 (λ place. there (suc place)) (λ place. back (suc place)) in
       cc
+  each_one es rs ss h k there back = search
 
 one_answer : (c : Case) (verified : Verified) (rs ss : List Reason) → AreReasons c verified rs → AreReasons c verified ss → rs ≡ ss
 one_answer c verified rs ss h k = search (rules, one_list, each_one, are_tagged)

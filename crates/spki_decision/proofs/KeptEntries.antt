@@ -7,11 +7,11 @@ use Rattle.spki_reduce.proofs.Derivations.{supported, from_left-leaves}
 use Rattle.spki_case.specs.Case.{Case, Verified}
 use Rattle.spki_decision.specs.Standing.{AreShown}
 use Rattle.spki_decision.specs.Granted.{Granted, Supported, IsDecision}
-use Rattle.spki_decision.proofs.Standing.{one_list, granted, some_same}
+use Rattle.spki_decision.proofs.Standing.{one_list, granted}
 use Rattle.spki_decision.proofs.Memberships.{five_same, first_step}
 use Rattle.spki_cert.specs.declared.principal.Policy.{Policy}
 use Rattle.spki_decision.specs.Requirements.{key_of, first_key, IsOf, IsLeftOut, IsKept, AreKept, second, kept_case, IsRenumbered}
-use Rattle.std.proofs.lemmas.Option.{none-some}
+use Rattle.std.proofs.lemmas.Option.{none-some, same_Some, slice_get-map}
 use Rattle.spki_decision.specs.declared.decision.Decision.{Decision}
 use Rattle.spki_decision.specs.declared.decision.Decision.TheVariants.{Yes, No}
 
@@ -34,9 +34,7 @@ module _ (c : Case) (verified : Verified) where
       → Grants c.policy (entry_tuple g.entry) c.key c.request c.moment
   granted_alone n shown g =
       let s = granted_from_left n [] shown g in
-      let e : s.root ≡ entry_tuple g.entry = five_same s.root (entry_tuple g.entry) s.derived in
-      let grants = s.grants in
-      rw e at grants
+      rw (five_same s.root (entry_tuple g.entry) s.derived) at s.grants
 
   pub alone_granted : (place : ℕ) (entry : Entry) → slice_get c.entries place ≡ Some entry → AreShown c.policy verified c.items []
       → Grants c.policy (entry_tuple entry) c.key c.request c.moment → Granted (suc place) c verified
@@ -55,9 +53,7 @@ joined policy asker e (four right) others m j = j.begins.named
 pub supported_named : (c : Case) (tuples : List Tuple) (e : Entry) → Supported c tuples e → IsOf c.policy e (first_key c.key tuples)
 supported_named c [] e s =
     let from = supported c.policy s.tree c.key c.request c.moment (five (entry_tuple e)) [] s.supports s.leaves_are in
-    let same : from.root ≡ entry_tuple e = five_same from.root (entry_tuple e) from.derived in
-    let named = from.grants.named in
-    rw same at named
+    rw (five_same from.root (entry_tuple e) from.derived) at from.grants.named
 supported_named c (t ∷ others) e s =
     let from = supported c.policy s.tree c.key c.request c.moment (five (entry_tuple e)) (t ∷ others) s.supports s.leaves_are in
     let begun = first_step c.policy (entry_tuple e) t others (five from.root) from.derived in
@@ -68,9 +64,7 @@ supported_named c (t ∷ others) e s =
 -- ---- places
 
 second_at : (ks : List (ℕ × Entry)) (p n : ℕ) (e : Entry) → slice_get ks p ≡ Some (n, e) → slice_get (map second ks) p ≡ Some e
-second_at [] p n e stands = absurd (none-some (n, e) stands)
-second_at (k ∷ ks) zero n e stands = ap (λ (j : ℕ × Entry). Some j.1) (some_same k (n, e) stands)
-second_at (k ∷ ks) (suc p) n e stands = second_at ks p n e stands
+second_at ks p n e stands = rw (slice_get-map, stands)
 
 module _ (Out : Entry → Type 0) where
   -- the number of what is kept is that of its place in the list
@@ -81,7 +75,7 @@ module _ (Out : Entry → Type 0) where
   listed n (f ∷ es) (k ∷ ks) p m e (inl out) stands =
       let later = listed (suc n) es (k ∷ ks) p m e out.1 stands in
       (suc later.0, omega (arith, later.1), later.2)
-  listed n (f ∷ es) (k ∷ ks) zero m e (inr here) stands = search (rules, some_same)
+  listed n (f ∷ es) (k ∷ ks) zero m e (inr here) stands = search (rules, same_Some)
   listed n (f ∷ es) (k ∷ ks) (suc p) m e (inr here) stands =
       let later = listed (suc n) es ks p m e here.1 stands in
       (suc later.0, omega (arith, later.1), later.2)
@@ -90,11 +84,11 @@ module _ (Out : Entry → Type 0) where
   pub found : (n : ℕ) (es : List Entry) (ks : List (ℕ × Entry)) (place : ℕ) (e : Entry) → AreKept Out n es ks → slice_get es place ≡ Some e
       → ¬ Out e → (p : ℕ) × (slice_get ks p ≡ Some (n + place, e))
   found n [] ks place e kept stands in_it = absurd (none-some e stands)
-  found n (f ∷ es) [] zero e kept stands in_it = absurd (in_it (subst Out (some_same f e stands) kept.0))
+  found n (f ∷ es) [] zero e kept stands in_it = absurd (in_it (subst Out (same_Some f e stands) kept.0))
   found n (f ∷ es) [] (suc place) e kept stands in_it = search (rules, none-some, found (suc n) es [] place e kept.1 stands in_it)
-  found n (f ∷ es) (k ∷ ks) zero e (inl out) stands in_it = absurd (in_it (subst Out (some_same f e stands) out.0))
+  found n (f ∷ es) (k ∷ ks) zero e (inl out) stands in_it = absurd (in_it (subst Out (same_Some f e stands) out.0))
   found n (f ∷ es) (k ∷ ks) (suc place) e (inl out) stands in_it = search (rules, found (suc n) es (k ∷ ks) place e out.1 stands in_it)
-  found n (f ∷ es) (k ∷ ks) zero e (inr here) stands in_it = search (rules, some_same)
+  found n (f ∷ es) (k ∷ ks) zero e (inr here) stands in_it = search (rules, same_Some)
   found n (f ∷ es) (k ∷ ks) (suc place) e (inr here) stands in_it =
       let later = found (suc n) es ks place e here.1 stands in_it in
       let moved : suc n + place ≡ n + suc place = omega arith in
@@ -112,7 +106,7 @@ module _ (Out : Entry → Type 0) where
   growing n (g ∷ es) (k ∷ ks) p q i j e f (inl out) less at_p at_q = growing (suc n) es (k ∷ ks) p q i j e f out.1 less at_p at_q
   growing n (g ∷ es) (k ∷ ks) p zero i j e f (inr here) less at_p at_q = absurd (omega (arith, less))
   growing n (g ∷ es) (k ∷ ks) zero (suc q) i j e f (inr here) less at_p at_q =
-      let same : (i, e) ≡ (n, g) = sym (some_same k (i, e) at_p) ∙ here.0 in
+      let same : (i, e) ≡ (n, g) = sym (same_Some k (i, e) at_p) ∙ here.0 in
       let later = from_first (suc n) es ks q j f here.1 at_q in
       omega (arith, later, ap (λ (l : ℕ × Entry). l.0) same)
   growing n (g ∷ es) (k ∷ ks) (suc p) (suc q) i j e f (inr here) less at_p at_q =
@@ -133,7 +127,7 @@ module _ (c : Case) (verified : Verified) (kept : List (ℕ × Entry)) (are_kept
 
   -- and the other way round
   kept_granted : (p n : ℕ) (e : Entry) → slice_get kept p ≡ Some (n, e) → Granted (suc p) (kept_case c kept) verified → Granted n c verified
-  kept_granted p n e stands g = search (rules, slice_get, some_same, second_at, listed)
+  kept_granted p n e stands g = search (rules, slice_get, same_Some, second_at, listed)
 
   -- an earlier number stands at an earlier place
   earlier : (tuples : List Tuple) → AreShown c.policy verified c.items tuples → (p q n m : ℕ) (e f : Entry)
@@ -150,7 +144,7 @@ module _ (c : Case) (verified : Verified) (kept : List (ℕ × Entry)) (are_kept
             let p = granted_kept k h in
             let before = earlier h.tuples h.shown place p.0 n k r.1 h.entry r.3 p.1 (omega (arith, less)) in
             let other : ¬ (p.0 ≡ place) = λ same.
-            let here = some_same (k, h.entry) (n, r.1) (sym p.1 ∙ ap (λ (q : ℕ). slice_get kept q) same ∙ r.3) in
+            let here = same_Some (k, h.entry) (n, r.1) (sym p.1 ∙ ap (λ (q : ℕ). slice_get kept q) same ∙ r.3) in
             absurd (omega (arith, less, ap (λ (j : ℕ × Entry). j.0) here)) in
             d.none_before (suc p.0) (omega (arith, before, other, r.2)) p.2;
       }

@@ -1,12 +1,11 @@
 -- From which authorizations tuples lead to a key, what is required of a subject before them, and the three tests by
 -- which an entry is supported.
-use Rattle.std.proofs.Common.{◌≡◌, ◌↔◌, ℕ, List, [], ◌∷◌, ◌++◌, refl, sym, ◌∙◌, ap, subst, rules, ◌≢◌, zero, suc, ◌+◌, true, false, Option, Some, None, append_assoc, take, drop, slice_get, add-one, drop-cons, append-nil, take_all, length, get_or, ◌-◌, ◌<◌, Bool, ◌&&◌, flat_map}
+use Rattle.std.proofs.Common.{◌≡◌, ◌↔◌, ℕ, List, [], ◌∷◌, ◌++◌, refl, sym, ◌∙◌, ap, subst, rules, ◌≢◌, suc, ◌+◌, true, false, Option, Some, None, append_assoc, take, drop, slice_get, drop-cons, append-nil, take_all, length, get_or, ◌-◌, ◌<◌, Bool, ◌&&◌, flat_map}
 use Rattle.spki_cert.specs.declared.principal.Policy.{Policy}
 use Rattle.spki_reduce.specs.Reduction.{FiveTuple, FourTuple, Tuple, five, four, IsFor, Joins, Tree, leaf, join, Derives, extended, from_left, resolved, step_tuple, tags_of, windows_of, entry_tuple, in_each, within_each}
 use Rattle.spki_decision.specs.Requirements.{Leads, IsRequiredBy, IsRequiredBefore, IsMetBy, IsMembership}
-use Rattle.std.proofs.lemmas.List.{map-append, append_cancel_left, take-append-drop, take_more}
+use Rattle.std.proofs.lemmas.List.{map-append, append_cancel_left, take-append-drop, take_more, take_more_same}
 use Rattle.std.proofs.lemmas.Option.{slice_get_within, get_or_from_slice_get}
-use Rattle.std.proofs.Math.Seq.{take-suc}
 use Rattle.spki_cert.specs.Naming.{names}
 use Rattle.spki_reduce.specs.declared.tuple.Step.{Step}
 use Rattle.spki_reduce.specs.Chain.{tuples_of, all_tags, all_windows}
@@ -23,7 +22,7 @@ use Rattle.spki_case.specs.Case.{Case}
 use Rattle.spki_decision.specs.declared.membership.Membership.{Membership}
 use Rattle.spki_decision.specs.Granted.{Supported}
 use Rattle.spki_decision.proofs.Standing.{each_at}
-use Rattle.std.proofs.lemmas.Bool.{and_parts}
+use Rattle.std.proofs.lemmas.Bool.{and_parts, and_from}
 
 -- ---- tuples lead from an authorization to a key step by step
 
@@ -170,26 +169,15 @@ module _ (policy : Policy) (holder : List ℕ) where
 
 -- ---- the code's loops
 
-one_more_same : (xs ys : List (List ℕ)) (n : ℕ) (x y : List ℕ) → slice_get xs n ≡ Some x → slice_get ys n ≡ Some y → x ≡ y
-    → take n xs ≡ take n ys → take (suc n) xs ≡ take (suc n) ys
-one_more_same [] ys n x y e f same before = absurd cc
-one_more_same (z ∷ xs) [] n x y e f same before = absurd cc
-one_more_same (z ∷ xs) (w ∷ ys) zero x y e f same before =
-    let first : z ≡ x = cc in let other : w ≡ y = cc in ap (λ u. u ∷ []) (first ∙ same ∙ sym other)
-one_more_same (z ∷ xs) (w ∷ ys) (suc n) x y e f same before =
-    let heads : z ≡ w = cc in let tails : take n xs ≡ take n ys = cc in
-    let rest = one_more_same xs ys n x y e f same tails in
-    ap (λ u. u ∷ take (suc n) xs) heads ∙ ap (λ us. w ∷ us) rest
-
 -- the names before a place are the same, and those at it
 pub same_more : (xs ys : List (List ℕ)) (n : ℕ) (x y : List ℕ) → slice_get xs n ≡ Some x → slice_get ys n ≡ Some y → x ≡ y
     → take n xs ≡ take n ys → take (n + 1) xs ≡ take (n + 1) ys
 same_more xs ys n x y e f same before =
-    ap (λ k. take k xs) (add-one n) ∙ one_more_same xs ys n x y e f same before ∙ ap (λ k. take k ys) (sym (add-one n))
+    take_more_same xs ys n x (slice_get_within xs n x e) (slice_get_within ys n y f) before
+    (get_or_from_slice_get xs n x x e ∙ same ∙ sym (get_or_from_slice_get ys n y x f))
 
 front_more : (xs : List (List ℕ)) (n : ℕ) (x : List ℕ) → slice_get xs n ≡ Some x → take (n + 1) xs ≡ take n xs ++ x ∷ []
-front_more xs n x e =
-    ap (λ k. take k xs) (add-one n) ∙ take-suc xs n x (slice_get_within xs n x e) ∙ ap (λ y. take n xs ++ y ∷ []) (get_or_from_slice_get xs n x x e)
+front_more xs n x e = take_more xs n x (slice_get_within xs n x e) ∙ ap (λ y. take n xs ++ y ∷ []) (get_or_from_slice_get xs n x x e)
 
 -- names begin with those in front up to a place, and with the one at it
 pub begins_more : (names front rest : List (List ℕ)) (n : ℕ) (x : List ℕ) → slice_get front n ≡ Some x → names ≡ take n front ++ rest
@@ -249,9 +237,6 @@ last_of steps n i step below place here = search (rules, take_more)
 
 -- ---- an entry is supported exactly if three tests pass that do not touch each other
 
-pub together : (a b : Bool) → a ≡ true → b ≡ true → (a && b) ≡ true
-together a b e f = ap (λ x. x && b) e ∙ f
-
 module _ (c : Case) (tuples : List Tuple) (e : Entry) where
   abbrev first : Tuple
   first = five (entry_tuple e)
@@ -270,7 +255,7 @@ module _ (c : Case) (tuples : List Tuple) (e : Entry) where
       search (rules, and_parts)
 
   pub supports : Passes → Supported c tuples e
-  supports p = search (rules, tags_so_far, windows_so_far, from_left-leaves, issuer_kept, together)
+  supports p = search (rules, tags_so_far, windows_so_far, from_left-leaves, issuer_kept, and_from)
 
 -- ---- memberships
 
@@ -311,7 +296,7 @@ module _ (steps : List Step) (i : ℕ) (step : Step) (below : i < length steps) 
     more_pass : list_all p (flat_map parts (tuples_of (take i steps))) ≡ true → passes_all step ≡ true
         → list_all p (flat_map parts (tuples_of (take (i + 1) steps))) ≡ true
     more_pass so_far this = by_steps p parts (take (i + 1) steps) ∙ list_all_more passes_all steps i step below
-        ∙ together _ _ (sym (by_steps p parts (take i steps)) ∙ so_far) (ap passes_all (sym here) ∙ this)
+        ∙ and_from _ _ (sym (by_steps p parts (take i steps)) ∙ so_far) (ap passes_all (sym here) ∙ this)
 
     each_passes : list_all p (flat_map parts (tuples_of steps)) ≡ true → passes_all step ≡ true
     each_passes all = ap passes_all here ∙ each_at passes_all steps i step (sym (by_steps p parts steps) ∙ all) below

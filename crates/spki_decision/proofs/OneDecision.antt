@@ -62,12 +62,9 @@ module _ (c : Case) (tuples : List Tuple) (tagged : AreTagged tuples) where
   each_one : (es : List Entry) (xs ys : List EntryFold) → AllByRecursion IsDated xs → AllByRecursion IsDated ys
       → AllZip (IsEntryFold c tuples) es xs → AllZip (IsEntryFold c tuples) es ys → xs ≡ ys
   each_one [] [] [] d l h k = refl
-  each_one [] (x ∷ xs) ys d l h k = absurd h
-  each_one [] [] (y ∷ ys) d l h k = absurd k
-  each_one (e ∷ es) [] ys d l h k = absurd h
-  each_one (e ∷ es) (x ∷ xs) [] d l h k = absurd k
   each_one (e ∷ es) (x ∷ xs) (y ∷ ys) d l h k =
       λ i. one_entry e x y d.0 l.0 h.0 k.0 i ∷ each_one es xs ys d.1 l.1 h.1 k.1 i
+  each_one es xs ys d l h k = search
 
 pub one_answer : (c : Case) (verified : Verified) (xs ys : List EntryFold) → AllByRecursion IsDated xs → AllByRecursion IsDated ys
     → AreFolds c verified xs → AreFolds c verified ys → xs ≡ ys
@@ -98,11 +95,9 @@ module _ (c : Case) (verified : Verified) where
   pub decided_one : (x y : Result Decision GuardFault) → IsDecided c verified x → IsDecided c verified y → x ≡ y
   decided_one (Ok x) (Ok y) a b = ap Ok (decision_one x y a.0 b.0)
   decided_one (Ok x) (Err TooLarge) a b = absurd (not_both c verified x a.0 a.1 b)
-  decided_one (Ok x) (Err Memory) a b = absurd b
   decided_one (Err TooLarge) (Ok y) a b = absurd (not_both c verified y b.0 b.1 a)
   decided_one (Err TooLarge) (Err TooLarge) a b = refl
-  decided_one (Err TooLarge) (Err Memory) a b = absurd b
-  decided_one (Err Memory) y a b = absurd a
+  decided_one x y a b = search
 
   -- what is decided is the decision, or the refusal
   pub decided_or_large : (x : Result Decision GuardFault) (d : Decision) → IsDecided c verified x → IsDecision c verified d
@@ -131,11 +126,9 @@ module _ (c : Case) (verified : Verified) where
       → AreSame IsSameExplanation x y
   explained_one (Ok x) (Ok y) a b = one_explanation c verified x y a b
   explained_one (Ok x) (Err TooLarge) a b = explained_small x a b
-  explained_one (Ok x) (Err Memory) a b = b
   explained_one (Err TooLarge) (Ok y) a b = explained_small y b a
   explained_one (Err TooLarge) (Err TooLarge) a b = refl
-  explained_one (Err TooLarge) (Err Memory) a b = absurd b
-  explained_one (Err Memory) y a b = absurd a
+  explained_one x y a b = search
 
   pub folds_small : (folds : List EntryFold) → AreFolds c verified folds → SomeTooLarge c verified → ⊥
   folds_small folds a some = all_small a.tuples a.shown a.within_limit a.worked some
@@ -148,11 +141,9 @@ module _ (c : Case) (verified : Verified) where
       → AreSame IsSameReduction x y
   reduced_one (Ok x) (Ok y) a b = one_reduction c verified x y a.1 b.1 a.0 b.0
   reduced_one (Ok x) (Err TooLarge) a b = reduced_small x a.0 b
-  reduced_one (Ok x) (Err Memory) a b = b
   reduced_one (Err TooLarge) (Ok y) a b = reduced_small y b.0 a
   reduced_one (Err TooLarge) (Err TooLarge) a b = refl
-  reduced_one (Err TooLarge) (Err Memory) a b = absurd b
-  reduced_one (Err Memory) y a b = absurd a
+  reduced_one x y a b = search
 
 -- ---- texts
 

@@ -2,7 +2,7 @@
 -- policies. What entries support with these tuples is what is granted.
 use Rattle.std.proofs.Common.{◌≡◌, ℕ, suc, List, [], ◌∷◌, Some, None, Bool, false, find, slice_get, refl, ◌++◌, ap, Option, if◌then◌else◌, sym, ◌∙◌, rules, zero, ◌+◌, ◌<◌, true, IsSome, is_some, map, length, take, drop, get_or, arith, add-one, drop-cons, below_more}
 use Rattle.spki_cert.specs.declared.certificate.SeqItem.{SeqItem}
-use Rattle.spki_cert.specs.declared.certificate.SeqItem.TheVariants.{Key, DoHash, Auth, Name, Signature}
+use Rattle.spki_cert.specs.declared.certificate.SeqItem.TheVariants.{Key}
 use Rattle.spki_case.specs.Case.{keys_of, Verified, Shown, issuer_of, octets_of, AreSigned, certificates, Case}
 use Rattle.std.specs.List.{AllZip, AllByRecursion, list_all}
 use Rattle.spki_cert.specs.declared.principal.Policy.{Policy}
@@ -13,7 +13,7 @@ use Rattle.spki_decision.specs.declared.evidence.Stop.TheVariants.{KeyNotShown, 
 use Rattle.spki_decision.specs.declared.evidence.Stop.{Stop}
 use Rattle.spki_decision.specs.Standing.{issuer_key, Stands, StandsAs, FailsBy, FailsAt, AreShown, tuple_of, shown_of}
 use Rattle.std.proofs.lemmas.List.{take_more, take-append-drop, get_or-map, map-append, length-map}
-use Rattle.std.proofs.lemmas.Option.{slice_get-get_or}
+use Rattle.std.proofs.lemmas.Option.{slice_get-get_or, same_Some}
 use Rattle.std.proofs.lemmas.Slice.Zip.{all_zipped_more}
 use Rattle.spki_reduce.specs.declared.tuple.Step.{Step}
 use Rattle.spki_decision.specs.declared.certificates.ShownCert.{ShownCert}
@@ -30,10 +30,7 @@ use Rattle.spki_reduce.proofs.Chains.{never, too_large as large}
 use Rattle.spki_decision.specs.declared.decision.Decision.{Decision}
 use Rattle.spki_decision.specs.declared.decision.Decision.TheVariants.{Yes, No}
 
--- ---- values that are there, and a search that finds nothing
-
-pub some_same : {A : Type 0} (a b : A) → Some a ≡ Some b → a ≡ b
-some_same a b e = cc
+-- ---- a search that finds nothing
 
 pub found_none : {X : Type 0} (q : X → Bool) (xs : List X)
     → ((k : ℕ) (other : X) → slice_get xs k ≡ Some other → q other ≡ false) → find q xs ≡ None
@@ -47,10 +44,7 @@ found_none q (y ∷ xs) none =
 pub keys-append : (xs ys : List SeqItem) → keys_of (xs ++ ys) ≡ keys_of xs ++ keys_of ys
 keys-append [] ys = refl
 keys-append (Key octets ∷ xs) ys = ap (λ ks. octets ∷ ks) (keys-append xs ys)
-keys-append (DoHash alg ∷ xs) ys = keys-append xs ys
-keys-append (Auth cert ∷ xs) ys = keys-append xs ys
-keys-append (Name cert ∷ xs) ys = keys-append xs ys
-keys-append (Signature s ∷ xs) ys = keys-append xs ys
+keys-append (_ ∷ xs) ys = keys-append xs ys
 
 -- ---- certificates that stand have one list of tuples, and none where one of them fails
 
@@ -61,11 +55,8 @@ module _ (policy : Policy) (keys : List (List ℕ)) (verified : Verified) where
   pub one_list : (shown : List Shown) (ts us : List Tuple) → AllZip (StandsAs policy keys verified) shown ts
       → AllZip (StandsAs policy keys verified) shown us → ts ≡ us
   one_list [] [] [] a b = refl
-  one_list [] [] (u ∷ us) a b = absurd b
-  one_list [] (t ∷ ts) us a b = absurd a
-  one_list (s ∷ shown) [] us a b = absurd a
-  one_list (s ∷ shown) (t ∷ ts) [] a b = absurd b
   one_list (s ∷ shown) (t ∷ ts) (u ∷ us) a b = search (rules, one_tuple, one_list shown ts us a.1 b.1)
+  one_list shown ts us a b = search
 
   -- ---- no certificate stands and fails
 
@@ -93,10 +84,9 @@ module _ (policy : Policy) (keys : List (List ℕ)) (verified : Verified) where
 
   zip_at : (before : List Shown) (s : Shown) (after : List Shown) (ts : List Tuple)
       → AllZip (StandsAs policy keys verified) (before ++ s ∷ after) ts → (t : Tuple) × StandsAs policy keys verified s t
-  zip_at [] s after [] a = absurd a
   zip_at [] s after (t ∷ ts) a = (t, a.0)
-  zip_at (b ∷ before) s after [] a = absurd a
   zip_at (b ∷ before) s after (t ∷ ts) a = zip_at before s after ts a.1
+  zip_at before s after ts a = search
 
 -- where a certificate fails no list of tuples is shown
 pub none_shown : (policy : Policy) (verified : Verified) (items : List SeqItem) (item : ℕ) (stop : Stop) (ts : List Tuple)
@@ -148,8 +138,7 @@ module _ (items : List SeqItem) (kept : List ShownCert) (same : map shown_of kep
   module _ (policy : Policy) (verified : Verified) where
     stood : (front : List Shown) (ts : List Tuple) → AllZip (StandsAs policy (keys_of items) verified) front ts
         → AllByRecursion (λ s. (holder : List ℕ) × Stands policy (keys_of items) verified s holder) front
-    stood [] [] h = tt
-    stood [] (t ∷ ts) h = absurd h
+    stood [] ts h = tt
     stood (s ∷ front) [] h = absurd h
     stood (s ∷ front) (t ∷ ts) h = ((h.0.holder, h.0.stands), stood front ts h.1)
 
@@ -191,9 +180,8 @@ module _ (verified : Verified) where
   each_openly : (keys : List (List ℕ)) (shown : List Shown) (tuples : List Tuple)
       → AllZip (StandsAs Strict keys verified) shown tuples → AllZip (StandsAs Open keys verified) shown tuples
   each_openly keys [] [] h = tt
-  each_openly keys [] (t ∷ tuples) h = absurd h
-  each_openly keys (s ∷ shown) [] h = absurd h
   each_openly keys (s ∷ shown) (t ∷ tuples) h = search (rules, stands_openly, each_openly keys shown tuples h.1)
+  each_openly keys shown tuples h = search
 
   pub shown_openly : (items : List SeqItem) (tuples : List Tuple) → AreShown Strict verified items tuples
       → AreShown Open verified items tuples
@@ -211,7 +199,7 @@ module _ (c : Case) (tuples : List Tuple) (place : ℕ) (e : Entry) (stands : sl
   -- what is so of the entries before it, and of this one
   with_this : (P : Entry → Type 0) → P e → ((k : ℕ) (f : Entry) → k < place → slice_get c.entries k ≡ Some f → P f)
       → (k : ℕ) (f : Entry) → k < place + 1 → slice_get c.entries k ≡ Some f → P f
-  with_this P this before = search (rules, slice_get, below_more, some_same)
+  with_this P this before = search (rules, slice_get, below_more, same_Some)
 
   pub not_yet : (grants : Bool) → grants ≡ false → (Supported c tuples e → grants ≡ true) → NoneBefore c tuples place
       → NoneBefore c tuples (place + 1)

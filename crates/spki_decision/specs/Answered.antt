@@ -13,8 +13,6 @@ use Rattle.spki_reduce.specs.declared.fault.ReduceFault.TheVariants as reduce
 
 -- ---- answers apart from Memory
 
--- The answer to a case, apart from Memory: what decide, explain and reduce_case promise of each answer except Memory.
-
 abbrev pub IsDecided : Case → Verified → Result Decision GuardFault → Type 0
 IsDecided c verified (Ok decision) = IsDecision c verified decision × IsUnrefused c verified decision
 IsDecided c verified (Err TooLarge) = IsTooLarge c verified

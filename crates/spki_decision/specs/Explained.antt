@@ -1,6 +1,5 @@
 -- Why each entry of a case grants the request or does not (RFC 2693, section 6.3), and the sinks that take what its
 -- entries become and the reasons.
-use Rattle.std.specs.Prelude.{◌≢◌, ◌↔◌, ℕ, suc, ◌<◌, ◌∷◌, Option, Some, None, slice_get}
 use Rattle.std.specs.List.{AllZip}
 use Rattle.spki_tag.specs.Tag.{set, none}
 use Rattle.spki_cert.specs.declared.entry.Entry.{Entry}
@@ -17,7 +16,7 @@ use Rattle.spki_decision.specs.declared.explanation.Reason.{Reason}
 use Rattle.spki_decision.specs.declared.explanation.Reason.TheVariants.{Grants, NotTheKey, TagLacks, WindowLacks, Stopped}
 use Rattle.spki_decision.specs.Standing.{AreShown, with_entries}
 use Rattle.spki_decision.specs.Granted.{Supported, AllSmall, Granted, IsFailure, StopsAtItem, IsWithinWork, IsEntryFold}
-use Rattle.std.proofs.Common.{◌≡◌, List, [], ◌++◌, Vec, Global, sym, refl, append-nil}
+use Rattle.std.proofs.Common.{◌≡◌, List, [], ◌++◌, Vec, Global, sym, refl, append-nil, ◌≢◌, ◌↔◌, ℕ, suc, ◌<◌, ◌∷◌, Option, Some, None, slice_get}
 use Rattle.spki_case.specs.View.{model}
 use Rattle.spki_decision.specs.declared.explanation.ReasonSink.{ReasonSink}
 use Rattle.spki_decision.specs.declared.reduction.EntryFold.{EntryFold}

@@ -1,6 +1,6 @@
 -- Which certificates of a sequence stand, about which signatures a verifier is asked, and how the code represents
 -- both (RFC 2693, section 6).
-use Rattle.std.specs.Prelude.{◌≡◌, ℕ, List, ◌∷◌, ◌++◌, Option, Some, None, false, IsTrue, find, [], length, ◌&&◌, if◌then◌else◌, option_and_then}
+use Rattle.std.specs.Prelude.{◌≡◌, ℕ, List, ◌∷◌, ◌++◌, Option, Some, None, false, IsTrue, find, [], length, ◌&&◌, if◌then◌else◌, option_and_then, option_copied}
 use Rattle.std.specs.List.{AllZip, AllByRecursion}
 use Rattle.spki_cert.specs.declared.principal.Policy.{Policy}
 use Rattle.spki_cert.specs.declared.principal.Principal.{Principal}
@@ -12,7 +12,6 @@ use Rattle.spki_reduce.specs.Reduction.{Tuple, five, four, auth_tuple, name_tupl
 use Rattle.spki_decision.specs.declared.evidence.Stop.{Stop}
 use Rattle.spki_decision.specs.declared.evidence.Stop.TheVariants.{KeyNotShown, DigestDiffers, SignerDiffers, NotAccepted}
 use Rattle.spki_case.specs.Case.{Verified, Certificate, auth, name, Shown, issuer_of, octets_of, keys_of, certificates, Case}
-use Rattle.std.specs.Option.{option_copied}
 use Rattle.spki_decision.specs.declared.certificates.Certificate as code
 use Rattle.spki_decision.specs.declared.certificates.Certificate.TheVariants.{Auth, Name}
 use Rattle.spki_decision.specs.declared.certificates.ShownCert.{ShownCert}

@@ -1,7 +1,6 @@
 //! The certificates of a sequence, with their signatures.
 
-ghost use Rattle.std.specs.Prelude.{◌≡◌, ◌++◌, map, IfOk, OnOk, MatchOption};
-ghost use Rattle.std.specs.Option.{option_copied};
+ghost use Rattle.std.specs.Prelude.{◌≡◌, ◌++◌, map, IfOk, OnOk, MatchOption, option_copied};
 ghost use Rattle.spki_reduce.specs.Reduction.{step_tuple, five_tuple, four_tuple, auth_tuple, name_tuple};
 ghost use Rattle.spki_case.specs.Case.{certificates, signature_in, issuer_of, octets_of};
 ghost use Rattle.spki_decision.specs.Standing.{tuple_of, certificate_of, shown_of};

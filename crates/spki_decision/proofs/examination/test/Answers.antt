@@ -1,5 +1,4 @@
-use Rattle.std.proofs.Common.{◌≡◌, ap, rules, Some}
-use Rattle.std.specs.Option.{option_copied}
+use Rattle.std.proofs.Common.{◌≡◌, ap, rules, Some, option_copied}
 use Rattle.spki_decision.specs.Standing.{shown_of}
 use Rattle.spki_decision.proofs.examination.test.Goals as goal
 

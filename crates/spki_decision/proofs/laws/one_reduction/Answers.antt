@@ -1,14 +1,11 @@
-use Rattle.spki_decision.specs.Granted.{IsSameReduction}
-use Rattle.spki_decision.specs.Answered.{IsReduced, AreSame}
 use Rattle.spki_decision.proofs.OneDecision.{reduced_one, of_text, own_of_text}
 use Rattle.spki_decision.proofs.laws.one_reduction.Goals as goal
 
 pub returns-clause-verified : goal.returns-clause-verified
-returns-clause-verified g c verifier =
-    of_text IsReduced (AreSame IsSameReduction) reduced_one (g.V.Verifier.accepted verifier)
+returns-clause-verified g c verifier = of_text _ _ reduced_one (g.V.Verifier.accepted verifier)
 
 pub returns-clause-own : goal.returns-clause-own
-returns-clause-own g c = own_of_text IsReduced (AreSame IsSameReduction) reduced_one
+returns-clause-own g c = own_of_text _ _ reduced_one
 
 pub returns-clause-same_case : goal.returns-clause-same_case
 returns-clause-same_case g c verifier k = reduced_one k (g.V.Verifier.accepted verifier)

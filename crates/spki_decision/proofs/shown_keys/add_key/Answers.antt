@@ -1,6 +1,5 @@
-use Rattle.std.proofs.Common.{◌≡◌, ◌∙◌, false, rules, Some, None, cond}
+use Rattle.std.proofs.Common.{◌≡◌, ◌∙◌, false, rules, Some, None, cond, bytes_eq}
 use Rattle.std.specs.Option.{is_some, option_or}
-use Rattle.std.specs.Str.{bytes_eq}
 use Rattle.spki_cert.specs.Naming.{digest_of}
 use Rattle.spki_case.specs.Lookups.{at_digest}
 use Rattle.spki_case.proofs.Lookups.{inserted, first_added}

@@ -1,11 +1,12 @@
 use Rattle.std.proofs.Common.{◌≡◌, ◌+◌, ◌≤◌, ◌∷◌, [], ◌++◌, All, take, false, ap, ◌∙◌, arith, rules}
+use Rattle.std.proofs.lemmas.Bool.{or_from}
 use Rattle.std.proofs.lemmas.List.Elements.{All-push, All-weaker}
 use Rattle.spki_tag.specs.Tag.{tags, nodes_all, some_nests_set}
 use Rattle.spki_tag.proofs.MeetSizes.{append-nodes}
 use Rattle.spki_reduce.specs.Reduction.{Tuple, tags_of, step_tuple, nodes_product}
 use Rattle.spki_reduce.specs.Chain.{tuples_of, all_tags}
 use Rattle.spki_decision.proofs.Memberships.{more_tuples, more_tags}
-use Rattle.spki_decision.proofs.EntryChains.{append-sets, none_of}
+use Rattle.spki_decision.proofs.EntryChains.{append-sets}
 use Rattle.spki_decision.proofs.sizes.plain_of.Goals as goal
 
 -- one step more
@@ -20,7 +21,7 @@ loop-step-preserved c =
     let all = more_tags steps i x c.loop-step-test.true c.step-item.is in
     let no_set : some_nests_set (tags (all_tags (tuples_of (take (i + 1) steps)))) ≡ false =
     ap (λ ts. some_nests_set (tags ts)) all ∙ append-sets (all_tags before) own
-    ∙ none_of (some_nests_set (tags (all_tags before))) (some_nests_set (tags own)) c.loop-step.invariant.no_set
+    ∙ or_from (some_nests_set (tags (all_tags before))) (some_nests_set (tags own)) c.loop-step.invariant.no_set
     (c.nests_set.ensures c.if-nests_set.false) in
     let sum : nodes_all (tags (all_tags (tuples_of (take (i + 1) steps)))) ≡ nodes_all (tags (all_tags before)) + nodes_all (tags own) =
     ap (λ ts. nodes_all (tags ts)) all ∙ append-nodes (all_tags before) own in

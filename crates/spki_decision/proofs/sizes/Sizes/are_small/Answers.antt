@@ -1,6 +1,4 @@
-use Rattle.std.proofs.Common.{◌≡◌, ◌+◌, ◌*◌, ◌≤◌, false, subst, sym, ◌∙◌, rules}
-use borrow.Author.Tests.{leb-true}
-use Rattle.std.proofs.Math.Nat.{mul-le-mul_left}
+use Rattle.std.proofs.Common.{◌≡◌, ◌+◌, ◌*◌, ◌≤◌, false, subst, sym, ◌∙◌, rules, leb-true, mul-le-mul_left}
 use Rattle.spki_tag.specs.Tag.{nodes, nests_set}
 use Rattle.spki_reduce.specs.Chain.{tuples_of}
 use Rattle.spki_decision.specs.Requirements.{ArePlain}
