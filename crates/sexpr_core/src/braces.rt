@@ -66,6 +66,7 @@ fn is_base64_octet(octet: u8) -> bool
 
 /// Returns the offset of the first octet from `at` on that is no symbol of base64 and no `=`, or the length of the text
 /// if there is none. `at` is at most this length.
+#[tactic(auto, using(crate::proofs::Spans::nothing_passed, crate::proofs::Spans::one_passed))]
 fn skip_symbols(text: &[u8], at: usize) -> usize
     requires { at ≤ length text.now }
     ensures { SkipsSymbols text.now at result }
@@ -181,6 +182,7 @@ fn body_fault(fault: FormFault, at: usize) -> FormFault
 /// Checks that the octets in a text in braces, at most `MOST_OCTETS`, are one value in canonical form, with at most
 /// `MOST_LISTS` lists open at once. Err is `TooDeep` if more are, and for any other fault `Bad` at the offset `at`,
 /// which is that of the closing brace.
+#[tactic(auto, using(crate::proofs::Refusals::body_refused))]
 fn check_body(octets: &[u8], at: usize) -> Result<(), FormFault>
     requires { length octets.now ≤ 1048576 }
     ensures read { OnOk result ((v : Value) × (octets.now ≡ canon v) × IsWithinLimits v) }

@@ -70,6 +70,7 @@ fn pass_members(text: &[u8], at: usize, room: usize) -> Result<usize, FormFault>
 
 /// Checks that a text is one value in canonical form. The refusals are those of `Doc::open`, except `Memory`: this
 /// allocates nothing.
+#[tactic(auto, using(crate::proofs::Refusals::refused, crate::proofs::Refusals::trailing, crate::proofs::Refusals::only_memory))]
 pub(crate) fn check_canonical(text: &[u8]) -> Result<(), FormFault>
     ensures read { OnOk result ((v : Value) × IsWithinLimits v × (text.now ≡ canon v)) }
     ensures only { (v : Value) → IsWithinLimits v → text.now ≡ canon v → IsOkUnless result FormFault.Memory }

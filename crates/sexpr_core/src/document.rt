@@ -94,6 +94,7 @@ impl<'a> Doc<'a> {
     }
 
     /// The number of nodes in the document, its whole value included.
+    #[tactic(auto, using(crate::proofs::NodeLaws::table_length))]
     pub(crate) fn node_count(&self) -> usize
         ensures { result ≡ size self.now }
     {

@@ -85,6 +85,7 @@ impl<'a> Doc<'a> {
 
     /// The offset from 0 where the canonical text of a node begins in the document's text. The `slice` of the node is
     /// at this offset. None if the document has no such node.
+    #[tactic(auto, using(crate::proofs::NodeLaws::starts_end))]
     pub fn start(&self, n: NodeId) -> Option<usize>
         ensures start { result ≡ start_of self.now n.0 }
         ensures place { IfSome result (λ at. LiesAt (canon self.now) (canon (node_at self.now n.0)) at) }

@@ -40,6 +40,7 @@ struct ListEnd {
 
 /// The value of the digit at the offset `at`, with which a length begins. Err is `Bad` for another octet, or `Short` at
 /// the end of the text.
+#[tactic(auto, using(crate::proofs::Faults::length_ended, crate::proofs::Faults::length_first))]
 fn first_digit(text: &[u8], at: usize) -> Result<usize, FormFault>
     requires { at ≤ length text.now }
     ensures { MatchResult result
@@ -85,6 +86,7 @@ fn read_length(text: &[u8], at: usize) -> Result<Length, FormFault>
 /// Returns where the octets of the string in verbatim form, such as `3:abc`, at the offset `at` are. They are not
 /// examined. The text has at most `MOST_OCTETS` octets. Err is `Bad` if no length and colon are there, or `Short` if
 /// the text ends before the colon or has fewer octets after it.
+#[tactic(auto, using(crate::proofs::Faults::verbatim_fault, crate::proofs::Steps::octets_short, crate::proofs::Steps::octets_read))]
 fn read_verbatim(text: &[u8], at: usize) -> Result<Piece, FormFault>
     requires short { length text.now ≤ 1048576 }
     requires begins { at ≤ length text.now }
@@ -104,6 +106,7 @@ fn read_verbatim(text: &[u8], at: usize) -> Result<Piece, FormFault>
 
 /// Reads the closing bracket of a hint, at the offset `at`, and the string in verbatim form after it. Returns where the
 /// octets of this string are. The text has at most `MOST_OCTETS` octets. Err is `Bad` or `Short`.
+#[tactic(auto, using(crate::proofs::Faults::closing_ended, crate::proofs::Faults::closing_first, crate::proofs::Faults::closing_fault))]
 fn read_closing(text: &[u8], at: usize) -> Result<Piece, FormFault>
     requires short { length text.now ≤ 1048576 }
     requires begins { at ≤ length text.now }
@@ -123,6 +126,7 @@ fn read_closing(text: &[u8], at: usize) -> Result<Piece, FormFault>
 
 /// Returns the record of the string with a hint whose opening bracket is at `at`. The text has at most `MOST_OCTETS`
 /// octets. Err is `Bad` or `Short`.
+#[tactic(auto, using(crate::proofs::Steps::in_hint, crate::proofs::Steps::behind_hint, crate::proofs::Steps::hinted_read))]
 fn read_hinted(text: &[u8], at: usize) -> Result<Record, FormFault>
     requires short { length text.now ≤ 1048576 }
     requires begins { StandsAt text.now at 91 }
@@ -269,6 +273,7 @@ fn read_members(
 
 /// Reads a text that is one value in canonical form, and returns the records of its nodes in order. The refusals are
 /// those of `Doc::open`.
+#[tactic(auto, using(crate::proofs::Refusals::refused, crate::proofs::Refusals::trailing, crate::proofs::Refusals::only_memory))]
 pub(crate) fn parse(alloc: Global, text: &[u8]) -> Result<Vec<Record>, FormFault>
     ensures read { IfOk result (λ nodes.
         (v : Value) × IsWithinLimits v × (text.now ≡ canon v) × (nodes.items ≡ records 0 v)) }

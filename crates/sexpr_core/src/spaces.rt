@@ -26,6 +26,7 @@ pub fn is_space(octet: u8) -> bool
 
 /// Returns the offset of the first octet from `at` on that is not whitespace, or the length of the text if there is
 /// none. `at` is at most this length.
+#[tactic(auto, using(crate::proofs::Spans::nothing_passed, crate::proofs::Spans::one_passed))]
 pub fn skip_spaces(text: &[u8], at: usize) -> usize
     requires { at ≤ length text.now }
     ensures { Skips text.now at result }

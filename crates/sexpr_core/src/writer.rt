@@ -17,6 +17,7 @@ pub fn encode(alloc: Global, tree: &Sexp) -> Result<Vec<u8>, AllocError>
 }
 
 /// Appends a number in decimal to the output. Err if memory ran out.
+#[tactic(auto, using(crate::proofs::TreeLaws::digit_written, crate::proofs::TreeLaws::digits_written))]
 fn append_decimal(number: usize, out: &mut Vec<u8>) -> Result<(), AllocError>
     ensures written { OnOk result (out.new.items ≡ out.old.items ++ decimal number) }
     ensures kept { take (length out.old.items) out.new.items ≡ out.old.items }
@@ -32,6 +33,7 @@ fn append_decimal(number: usize, out: &mut Vec<u8>) -> Result<(), AllocError>
 
 /// Appends the length of a string in decimal to the output. A length of one digit takes no recursion. Err if memory ran
 /// out.
+#[tactic(auto, using(crate::proofs::TreeLaws::digit_written))]
 fn append_length(octets: usize, out: &mut Vec<u8>) -> Result<(), AllocError>
     ensures written { OnOk result (out.new.items ≡ out.old.items ++ decimal octets) }
     ensures kept { take (length out.old.items) out.new.items ≡ out.old.items }

@@ -21,6 +21,7 @@ const PACKED_SYMBOLS: usize = 512;
 /// all its octets are printable ASCII or it is empty; otherwise base64. Display hints are in brackets directly before
 /// the string, and there is one space between members. The text spells the tree's value (RFC 9804, section 6.4). Err if
 /// memory ran out.
+#[tactic(auto, using(crate::proofs::Printed::all_spelled))]
 pub fn print_advanced(alloc: Global, tree: &Sexp) -> Result<Vec<u8>, AllocError>
     ensures printed { IfOk result (λ text. text.items ≡ adv (sexp_value tree.now)) }
     ensures spells { IfOk result (λ text. Spells text.items (sexp_value tree.now)) }
@@ -138,6 +139,7 @@ fn print_packed<S: Sink>(octets: &[u8], sink: &mut S)
 
 /// Prints a string without a display hint, as `print_advanced` does. Prints nothing to a full sink. Allocates nothing,
 /// unless the sink does.
+#[tactic(auto, using(crate::proofs::Printed::printed_token, crate::proofs::Printed::printed_quoted, crate::proofs::Printed::printed_packed))]
 pub fn print_octets<S: Sink>(octets: &[u8], sink: &mut S)
     ensures printed { S.takes sink.old (printed_string octets.now) sink.new }
     ensures octets { IsBytes octets.now }

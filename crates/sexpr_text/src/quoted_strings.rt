@@ -160,6 +160,7 @@ fn meant_by(octet: u8) -> Option<u8>
 
 /// Reads the escape of a backslash and the one octet `octet`, which is at `at`, such as `n`. Err is `Bad` at it if the
 /// two are no whole escape.
+#[tactic(auto, using(crate::proofs::StringLaws::letter_escape, crate::proofs::StringEnds::nothing_begun, crate::proofs::StringEnds::letter_goes))]
 fn read_letter(text: &[u8], at: usize, octet: u8) -> Result<Escape, FormFault>
     requires { StandsAt text.now at octet }
     ensures read { IfOk result (λ read. ReadsEscape (92 ∷ []) text.now at read.octet read.end) }

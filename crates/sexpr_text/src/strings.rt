@@ -140,6 +140,7 @@ fn read_marked(alloc: Global, text: &[u8], at: usize) -> Result<MarkedString, Fo
 
 /// Reads the length at the offset `at`, of any size. `first` is its first digit; if this is `0`, it is the whole
 /// length. A length over `MOST_OCTETS` is returned as `MOST_OCTETS` plus one.
+#[tactic(auto, using(crate::proofs::StringLaws::count_first, crate::proofs::StringLaws::count_more))]
 fn read_count(text: &[u8], at: usize, first: u8) -> Count
     requires begins { StandsAt text.now at first }
     requires digit { (48 ≤ first) × (first < 58) }
