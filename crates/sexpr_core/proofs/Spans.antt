@@ -10,7 +10,7 @@ use Rattle.std.specs.Prelude.{slice_range}
 use Rattle.std.specs.List.{AllByRecursion}
 use Rattle.std.proofs.lemmas.Bool.Decides.{nat_tests}
 use Rattle.std.proofs.lemmas.List.Elements.{filter-append}
-use Rattle.sexpr_core.specs.Inner.Gathering.{StartsNoSymbol, SkipsSymbols, GathersTo, BodyAt}
+use Rattle.sexpr_core.specs.Inner.Gathering.{SkipsSymbols, GathersTo, BodyAt}
 use Rattle.sexpr_core.proofs.Steps.{slice_read}
 
 -- ---- what is read of the first octets of a text is read of each other text that begins with them
@@ -108,12 +108,6 @@ pub one_passed : (p : ℕ → Bool) (text : List ℕ) (at i c : ℕ) → Passed 
 one_passed p text at i c s stands passes =
     search (rules, all-append (λ k. p k ≡ true) s.body (c ∷ []) s.octets (passes, tt), append_assoc s.body (c ∷ []) (drop (i + 1) text))
 
-pub spaces_stop : (text : List ℕ) (at i c : ℕ) → Passed is_whitespace text at i → StandsAt text i c → is_whitespace c ≡ false → Skips text at i
-spaces_stop text at i c s stands other = search rules
-
-pub spaces_end : (text : List ℕ) (at i : ℕ) → Passed is_whitespace text at i → drop i text ≡ [] → Skips text at i
-spaces_end text at i s e = search rules
-
 -- whitespace ends in one way
 pub one_end : (xs ys r s : List ℕ) → AreSpaces xs → AreSpaces ys → StartsVisible r → StartsVisible s → xs ++ r ≡ ys ++ s → (xs ≡ ys) × (r ≡ s)
 one_end = one_front is_whitespace
@@ -136,17 +130,6 @@ pub spaces_all : (text : List ℕ) (at to : ℕ) → Skips text at to → AreSpa
 spaces_all text at to s h lt = search (rules, not_both, behind_spaces, length-drop)
 
 -- ---- a body in base64, octet by octet
-
--- ---- a run of symbols
-
-symbols_skipped : (text : List ℕ) (at i : ℕ) → Passed is_symbol text at i → StartsNoSymbol (drop i text) → SkipsSymbols text at i
-symbols_skipped text at i s ends = search rules
-
-pub symbols_stop : (text : List ℕ) (at i c : ℕ) → Passed is_symbol text at i → StandsAt text i c → is_symbol c ≡ false → SkipsSymbols text at i
-symbols_stop text at i c s stands other = symbols_skipped text at i s (subst StartsNoSymbol (sym stands.spelled) other)
-
-pub symbols_end : (text : List ℕ) (at i : ℕ) → Passed is_symbol text at i → drop i text ≡ [] → SkipsSymbols text at i
-symbols_end text at i s e = symbols_skipped text at i s (subst StartsNoSymbol (sym e) tt)
 
 -- ---- a body
 

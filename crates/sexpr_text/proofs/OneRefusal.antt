@@ -11,7 +11,7 @@ use Rattle.sexpr_core.proofs.Refusals.{goes_part, StopsThere, no_deep, AreApart,
 use Rattle.sexpr_text.proofs.Unfinished.{goes_front, goes_on_front, goes_anyhow}
 use Rattle.std.proofs.lemmas.Bool.{cases_lt, cases_Bool}
 use Rattle.std.proofs.lemmas.List.{drop-drop, take-append-le}
-use Rattle.sexpr_core.proofs.Spans.{Agree, agree, same_head, skips_too, nothing_passed, one_passed, spaces_stop, spaces_end, spaces_front, one_end}
+use Rattle.sexpr_core.proofs.Spans.{Agree, agree, same_head, skips_too, nothing_passed, one_passed, spaces_front, one_end}
 use Rattle.sexpr_core.proofs.BraceLaws.{opening, spaces_begin}
 use Rattle.sexpr_core.proofs.BraceRefusals.{one_brace_refusal, no_brace_refusal}
 use Rattle.sexpr_text.proofs.WholeTexts.{brace_unspelled}
@@ -140,13 +140,13 @@ braces_refused text rest begin fault s e h = inl (opens_brace text rest begin s 
 -- ---- no text of a value goes on at an octet that is refused
 
 past_spaces : (text : List ℕ) (i : ℕ) (rest : List ℕ) → drop i text ≡ rest → Passed is_whitespace text 0 i → (to : ℕ) × Skips text 0 to
-past_spaces text i [] e s = (i, spaces_end text 0 i s e)
+past_spaces text i [] e s = (i, search rules)
 past_spaces text i (c ∷ cs) e s =
     let n : drop (i + 1) text ≡ cs = sym (drop-drop 1 i text) ∙ ap (drop 1) e in
     let stands : StandsAt text i c = record { spelled = e ∙ ap (λ t. c ∷ t) (sym n); within = omega (arith, ap length e, length-drop i text) } in
     elim (cases_Bool (is_whitespace c)) [
       | inl w ↦ past_spaces text (i + 1) cs n (one_passed is_whitespace text 0 i c s stands w)
-      | inr v ↦ (i, spaces_stop text 0 i c s stands v)
+      | inr v ↦ (i, search rules)
     ]
 
 pub bad_is_bad : (text : List ℕ) (at : ℕ) → RefusesText text (Bad at) → (at < length text) × (Begins IsSomeText (take (at + 1) text) → ⊥)

@@ -21,6 +21,7 @@ struct Digits {
 /// Reads the hexadecimal string whose opening `#` is at `at`. Digits may be of either case. Whitespace is allowed
 /// anywhere in it. Err is `Short` if the text ends before the closing `#`, `Bad` at the first other octet, or at the
 /// closing `#` for an odd number of digits, or `Memory`.
+#[tactic(auto, using(crate::proofs::Marked::hexadecimal_read, crate::proofs::RefusedParts::body_refused, crate::proofs::RefusedParts::mark_refused))]
 pub(crate) fn read_hexadecimal(
     alloc: Global,
     text: &[u8],
@@ -56,6 +57,7 @@ fn digits_fault(error: FromHexError, at: usize) -> FormFault
 /// Returns the hexadecimal digits from the offset `at` up to the closing `#`, without whitespace, and the offset of
 /// this mark. `at` may be the end of the text. Err is `Short` if the text ends before the mark, `Bad` at the first
 /// other octet, or `Memory`.
+#[tactic(auto, using(crate::proofs::Marked::nothing_kept, crate::proofs::Marked::more_kept))]
 fn gather_digits(alloc: Global, text: &[u8], at: usize) -> Result<Digits, FormFault>
     requires { at ≤ length text.now }
     ensures read { IfOk result (λ read. Keeps text.now at read.digits.items read.end × StandsAt text.now read.end 35) }

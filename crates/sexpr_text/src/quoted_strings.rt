@@ -78,6 +78,7 @@ pub(crate) fn read_quoted(alloc: Global, text: &[u8], at: usize) -> Result<Marke
 
 /// Reads the octet at `at`, which is `octet` and no quote, or the escape that begins there, and appends what it means
 /// to `octets`. Returns the offset after it. Err is the fault of the escape, or `Memory`.
+#[tactic(auto, using(crate::proofs::StringLaws::raw_piece))]
 fn read_piece(text: &[u8], at: usize, octet: u8, octets: &mut Vec<u8>) -> Result<usize, FormFault>
     requires begins { StandsAt text.now at octet }
     requires other { octet ≢ 34 }
@@ -209,6 +210,7 @@ fn read_hexadecimal_digit(text: &[u8], at: usize) -> Result<u8, FormFault>
 
 /// Reads the two hexadecimal digits of an escape, from the offset `at` after its `x` on. The digits may be of either
 /// case. Err is `Bad` at the first other octet, or `Short` if the text ends before both.
+#[tactic(auto, using(crate::proofs::StringLaws::hexadecimal_escape, crate::proofs::RefusedParts::low_refused, crate::proofs::StringEnds::low_end))]
 fn read_hexadecimal_escape(text: &[u8], at: usize) -> Result<Escape, FormFault>
     requires { at ≤ length text.now }
     ensures read { IfOk result (λ read. ReadsEscape (92 ∷ 120 ∷ []) text.now at read.octet read.end) }
@@ -243,6 +245,7 @@ fn read_octal_digit(text: &[u8], at: usize) -> Result<u8, FormFault>
 
 /// Reads the three octal digits of an escape, from the offset `at` on. `first` is the value of the first, at most 3.
 /// Err is `Bad` at the first other octet, or `Short` if the text ends before all three.
+#[tactic(auto, using(crate::proofs::StringLaws::octal_escape, crate::proofs::RefusedParts::third_refused, crate::proofs::StringEnds::third_end))]
 fn read_octal_escape(text: &[u8], at: usize, first: u8) -> Result<Escape, FormFault>
     requires begins { StandsAt text.now at (48 + first) }
     requires low { first < 4 }

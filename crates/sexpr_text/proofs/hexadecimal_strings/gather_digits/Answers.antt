@@ -1,13 +1,7 @@
-use Rattle.sexpr_text.proofs.Marked.{hexadecimal_octets, nothing_kept, more_kept, kept_refused, kept_end}
+use Rattle.sexpr_text.proofs.Marked.{hexadecimal_octets, kept_refused, kept_end}
 use Rattle.sexpr_text.proofs.RefusedParts.{octet_refused}
 use Rattle.sexpr_core.proofs.Errors.{err_kept}
 use Rattle.sexpr_text.proofs.hexadecimal_strings.gather_digits.Goals as goal
-
-pub loop-octet-init : goal.loop-octet-init
-loop-octet-init c = rw c.new-digits.ensures.items (nothing_kept _ _ c.requires)
-
-pub loop-octet-preserved : goal.loop-octet-preserved
-loop-octet-preserved c = more_kept _ _ _ _ _ _ c.loop-octet.invariant c.in-Some.ensures c.in_ok-keep_digit.ensures.kept
 
 pub returns-in_err-keep_digit-clause-only : goal.returns-in_err-keep_digit-clause-only
 returns-in_err-keep_digit-clause-only c = λ body octets rest d e.

@@ -1,8 +1,6 @@
-use Rattle.std.proofs.Common.{rules}
 use Rattle.sexpr_text.proofs.Marked.{hexadecimal_piece}
-use Rattle.sexpr_text.proofs.StringLaws.{hexadecimal_escape, second_octet}
-use Rattle.sexpr_text.proofs.RefusedParts.{high_refused, low_refused}
-use Rattle.sexpr_text.proofs.StringEnds.{high_end, low_end}
+use Rattle.sexpr_text.proofs.StringLaws.{second_octet}
+use Rattle.sexpr_text.proofs.StringEnds.{high_end}
 use Rattle.sexpr_core.proofs.Errors.{err_kept}
 use Rattle.sexpr_text.proofs.quoted_strings.read_hexadecimal_escape.Goals as goal
 
@@ -16,17 +14,5 @@ returns-in_err-low-clause-only c = λ piece rest h e.
     err_kept _ _ _ c.from_residual-in_err-low.ensures.1
     (c.in_err-low.ensures.only k.1 k.3 _ k.6 (second_octet _ _ _ _ _ c.in_ok-high.ensures.read.stands k.4))
 
-pub returns-clause-read : goal.returns-clause-read
-returns-clause-read c = hexadecimal_escape _ _ _ _ c.in_ok-high.ensures.read c.in_ok-low.ensures.read
-
-pub returns-in_err-low-clause-refused : goal.returns-in_err-low-clause-refused
-returns-in_err-low-clause-refused c = search (rules, err_kept, low_refused)
-
-pub returns-in_err-high-clause-refused : goal.returns-in_err-high-clause-refused
-returns-in_err-high-clause-refused c = err_kept _ _ _ c.from_residual.ensures.1 (high_refused _ _ _ c.in_err-high.ensures.refused)
-
 pub returns-in_err-high-clause-begun : goal.returns-in_err-high-clause-begun
 returns-in_err-high-clause-begun c = err_kept _ _ _ c.from_residual.ensures.1 (high_end _ _ _ c.in_err-high.ensures.begun)
-
-pub returns-in_err-low-clause-begun : goal.returns-in_err-low-clause-begun
-returns-in_err-low-clause-begun c = search (rules, err_kept, low_end)

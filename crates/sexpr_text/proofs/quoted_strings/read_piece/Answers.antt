@@ -1,12 +1,8 @@
 use Rattle.std.proofs.Common.{[]}
-use Rattle.sexpr_text.proofs.StringLaws.{raw_piece}
 use Rattle.sexpr_text.proofs.RefusedParts.{piece_refused}
 use Rattle.sexpr_text.proofs.StringEnds.{octet_end}
 use Rattle.sexpr_core.proofs.Errors.{err_kept}
 use Rattle.sexpr_text.proofs.quoted_strings.read_piece.Goals as goal
-
-pub returns-then-octet-ne92-clause-read : goal.returns-then-octet-ne92-clause-read
-returns-then-octet-ne92-clause-read c = raw_piece _ _ _ _ _ c.requires.begins c.requires.other c.if-octet-ne92.true c.in_ok-push.ensures.items
 
 pub returns-in_err-escape-clause-refused : goal.returns-in_err-escape-clause-refused
 returns-in_err-escape-clause-refused c =

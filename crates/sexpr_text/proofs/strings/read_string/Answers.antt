@@ -1,6 +1,5 @@
-use Rattle.std.proofs.Common.{sym, arith, rules}
-use Rattle.sexpr_text.proofs.CountedLaws.{marked_string, nothing_stands, uncounted_stands, quoted_string}
-use Rattle.sexpr_text.proofs.RefusedParts.{uncounted_missed}
+use Rattle.std.proofs.Common.{sym, arith}
+use Rattle.sexpr_text.proofs.CountedLaws.{nothing_stands, uncounted_stands}
 use Rattle.sexpr_text.proofs.StringEnds.{nothing_left}
 use Rattle.sexpr_text.proofs.MarkedEnds.{none_string, uncounted_end}
 use Rattle.sexpr_core.proofs.Errors.{err_kept}
@@ -14,12 +13,6 @@ returns-in_err-read-clause-only c = λ a rest s.
     let k = uncounted_stands _ _ _ a rest c.in-Some.ensures (λ d. omega (arith, c.if-is_ascii_digit.ensures.cases)) (sym c.if-stands_in_token.ensures) s in
     err_kept _ _ _ c.from_residual.ensures.1 (c.in_err-read.ensures.only k.0 a rest k.1 k.2)
 
-pub returns-in_err-read-clause-refused : goal.returns-in_err-read-clause-refused
-returns-in_err-read-clause-refused c = search (rules, err_kept, uncounted_missed)
-
-pub returns-clause-read : goal.returns-clause-read
-returns-clause-read c = marked_string _ _ _ _ c.in_ok-read.ensures.read
-
 pub returns-in_default-clause-begun : goal.returns-in_default-clause-begun
 returns-in_default-clause-begun c = nothing_left _ _ _ none_string c.requires.begins c.in_default.ensures
 
@@ -27,6 +20,3 @@ pub returns-in_err-read-clause-begun : goal.returns-in_err-read-clause-begun
 returns-in_err-read-clause-begun c =
     err_kept _ _ _ c.from_residual.ensures.1
     (uncounted_end _ _ _ _ c.in-Some.ensures (λ d. omega (arith, c.if-is_ascii_digit.ensures.cases)) c.in_err-read.ensures.begun)
-
-pub returns-in-Some-lend_quoted-clause-read : goal.returns-in-Some-lend_quoted-clause-read
-returns-in-Some-lend_quoted-clause-read c = quoted_string _ _ _ _ (c.in-Some-lend_quoted.ensures)
