@@ -1,7 +1,8 @@
 -- What a chain that stops says of its tuples in any bracketing.
-use Rattle.std.proofs.Common.{◌≡◌, ℕ, suc, ◌+◌, ◌*◌, ◌≤◌, ◌<◌, Bool, true, false, ◌&&◌, List, [], ◌∷◌, ◌++◌, Some, sym, ◌∙◌, ap, subst, arith, flat_map, append-nil, take, drop, slice_get, length, get_or, add-one, option_map, rules}
+use Rattle.std.proofs.Common.{◌≡◌, ℕ, suc, ◌+◌, ◌*◌, ◌≤◌, ◌<◌, Bool, true, false, List, [], ◌∷◌, ◌++◌, Some, sym, ◌∙◌, ap, subst, arith, flat_map, append-nil, take, drop, slice_get, length, get_or, add-one, option_map, rules}
 use Rattle.std.proofs.Math.Nat.{mul-le-mul_left, mul-le-mul_right}
 use Rattle.std.proofs.Math.Seq.{take-suc}
+use Rattle.std.proofs.lemmas.Bool.{and_left, both_ways}
 use Rattle.std.proofs.lemmas.List.{take-append-drop}
 use Rattle.std.proofs.lemmas.List.Folds.{list_all-append}
 use Rattle.std.proofs.lemmas.Grind.{flat_map-append}
@@ -29,12 +30,6 @@ pub more_at : (xs : List Tuple) (n : ℕ) (x : Tuple) → slice_get xs n ≡ Som
 more_at xs n x is =
     take-suc xs n x (slice_get_within xs n x is) ∙ ap (λ y. take n xs ++ y ∷ []) (get_or_from_slice_get xs n x x is)
 
-pub never : (b : Bool) → b ≡ false → b ≡ true → ⊥
-never b e f = let g : false ≡ true = sym e ∙ f in cc
-
-pub first_false : (a b : Bool) → a ≡ false → (a && b) ≡ false
-first_false a b e = ap (λ x. x && b) e
-
 -- ---- a tuple that doesn't join
 
 -- a cause that isn't a matter of what tags or windows leave
@@ -48,14 +43,9 @@ IsMisfit NoTag = ⊥
 unjoined : (policy : Policy) (root : FiveTuple) (tuple made : Tuple) (cause : Cause) → IsMisfit cause
     → Stops policy (five root) tuple cause → Joins policy (five root) tuple made → ⊥
 unjoined policy root (five right) (five made) NotIssuer m h k = h k.issues
-unjoined policy root (five right) (five made) NotTheName m h k = h
-unjoined policy root (five right) (five made) NoDelegation m h k = never root.delegation h.1 k.allowed
-unjoined policy root (four right) (five made) NotIssuer m h k = h
+unjoined policy root (five right) (five made) NoDelegation m h k = both_ways root.delegation h.1 k.allowed
 unjoined policy root (four right) (five made) NotTheName m h k = h k.begins
-unjoined policy root (four right) (five made) NoDelegation m h k = h
-unjoined policy root (five right) (four made) cause m h k = k
-unjoined policy root (four right) (four made) cause m h k = k
-unjoined policy root tuple (five made) cause m h k = m
+unjoined policy root tuple made cause m h k = search
 
 no_moment : (policy : Policy) (root : FiveTuple) (tuple : Tuple) → Stops policy (five root) tuple NoValidity
     → NoMoment (root.windows ++ windows_of tuple)
@@ -96,9 +86,9 @@ module _ (policy : Policy) (first : Tuple) where
         let whole : parts_of root ≡ flat_map parts_of (first ∷ take step others) ++ flat_map parts_of (drop step others) =
         all tree root d ∙ ap (flat_map parts_of) e ∙ ap (λ ts. flat_map parts_of (first ∷ ts)) (sym (take-append-drop step others))
         ∙ flat_map-append parts_of (first ∷ take step others) (drop step others) in
-        never (list_all test (parts_of root))
+        both_ways (list_all test (parts_of root))
         (ap (list_all test) whole ∙ list_all-append test (flat_map parts_of (first ∷ take step others)) (flat_map parts_of (drop step others))
-        ∙ first_false (list_all test (flat_map parts_of (first ∷ take step others))) _ fails)
+        ∙ and_left (list_all test (flat_map parts_of (first ∷ take step others))) _ fails)
         holds
 
   pub tags_so_far : (before : List Tuple) (root : FiveTuple) → Derives policy (from_left first before) (five root)
@@ -135,12 +125,10 @@ module _ (policy : Policy) (first : Tuple) where
         (underivable cause m h (drop step others))
 
     pub excluded : (cause : Cause) → StopsAt policy first others step cause → Excludes policy first others step cause
-    excluded NotIssuer h = misfits NotIssuer tt h
-    excluded NotTheName h = misfits NotTheName tt h
-    excluded NoDelegation h = misfits NoDelegation tt h
     excluded NoValidity h =
         subst NoMoment (parts_up_to windows_of (parts.all_windows policy) others step NoValidity h) (no_moment policy h.root h.tuple h.stopped)
     excluded NoTag h = subst NoRequest (parts_up_to tags_of (parts.all_tags policy) others step NoTag h) (no_request policy h.root h.tuple h.stopped)
+    excluded cause h = misfits cause tt h
 
     underived : NoDerivation policy (first ∷ others) → SupportsNothing policy (first ∷ others)
     underived h tree holder request moment e is s = h tree (five s.root) e s.derived
@@ -154,11 +142,9 @@ module _ (policy : Policy) (first : Tuple) where
         lacking tags_of (parts.all_tags policy) (λ t. contains t request) others step (h request is) tree (five s.root) s.derived e s.grants.asked
 
     pub unsupported : (cause : Cause) → StopsAt policy first others step cause → SupportsNothing policy (first ∷ others)
-    unsupported NotIssuer h = underived (excluded NotIssuer h)
-    unsupported NotTheName h = underived (excluded NotTheName h)
-    unsupported NoDelegation h = underived (excluded NoDelegation h)
     unsupported NoValidity h = untimely (excluded NoValidity h)
     unsupported NoTag h = unasked (excluded NoTag h)
+    unsupported cause h = underived (excluded cause h)
 
 -- ---- products
 
@@ -196,7 +182,7 @@ module _ (most : ℕ) (policy : Policy) (first : Tuple) (others : List Tuple) wh
 -- ---- the code's steps
 
 module _
-    (policy : Policy) (first : Tuple) (steps : List Step) (place : ℕ) (step : Step) (f : Five)
+    {policy : Policy} {first : Tuple} {step : Step} {f : Five} (steps : List Step) (place : ℕ)
     (within : place < length steps) (read : step ≡ get_or steps place step)
     (so_far : FoldsTo policy first (take place (tuples_of steps)) f) (has_met : HasMet first (take place (tuples_of steps)) f) where
   pub step_stands : slice_get (tuples_of steps) place ≡ Some (step_tuple step)

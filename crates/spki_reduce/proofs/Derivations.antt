@@ -146,10 +146,7 @@ module _ (policy : Policy) where
   same_join (five a) (five b) (five r) (five s) h k = ap five (h.result_is ∙ sym k.result_is)
   same_join (five a) (four b) (five r) (five s) h k = ap five (same_resolve a b r s h k)
   same_join (four a) (four b) (four r) (four s) h k = ap four (same_link a b r s h k)
-  same_join (five a) (five b) (five r) (four s) h k = absurd k
-  same_join (five a) (four b) (five r) (four s) h k = absurd k
-  same_join (four a) (four b) (four r) (five s) h k = absurd k
-  same_join a b r s h k = absurd h
+  same_join a b r s h k = search
 
   same_tree : (tree : Tree) (r s : Tuple) → Derives policy tree r → Derives policy tree s → r ≡ s
   same_tree (leaf t) r s d e = d ∙ sym e
@@ -243,24 +240,13 @@ pub named_openly : (principal : Principal) (holder : List ℕ) → IsTrue (names
 named_openly (Hash Sha1 digest) holder h = let e : false ≡ true = h in cc
 named_openly principal holder h = h
 
+abbrev begins_openly : (p : Principal) (path : List (List ℕ)) (b : FourTuple) → Begins Strict p path b → Begins Open p path b
+begins_openly p path b h = record { rest = h.rest; named = named_openly p b.key h.named; name = h.name }
+
 joined_openly : (a b r : Tuple) → Joins Strict a b r → Joins Open a b r
 joined_openly (five a) (five b) (five r) h = search (rules, named_openly)
-joined_openly (five a) (four b) (five r) h = record {
-  begins = record {
-    rest = h.begins.rest;
-    named = named_openly a.principal b.key h.begins.named;
-    name = h.begins.name;
-  };
-  result_is = h.result_is;
-}
-joined_openly (four a) (four b) (four r) h = record {
-  begins = record {
-    rest = h.begins.rest;
-    named = named_openly a.principal b.key h.begins.named;
-    name = h.begins.name;
-  };
-  result_is = h.result_is;
-}
+joined_openly (five a) (four b) (five r) h = record { begins = begins_openly _ _ b h.begins; result_is = h.result_is }
+joined_openly (four a) (four b) (four r) h = record { begins = begins_openly _ _ b h.begins; result_is = h.result_is }
 joined_openly a b r h = absurd h
 
 pub derived_openly : (tree : Tree) (root : Tuple) → Derives Strict tree root → Derives Open tree root

@@ -46,24 +46,10 @@ bob = record { key = kb; name = codes "bob"; principal = Key kc; names = []; win
 
 -- the entry with its first name resolved, and with both
 abbrev partly : FiveTuple
-partly = record {
-  issuer = own;
-  principal = Key kb;
-  names = codes "bob" ∷ [];
-  delegation = false;
-  tags = star ∷ [];
-  windows = always ∷ always ∷ [];
-}
+partly = record { issuer = own; principal = Key kb; names = codes "bob" ∷ []; delegation = false; tags = star ∷ []; windows = always ∷ always ∷ [] }
 
 abbrev wholly : FiveTuple
-wholly = record {
-  issuer = own;
-  principal = Key kc;
-  names = [];
-  delegation = false;
-  tags = star ∷ [];
-  windows = always ∷ always ∷ always ∷ [];
-}
+wholly = record { issuer = own; principal = Key kc; names = []; delegation = false; tags = star ∷ []; windows = always ∷ always ∷ always ∷ [] }
 
 linked_names : (request : Request) (moment : List ℕ)
     → Supports Open (from_left (five entry) (four friends ∷ four bob ∷ [])) kc request moment
@@ -117,32 +103,17 @@ al_bob = record {
 }
 
 names_behind_names : Joins Open (five entry) (four friends_of_al) (five al_bob)
-names_behind_names = record {
-  begins = record { rest = codes "bob" ∷ []; named = refl; name = refl };
-  result_is = refl;
-}
+names_behind_names = record { begins = record { rest = codes "bob" ∷ []; named = refl; name = refl }; result_is = refl }
 
 -- ---- two definitions of names
 
 -- (cert (issuer (name KA friends)) (subject (name KB bob)))
 abbrev friends_of_friends : FourTuple
-friends_of_friends = record {
-  key = ka;
-  name = codes "friends";
-  principal = Key kb;
-  names = codes "bob" ∷ [];
-  windows = always ∷ [];
-}
+friends_of_friends = record { key = ka; name = codes "friends"; principal = Key kb; names = codes "bob" ∷ []; windows = always ∷ [] }
 
 -- (cert (issuer (name KA friends)) (subject KC)), within both windows
 abbrev friends_linked : FourTuple
-friends_linked = record {
-  key = ka;
-  name = codes "friends";
-  principal = Key kc;
-  names = [];
-  windows = always ∷ always ∷ [];
-}
+friends_linked = record { key = ka; name = codes "friends"; principal = Key kc; names = []; windows = always ∷ always ∷ [] }
 
 linked_definitions : Joins Open (four friends_of_friends) (four bob) (four friends_linked)
 linked_definitions = record { begins = record { rest = []; named = refl; name = refl }; result_is = refl }
@@ -151,36 +122,15 @@ linked_definitions = record { begins = record { rest = []; named = refl; name = 
 
 -- (entry KA (propagate) (tag (*)))
 abbrev root_entry : FiveTuple
-root_entry = record {
-  issuer = own;
-  principal = Key ka;
-  names = [];
-  delegation = true;
-  tags = star ∷ [];
-  windows = always ∷ [];
-}
+root_entry = record { issuer = own; principal = Key ka; names = []; delegation = true; tags = star ∷ []; windows = always ∷ [] }
 
 -- (cert (issuer KA) (subject KB) (tag (*)))
 abbrev first_cert : FiveTuple
-first_cert = record {
-  issuer = key ka;
-  principal = Key kb;
-  names = [];
-  delegation = false;
-  tags = star ∷ [];
-  windows = always ∷ [];
-}
+first_cert = record { issuer = key ka; principal = Key kb; names = []; delegation = false; tags = star ∷ []; windows = always ∷ [] }
 
 -- (cert (issuer KB) (subject KC) (tag (*)))
 abbrev second_cert : FiveTuple
-second_cert = record {
-  issuer = key kb;
-  principal = Key kc;
-  names = [];
-  delegation = false;
-  tags = star ∷ [];
-  windows = always ∷ [];
-}
+second_cert = record { issuer = key kb; principal = Key kc; names = []; delegation = false; tags = star ∷ []; windows = always ∷ [] }
 
 delegation : (request : Request) (moment : List ℕ)
     → Supports Open (from_left (five root_entry) (five first_cert ∷ [])) kb request moment

@@ -1,8 +1,9 @@
 -- Authorizations in reduced form. What the code joins is joined in the model. One more tuple joins the reduced form
 -- as it joins the root, and what the reduced form lacks, the root lacks.
-use Rattle.std.proofs.Common.{◌≡◌, ◌≢◌, ℕ, ◌*◌, ◌≤◌, max, Bool, true, ◌&&◌, List, [], ◌∷◌, ◌++◌, refl, sym, ◌∙◌, ap, arith, IsTrue, IfOk, Result, Ok, Err, rules, ◌<◌, fold, subst, append-nil, ◌↔◌, false, Option, Some, None, IsNone}
+use Rattle.std.proofs.Common.{◌≡◌, ◌≢◌, ℕ, ◌*◌, ◌≤◌, max, Bool, true, ◌&&◌, List, [], ◌∷◌, ◌++◌, refl, sym, ◌∙◌, ap, arith, IsTrue, IfOk, Result, Ok, Err, rules, ◌<◌, fold, subst, append-nil, ◌↔◌, Option, Some, None, IsNone}
 use Rattle.spki_cert.specs.declared.principal.Policy.{Policy}
 use Rattle.std.proofs.Math.Bool.{and-true}
+use Rattle.std.proofs.lemmas.Bool.{both_ways}
 use Rattle.spki_cert.specs.declared.window.Window.{Window}
 use Rattle.spki_cert.specs.declared.entry.Subject.{Subject}
 use Rattle.spki_cert.specs.Naming.{names}
@@ -83,16 +84,7 @@ module _
     resolves left begins meets overlap = record {
       root = resolved (five_tuple left) (four_tuple right) rest;
       joined = record { begins = record { rest = rest; named = begins.0; name = begins.1 }; result_is = refl };
-      reduced = record {
-        issuer = refl;
-        principal = subject_is.0;
-        names = subject_is.1;
-        delegation = refl;
-        requests = λ g is. sym (and-true (contains left.tag g));
-        moments = λ t. meets t ∙ both (within t left.window) (within t right.window);
-        nodes = omega arith;
-        depth = omega arith;
-      };
+      reduced = search (rules, both, and-true);
       timely = overlapping left.window right.window overlap;
     }
 
@@ -103,13 +95,7 @@ module _
     links left begins meets overlap = record {
       root = linked (four_tuple left) (four_tuple right) rest;
       joined = record { begins = record { rest = rest; named = begins.0; name = begins.1 }; result_is = refl };
-      reduced = record {
-        key = refl;
-        name = refl;
-        principal = subject_is.0;
-        names = subject_is.1;
-        moments = λ t. meets t ∙ both (within t left.window) (within t right.window);
-      };
+      reduced = search (rules, both);
       timely = overlapping left.window right.window overlap;
     }
 
@@ -200,18 +186,7 @@ module _ (policy : Policy) (root : FiveTuple) (f : Five) (reduced : ReducesToFiv
       record {
         root = resolved root right h.begins.rest;
         joined = record { begins = begins right h.begins; result_is = refl };
-        reduced = record {
-          issuer = k.issuer ∙ ap (λ (t : FiveTuple). t.issuer) is ∙ reduced.issuer;
-          principal = k.principal ∙ ap (λ (t : FiveTuple). t.principal) is;
-          names = k.names ∙ ap (λ (t : FiveTuple). t.names) is;
-          delegation = k.delegation ∙ ap (λ (t : FiveTuple). t.delegation) is ∙ reduced.delegation;
-          requests = λ q is_request. k.requests q is_request ∙ ap (λ ts. in_each q ts) tags
-              ∙ in_more f.tag root.tags [] q (reduced.requests q is_request) ∙ ap (λ ts. in_each q ts) (append-nil root.tags);
-          moments = λ t. k.moments t ∙ ap (λ ws. within_each t ws) windows
-              ∙ within_more f.window root.windows right.windows reduced.moments t;
-          nodes = omega (arith, reduced.nodes, rw tags at k.nodes);
-          depth = omega (arith, reduced.depth, rw tags at k.depth);
-        };
+        reduced = search (rules, in_more, within_more, append-nil, is, tags, windows);
         timely = some_more f.window root.windows right.windows reduced.moments (subst SomeMoment windows m);
       }
 
@@ -290,9 +265,6 @@ module _ (policy : Policy) (first : Tuple) where
 
 -- ---- what a reduced authorization lacks, its root lacks, and every derivation from the same tuples
 
-pub never : (b : Bool) → b ≡ false → b ≡ true → ⊥
-never b e f = let g : false ≡ true = sym e ∙ f in cc
-
 module _ (policy : Policy) (holder : List ℕ) (request : Request) (moment : List ℕ) where
   -- ---- a root
 
@@ -303,27 +275,9 @@ module _ (policy : Policy) (holder : List ℕ) (request : Request) (moment : Lis
   passed : (root : FiveTuple) (denial : Option Denial) → IsFirstDenial policy root holder request moment denial
       → Grants policy root holder request moment → IsNone denial
   passed root (Some NotTheKey) h g = absurd (h (record { whole = g.whole; named = g.named }))
-  passed root (Some TagLacks) h g = absurd (never (in_each request root.tags) h.1 g.asked)
-  passed root (Some WindowLacks) h g = absurd (never (within_each moment root.windows) h.2 g.timely)
+  passed root (Some TagLacks) h g = absurd (both_ways (in_each request root.tags) h.1 g.asked)
+  passed root (Some WindowLacks) h g = absurd (both_ways (within_each moment root.windows) h.2 g.timely)
   passed root None h g = refl
-
-  -- ---- what reduces to it
-
-  module _ (f : Five) (is : IsRequest request) (root : FiveTuple) (reduced : ReducesToFive root f) where
-    pub not_for : (IsFor policy (five_tuple f) holder → ⊥) → IsFirstDenial policy root holder request moment (Some NotTheKey)
-    not_for h k = h (is_for_back policy root f reduced holder k)
-
-    pub tag_lacks : IsFor policy (five_tuple f) holder → contains f.tag request ≡ false
-        → IsFirstDenial policy root holder request moment (Some TagLacks)
-    tag_lacks h k = (is_for policy root f reduced holder h, sym (reduced.requests request is) ∙ k)
-
-    pub window_lacks : IsFor policy (five_tuple f) holder → contains f.tag request ≡ true → within moment f.window ≡ false
-        → IsFirstDenial policy root holder request moment (Some WindowLacks)
-    window_lacks h k l = search (rules, is_for)
-
-    pub lacks_nothing : IsFor policy (five_tuple f) holder → contains f.tag request ≡ true → within moment f.window ≡ true
-        → IsFirstDenial policy root holder request moment None
-    lacks_nothing h k l = search (rules, is_for)
 
   -- ---- a chain
 

@@ -1,6 +1,6 @@
 -- A chain that goes through a step isn't stopped there, so it stops at one step alone, for one cause.
 use Rattle.std.proofs.Common.{◌≡◌, ◌≢◌, ◌⊎◌, inl, inr, ℕ, zero, suc, ◌+◌, ◌≤◌, ◌<◌, List, [], ◌∷◌, ◌++◌, fold, Some, refl, sym, ◌∙◌, ap, subst, arith, append_assoc, take, drop, slice_get, length, get_or, rules}
-use Rattle.std.proofs.lemmas.Bool.{cases_lt}
+use Rattle.std.proofs.lemmas.Bool.{cases_lt, and_left, both_ways}
 use Rattle.std.proofs.lemmas.List.{take-append-drop, take-take, take_all}
 use Rattle.std.proofs.lemmas.Option.{slice_get_within}
 use Rattle.std.proofs.lemmas.List.Folds.{list_all-append}
@@ -21,7 +21,7 @@ use Rattle.spki_reduce.specs.Joining.{Stops, TooLargeFor}
 use Rattle.spki_reduce.specs.Chain.{tuples_of, FoldsTo, HasMet, GoesThrough, StopsAt, TooLargeAt, all_tags, all_windows}
 use Rattle.spki_reduce.proofs.Derivations.{from_left-leaves, one_root}
 use Rattle.spki_reduce.proofs.ReducedForms.{too_large_back}
-use Rattle.spki_reduce.proofs.Chains.{IsMisfit, never, first_false, up_to, windows_so_far, underivable, excluded, one_more}
+use Rattle.spki_reduce.proofs.Chains.{IsMisfit, up_to, windows_so_far, underivable, excluded, one_more}
 
 -- ---- tags
 
@@ -87,10 +87,10 @@ module _ (policy : Policy) (first : Tuple) (others : List Tuple) (tagged : AreTa
   timely h =
       let some = through.timely (λ e. let none_left = last_empty (take h.place others) (h.tuple ∷ after) (sym (ends NoValidity h) ∙ e) in cc) in
       let nothing : NoMoment (all_windows (first ∷ take step others)) = excluded policy first others step NoValidity h in
-      never (within_each some.0 root.windows)
+      both_ways (within_each some.0 root.windows)
       (ap (within_each some.0) windows_are
       ∙ list_all-append (λ w. within some.0 w) (all_windows (first ∷ take step others)) (all_windows after)
-      ∙ first_false (within_each some.0 (all_windows (first ∷ take step others))) _ (nothing some.0))
+      ∙ and_left (within_each some.0 (all_windows (first ∷ take step others))) _ (nothing some.0))
       some.2
 
   asked : StopsAt policy first others step NoTag → ⊥
@@ -107,11 +107,9 @@ module _ (policy : Policy) (first : Tuple) (others : List Tuple) (tagged : AreTa
       (first_empty (tags_of h.tuple) (all_tags after) rest)
 
   pub unstopped : (cause : Cause) → StopsAt policy first others step cause → ⊥
-  unstopped NotIssuer h = joined NotIssuer tt h
-  unstopped NotTheName h = joined NotTheName tt h
-  unstopped NoDelegation h = joined NoDelegation tt h
   unstopped NoValidity h = timely h
   unstopped NoTag h = asked h
+  unstopped cause h = joined cause tt h
 
 -- ---- chains that aren't too large
 
@@ -147,33 +145,28 @@ module _ (most : ℕ) (policy : Policy) (first : Tuple) where
         → take h.place (before ++ tuple ∷ []) ≡ before → TooLargeFor most policy (five_tuple f) tuple
     large_last h last front = search (rules, one_root, too_large_back)
 
-    small_at : (h : TooLargeAt most policy first (before ++ tuple ∷ [])) → (TooLargeAt most policy first before → ⊥)
-        → (TooLargeFor most policy (five_tuple f) tuple → ⊥)
-        → ((slice_get before h.place ≡ Some h.tuple) × (take h.place (before ++ tuple ∷ []) ≡ take h.place before))
-        ⊎ ((h.tuple ≡ tuple) × (take h.place (before ++ tuple ∷ []) ≡ before)) → ⊥
-    small_at h so_far this (inl p) = so_far (moved (before ++ tuple ∷ []) before h p.0 p.1)
-    small_at h so_far this (inr p) = this (large_last h p.0 p.1)
-
     pub small_more : (TooLargeAt most policy first before → ⊥) → (TooLargeFor most policy (five_tuple f) tuple → ⊥)
         → TooLargeAt most policy first (before ++ tuple ∷ []) → ⊥
-    small_more so_far this h = small_at h so_far this (at_end before tuple h.tuple h.place h.stands)
+    small_more so_far this h = elim (at_end before tuple h.tuple h.place h.stands) [
+      | inl p ↦ so_far (moved (before ++ tuple ∷ []) before h p.0 p.1)
+      | inr p ↦ this (large_last h p.0 p.1)
+    ]
 
   -- a chain that stops isn't too large behind its stop
   module _ (others : List Tuple) (tagged : AreTagged others) (step : ℕ) (cause : Cause)
       (stops : StopsAt policy first others step cause) (so_far : TooLargeAt most policy first (take step others) → ⊥) where
-    small_by : (h : TooLargeAt most policy first others) → (h.place < step) ⊎ (step ≤ h.place) → ⊥
-    small_by h (inl before) =
-        so_far (moved others (take step others) h (within_front others h.place step h.tuple before h.stands)
-        (sym (take-take h.place step others (omega arith))))
-    small_by h (inr behind) = unstopped policy first others tagged h.place h.root h.before step behind cause stops
-
     pub small : TooLargeAt most policy first others → ⊥
-    small h = small_by h (cases_lt h.place step)
+    small h = elim (cases_lt h.place step) [
+      | inl before ↦
+          so_far (moved others (take step others) h (within_front others h.place step h.tuple before h.stands)
+          (sym (take-take h.place step others (omega arith))))
+      | inr behind ↦ unstopped policy first others tagged h.place h.root h.before step behind cause stops
+    ]
 
 -- ---- the code's steps
 
 module _
-    (most : ℕ) (policy : Policy) (first : Tuple) (steps : List Step) (place : ℕ) (step : Step) (f : Five)
+    {most : ℕ} {policy : Policy} {first : Tuple} {step : Step} {f : Five} (steps : List Step) (place : ℕ)
     (within : place < length steps) (read : step ≡ get_or steps place step)
     (folds : FoldsTo policy first (take place (tuples_of steps)) f) (has_met : HasMet first (take place (tuples_of steps)) f)
     (so_far : TooLargeAt most policy first (take place (tuples_of steps)) → ⊥)
@@ -181,7 +174,7 @@ module _
   pub small_here : TooLargeAt most policy first (take (place + 1) (tuples_of steps)) → ⊥
   small_here h =
       small_more most policy first (take place (tuples_of steps)) (step_tuple step) f folds has_met so_far this
-      (subst (λ ts. TooLargeAt most policy first ts) (one_more policy first steps place step f within read folds has_met) h)
+      (subst (λ ts. TooLargeAt most policy first ts) (one_more steps place within read folds has_met) h)
 
   pub small_stopped : (cause : Cause) → StopsAt policy first (tuples_of steps) (place + 1) cause
       → TooLargeAt most policy first (tuples_of steps) → ⊥
@@ -191,7 +184,7 @@ module _
 -- ---- one stop
 
 some_or_none : (windows : List Window) → SomeMoment windows → NoMoment windows → ⊥
-some_or_none windows s n = never (within_each s.0 windows) (n s.0) s.2
+some_or_none windows s n = both_ways (within_each s.0 windows) (n s.0) s.2
 
 -- the conditions of two causes exclude each other
 module _ (policy : Policy) (root : FiveTuple) where
@@ -202,7 +195,7 @@ module _ (policy : Policy) (root : FiveTuple) where
   one_cause (five right) NoTag NoTag h k = refl
   one_cause (four right) NotTheName NotTheName h k = refl
   one_cause (four right) NoValidity NoValidity h k = refl
-  one_cause tuple a b h k = absurd (search (rules, never, some_or_none, h, k))
+  one_cause tuple a b h k = absurd (search (rules, both_ways, some_or_none, h, k))
 
 module _ (policy : Policy) (first : Tuple) (others : List Tuple) (tagged : AreTagged others) where
   -- the later of two stops would be behind the earlier one

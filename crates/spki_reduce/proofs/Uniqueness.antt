@@ -182,12 +182,6 @@ one_fold policy first others f g more d e h has_met k others_met =
     let issuers = h.reduced.issuer ∙ sym reduced.issuer in
     let principals : f.subject.principal ≡ g.subject.principal = h.reduced.principal ∙ sym reduced.principal in
     let names : f.subject.names ≡ g.subject.names = h.reduced.names ∙ sym reduced.names in
-    let delegations : f.propagate ≡ g.propagate = h.reduced.delegation ∙ sym reduced.delegation in
-    five_one f g (λ i. record {
-      issuer = issuers i;
-      principal = principals i;
-      names = names i;
-      delegation = delegations i;
-      tags = tags i ∷ [];
-      windows = windows i ∷ [];
-    })
+    let allowed : f.propagate ≡ g.propagate = h.reduced.delegation ∙ sym reduced.delegation in
+    five_one f g (λ i.
+    record { issuer = issuers i; principal = principals i; names = names i; delegation = allowed i; tags = tags i ∷ []; windows = windows i ∷ [] })

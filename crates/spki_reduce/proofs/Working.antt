@@ -15,11 +15,11 @@ use Rattle.spki_reduce.proofs.Through.{AreTagged, unstopped}
 -- ---- the code's steps
 
 module _
-    (policy : Policy) (first : Tuple) (steps : List Step) (place : ℕ) (step : Step) (f : Five)
+    {policy : Policy} {first : Tuple} {step : Step} {f : Five} (steps : List Step) (place : ℕ)
     (within : place < length steps) (read : step ≡ get_or steps place step)
     (folds : FoldsTo policy first (take place (tuples_of steps)) f) (has_met : HasMet first (take place (tuples_of steps)) f) where
   stands : slice_get (tuples_of steps) place ≡ Some (step_tuple step)
-  stands = step_stands policy first steps place step f within read folds has_met
+  stands = step_stands steps place within read folds has_met
 
   back : ReachedAt policy first (tuples_of steps) place → Reaches policy (five_tuple f) (step_tuple step)
   back at = search (rules, one_root, stands, reaches_back)
@@ -30,7 +30,7 @@ module _
         tuple = step_tuple step;
         stands = stands;
         root = folds.root;
-        before = through policy first steps place step f within read folds has_met;
+        before = through steps place within read folds has_met;
         joins = reaches policy folds.root f folds.reduced (step_tuple step) h.0;
       } in
       inl (at, h.1 ∙ ap (λ t. nodes_product (t ∷ tags_of (step_tuple step))) has_met)
@@ -64,13 +64,10 @@ module _ (policy : Policy) (first : Tuple) (others : List Tuple) where
     -- steps behind the stop add nothing
     still : (n places : ℕ) → step ≤ places → IsWorkOf policy first others step n → IsWorkOf policy first others places n
     still n zero behind h = let same : step ≡ 0 = omega arith in subst (λ k. IsWorkOf policy first others k n) same h
-    still n (suc places) behind h = still_by (cases_lt places step) (λ before. still n places before h)
-      where
-        still_by : (places < step) ⊎ (step ≤ places) → (step ≤ places → IsWorkOf policy first others places n)
-            → IsWorkOf policy first others (suc places) n
-        still_by (inl at) so_far =
-            let same : step ≡ suc places = omega arith in subst (λ k. IsWorkOf policy first others k n) same h
-        still_by (inr before) so_far = (n, 0, so_far before, inr (unmet places before, refl), omega arith)
+    still n (suc places) behind h = elim (cases_lt places step) [
+      | inl at ↦ let same : step ≡ suc places = omega arith in subst (λ k. IsWorkOf policy first others k n) same h
+      | inr before ↦ (n, 0, still n places before h, inr (unmet places before, refl), omega arith)
+    ]
 
     pub work_stopped : (n : ℕ) → step ≤ length others → IsWorkOf policy first others step n
         → IsWorkOf policy first others (length others) n
@@ -91,14 +88,12 @@ module _ (policy : Policy) (first : Tuple) (others : List Tuple) where
   -- the work of fewer steps is at most that of more
   pub grows : (few many n m : ℕ) → few ≤ many → IsWorkOf policy first others few n → IsWorkOf policy first others many m → n ≤ m
   grows few zero n m fewer h k = search (rules, one_work)
-  grows few (suc many) n m fewer h k = grows_by (cases_lt many few) (λ before. grows few many n k.0 before h k.2)
-    where
-      grows_by : (many < few) ⊎ (few ≤ many) → (few ≤ many → n ≤ k.0) → n ≤ m
-      grows_by (inl at) so_far =
-          let same : few ≡ suc many = omega arith in
-          let one : n ≡ m = one_work (suc many) n m (subst (λ s. IsWorkOf policy first others s n) same h) k in
-          omega (arith, one)
-      grows_by (inr before) so_far = let less = so_far before in omega (arith, less, k.4)
+  grows few (suc many) n m fewer h k = elim (cases_lt many few) [
+    | inl at ↦
+        let same : few ≡ suc many = omega arith in
+        omega (arith, one_work (suc many) n m (subst (λ s. IsWorkOf policy first others s n) same h) k)
+    | inr before ↦ omega (arith, grows few many n k.0 before h k.2, k.4)
+  ]
 
 -- what could be taken is not over what there was
 pub within : (a b : Option ℕ) (n : ℕ) → Takes a b n → IsOver a n → ⊥

@@ -26,6 +26,7 @@ use std::alloc::{AllocError, Global};
 ///
 /// `TooLarge` if a step's tag is too large for the result of the steps before it. Then the product of the numbers of their
 /// nodes is over 1,000,000. `Memory` if memory ran out.
+#[tactic(auto, using(crate::proofs::Chains::too_large, crate::proofs::Working::unbounded))]
 pub fn fold_chain<'a>(
     alloc: Global,
     first: &Five<'a>,
@@ -158,6 +159,7 @@ impl<'a> Five<'a> {
     /// Joins this authorization with a step: an authorization by `then_within`, a definition by `into_resolve`. `most`,
     /// which is at most 1,000,000, is the greatest product of the numbers of nodes of two tags that are intersected.
     /// Err is `TooLarge`, only for an authorization, or `Memory`.
+    #[tactic(auto, using(crate::proofs::ReducedForms::unrefused))]
     fn joined(
         self,
         alloc: Global,

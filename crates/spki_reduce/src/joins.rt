@@ -111,6 +111,7 @@ impl<'a> Five<'a> {
     /// # Errors
     ///
     /// Only `Memory`, if memory ran out.
+    #[tactic(auto, using(crate::proofs::ReducedForms::resolves))]
     pub fn into_resolve(
         self,
         definition: &Four<'a>,
@@ -218,6 +219,7 @@ impl<'a> Four<'a> {
     /// # Errors
     ///
     /// Only `Memory`, if memory ran out.
+    #[tactic(auto, using(crate::proofs::ReducedForms::links))]
     pub fn then(
         &self,
         _alloc: Global,

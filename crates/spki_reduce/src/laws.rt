@@ -30,6 +30,7 @@ pub fn any_bracketing()
 {}
 
 /// Two derivations from the same tuples in the same order, under the same policy, have the same root, whatever their bracketings.
+#[tactic(auto, using(crate::proofs::Derivations::one_root))]
 pub fn one_root()
     ensures { (policy : Policy) (tree other : Tree) (root another : Tuple) →
         leaves tree ≡ leaves other → Derives policy tree root → Derives policy other another →
@@ -61,6 +62,7 @@ pub fn one_writing()
 
 /// Under every policy there are tuples that, in one order, have a derivation in one bracketing and none in another. A name's definition
 /// may join the authorization before it, and never the one after it.
+#[tactic(auto, using(crate::proofs::Derivations::only_from_left))]
 pub fn not_every_bracketing()
     ensures { (policy : Policy) → (tree other : Tree) × (root : Tuple) ×
         (leaves other ≡ leaves tree) × Derives policy tree root ×
@@ -69,6 +71,7 @@ pub fn not_every_bracketing()
 
 /// No restriction is lost: the root of a derivation has the tags and the windows of all leaves, in their order
 /// (RFC 2693, sections 6.3.1 and 6.3.2).
+#[tactic(auto, using(crate::proofs::Derivations::all_tags, crate::proofs::Derivations::all_windows))]
 pub fn every_restriction()
     ensures tags { (policy : Policy) (tree : Tree) (root : Tuple) → Derives policy tree root →
         tags_of root ≡ flat_map tags_of (leaves tree) }
@@ -77,6 +80,7 @@ pub fn every_restriction()
 {}
 
 /// What is derived or supported under the strict policy is derived or supported under the open one.
+#[tactic(auto, using(crate::proofs::Derivations::derived_openly, crate::proofs::Derivations::supported_openly))]
 pub fn strict_implies_open()
     ensures derives { (tree : Tree) (root : Tuple) → Derives Strict tree root → Derives Open tree root }
     ensures supports { (tree : Tree) (holder : List ℕ) (request : Request) (moment : List ℕ) →
@@ -85,6 +89,7 @@ pub fn strict_implies_open()
 
 /// If a chain of tuples has a derivation, each beginning of the chain has one too. So a tuple that does not join the
 /// root of those before it stops every chain that begins so.
+#[tactic(auto, using(crate::proofs::Derivations::front))]
 pub fn fronts()
     ensures { (policy : Policy) (tree : Tree) (root first : Tuple) (before after : List Tuple) →
         Derives policy tree root → leaves tree ≡ first ∷ (before ++ after) →

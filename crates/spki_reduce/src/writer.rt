@@ -113,6 +113,7 @@ fn write_principal(alloc: Global, principal: &Principal) -> Result<Sexp, AllocEr
 }
 
 /// Appends each name to the members, as a string without a hint. Err if memory ran out.
+#[tactic(auto, using(crate::proofs::WrittenNames::name_written_at))]
 fn push_names(alloc: Global, members: &mut Vec<Sexp>, names: &Names) -> Result<(), AllocError>
     ensures { OnOk result (map sexp_value members.new.items ≡ map sexp_value members.old.items ++ plains names.now) }
 {

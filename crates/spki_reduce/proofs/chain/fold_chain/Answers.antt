@@ -1,8 +1,6 @@
-use Rattle.std.proofs.Common.{◌∷◌, IfOk, subst, rules}
+use Rattle.std.proofs.Common.{◌∷◌, IfOk, subst}
 use Rattle.spki_reduce.specs.Reduction.{five}
 use Rattle.spki_reduce.specs.Chain.{tuples_of, SupportsNothing, MatchFold}
-use Rattle.spki_reduce.proofs.Chains.{too_large}
-use Rattle.spki_reduce.proofs.Working.{unbounded}
 use Rattle.spki_reduce.proofs.chain.fold_chain.Goals as goal
 
 pub returns-clause-unsupported : goal.returns-clause-unsupported
@@ -10,9 +8,3 @@ returns-clause-unsupported c =
     subst (λ t. IfOk c.fold_owned.result (λ fold. MatchFold fold (λ f. Unit {0})
     (λ step cause. SupportsNothing c.args.policy (five t ∷ tuples_of c.args.steps.now)))) c.in_ok-own.ensures
     c.fold_owned.ensures.unsupported
-
-pub returns-clause-too_large_at : goal.returns-clause-too_large_at
-returns-clause-too_large_at c h = search (rules, unbounded)
-
-pub returns-clause-too_large : goal.returns-clause-too_large
-returns-clause-too_large c h = search (rules, too_large, returns-clause-too_large_at)

@@ -17,33 +17,27 @@ same_fault (Err y) inner fault h k = let same : y ≡ fault = cc in sym h ∙ sa
 pub returns-in_err-next-clause-too_large : goal.returns-in_err-next-clause-too_large
 returns-in_err-next-clause-too_large c e =
     let same = same_fault c.from_residual-in_err-next.result c.in_err-next.field-0.0 TooLarge c.from_residual-in_err-next.ensures.1 e in
-    inl (too_large_here c.args.policy (five (five_tuple c.args.first)) c.args.steps.now c.loop-place.place
-    c.index-steps-place.result c.loop-place.folded (omega arith) c.index-steps-place.is c.loop-place.invariant.folds
+    inl (too_large_here c.args.steps.now c.loop-place.place (omega arith) c.index-steps-place.is c.loop-place.invariant.folds
     c.loop-place.invariant.value c.args.most (c.in_err-next.ensures.too_large (ap Err same)))
 
 pub returns-in_err-take-clause-too_large : goal.returns-in_err-take-clause-too_large
 returns-in_err-take-clause-too_large c e =
-    let first = five (five_tuple c.args.first) in
     let so_far = c.loop-place.invariant.worked in
     let place : c.loop-place.place < length c.args.steps.now = omega arith in
-    let long = length-map c.args.steps.now step_tuple in
     inr (record {
       steps = c.loop-place.place + 1;
-      within = omega (arith, place, long);
+      within = omega (arith, place, length-map c.args.steps.now step_tuple);
       work = so_far.0 + c.cost_with.result;
-      is = work_here c.args.policy first c.args.steps.now c.loop-place.place c.index-steps-place.result c.loop-place.folded place
-          c.index-steps-place.is c.loop-place.invariant.folds c.loop-place.invariant.value so_far.0 c.cost_with.result so_far.1
-          c.cost_with.ensures;
+      is = work_here c.args.steps.now c.loop-place.place place c.index-steps-place.is c.loop-place.invariant.folds
+          c.loop-place.invariant.value so_far.0 c.cost_with.result so_far.1 c.cost_with.ensures;
       over = over _ _ so_far.0 c.cost_with.result so_far.2 c.in_err-take.ensures.over;
     })
 
 pub returns-in-Stopped-clause-fold : goal.returns-in-Stopped-clause-fold
 returns-in-Stopped-clause-fold c =
-    let stopped = rw c.in-Stopped.is at c.in_ok-next.ensures.joined in
-    let nothing = rw c.in-Stopped.is at c.in_ok-next.ensures.value in
-    stops_here c.args.policy (five (five_tuple c.args.first)) c.args.steps.now c.loop-place.place
-    c.index-steps-place.result c.loop-place.folded (omega arith) c.index-steps-place.is c.loop-place.invariant.folds
-    c.loop-place.invariant.value c.in-Stopped.cause stopped nothing
+    stops_here c.args.steps.now c.loop-place.place (omega arith) c.index-steps-place.is c.loop-place.invariant.folds
+    c.loop-place.invariant.value c.in-Stopped.cause (rw c.in-Stopped.is at c.in_ok-next.ensures.joined)
+    (rw c.in-Stopped.is at c.in_ok-next.ensures.value)
 
 pub returns-in-Stopped-clause-excluded : goal.returns-in-Stopped-clause-excluded
 returns-in-Stopped-clause-excluded c = search (rules, excluded, returns-in-Stopped-clause-fold)
@@ -55,46 +49,39 @@ returns-in-Stopped-clause-unsupported c =
 
 pub returns-in-Stopped-clause-within_limit : goal.returns-in-Stopped-clause-within_limit
 returns-in-Stopped-clause-within_limit c =
-    small_stopped c.args.most c.args.policy (five (five_tuple c.args.first)) c.args.steps.now c.loop-place.place
-    c.index-steps-place.result c.loop-place.folded (omega arith) c.index-steps-place.is c.loop-place.invariant.folds
+    small_stopped c.args.steps.now c.loop-place.place (omega arith) c.index-steps-place.is c.loop-place.invariant.folds
     c.loop-place.invariant.value c.loop-place.invariant.within_limit c.in_ok-next.ensures.within_limit c.in-Stopped.cause
     (returns-in-Stopped-clause-fold c)
 
 pub returns-in-Stopped-clause-worked : goal.returns-in-Stopped-clause-worked
 returns-in-Stopped-clause-worked c =
-    let first = five (five_tuple c.args.first) in
     let so_far = c.loop-place.invariant.worked in
     let place : c.loop-place.place < length c.args.steps.now = omega arith in
-    let long = length-map c.args.steps.now step_tuple in
-    let here = work_here c.args.policy first c.args.steps.now c.loop-place.place c.index-steps-place.result c.loop-place.folded place
-    c.index-steps-place.is c.loop-place.invariant.folds c.loop-place.invariant.value so_far.0 c.cost_with.result so_far.1
-    c.cost_with.ensures in (
+    let here = work_here c.args.steps.now c.loop-place.place place c.index-steps-place.is c.loop-place.invariant.folds
+    c.loop-place.invariant.value so_far.0 c.cost_with.result so_far.1 c.cost_with.ensures in (
       so_far.0 + c.cost_with.result,
-      work_stopped c.args.policy first (tuples_of c.args.steps.now) (steps_tagged c.args.steps.now) (c.loop-place.place + 1)
-          c.in-Stopped.cause (returns-in-Stopped-clause-fold c) (so_far.0 + c.cost_with.result) (omega (arith, place, long)) here,
+      work_stopped c.args.policy (five (five_tuple c.args.first)) (tuples_of c.args.steps.now) (steps_tagged c.args.steps.now)
+          (c.loop-place.place + 1) c.in-Stopped.cause (returns-in-Stopped-clause-fold c) (so_far.0 + c.cost_with.result)
+          (omega (arith, place, length-map c.args.steps.now step_tuple)) here,
       taken _ _ _ so_far.0 c.cost_with.result so_far.2 c.in_ok-take.ensures.taken,
     )
 
 pub loop-place-preserved : goal.loop-place-preserved
 loop-place-preserved c =
     let made = rw c.in-Done.is at c.in_ok-next.ensures.joined in
+    let so_far = c.loop-place.invariant.worked in
     record {
-      folds = goes_on c.args.policy (five (five_tuple c.args.first)) c.args.steps.now c.loop-place.place
-          c.index-steps-place.result c.loop-place.folded (omega arith) c.index-steps-place.is c.loop-place.invariant.folds
+      folds = goes_on c.args.steps.now c.loop-place.place (omega arith) c.index-steps-place.is c.loop-place.invariant.folds
           c.loop-place.invariant.value c.in-Done.next made;
-      value = (rw c.in-Done.is at c.in_ok-next.ensures.value)
-          ∙ met_here c.args.policy (five (five_tuple c.args.first)) c.args.steps.now c.loop-place.place
-          c.index-steps-place.result c.loop-place.folded (omega arith) c.index-steps-place.is c.loop-place.invariant.folds
-          c.loop-place.invariant.value;
-      within_limit = small_here c.args.most c.args.policy (five (five_tuple c.args.first)) c.args.steps.now c.loop-place.place
-          c.index-steps-place.result c.loop-place.folded (omega arith) c.index-steps-place.is c.loop-place.invariant.folds
+      value = (rw c.in-Done.is at c.in_ok-next.ensures.value) ∙ met_here c.args.steps.now c.loop-place.place (omega arith)
+          c.index-steps-place.is c.loop-place.invariant.folds c.loop-place.invariant.value;
+      within_limit = small_here c.args.steps.now c.loop-place.place (omega arith) c.index-steps-place.is c.loop-place.invariant.folds
           c.loop-place.invariant.value c.loop-place.invariant.within_limit c.in_ok-next.ensures.within_limit;
       worked = (
-        c.loop-place.invariant.worked.0 + c.cost_with.result,
-        work_here c.args.policy (five (five_tuple c.args.first)) c.args.steps.now c.loop-place.place c.index-steps-place.result
-            c.loop-place.folded (omega arith) c.index-steps-place.is c.loop-place.invariant.folds c.loop-place.invariant.value
-            c.loop-place.invariant.worked.0 c.cost_with.result c.loop-place.invariant.worked.1 c.cost_with.ensures,
-        taken _ _ _ c.loop-place.invariant.worked.0 c.cost_with.result c.loop-place.invariant.worked.2 c.in_ok-take.ensures.taken,
+        so_far.0 + c.cost_with.result,
+        work_here c.args.steps.now c.loop-place.place (omega arith) c.index-steps-place.is c.loop-place.invariant.folds
+            c.loop-place.invariant.value so_far.0 c.cost_with.result so_far.1 c.cost_with.ensures,
+        taken _ _ _ so_far.0 c.cost_with.result so_far.2 c.in_ok-take.ensures.taken,
       );
       issuer = same_issuer c.args.policy c.loop-place.folded c.in-Done.next (step_tuple c.index-steps-place.result) made.0
           ∙ c.loop-place.invariant.issuer;

@@ -9,11 +9,5 @@ returns c =
     let (owner, owner_is) = c.prove_principal.ensures in
     let subject = named owner f.subject.names in (
       five_value ((issuer ++ headed (codes "subject") (subject ∷ []) ∷ []) ++ delegation_values f.propagate) f.tag (in_valid (window_limits f.window)),
-      record {
-        issuer = issuer;
-        issuer_is = issuer_is;
-        subject = subject;
-        subject_is = (owner, owner_is, refl);
-        written = refl;
-      },
+      record { issuer = issuer; issuer_is = issuer_is; subject = subject; subject_is = (owner, owner_is, refl); written = refl },
     )
