@@ -44,8 +44,7 @@ no_set t (inr e) some = absurd (both_ways (is_nothing t) some (ap is_nothing e))
 no_sets : (ts : List Tag) → AllByRecursion IsPlain ts → has_nothing ts ≡ false → some_nests_set (tags ts) ≡ false
 no_sets [] h some = refl
 no_sets (t ∷ ts) h some =
-    let parts = neither (is_nothing t) (has_nothing ts) some in
-    or_from (nests_set t) (some_nests_set (tags ts)) (no_set t h.0 parts.0) (no_sets ts h.1 parts.1)
+    let parts = neither (is_nothing t) (has_nothing ts) some in search (rules, or_from, no_set, no_sets ts h.1 parts.1)
 
 items_plain : (ts : Tags) → some_nests_set ts ≡ false → AllByRecursion IsPlain (items ts)
 items_plain none h = tt
@@ -94,9 +93,7 @@ mutual
   each_plain (more t ts) (more u us) p q =
       let first = neither (nests_set t) (some_nests_set ts) p in
       let second = neither (nests_set u) (some_nests_set us) q in
-      let front = two_plain t u first.0 second.0 in
-      let back = each_plain ts us first.1 second.1 in
-      record { plain = (front.plain, back.plain); few = omega (arith, front.few, back.few) }
+      search (rules, two_plain t u first.0 second.0, each_plain ts us first.1 second.1)
 
 nothing_meets : (b : Tag) → nests_set b ≡ false → meet nothing b ≡ nothing
 nothing_meets (set us) q = absurd cc

@@ -170,9 +170,7 @@ row-exact : (f : Tag → Tag) (t : Bool) (g : Request) (bs : Tags)
     → each_normal is_set_or_star bs ≡ true → some_contains (tags (row f bs)) g ≡ (t && some_contains bs g)
 row-exact f t g none e n = sym (and-false t)
 row-exact f t g (more b bs) e n =
-    let p = three_parts is_set_or_star b bs n in
-    kept-exact (f b) (row f bs) g ∙ (λ i. e b p.0 p.1 i || row-exact f t g bs e p.2 i)
-    ∙ sym (and-or_distrib_left t (contains b g) (some_contains bs g))
+    let p = three_parts is_set_or_star b bs n in search (rules, kept-exact, and-or_distrib_left, row-exact f t g bs e p.2)
 
 across-exact : (a : Tag) (f : Tag → Tag) (b : Tag) (g : Request) → is_normal b ≡ true
     → ((b : Tag) → is_set_or_star b ≡ false → is_normal b ≡ true → contains (f b) g ≡ (contains a g && contains b g))
@@ -275,6 +273,5 @@ mutual
   pairs-exact none bs g k m n = refl
   pairs-exact (more a ms) bs g k m n =
       let p = three_parts is_set_or_star a ms m in
-      append-exact (row (meet a) bs) (pairs ms bs) g
-      ∙ (λ i. row-exact (meet a) (contains a g) g bs (λ b r q. meet_exact a b g k p.1 q) n i || pairs-exact ms bs g k p.2 n i)
-      ∙ sym (and-or_distrib_right (contains a g) (some_contains ms g) (some_contains bs g))
+      let here = row-exact (meet a) (contains a g) g bs (λ b r q. meet_exact a b g k p.1 q) n in
+      search (rules, append-exact, and-or_distrib_right, here, pairs-exact ms bs g k p.2 n)

@@ -5,7 +5,7 @@ use Rattle.std.specs.Prelude.{if◌then◌else◌, nat_eq, nat_lt}
 use Rattle.std.specs.Cmp.{IsTotalOrder, alike_right, nat_cmp_is}
 use Rattle.std.specs.Ordering.{ordering_reverse, ordering_then}
 use Rattle.std.specs.Cmp.Lexicographic.{slice_cmp, nat_list_cmp_total, bytes_decides}
-use Rattle.std.proofs.Math.Bool.{and-true, and-false}
+use Rattle.std.proofs.Math.Bool.{and-true, and-false, or_comm, or-not_self}
 use Rattle.std.proofs.lemmas.Bool.{cond_both, cases_lt, cases_order}
 use Rattle.std.proofs.lemmas.List.{take-take}
 use Rattle.spki_tag.specs.Tag.{Tag, prefix, contains, Limit, is_within, is_above, is_below}
@@ -91,27 +91,18 @@ weak_second true false Less h = refl
 weak_second true false Equal h = refl
 weak_second s t r h = h
 
-weak_strict : (s t : Bool) (r : Order) → w (not s || s) r ≡ true → w t r ≡ true
-weak_strict true false Less h = refl
-weak_strict true false Equal h = refl
-weak_strict false false Less h = refl
-weak_strict false false Equal h = refl
-weak_strict s t r h = h
-
-weak_strict_back : (s t : Bool) (r : Order) → w (s || not s) r ≡ true → w t r ≡ true
-weak_strict_back true false Less h = refl
-weak_strict_back true false Equal h = refl
-weak_strict_back false false Less h = refl
-weak_strict_back false false Equal h = refl
-weak_strict_back s t r h = h
+strictly : (b t : Bool) (r : Order) → b ≡ true → w b r ≡ true → w t r ≡ true
+strictly true true Less e h = refl
+strictly true false Less e h = refl
+strictly b t r e h = absurd cc
 
 -- ---- two lower limits
 
 low_by : (l m : Limit) (x : List ℕ) (test : Bool) → is_within (not l.strict) m.octets l.octets ≡ test
     → is_above (if test then Some l else Some m) x ≡ (is_above (Some l) x && is_above (Some m) x)
 low_by l m x true e =
-    and_left _ _ (λ h. weak_strict l.strict m.strict (slice_cmp nat_cmp m.octets x)
-    (within_chain (not l.strict) l.strict m.octets l.octets x e h))
+    and_left _ _ (λ h. strictly (not l.strict || l.strict) m.strict (slice_cmp nat_cmp m.octets x)
+    (or_comm (not l.strict) l.strict ∙ or-not_self l.strict) (within_chain (not l.strict) l.strict m.octets l.octets x e h))
 low_by l m x false e =
     and_right _ _ (λ h. weak_by l.strict m.strict (slice_cmp nat_cmp l.octets x)
     (within_chain l.strict m.strict l.octets m.octets x
@@ -127,7 +118,7 @@ greater_low-exact (Some l) (Some m) x = low_by l m x (is_within (not l.strict) m
 up_by : (l m : Limit) (x : List ℕ) (test : Bool) → is_within (not l.strict) l.octets m.octets ≡ test
     → is_below (if test then Some l else Some m) x ≡ (is_below (Some l) x && is_below (Some m) x)
 up_by l m x true e =
-    and_left _ _ (λ h. weak_strict_back l.strict m.strict (slice_cmp nat_cmp x m.octets)
+    and_left _ _ (λ h. strictly (l.strict || not l.strict) m.strict (slice_cmp nat_cmp x m.octets) (or-not_self l.strict)
     (within_chain l.strict (not l.strict) x l.octets m.octets h e))
 up_by l m x false e =
     and_right _ _ (λ h. weak_second m.strict l.strict (slice_cmp nat_cmp x l.octets)

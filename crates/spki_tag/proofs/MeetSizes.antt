@@ -1,6 +1,6 @@
 -- How large what two tags leave together is, in nodes.
-use Rattle.std.proofs.Common.{◌≡◌, ℕ, ◌+◌, ◌*◌, ◌≤◌, List, [], ◌∷◌, ◌++◌, refl, ap, arith, le_trans, rules}
-use Rattle.std.proofs.Math.Nat.{mul-add, add-mul, mul-one, one-mul, mul-le-mul_left}
+use Rattle.std.proofs.Common.{◌≡◌, ℕ, ◌+◌, ◌*◌, ◌≤◌, List, [], ◌∷◌, ◌++◌, refl, ap, arith, rules}
+use Rattle.std.proofs.Math.Nat.{mul-add, one-mul}
 use Rattle.std.proofs.lemmas.Bool.{cond_both}
 use Rattle.std.specs.Str.{bytes_eq}
 use Rattle.spki_tag.specs.Tag.{Tag, Tags, tags, star, string, prefix, range, list, set, none, more, nodes, nodes_all, is_nothing}
@@ -43,21 +43,16 @@ row-le f n (more b bs) h = search (rules, kept-le, row-le f n bs h, mul-add)
 
 across-le : (a : Tag) (f : Tag → Tag) (b : Tag) → ((b : Tag) → nodes (f b) ≤ nodes a * nodes b)
     → nodes (across a f b) ≤ nodes a * nodes b
-across-le a f star h = omega (arith, mul-one (nodes a))
-across-le a f (set bs) h = search (rules, gather-le, row-le, mul-add, mul-one, nodes-some)
+across-le a f star h = omega arith
+across-le a f (set bs) h = omega (arith, gather-le (row f bs), row-le f (nodes a) bs h, nodes-some a)
 across-le a f b h = h b
-
--- a set of tags with some of a tag
-set_across-by : (m n r k : ℕ) → r ≤ 1 + k → k ≤ m * n → 1 ≤ n → r ≤ (1 + m) * n
-set_across-by m n r k h j i = omega (arith, h, j, i, add-mul 1 m n, one-mul n)
 
 set_across-le : (ms : Tags) (f : Tags → List Tag) (b : Tag)
     → ((bs : Tags) → nodes_all (tags (f bs)) ≤ nodes_all ms * nodes_all bs)
     → nodes (set_across ms f b) ≤ (1 + nodes_all ms) * nodes b
-set_across-le ms f star h = omega (arith, mul-one (1 + nodes_all ms))
-set_across-le ms f (list head us) h = search (rules, set_across-by, gather-le)
-set_across-le ms f (set bs) h = search (rules, set_across-by, gather-le, le_trans, mul-le-mul_left)
-set_across-le ms f b h = search (rules, set_across-by, gather-le)
+set_across-le ms f star h = omega arith
+set_across-le ms f (set bs) h = omega (arith, gather-le (f bs), h bs)
+set_across-le ms f b h = omega (arith, gather-le (f (more b none)), h (more b none))
 
 list-le : (head : List ℕ) (m : ℕ) (f : Tags → List Tag) (b : Tag)
     → ((us : Tags) → nodes_all (tags (f us)) ≤ m * nodes_all us + m + nodes_all us)

@@ -261,4 +261,6 @@ lists_and_strings head ts z h = absurd h
 
 -- ---- what the proofs of the steps use
 
-pub ruleset meet_steps = (nodes_le-of_read, le_trans, mul-le, lists_meet, tags-members, members_meet, meet-by_members, nothing-is, each_meet-rest, has_nothing-found, nothing-is_not, true≢false, append_assoc, has_nothing-push)
+pub ruleset lists_met = (nothing-is, nothing-is_not, each_meet-rest, has_nothing-found, has_nothing-push, true≢false, append_assoc)
+
+pub ruleset meet_steps = (lists_met, nodes_le-of_read, le_trans, mul-le, lists_meet, tags-members, meet-by_members)

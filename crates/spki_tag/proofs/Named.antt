@@ -1,5 +1,5 @@
 -- Which fault a reader names.
-use Rattle.std.proofs.Common.{◌≡◌, ◌≢◌, ℕ, ◌+◌, ◌≤◌, ◌<◌, Bool, true, false, ◌||◌, not, inl, inr, List, [], ◌∷◌, ◌++◌, map, length, Option, Some, None, Result, Ok, Err, refl, sym, ap, ◌∙◌, subst, arith, rules, append_assoc, true≢false}
+use Rattle.std.proofs.Common.{◌≡◌, ◌≢◌, ℕ, ◌+◌, ◌≤◌, ◌<◌, Bool, true, false, ◌||◌, not, inl, inr, List, [], ◌∷◌, ◌++◌, length, Option, Some, None, Result, Ok, Err, refl, sym, ap, ◌∙◌, subst, rules, append_assoc, true≢false}
 use Rattle.std.specs.Prelude.{codes, if◌then◌else◌, IfErr}
 use Rattle.std.specs.Result.{IsErrAnd}
 use Rattle.std.specs.List.{list_any}
@@ -14,7 +14,7 @@ use Rattle.spki_tag.specs.declared.fault.TagFault.TheVariants as faults
 use Rattle.spki_tag.specs.Faults.{first_fault, unless, IsNamed, tags_in, tags_in_list, tags_in_all, own_fault, list_fault, star_fault, form_fault, prefix_fault, range_fault, limits_fault, group_fault, are_limits, is_ordering, is_hinted, is_limit, looks, tag_fault}
 use Rattle.spki_tag.specs.Request.{IsHead}
 use Rattle.spki_tag.specs.Reading.{IsRead, AreNoLimits, fault_after, fault_after_all, most_read}
-use Rattle.spki_tag.specs.Tag.{Tag, tags, tag_value, starred, Limit, limit_values, low_values, up_values, Ordering, alpha, time, date, ordering_name}
+use Rattle.spki_tag.specs.Tag.{Tag, starred, Limit, limit_values, low_values, up_values, Ordering, alpha, time, date, ordering_name}
 use Rattle.spki_tag.proofs.FaultWalk.{first-none, first-some, looks-append, look-past, look-own, look-full, tag-past, tags-past, tags-count_all, list-fine, tags_in-list}
 use Rattle.spki_tag.proofs.TagReading.{IsReadSoFar, tag_values-tags}
 
@@ -47,16 +47,12 @@ tags_in-first (value.list vs) = (tags_in_list vs, refl)
 
 pub full : (used : ℕ) (v : Value) → most_read ≤ used → IsNamed faults.TooManyNodes (fault_after used v)
 unfolding fault_after
-full used v h =
-    let p = tags_in-first v in
-    named_first faults.TooManyNodes _ (ap (λ (vs : List Value). first_fault (looks used vs)) p.1 ∙ look-full used v p.0 h)
+full used v h = search (rules, named_first, tags_in-first v, look-full)
 
 pub itself : (used : ℕ) (v : Value) (fault : TagFault) (f : Option TagFault) → used < most_read → own_fault v ≡ f
     → IsNamed fault f → IsNamed fault (fault_after used v)
-unfolding fault_after
-itself used v fault f h own =
-    let p = tags_in-first v in
-    named-by fault f _ (λ e. ap (λ (vs : List Value). first_fault (looks used vs)) p.1 ∙ look-own used v p.0 fault h (own ∙ e))
+unfolding fault_after IsNamed
+itself used v fault f h own = search (rules, named-by, tags_in-first v, look-own)
 
 -- what is wrong with a list of these members
 pub list-itself : (used : ℕ) (us vs : List Value) (fault : TagFault) → used < most_read → us ≡ vs
@@ -236,19 +232,8 @@ member-found used counted us v vs fault fine sum found = search (rules, tags_in_
 pub so_far-named : (fault : TagFault) (used counted : ℕ) (vs left further : List Value) (ts : List Tag) (v : Value)
     → IsReadSoFar used vs ts counted left → left ≡ v ∷ further → IsNamed fault (fault_after counted v)
     → IsNamed fault (fault_after_all used vs)
-unfolding fault_after fault_after_all
-so_far-named fault used counted vs left further ts v so_far e =
-    let whole : map tag_value so_far.ws ++ v ∷ further ≡ vs =
-    ap (λ (us : List Value). map tag_value so_far.ws ++ us) (sym e) ∙ so_far.spelled in
-    let same = tag_values-tags so_far.ws in
-    named-by fault (first_fault (looks counted (tags_in v))) _
-    (λ found. subst (λ (us : List Value). first_fault (looks used (tags_in_all (values us))) ≡ Some fault) whole
-    (member-found used counted (map tag_value so_far.ws) v further fault
-    (subst (λ us. first_fault (looks used (tags_in_all us)) ≡ None) same
-    (tags-past used (tags so_far.ws) so_far.written (omega (arith, so_far.sum, so_far.few))))
-    (subst (λ us. counted ≡ used + length (tags_in_all us)) same
-    (omega (arith, so_far.sum, tags-count_all (tags so_far.ws) so_far.written)))
-    found))
+unfolding fault_after fault_after_all IsNamed
+so_far-named fault used counted vs left further ts v so_far e = search (rules, named-by, member-found, tags-past, tags-count_all, tag_values-tags)
 
 -- ---- the whole
 
@@ -272,4 +257,8 @@ named-sure fault found (inr e) h = e
 
 pub ruleset limits_read = (named_first, out_of_memory, limits_hinted, limits_other)
 
-pub ruleset tags_read = (named_first, out_of_memory, passed, prefix_more, prefix_list, prefix_hinted, head_list, head_hinted, prefix-itself, range-itself, unknown-itself, list-itself, no_room_for_head-named, list-members, set-members, star-itself, star-list, star-hinted, full, itself, at_first, read-faultless)
+pub ruleset stars_read = (prefix_more, prefix_list, prefix_hinted, prefix-itself, range-itself, unknown-itself, star-itself, star-list, star-hinted)
+
+pub ruleset lists_read = (head_list, head_hinted, list-itself, no_room_for_head-named, list-members, set-members)
+
+pub ruleset tags_read = (named_first, out_of_memory, passed, full, itself, stars_read, lists_read, at_first, read-faultless)

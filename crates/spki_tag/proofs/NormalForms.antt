@@ -151,16 +151,10 @@ IsMet n t = IsFlat n t × ((is_nothing t || not (is_set_or_star t)) ≡ true)
 
 module _ (bar : Tag → Bool) (n : ℕ) (t : Tag) (ts : Tags) where
   first_flat : AreFlat bar n (more t ts) → (bar t ≡ false) × IsFlat n t × AreFlat bar n ts
-  first_flat h =
-      let p = three_parts bar t ts h.normal in (
-        p.0,
-        record { written = h.written.0; normal = p.1; flat = omega (arith, h.flat) },
-        record { written = h.written.1; normal = p.2; flat = omega (arith, h.flat) },
-      )
+  first_flat h = search (rules, three_parts)
 
   more_flat : bar t ≡ false → IsFlat n t → AreFlat bar n ts → AreFlat bar n (more t ts)
-  more_flat e h k =
-      record { written = (h.written, k.written); normal = all_three bar t ts e h.normal k.normal; flat = omega (arith, h.flat, k.flat) }
+  more_flat e h k = search (rules, all_three)
 
 module _ (n : ℕ) where
   none_flat : (bar : Tag → Bool) → AreFlat bar n none
@@ -278,9 +272,7 @@ mutual
 -- ---- what two tags of the type leave together is a tag of the type, where it isn't too large
 
 deepest_flat : (a b : Tag) → IsNormalTag a → IsNormalTag b → IsFlat (max (ldepth a) (ldepth b)) (meet a b)
-deepest_flat a b h k =
-    (meet_flat _ a b (record { written = h.written; normal = h.normal; flat = omega arith })
-    (record { written = k.written; normal = k.normal; flat = omega arith })).0
+deepest_flat a b h k = (meet_flat _ a b (search rules) (search rules)).0
 
 pub meet_ldepth : (a b : Tag) → IsNormalTag a → IsNormalTag b → ldepth (meet a b) ≤ max (ldepth a) (ldepth b)
 meet_ldepth a b h k = (deepest_flat a b h k).flat

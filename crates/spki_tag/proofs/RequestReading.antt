@@ -1,5 +1,5 @@
 -- Which request is written as a value, and which fault a reader of requests names.
-use Rattle.std.proofs.Common.{◌≡◌, ℕ, List, [], ◌∷◌, ◌++◌, map, refl, ap, append_assoc, ◌≤◌, rules, not, Option, Some, None, Result, Ok, Err, sym, ◌∙◌, subst}
+use Rattle.std.proofs.Common.{◌≡◌, ℕ, List, [], ◌∷◌, ◌++◌, map, refl, ap, append_assoc, ◌≤◌, rules, not, Option, Some, None, Result, Ok, Err, ◌∙◌}
 use Rattle.std.proofs.lemmas.List.{map_push, map-append}
 use Rattle.sexpr_core.specs.Value as value
 use Rattle.sexpr_core.specs.Value.{Value, plain, values, group, Values}
@@ -27,10 +27,7 @@ mutual
 
   pub requests_only : (gs hs : Requests) → request_values hs ≡ request_values gs → hs ≡ gs
   requests_only none none e = refl
-  requests_only (more g gs) (more h hs) e =
-      let a : h ≡ g = request_only g h cc in
-      let b : hs ≡ gs = requests_only gs hs cc in
-      cc
+  requests_only (more g gs) (more h hs) e = search (rules, request_only g h cc, requests_only gs hs cc)
   requests_only gs hs e = absurd cc
 
 -- ---- the members of a list, one after the other
@@ -77,12 +74,8 @@ nodes-first (value.list vs) = (value.nodes_all vs, refl)
 
 pub part-itself : (v : Value) (fault : TagFault) (f : Option TagFault) → part_fault v ≡ f → IsNamed fault f
     → IsNamed fault (request_fault v)
-unfolding request_fault
-part-itself v fault f own =
-    let p = nodes-first v in
-    named-by fault f _
-    (λ e. ap (λ (vs : List Value). first_fault (map part_fault vs)) p.1
-    ∙ ap (λ (g : Option TagFault). first_fault (g ∷ map part_fault p.0)) (own ∙ e))
+unfolding request_fault IsNamed
+part-itself v fault f own = search (rules, named-by, nodes-first v)
 
 pub group-itself : (us vs : List Value) (fault : TagFault) → us ≡ vs → IsNamed fault (group_fault vs)
     → IsNamed fault (request_fault (group us))
@@ -136,16 +129,8 @@ part-found us v vs fault fine found = search (rules, nodes_all-append, map-appen
 
 pub so_far-named : (fault : TagFault) (vs left further : List Value) (gs : List Request) (v : Value)
     → AreReadSoFar vs gs left → left ≡ v ∷ further → IsNamed fault (request_fault v) → IsNamed fault (fault_of_requests vs)
-unfolding request_fault fault_of_requests
-so_far-named fault vs left further gs v so_far e =
-    let whole : map request_value gs ++ v ∷ further ≡ vs =
-    ap (λ (us : List Value). map request_value gs ++ us) (sym e) ∙ so_far.spelled in
-    named-by fault (first_fault (map part_fault (value.nodes v))) _
-    (λ found. subst (λ (us : List Value). first_fault (map part_fault (value.nodes_all (values us))) ≡ Some fault) whole
-    (part-found (map request_value gs) v further fault
-    (subst (λ us. first_fault (map part_fault (value.nodes_all us)) ≡ None) (request_values-requests gs)
-    (parts-fine _ (requests-fine (requests gs) so_far.written)))
-    found))
+unfolding request_fault fault_of_requests IsNamed
+so_far-named fault vs left further gs v so_far e = search (rules, named-by, part-found, parts-fine, requests-fine, request_values-requests)
 
 -- ---- the whole
 

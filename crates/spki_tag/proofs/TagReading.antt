@@ -76,10 +76,7 @@ mutual
 
   pub tags_only : (ts ws : Tags) → AreTags ts → AreTags ws → tag_values ws ≡ tag_values ts → ws ≡ ts
   tags_only none none h k e = refl
-  tags_only (more t ts) (more w ws) h k e =
-      let a : w ≡ t = tag_only t w h.0 k.0 cc in
-      let b : ws ≡ ts = tags_only ts ws h.1 k.1 cc in
-      cc
+  tags_only (more t ts) (more w ws) h k e = search (rules, tag_only t w h.0 k.0 cc, tags_only ts ws h.1 k.1 cc)
   tags_only ts ws h k e = absurd cc
 
 -- ---- the normal form of a written tag is in normal form, and contains the same requests
@@ -119,19 +116,15 @@ contain_each-of ws ts gs h = refl
 set-of : (ws : Tags) (ts : List Tag) (t : Tag) → AreNormalOf ws ts → IsNormalOf (set (tags ts)) t → IsNormalOf (set ws) t
 set-of ws ts t h k = search (rules, some_contains-of, nodes_all-of)
 
+list-same : (head : List ℕ) (ws : Tags) (ts : List Tag) (g : Request) → AreNormalOf ws ts
+    → contains (list head (tags ts)) g ≡ contains (list head ws) g
+list-same head ws ts (request.string s) h = refl
+list-same head ws ts (request.list requested gs) h = ap (λ b. bytes_eq head requested && b) (contain_each-of ws ts gs h)
+
 -- the same of a list
 list-of : (head : List ℕ) (ws : Tags) (ts : List Tag) (t : Tag) → AreNormalOf ws ts
     → IsNormalOf (list head (tags ts)) t → IsNormalOf (list head ws) t
-list-of head ws ts t h k = record {
-  written = k.written;
-  normal = k.normal;
-  same = λ g. k.same g ∙ same g;
-  no_more = omega (arith, k.no_more, nodes_all-of ws ts h);
-}
-  where
-    same : (g : Request) → contains (list head (tags ts)) g ≡ contains (list head ws) g
-    same (request.string s) = refl
-    same (request.list requested gs) = ap (λ b. bytes_eq head requested && b) (contain_each-of ws ts gs h)
+list-of head ws ts t h k = search (rules, list-same, nodes_all-of)
 
 -- ---- the normal form
 
