@@ -30,6 +30,9 @@ pub more_at : (xs : List Tuple) (n : ℕ) (x : Tuple) → slice_get xs n ≡ Som
 more_at xs n x is =
     take-suc xs n x (slice_get_within xs n x is) ∙ ap (λ y. take n xs ++ y ∷ []) (get_or_from_slice_get xs n x x is)
 
+pub never : (b : Bool) → b ≡ false → b ≡ true → ⊥
+never b e f = both_ways b e f
+
 -- ---- a tuple that doesn't join
 
 -- a cause that isn't a matter of what tags or windows leave

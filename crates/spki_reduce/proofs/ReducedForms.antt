@@ -1,6 +1,6 @@
 -- Authorizations in reduced form. What the code joins is joined in the model. One more tuple joins the reduced form
 -- as it joins the root, and what the reduced form lacks, the root lacks.
-use Rattle.std.proofs.Common.{◌≡◌, ◌≢◌, ℕ, ◌*◌, ◌≤◌, max, Bool, true, ◌&&◌, List, [], ◌∷◌, ◌++◌, refl, sym, ◌∙◌, ap, arith, IsTrue, IfOk, Result, Ok, Err, rules, ◌<◌, fold, subst, append-nil, ◌↔◌, Option, Some, None, IsNone}
+use Rattle.std.proofs.Common.{◌≡◌, ◌≢◌, ℕ, ◌*◌, ◌≤◌, max, Bool, true, ◌&&◌, List, [], ◌∷◌, ◌++◌, refl, sym, ◌∙◌, ap, arith, IsTrue, IfOk, Result, Ok, Err, rules, ◌<◌, fold, subst, append-nil, ◌↔◌, false, Option, Some, None, IsNone}
 use Rattle.spki_cert.specs.declared.principal.Policy.{Policy}
 use Rattle.std.proofs.Math.Bool.{and-true}
 use Rattle.std.proofs.lemmas.Bool.{both_ways}
@@ -264,6 +264,9 @@ module _ (policy : Policy) (first : Tuple) where
       }
 
 -- ---- what a reduced authorization lacks, its root lacks, and every derivation from the same tuples
+
+pub never : (b : Bool) → b ≡ false → b ≡ true → ⊥
+never b e f = both_ways b e f
 
 module _ (policy : Policy) (holder : List ℕ) (request : Request) (moment : List ℕ) where
   -- ---- a root
