@@ -107,6 +107,7 @@ fn entries_of<'a>(alloc: Global, members: Members<'_, 'a>) -> Result<Vec<Entry<'
 
 /// Returns the members of an access list after the head `acl`, and after a version if the first of them is one. Err is
 /// `Shape` if the node is not headed `acl`, or the fault of the version.
+#[tactic(auto, using(crate::proofs::Heads::heads), unfolding(crate::specs::StructureFaults::outer_fault))]
 fn behind_version<'d, 'a>(node: &Node<'d, 'a>) -> Result<Members<'d, 'a>, CertFaultKind>
     ensures found { IfOk result (λ entries. (all : List Value) × (node.now ≡ group (plain (codes "acl") ∷ all))
         × BeginsWell all × (entries ≡ behind_version all)) }

@@ -127,6 +127,7 @@ fn subject_in<'a>(alloc: Global, members: Members<'_, 'a>) -> Result<Who<'a>, Ce
 
 /// Reads a field that both an entry and a certificate may have: `tag`, `propagate`, `comment` or a field of validity.
 /// Err is its fault, `Shape` for any other field.
+#[tactic(auto, using(crate::proofs::Heads::heads), unfolding(crate::specs::FieldFaults::entry_field_fault))]
 fn read_common_field<'a>(alloc: Global, field: &Node) -> Result<Said<'a>, CertFaultKind>
     ensures says { IfOk result (λ said. Says field.now said) }
     ensures faultless { IfOk result (λ _. entry_field_fault field.now ≡ None) }
@@ -150,6 +151,7 @@ fn read_common_field<'a>(alloc: Global, field: &Node) -> Result<Said<'a>, CertFa
 
 /// Reads a field of validity: `(not-before DATE)`, `(not-after DATE)` or `(valid ..)`. Err is its fault: `Online` for
 /// `(online ..)`, and `Shape` for any other field.
+#[tactic(auto, using(crate::proofs::Heads::heads), unfolding(crate::specs::FieldFaults::time_fault, crate::specs::FieldFaults::limit_fault))]
 fn read_validity_field<'a>(field: &Node) -> Result<Said<'a>, CertFaultKind>
     ensures says { IfOk result (λ said. Says field.now said) }
     ensures faultless { IfOk result (λ _. time_fault field.now ≡ None) }
@@ -172,6 +174,7 @@ fn read_validity_field<'a>(field: &Node) -> Result<Said<'a>, CertFaultKind>
 }
 
 /// Reads any field that a certificate may have. Err is its fault, `Shape` if a certificate has no such field.
+#[tactic(auto, using(crate::proofs::Heads::heads), unfolding(crate::specs::FieldFaults::cert_field_fault))]
 fn read_certificate_field<'a>(
     alloc: Global,
     field: &Node<'_, 'a>,

@@ -1,5 +1,6 @@
 //! Laws of keys, hashes, dates, access lists and sequences.
 //! Each function is a law: it does nothing, and its contract is the fact.
+#![tactic(auto, using(crate::proofs::LawRules::laws))]
 
 ghost use Rattle.std.specs.Prelude.{◌≡◌, ◌↔◌, ◌⊎◌, ℕ, List, Option, Some, None};
 ghost use Rattle.sexpr_core.specs.Value.{Value};

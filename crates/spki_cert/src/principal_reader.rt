@@ -36,6 +36,7 @@ pub(crate) struct Issuer<'a> {
 ///
 /// The fault of the hash if the node is headed `hash`. Otherwise the fault of the key, which is `Shape` for a value that is
 /// neither.
+#[tactic(auto, using(crate::proofs::Heads::heads), unfolding(crate::specs::FieldFaults::principal_fault))]
 pub fn principal_of<'a>(node: &Node<'_, 'a>) -> Result<Principal<'a>, CertFaultKind>
     ensures found { IfOk result (λ principal. PrincipalOf node.now principal) }
     ensures refused { IfErr result (λ _. (principal : Principal) → PrincipalOf node.now principal → ⊥) }
@@ -79,6 +80,7 @@ fn names_behind<'a>(
 
 /// Reads the members after the head `name`: a principal and its names, or names alone, which are relative. Err says why
 /// they are none: `Shape` if there is no name.
+#[tactic(auto, using(crate::proofs::Heads::heads), unfolding(crate::specs::FieldFaults::names_fault))]
 fn read_name_members<'a>(alloc: Global, members: Members<'_, 'a>) -> Result<Who<'a>, CertFaultKind>
     ensures found { IfOk result (λ who. NamesWho members.entry who.principal who.names.items) }
     ensures named { IfErr result (λ kind. kind ≢ CertFaultKind.Memory → names_fault members.entry ≡ Some kind) }
@@ -108,6 +110,7 @@ fn read_name_members<'a>(alloc: Global, members: Members<'_, 'a>) -> Result<Who<
 
 /// Reads a subject from its node, as it is written: a principal, a name `(name principal n n*)`, or a relative name
 /// `(name n n*)`. Err is its fault: `Threshold` for a list headed `k-of-n`, and `Keyholder` for one headed `keyholder`.
+#[tactic(auto, using(crate::proofs::Heads::heads), unfolding(crate::specs::FieldFaults::subject_fault))]
 pub(crate) fn written_subject_of<'a>(
     alloc: Global,
     node: &Node<'_, 'a>,
@@ -132,6 +135,7 @@ pub(crate) fn written_subject_of<'a>(
 }
 
 /// Reads an issuer from its node: a principal, or `(name PRINCIPAL N)` with exactly one name. Err is its fault.
+#[tactic(auto, using(crate::proofs::Heads::heads), unfolding(crate::specs::FieldFaults::issuer_fault))]
 pub(crate) fn issuer_of<'a>(node: &Node<'_, 'a>) -> Result<Issuer<'a>, CertFaultKind>
     ensures found { IfOk result (λ issuer. IssuerOf node.now issuer.principal issuer.name) }
     ensures named { IfErr result (λ kind. issuer_fault node.now ≡ Some kind) }

@@ -18,6 +18,7 @@ use sexpr_core::{Doc, NodeId};
 use std::alloc::Global;
 
 /// Whether a node is a list with the head `word`.
+#[tactic(auto, using(crate::proofs::Heads::heads))]
 fn is_headed(node: &Node, word: &[u8]) -> bool
     ensures { result ≡ is_headed word.now node.now }
 {
@@ -29,6 +30,7 @@ fn is_headed(node: &Node, word: &[u8]) -> bool
 
 /// Reads an item of a sequence from its node: a certificate, a signature, an operation, or otherwise a key. Err is its
 /// fault.
+#[tactic(auto, using(crate::proofs::Heads::heads), unfolding(crate::specs::StructureFaults::item_fault))]
 fn item_of<'a>(alloc: Global, node: &Node<'_, 'a>) -> Result<SeqItem<'a>, CertFaultKind>
     ensures found { IfOk result (λ item. ItemOf node.now item) }
     ensures named { IfErr result (λ kind. kind ≢ CertFaultKind.Memory → item_fault node.now ≡ Some kind) }

@@ -15,6 +15,7 @@ use crate::value_readers::{algorithm_of, hash_of};
 use sexpr_core::syntax::Node;
 
 /// Reads a signature from its node: `(signature HASH PRINCIPAL VALUE)`. Err is the first fault.
+#[tactic(auto, using(crate::proofs::Heads::heads), unfolding(crate::specs::StructureFaults::signature_fault))]
 pub(crate) fn signature_of<'a>(node: &Node<'_, 'a>) -> Result<Signature<'a>, CertFaultKind>
     ensures found { IfOk result (λ signature. SignatureOf node.now signature) }
     ensures named { IfErr result (λ kind. signature_fault node.now ≡ Some kind) }
@@ -47,6 +48,7 @@ pub(crate) fn signature_of<'a>(node: &Node<'_, 'a>) -> Result<Signature<'a>, Cer
 
 /// Reads the algorithm from the node of an operation: `(do hash ALG)`. Err is the first fault: `UnknownOp` for any
 /// other operation.
+#[tactic(auto, using(crate::proofs::Heads::heads), unfolding(crate::specs::StructureFaults::do_fault))]
 pub(crate) fn do_hash_of(node: &Node) -> Result<HashAlg, CertFaultKind>
     ensures found { IfOk result (λ alg. DoHashOf node.now alg) }
     ensures named { IfErr result (λ kind. do_fault node.now ≡ Some kind) }

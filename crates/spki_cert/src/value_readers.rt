@@ -16,6 +16,7 @@ use sexpr_core::syntax::{Members, Node, NodeKind};
 use sexpr_core::{Doc, NodeId};
 
 /// Reads a key from its node, like `read_key`. Err is the first fault: `KeyUris` or `Shape`.
+#[tactic(auto, using(crate::proofs::Heads::heads), unfolding(crate::specs::FieldFaults::key_fault))]
 pub fn key_of<'a>(node: &Node<'_, 'a>) -> Result<Key<'a>, CertFaultKind>
     ensures key { IfOk result (λ key. KeyOf node.now key) }
     ensures refused { IfErr result (λ _. IsNoKey node.now) }
@@ -55,6 +56,7 @@ fn is_algorithm(node: &Node) -> bool
 }
 
 /// Reads a date from its node, like `read_date`. Err is always `BadDate`.
+#[tactic(auto, using(crate::proofs::Heads::heads), unfolding(crate::specs::FieldFaults::date_fault))]
 pub fn date_of(node: &Node) -> Result<Date, CertFaultKind>
     ensures date { IfOk result (λ date. DateOf node.now date) }
     ensures refused { IfErr result (λ _. IsNoDate node.now) }
@@ -72,6 +74,7 @@ pub fn date_of(node: &Node) -> Result<Date, CertFaultKind>
 }
 
 /// Reads a hash algorithm from the node of its name. Err is `HashAlg` for any other string, and `Shape` for a list.
+#[tactic(auto, using(crate::proofs::Heads::heads), unfolding(crate::specs::FieldFaults::alg_fault))]
 pub(crate) fn algorithm_of(node: &Node) -> Result<HashAlg, CertFaultKind>
     ensures named { IfOk result (λ alg. node.now ≡ plain (alg_name alg)) }
     ensures refused { IfErr result (λ _. (alg : HashAlg) → node.now ≢ plain (alg_name alg)) }
@@ -120,6 +123,7 @@ fn ends_in_uris(rest: Members) -> bool
 }
 
 /// Reads a hash from its node, like `read_hash`: its algorithm and its digest. Err is the first fault.
+#[tactic(auto, using(crate::proofs::Heads::heads), unfolding(crate::specs::FieldFaults::hash_fault))]
 pub fn hash_of<'a>(node: &Node<'_, 'a>) -> Result<(HashAlg, Octets<'a>), CertFaultKind>
     ensures hash { IfOk result (λ h. HashOf node.now h.0 h.1) }
     ensures refused { IfErr result (λ _. IsNoHash node.now) }

@@ -9,6 +9,7 @@ use sexpr_core::syntax::{Members, NodeKind};
 
 /// Checks that the members after the head `version` are the string 0 alone. Err is `UnknownVersion` if the first is any
 /// other string, otherwise `Shape`.
+#[tactic(auto, using(crate::proofs::Heads::heads), unfolding(crate::specs::FieldFaults::version_fault))]
 pub(crate) fn check_version(members: Members) -> Result<(), CertFaultKind>
     ensures found { IfOk result (λ _. members.entry ≡ plain (codes "0") ∷ []) }
     ensures named { IfErr result (λ kind. sole_fault CertFaultKind.Shape version_fault members.entry ≡ Some kind) }

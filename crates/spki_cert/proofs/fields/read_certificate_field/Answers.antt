@@ -1,26 +1,16 @@
-use Rattle.std.proofs.Common.{◌∙◌, rules}
+use Rattle.std.proofs.Common.{◌∙◌}
 use Rattle.std.proofs.lemmas.Result.{IfErr-weaker, IfOk-weaker}
-use Rattle.spki_cert.proofs.Looking.{carried}
 use Rattle.spki_cert.proofs.FieldFaultLaws.{version-faultless, cert-issuer_field, cert-subject_field, cert-version_field, cert-unread, cert-common}
 use Rattle.spki_cert.proofs.FieldFaultNone.{issuers-none, subjects-none}
 use Rattle.spki_cert.proofs.fields.read_certificate_field.Goals as goal
-
-pub returns-in_err-issuer_in-clause-named : goal.returns-in_err-issuer_in-clause-named
-returns-in_err-issuer_in-clause-named c = search (rules, carried, cert-issuer_field)
 
 pub returns-in-Some-clause-faultless : goal.returns-in-Some-clause-faultless
 returns-in-Some-clause-faultless c =
     cert-issuer_field c.args.field.now _ c.in-Some.ensures ∙ (issuers-none _).1 ((c.in_ok-issuer_in.field-0.principal, c.in_ok-issuer_in.field-0.name), c.in_ok-issuer_in.ensures.found)
 
-pub returns-in_err-subject_in-clause-named : goal.returns-in_err-subject_in-clause-named
-returns-in_err-subject_in-clause-named c = search (rules, carried, cert-subject_field)
-
 pub returns-in-Some-headed-clause-faultless : goal.returns-in-Some-headed-clause-faultless
 returns-in-Some-headed-clause-faultless c =
     cert-subject_field c.args.field.now _ c.in-Some-headed.ensures ∙ (subjects-none _).1 ((c.in_ok-subject_in.field-0.principal, c.in_ok-subject_in.field-0.names.items), c.in_ok-subject_in.ensures.found)
-
-pub returns-in_err-check_version-clause-named : goal.returns-in_err-check_version-clause-named
-returns-in_err-check_version-clause-named c = search (rules, carried, cert-version_field)
 
 pub returns-in-Some-headed-2-clause-faultless : goal.returns-in-Some-headed-2-clause-faultless
 returns-in-Some-headed-2-clause-faultless c = cert-version_field c.args.field.now _ c.in-Some-headed-2.ensures ∙ version-faultless _ c.in_ok-check_version.ensures.found

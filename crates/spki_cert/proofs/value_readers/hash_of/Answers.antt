@@ -1,30 +1,15 @@
-use Rattle.std.proofs.Common.{◌≡◌, ◌∷◌, Some, refl, rules}
+use Rattle.std.proofs.Common.{◌≡◌, ◌∷◌, Some, refl}
 use Rattle.sexpr_core.specs.Value.{plain}
 use Rattle.spki_cert.specs.Readings.{alg_name}
 use Rattle.spki_cert.specs.declared.fault.CertFaultKind.{CertFaultKind}
 use Rattle.spki_cert.specs.FieldFaults.{hash_fault}
 use Rattle.spki_cert.proofs.Looking.{carried}
-use Rattle.spki_cert.proofs.SubjectFaultLaws.{hash-unheaded, hash-form, hash-digest, uris-are, others-are}
+use Rattle.spki_cert.proofs.SubjectFaultLaws.{hash-digest, uris-are, others-are}
 use Rattle.spki_cert.proofs.value_readers.hash_of.Goals as goal
 
 pub returns-in_default-clause-refused : goal.returns-in_default-clause-refused
 returns-in_default-clause-refused c =
     λ alg digest read. c.in_default.ensures (plain (alg_name alg) ∷ read.octets ∷ read.further) read.written
-
-pub returns-in_default-clause-named : goal.returns-in_default-clause-named
-returns-in_default-clause-named c = hash-unheaded c.args.node.now c.in_default.ensures
-
-pub returns-in_default-split_first-clause-named : goal.returns-in_default-split_first-clause-named
-unfolding hash_fault
-returns-in_default-split_first-clause-named c = search (rules, hash-form)
-
-pub returns-in_err-alg-clause-named : goal.returns-in_err-alg-clause-named
-unfolding hash_fault
-returns-in_err-alg-clause-named c = search (rules, carried, hash-form)
-
-pub returns-in_default-split_first-2-clause-named : goal.returns-in_default-split_first-2-clause-named
-unfolding hash_fault
-returns-in_default-split_first-2-clause-named c = search (rules, hash-form)
 
 pub returns-in_err-digest-clause-named : goal.returns-in_err-digest-clause-named
 returns-in_err-digest-clause-named c =

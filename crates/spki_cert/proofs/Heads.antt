@@ -1,0 +1,6 @@
+-- What readers of lists are proved by: lemmas on heads, on members, and on the strings among them.
+use Rattle.std.proofs.lemmas.Bool.{not-true}
+use Rattle.spki_cert.proofs.Looking.{carried, headed-by, headed-else, not-headed, behind-group, no-plain, none-some}
+use Rattle.spki_cert.proofs.SubjectFaultLaws.{begins-plain, begins-other, alg-other, some-names}
+
+pub ruleset heads = (carried, headed-by, headed-else, not-headed, behind-group, no-plain, none-some, not-true, begins-plain, begins-other, alg-other, some-names)
