@@ -121,10 +121,6 @@ entry-looked v subject rest fields found others both tag e f g h i j = search (r
 abbrev outer_looked : Bool → List Value → Option CertFaultKind
 outer_looked headed rest = first_fault (unless headed Shape ∷ acl_version_fault rest ∷ [])
 
-pub outer-unheaded : (v : Value) → IsNotHeaded v (codes "acl") → outer_fault v ≡ Some Shape
-unfolding outer_fault
-outer-unheaded v other = of-no_form (codes "acl") v Shape _ other
-
 pub outer-form : (v : Value) (rest : List Value) → v ≡ group (plain (codes "acl") ∷ rest) → outer_fault v ≡ outer_looked true rest
 unfolding outer_fault
 outer-form v rest e = of-form outer_looked (codes "acl") v rest e

@@ -157,10 +157,6 @@ pub entry-else : (v : Value) → is_headed (codes "tag") v ≡ false → is_head
 unfolding entry_field_fault
 entry-else v p q r = search rules
 
-pub entry-time : (v : Value) (found : Option CertFaultKind) → IsNotHeaded v (codes "tag") → IsNotHeaded v (codes "propagate") → IsNotHeaded v (codes "comment") → time_fault v ≡ found
-    → entry_field_fault v ≡ found
-entry-time v found p q r e = entry-else v (not-headed (codes "tag") v p) (not-headed (codes "propagate") v q) (not-headed (codes "comment") v r) ∙ e
-
 -- ---- fields of certificates
 
 pub cert-issuer_field : (v : Value) (rest : List Value) → v ≡ group (plain (codes "issuer") ∷ rest) → cert_field_fault v ≡ sole_fault Shape issuer_fault rest

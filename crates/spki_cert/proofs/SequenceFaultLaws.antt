@@ -109,10 +109,6 @@ do_looked headed rest =
     ∷ unless_none (drop 2 rest) Shape ∷ []
     )
 
-pub do-unheaded : (v : Value) → IsNotHeaded v (codes "do") → do_fault v ≡ Some Shape
-unfolding do_fault
-do-unheaded v other = of-no_form (codes "do") v Shape _ other
-
 pub do-form : (v : Value) (rest : List Value) → v ≡ group (plain (codes "do") ∷ rest) → do_fault v ≡ do_looked true rest
 unfolding do_fault
 do-form v rest e = of-form do_looked (codes "do") v rest e

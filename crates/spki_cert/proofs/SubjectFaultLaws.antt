@@ -5,7 +5,7 @@ use Rattle.std.specs.Prelude.{codes, is_some, if◌then◌else◌, ◌==◌, not
 use Rattle.std.specs.Str.{bytes_eq}
 use Rattle.std.proofs.lemmas.Bool.{false_from_ne_true}
 use Rattle.std.proofs.lemmas.Slice.Eq.{bytes_eq-Decides}
-use Rattle.sexpr_core.specs.Value.{Value, plain, group, members, IsNoString, IsNotHeaded}
+use Rattle.sexpr_core.specs.Value.{Value, plain, group, members, IsNotHeaded}
 use Rattle.sexpr_core.specs.Value as sexpr
 use Rattle.sexpr_core.specs.Nodes.{values-members}
 use Rattle.spki_tag.specs.Tag.{is_date}
@@ -15,8 +15,8 @@ use Rattle.spki_cert.specs.declared.hash.HashAlg.TheVariants.{Sha1}
 use Rattle.spki_cert.specs.declared.fault.CertFaultKind.{CertFaultKind}
 use Rattle.spki_cert.specs.declared.fault.CertFaultKind.TheVariants.{Shape, HashAlg as UnknownAlg, DigestLength, BadDate, Threshold, Keyholder}
 use Rattle.spki_cert.specs.Readings.{IsAlgorithm, alg_name, digest_len, AreUris, IsNoKey, IsNoHash}
-use Rattle.spki_cert.specs.FieldFaults.{fault_at, is_plain, any_octets, begins_plain, behind_key, key_fault, date_fault, alg_fault, hash_fault, alg_named, is_alg, digest_fits, are_uris, is_string, principal_fault, is_name, are_names, names_fault, subject_fault, issuer_name_fault, issuer_fault}
-use Rattle.spki_cert.proofs.Looking.{headed-by, not-headed, is-group, of-form, of-no_form, no-plain, first-of, same_others, apart, behind-group, one-look, headed-else}
+use Rattle.spki_cert.specs.FieldFaults.{fault_at, is_plain, any_octets, begins_plain, behind_key, key_fault, date_fault, alg_fault, hash_fault, alg_named, is_alg, digest_fits, are_uris, principal_fault, is_name, are_names, names_fault, subject_fault, issuer_name_fault, issuer_fault}
+use Rattle.spki_cert.proofs.Looking.{headed-by, is-group, of-form, first-of, same_others, apart, behind-group, one-look, headed-else}
 use Rattle.spki_cert.specs.Inner.Gathering.{digest_fault, NamesWho}
 use Rattle.spki_cert.specs.declared.principal.Principal.{Principal}
 use Rattle.spki_cert.specs.declared.principal.Principal.TheVariants.{Key, Hash}
@@ -37,10 +37,6 @@ algorithm v e = absurd (cc)
 pub begins-other : (v : Value) → (IsAlgorithm v → ⊥) → begins_plain v ≡ false
 begins-other v other = false_from_ne_true (begins_plain v) (λ e. other (algorithm v e))
 
-pub key-unheaded : (v : Value) → IsNotHeaded v (codes "public-key") → key_fault v ≡ Some Shape
-unfolding key_fault
-key-unheaded v other = of-no_form (codes "public-key") v Shape _ other
-
 -- what is looked at in a key, by its head and what stands behind it
 abbrev pub key_looked : Bool → List Value → Option CertFaultKind
 key_looked headed rest =
@@ -51,10 +47,6 @@ unfolding key_fault
 key-form v rest e = of-form key_looked (codes "public-key") v rest e
 
 -- ---- dates
-
-pub date-hinted : (v : Value) → IsNoString v → date_fault v ≡ Some BadDate
-unfolding date_fault
-date-hinted v other = ap (λ (b : Bool). unless b BadDate) (no-plain is_date v other)
 
 pub date-tested : (v : Value) (octets : List ℕ) (b : Bool) → v ≡ plain octets → is_date octets ≡ b → date_fault v ≡ unless b BadDate
 unfolding date_fault
@@ -68,14 +60,6 @@ named-alg alg = refl
 
 pub named-read : (word : List ℕ) → is_alg word ≡ true → (alg : HashAlg) × (word ≡ alg_name alg)
 named-read word e = search (rules, bytes_eq-Decides)
-
-pub alg-list : (v : Value) (vs : List Value) → v ≡ group vs → alg_fault v ≡ Some Shape
-unfolding alg_fault
-alg-list v vs e = ap (λ (w : Value). first_fault (unless (is_string w) Shape ∷ unless (is_plain is_alg w) UnknownAlg ∷ [])) e
-
-pub alg-hinted : (v : Value) (hint octets : List ℕ) → v ≡ sexpr.string (Some hint) octets → alg_fault v ≡ Some UnknownAlg
-unfolding alg_fault
-alg-hinted v hint octets e = ap (λ (w : Value). first_fault (unless (is_string w) Shape ∷ unless (is_plain is_alg w) UnknownAlg ∷ [])) e
 
 alg-plain : (v : Value) (octets : List ℕ) (b : Bool) → v ≡ plain octets → is_alg octets ≡ b → alg_fault v ≡ first_fault (None ∷ unless b UnknownAlg ∷ [])
 unfolding alg_fault
@@ -100,10 +84,6 @@ hash_looked headed rest =
     ∷ unless (are_uris (drop 2 rest)) Shape
     ∷ []
     )
-
-pub hash-unheaded : (v : Value) → IsNotHeaded v (codes "hash") → hash_fault v ≡ Some Shape
-unfolding hash_fault
-hash-unheaded v other = of-no_form (codes "hash") v Shape _ other
 
 pub hash-form : (v : Value) (rest : List Value) → v ≡ group (plain (codes "hash") ∷ rest) → hash_fault v ≡ hash_looked true rest
 unfolding hash_fault
@@ -185,14 +165,6 @@ plains-push (name ∷ seen) octets = ap (λ (vs : List Value). plain name ∷ vs
 
 -- ---- principals
 
-pub principal-hash : (v : Value) (rest : List Value) (found : Option CertFaultKind) → v ≡ group (plain (codes "hash") ∷ rest) → hash_fault v ≡ found → principal_fault v ≡ found
-unfolding principal_fault
-principal-hash v rest found e f = ap (λ (b : Bool). if b then hash_fault v else key_fault v) (headed-by v (codes "hash") rest e) ∙ f
-
-pub principal-key : (v : Value) (found : Option CertFaultKind) → IsNotHeaded v (codes "hash") → key_fault v ≡ found → principal_fault v ≡ found
-unfolding principal_fault
-principal-key v found other f = ap (λ (b : Bool). if b then hash_fault v else key_fault v) (not-headed (codes "hash") v other) ∙ f
-
 -- a principal has the head of a key or of a hash
 pub principal-else : (word : List ℕ) (v : Value) (p : Principal) → PrincipalOf v p → bytes_eq (codes "public-key") word ≡ false → bytes_eq (codes "hash") word ≡ false
     → is_headed word v ≡ false
@@ -210,27 +182,11 @@ all-plains [] e = ([], refl)
 all-plains (sexpr.string None octets ∷ vs) e = let more = all-plains vs e in (octets ∷ more.0, ap (λ (ws : List Value). plain octets ∷ ws) more.1)
 all-plains vs e = absurd (cc)
 
-pub are-plains : (vs : List Value) (names : List (List ℕ)) → vs ≡ plains names → list_all is_name vs ≡ true
-are-plains vs names e = ap (list_all is_name) e ∙ plains-all names
-
 pub some-names : (others : List Value) → (others ≡ [] → ⊥) → are_names others ≡ list_all is_name others
 some-names [] some = absurd (some refl)
 some-names (v ∷ vs) some = refl
 
 -- ---- subjects
-
-pub subject-threshold : (v : Value) (rest : List Value) → v ≡ group (plain (codes "k-of-n") ∷ rest) → subject_fault v ≡ Some Threshold
-unfolding subject_fault
-subject-threshold v rest e = search (rules, headed-by)
-
-pub subject-keyholder : (v : Value) (rest : List Value) → IsNotHeaded v (codes "k-of-n") → v ≡ group (plain (codes "keyholder") ∷ rest) → subject_fault v ≡ Some Keyholder
-unfolding subject_fault
-subject-keyholder v rest other e = search (rules, not-headed, headed-by)
-
-pub subject-principal : (v : Value) (found : Option CertFaultKind) → IsNotHeaded v (codes "k-of-n") → IsNotHeaded v (codes "keyholder") → IsNotHeaded v (codes "name")
-    → principal_fault v ≡ found → subject_fault v ≡ found
-unfolding subject_fault
-subject-principal v found a b c e = search (rules, not-headed, one-look)
 
 pub subject-names : (v : Value) (rest : List Value) (found : Option CertFaultKind) → v ≡ group (plain (codes "name") ∷ rest) → names_fault rest ≡ found → subject_fault v ≡ found
 unfolding subject_fault
@@ -241,10 +197,6 @@ subject-names v rest found e f =
     ∙ one-look (names_fault rest) ∙ f
 
 -- ---- issuers
-
-pub issuer-principal : (v : Value) (found : Option CertFaultKind) → IsNotHeaded v (codes "name") → principal_fault v ≡ found → issuer_fault v ≡ found
-unfolding issuer_fault
-issuer-principal v found other e = ap (λ (b : Bool). if b then issuer_name_fault (behind_head v) else principal_fault v) (not-headed (codes "name") v other) ∙ e
 
 pub issuer-form : (v : Value) (rest : List Value) → v ≡ group (plain (codes "name") ∷ rest) → issuer_fault v ≡ issuer_name_fault rest
 unfolding issuer_fault
