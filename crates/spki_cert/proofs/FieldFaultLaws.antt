@@ -191,7 +191,7 @@ unread-read v e = by (is_headed (codes "display") v) (is_headed (codes "issuer-i
     by false false true f g h k = subject_info (behind_head v) (is-group (codes "subject-info") v h)
     by false false false f g h k = absurd (cc)
 
-not-unread : (v : Value) → (IsUnread v → ⊥) → is_unread v ≡ false
+pub not-unread : (v : Value) → (IsUnread v → ⊥) → is_unread v ≡ false
 not-unread v other = false_from_ne_true (is_unread v) (λ e. other (unread-read v e))
 
 pub cert-common : (v : Value) (found : Option CertFaultKind) → IsNotHeaded v (codes "issuer") → IsNotHeaded v (codes "subject") → IsNotHeaded v (codes "version") → (IsUnread v → ⊥)

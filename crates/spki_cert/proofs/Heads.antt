@@ -2,5 +2,6 @@
 use Rattle.std.proofs.lemmas.Bool.{not-true}
 use Rattle.spki_cert.proofs.Looking.{carried, headed-by, headed-else, not-headed, behind-group, no-plain, none-some}
 use Rattle.spki_cert.proofs.SubjectFaultLaws.{begins-plain, begins-other, alg-other, some-names}
+use Rattle.spki_cert.proofs.FieldFaultLaws.{not-unread, cert-unread}
 
-pub ruleset heads = (carried, headed-by, headed-else, not-headed, behind-group, no-plain, none-some, not-true, begins-plain, begins-other, alg-other, some-names)
+pub ruleset heads = (carried, headed-by, headed-else, not-headed, behind-group, no-plain, none-some, not-true, begins-plain, begins-other, alg-other, some-names, not-unread, cert-unread)

@@ -23,6 +23,7 @@ use std::alloc::Global;
 
 /// Reads the subject of an entry from its node: a principal, or a name that begins with one. Err says why it is none:
 /// `RelativeInEntry` for a name without a principal.
+#[tactic(auto, using(crate::proofs::Heads::heads), unfolding(crate::specs::FieldFaults::entry_subject_fault))]
 fn entry_subject<'a>(alloc: Global, node: &Node<'_, 'a>) -> Result<Subject<'a>, CertFaultKind>
     ensures found { IfOk result (λ subject. SubjectOf node.now subject) }
     ensures named { IfErr result (λ kind. kind ≢ CertFaultKind.Memory → entry_subject_fault node.now ≡ Some kind) }
@@ -79,6 +80,7 @@ pub fn entry_of<'a>(alloc: Global, node: &Node<'_, 'a>) -> Result<Entry<'a>, Cer
 
 /// Reads the entries from the members of an access list after its head and version. Err is the first fault, with the
 /// number of its entry, from 1.
+#[tactic(auto, using(crate::proofs::Heads::heads), unfolding(crate::specs::StructureFaults::entries_fault))]
 fn entries_of<'a>(alloc: Global, members: Members<'_, 'a>) -> Result<Vec<Entry<'a>>, CertFault>
     ensures entries { IfOk result (λ entries. AllZip EntryOf members.entry entries.items) }
     ensures faultless { IfOk result (λ _. entries_fault members.entry ≡ None) }
@@ -131,6 +133,7 @@ fn behind_version<'d, 'a>(node: &Node<'d, 'a>) -> Result<Members<'d, 'a>, CertFa
 }
 
 /// Reads an access list from its node, like `read_acl`, with the same errors.
+#[tactic(auto, using(crate::proofs::Heads::heads), unfolding(crate::specs::StructureFaults::acl_fault))]
 pub fn acl_of<'a>(alloc: Global, node: &Node<'_, 'a>) -> Result<Vec<Entry<'a>>, CertFault>
     ensures acl { IfOk result (λ entries. AclOf node.now entries.items) }
     // The fault is the first from the left, and what is read has none.

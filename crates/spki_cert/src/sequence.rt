@@ -91,6 +91,7 @@ fn waiting(node: &Node, before: Option<usize>, number: usize) -> Option<usize>
 }
 
 /// Reads the items from the members of a sequence after its head. Err is the first fault, as for `read_sequence`.
+#[tactic(auto, using(crate::proofs::Heads::heads), unfolding(crate::specs::StructureFaults::items_fault))]
 fn items_of<'a>(alloc: Global, members: Members<'_, 'a>) -> Result<Vec<SeqItem<'a>>, CertFault>
     ensures items { IfOk result (λ items. AllZip ItemOf members.entry items.items) }
     ensures in_place { IfOk result (λ _. AreInPlace false members.entry × (waits_after false members.entry ≡ false)) }
@@ -128,6 +129,7 @@ fn items_of<'a>(alloc: Global, members: Members<'_, 'a>) -> Result<Vec<SeqItem<'
 }
 
 /// Reads a sequence from its node, like `read_sequence`, with the same errors.
+#[tactic(auto, using(crate::proofs::Heads::heads), unfolding(crate::specs::StructureFaults::sequence_fault))]
 pub fn sequence_of<'a>(alloc: Global, node: &Node<'_, 'a>) -> Result<Vec<SeqItem<'a>>, CertFault>
     ensures sequence { IfOk result (λ items. SeqOf node.now items.items) }
     // The fault is the first from the left, and what is read has none.

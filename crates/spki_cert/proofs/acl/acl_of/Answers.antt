@@ -1,5 +1,5 @@
 use Rattle.std.proofs.Common.{rules}
-use Rattle.spki_cert.proofs.EntryFaultLaws.{acl-read, acl-entries, acl-outer}
+use Rattle.spki_cert.proofs.EntryFaultLaws.{acl-read, acl-entries}
 use Rattle.spki_cert.proofs.EntryFaultNone.{outer-well}
 use Rattle.spki_cert.proofs.acl.acl_of.Goals as goal
 
@@ -11,6 +11,3 @@ returns-in-Ok-clause-named c = search (rules, acl-entries, outer-well)
 
 pub returns-in-Ok-clause-faultless : goal.returns-in-Ok-clause-faultless
 returns-in-Ok-clause-faultless c = search (rules, acl-entries, outer-well)
-
-pub returns-in-Err-clause-named : goal.returns-in-Err-clause-named
-returns-in-Err-clause-named c = λ _. acl-outer c.args.node.now c.in-Err.kind c.in-Err.ensures.named

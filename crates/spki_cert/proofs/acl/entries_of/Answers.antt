@@ -1,10 +1,5 @@
-use Rattle.std.proofs.Common.{[], ◌∷◌, ◌∙◌, append_assoc, append-nil, length-append, rules}
-use Rattle.spki_cert.specs.StructureFaults.{entries_fault}
+use Rattle.std.proofs.Common.{[], ◌∷◌, ◌∙◌, append_assoc, append-nil, length-append}
 use Rattle.spki_cert.proofs.acl.entries_of.Goals as goal
-
-pub loop-member-init : goal.loop-member-init
-unfolding entries_fault
-loop-member-init c = search rules
 
 pub loop-member-preserved : goal.loop-member-preserved
 loop-member-preserved c = (

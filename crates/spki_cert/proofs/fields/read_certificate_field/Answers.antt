@@ -1,6 +1,6 @@
 use Rattle.std.proofs.Common.{◌∙◌}
-use Rattle.std.proofs.lemmas.Result.{IfErr-weaker, IfOk-weaker}
-use Rattle.spki_cert.proofs.FieldFaultLaws.{version-faultless, cert-issuer_field, cert-subject_field, cert-version_field, cert-unread, cert-common}
+use Rattle.std.proofs.lemmas.Result.{IfErr-weaker}
+use Rattle.spki_cert.proofs.FieldFaultLaws.{version-faultless, cert-issuer_field, cert-subject_field, cert-version_field, cert-common}
 use Rattle.spki_cert.proofs.FieldFaultNone.{issuers-none, subjects-none}
 use Rattle.spki_cert.proofs.fields.read_certificate_field.Goals as goal
 
@@ -14,15 +14,6 @@ returns-in-Some-headed-clause-faultless c =
 
 pub returns-in-Some-headed-2-clause-faultless : goal.returns-in-Some-headed-2-clause-faultless
 returns-in-Some-headed-2-clause-faultless c = cert-version_field c.args.field.now _ c.in-Some-headed-2.ensures ∙ version-faultless _ c.in_ok-check_version.ensures.found
-
-pub returns-then-is_unread-clause-faultless : goal.returns-then-is_unread-clause-faultless
-returns-then-is_unread-clause-faultless c = cert-unread c.args.field.now c.if-is_unread.ensures
-
-pub returns-clause-faultless : goal.returns-clause-faultless
-returns-clause-faultless c =
-    IfOk-weaker c.read_common_field.result _ _
-    (λ _ faultless. cert-common c.args.field.now _ c.in_default.ensures c.in_default-headed.ensures c.in_default-headed-2.ensures c.if-is_unread.ensures faultless)
-    c.read_common_field.ensures.faultless
 
 pub returns-clause-named : goal.returns-clause-named
 returns-clause-named c =

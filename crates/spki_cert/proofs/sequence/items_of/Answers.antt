@@ -1,12 +1,7 @@
 use Rattle.std.proofs.Common.{[], ◌∷◌, None, append_assoc, append-nil, length-append, rules}
 use Rattle.spki_cert.specs.StructureFaults.{items_fault}
-use Rattle.spki_cert.proofs.Looking.{carried}
 use Rattle.spki_cert.proofs.SequenceFaultNone.{item-none, items-read}
 use Rattle.spki_cert.proofs.sequence.items_of.Goals as goal
-
-pub loop-member-init : goal.loop-member-init
-unfolding items_fault
-loop-member-init c = search rules
 
 pub loop-member-preserved : goal.loop-member-preserved
 loop-member-preserved c =
@@ -22,6 +17,3 @@ returns-in-None-clause-items c = rw append-nil at (c.loop-member.invariant.0 [] 
 pub returns-in-None-clause-in_place : goal.returns-in-None-clause-in_place
 unfolding items_fault
 returns-in-None-clause-in_place c = let read = items-read None 1 c.args.members (search rules) in (read.2, read.3)
-
-pub returns-in_err-check_place-clause-named : goal.returns-in_err-check_place-clause-named
-returns-in_err-check_place-clause-named c = search (rules, carried)

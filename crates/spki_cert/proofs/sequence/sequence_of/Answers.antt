@@ -1,5 +1,5 @@
 use Rattle.std.proofs.Common.{rules}
-use Rattle.spki_cert.proofs.SequenceFaultLaws.{sequence-items, sequence-unheaded}
+use Rattle.spki_cert.proofs.SequenceFaultLaws.{sequence-items}
 use Rattle.spki_cert.proofs.sequence.sequence_of.Goals as goal
 
 pub returns-in-Some-clause-named : goal.returns-in-Some-clause-named
@@ -7,6 +7,3 @@ returns-in-Some-clause-named c = search (rules, sequence-items)
 
 pub returns-in-Some-clause-faultless : goal.returns-in-Some-clause-faultless
 returns-in-Some-clause-faultless c = search (rules, sequence-items)
-
-pub returns-in-None-clause-named : goal.returns-in-None-clause-named
-returns-in-None-clause-named c = λ _. sequence-unheaded c.args.node.now c.in-None.ensures
