@@ -66,10 +66,6 @@ acl-read v (first ∷ others) members es e well f zip = by (is_headed (codes "ve
 abbrev subject_looked : Option CertFaultKind → Bool → Option CertFaultKind
 subject_looked found relative = first_fault (found ∷ unless (not relative) RelativeInEntry ∷ [])
 
-pub subject-found : (v : Value) (kind : CertFaultKind) → subject_fault v ≡ Some kind → entry_subject_fault v ≡ Some kind
-unfolding entry_subject_fault
-subject-found v kind e = ap (λ (x : Option CertFaultKind). subject_looked x (is_relative v)) e
-
 subject-tested : (v : Value) (b : Bool) → subject_fault v ≡ None → is_relative v ≡ b → entry_subject_fault v ≡ subject_looked None b
 unfolding entry_subject_fault
 subject-tested v b e f = λ i. subject_looked (e i) (f i)
@@ -130,10 +126,6 @@ outer-form v rest e = of-form outer_looked (codes "acl") v rest e
 acl-parts : (v : Value) (rest : List Value) → v ≡ group (plain (codes "acl") ∷ rest) → acl_fault v ≡ first_fault (at_item 0 (outer_fault v) ∷ entries_fault (behind_version rest) ∷ [])
 unfolding acl_fault
 acl-parts v rest e = ap (λ (vs : List Value). first_fault (at_item 0 (outer_fault v) ∷ entries_fault (behind_version vs) ∷ [])) (behind-group v (plain (codes "acl")) rest e)
-
-pub acl-outer : (v : Value) (kind : CertFaultKind) → outer_fault v ≡ Some kind → acl_fault v ≡ Some (record { item = 0; kind = kind })
-unfolding acl_fault
-acl-outer v kind e = ap (λ (x : Option CertFaultKind). first_fault (at_item 0 x ∷ entries_fault (behind_version (behind_head v)) ∷ [])) e
 
 pub acl-entries : (v : Value) (rest entries : List Value) (found : Option CertFault) → v ≡ group (plain (codes "acl") ∷ rest) → outer_fault v ≡ None → entries ≡ behind_version rest → entries_fault entries ≡ found
     → acl_fault v ≡ found

@@ -8,7 +8,7 @@ use Rattle.spki_cert.specs.declared.fault.CertFaultKind.TheVariants.{Shape, Unkn
 use Rattle.spki_cert.specs.Fields.{is_headed, behind_head, IssuerOf}
 use Rattle.spki_cert.specs.FieldFaults.{fault_at, unless_none, is_plain, alg_fault, hash_fault, principal_fault, has, fields_fault, cert_field_fault, is_both_ways}
 use Rattle.spki_cert.specs.StructureFaults.{any_value, signature_fault, do_fault, is_hash_word, at_item, has_name_issuer, is_tagged_right, cert_fault, items_fault, sequence_fault}
-use Rattle.spki_cert.proofs.Looking.{is-group, of-form, of-no_form, unless-none, none-found, not-headed, first-of, one-look}
+use Rattle.spki_cert.proofs.Looking.{is-group, of-form, of-no_form, unless-none, none-found, first-of, one-look}
 use Rattle.spki_cert.proofs.FieldFaultLaws.{has-given}
 use Rattle.spki_cert.specs.declared.certificate.AuthCert.{AuthCert}
 use Rattle.spki_cert.specs.declared.certificate.NameCert.{NameCert}
@@ -170,10 +170,6 @@ pub tagged-right : (fields : List Value) (p : CertParts) (named tagged propagate
 tagged-right fields p named tagged propagate parts e f g = search (rules, name-issuer, has-given)
 
 -- ---- the outer list
-
-pub sequence-unheaded : (v : Value) → IsNotHeaded v (codes "sequence") → sequence_fault v ≡ Some (record { item = 0; kind = Shape })
-unfolding sequence_fault
-sequence-unheaded v other = ap (λ (b : Bool). first_fault (at_item 0 (unless b Shape) ∷ items_fault (behind_head v) ∷ [])) (not-headed (codes "sequence") v other)
 
 pub sequence-items : (v : Value) (rest : List Value) (found : Option CertFault) → v ≡ group (plain (codes "sequence") ∷ rest) → items_fault rest ≡ found → sequence_fault v ≡ found
 unfolding sequence_fault
