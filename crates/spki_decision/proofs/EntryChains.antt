@@ -106,8 +106,8 @@ module _ (most : ℕ) (tag : Tag) (tuples : List Tuple) (plain : PlainNodes) (gi
   small_plain few =
       all_small most tag tuples (length tuples) (omega arith) (λ place tuple below there.
       small_with most (met (tag ∷ all_tags (take place tuples))) (nodes tag + plain.all) plain.most tuple (left_few place)
-      (subst (λ t. nodes_product (tags_of t) ≤ plain.most) (get_or_from_slice_get tuples place tuple tuple there) (given.each_nodes place tuple below))
-      few)
+      (subst (λ t. nodes_product (tags_of t) ≤ plain.most) (get_or_from_slice_get tuples place tuple tuple there)
+      (given.each_nodes place tuple below)) few)
 
 -- ---- the work of the entries of a case, one after another
 

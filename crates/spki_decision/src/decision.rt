@@ -36,6 +36,7 @@ pub enum Decision {
 /// `TooLarge` only if the certificates stand, and for an entry with no granted entry before it the tag of a certificate is
 /// too large for what the entry and the certificates before it became: the product of their nodes is over `most_nodes`.
 /// `Memory` if memory ran out, here or in the verifier.
+#[tactic(auto, using(crate::proofs::EntryChains::one_fails, crate::proofs::Standing::none_shown))]
 pub fn decide<V: Verifier>(alloc: Global, case: &Case, verifier: &V) -> Result<Decision, GuardFault>
     ensures exact { IfOk result (IsDecision (model case.now) (V.accepted verifier.now)) }
     ensures too_large { IsErrOf result GuardFault.TooLarge → IsTooLarge (model case.now) (V.accepted verifier.now) }

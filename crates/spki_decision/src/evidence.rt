@@ -45,6 +45,7 @@ pub enum Evidence<'a> {
 /// # Errors
 ///
 /// `AllocError` if memory ran out, here or in the verifier.
+#[tactic(auto, using(crate::proofs::Asked::all_accepted, crate::proofs::Asked::refused_within))]
 pub fn judge<'a, V: Verifier>(
     alloc: Global,
     sequence: &[SeqItem<'a>],
@@ -70,6 +71,7 @@ pub fn judge<'a, V: Verifier>(
 /// # Errors
 ///
 /// `AllocError` if memory ran out in the verifier.
+#[tactic(auto, using(crate::proofs::Asked::refused_here, crate::proofs::Asked::one_more))]
 pub fn first_refused<V: Verifier>(
     alloc: Global,
     signed: &[Signed],

@@ -58,6 +58,7 @@ pub enum Explanation {
 /// `TooLarge` only if the certificates stand, and for some entry the tag of a certificate is too large for what the entry
 /// and the certificates before it became: the product of their nodes is over `most_nodes`. Or these products are together over
 /// `most_work`. `Memory` if memory ran out, here or in the verifier.
+#[tactic(auto, using(crate::proofs::EntryChains::as_many, crate::proofs::EntryChains::all_stand))]
 pub fn explain<V: Verifier>(
     alloc: Global,
     case: &Case,

@@ -20,6 +20,7 @@ use spki_case::Verifier;
 
 /// For every verifier: what a case grants under the strict policy it grants under the open one. An entry that is granted if
 /// a hash by SHA-1 names no key is also granted if it names keys.
+#[tactic(auto, using(crate::proofs::Standing::granted_openly))]
 pub fn strict_implies_open<V: Verifier>()
     ensures { (verifier : V) (c : Case) (n : ℕ) → Granted n (strict c) (V.accepted verifier)
         → Granted n (opened c) (V.accepted verifier) }
@@ -27,6 +28,7 @@ pub fn strict_implies_open<V: Verifier>()
 
 /// For every verifier: an explanation and a decision of one case agree. The decision names the first entry whose reason
 /// is `Grants`. It is no if there is none, or if a certificate fails a test of `Stop`.
+#[tactic(auto, using(crate::proofs::Explanations::agrees))]
 pub fn decided_as_explained<V: Verifier>()
     ensures { (verifier : V) (c : Case) (explanation : Explanation) (decision : Decision)
         → IsExplanation c (V.accepted verifier) explanation → IsDecision c (V.accepted verifier) decision
@@ -78,6 +80,7 @@ pub fn one_reduction<V: Verifier>()
 
 /// For every verifier: a case with a decision that skipped no refusal is not refused as `TooLarge`. So the clauses of
 /// `decide` allow one answer, unless memory ran out.
+#[tactic(auto, using(crate::proofs::OneDecision::not_both))]
 pub fn no_refusal<V: Verifier>()
     ensures { (verifier : V) (c : Case) (decision : Decision) → IsDecision c (V.accepted verifier) decision
         → IsUnrefused c (V.accepted verifier) decision → ¬ IsTooLarge c (V.accepted verifier) }
@@ -91,6 +94,7 @@ pub fn left_out()
 
 /// If some entries of `left_out` are removed from an access list, and the others keep their numbers, the decision stays
 /// the same. So entries may be stored in any way and found by the principal of their subject.
+#[tactic(auto, using(crate::proofs::KeptEntries::renumbered))]
 pub fn decided_by_kept<V: Verifier>()
     ensures { (verifier : V) (c : Case) (kept : List (ℕ × Entry)) (x y : Decision)
         → IsKept c (V.accepted verifier) kept → IsDecision (kept_case c kept) (V.accepted verifier) x
@@ -99,6 +103,7 @@ pub fn decided_by_kept<V: Verifier>()
 
 /// Two verifiers that agree on the signatures that they are asked about give the same answers, whatever else they accept.
 /// The decision is no if one of these signatures is not accepted.
+#[tactic(auto, using(crate::proofs::Asked::decided_by, crate::proofs::Asked::decision_by, crate::proofs::Asked::explained_by, crate::proofs::Asked::reduced_by, crate::proofs::Asked::no_by))]
 pub fn asks_whole<V: Verifier>()
     ensures refused { (verifier : V) (c : Case) (place : ℕ) (s : Signed) (x : Result Decision GuardFault)
         → slice_get (asked c) place ≡ Some s → ¬ IsAccepted (V.accepted verifier) s → IsDecided c (V.accepted verifier) x

@@ -58,6 +58,7 @@ pub enum Reduction<'a> {
 /// `TooLarge` only if the certificates stand, and for some entry the tag of a certificate is too large for what the entry
 /// and the certificates before it became: the product of their nodes is over `most_nodes`. Or these products are together over
 /// `most_work`. `Memory` if memory ran out, here or in the verifier.
+#[tactic(auto, using(crate::proofs::EntryChains::as_many, crate::proofs::EntryChains::all_stand))]
 pub fn reduce_case<'a, V: Verifier>(
     alloc: Global,
     case: &Case<'a>,
@@ -112,6 +113,7 @@ pub(crate) fn put_folds<'a, S: FoldSink<'a>>(
 ///
 /// `TooLarge` if such a product is over the case's `most_nodes`, or all together are more than `work` allows. `Memory` if memory ran
 /// out.
+#[tactic(auto, using(crate::proofs::EntryChains::stops_within, crate::proofs::EntryChains::stops_at_item))]
 pub fn entry_fold<'a>(
     alloc: Global,
     case: &Case<'a>,

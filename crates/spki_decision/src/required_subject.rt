@@ -129,6 +129,7 @@ impl<'a> RequiredSubject<'a> {
 }
 
 /// The names that remain if those of `front` are removed from the beginning. None if `names` do not begin with them.
+#[tactic(auto, using(crate::proofs::Memberships::begins_more, crate::proofs::Memberships::begins_not))]
 fn names_after<'a>(names: Names<'a>, front: &Names) -> Option<Names<'a>>
     ensures some { IfSome result (λ rest. names.entry ≡ front.now ++ rest) }
     ensures none { IfNone result ((rest : List (List ℕ)) → names.entry ≢ front.now ++ rest) }
@@ -154,6 +155,7 @@ fn has_first(names: &Names, name: &Octets) -> bool
 }
 
 /// Whether both have the same names in the same order.
+#[tactic(auto, using(crate::proofs::Memberships::same_more))]
 fn are_same_names(one: &Names, other: &Names) -> bool
     ensures { IsTrue result ↔ (one.now ≡ other.now) }
 {

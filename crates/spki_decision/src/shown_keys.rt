@@ -52,6 +52,7 @@ impl<'a> ShownKeys<'a> {
 
     /// The key of an issuer: the issuer itself if it is a key, or the first key of the sequence that it names under the
     /// policy. None if there is none. The keys stay the same; an index may be added. Err if memory ran out.
+    #[tactic(auto, using(crate::proofs::Standing::found_none))]
     pub(crate) fn holder(
         &mut self,
         alloc: Global,

@@ -1,14 +1,8 @@
-use Rattle.std.proofs.Common.{ℕ, Some, map, ap, sym, ◌∙◌, subst, rules}
+use Rattle.std.proofs.Common.{ℕ, Some, map, ap, sym, ◌∙◌, subst}
 use Rattle.spki_decision.specs.declared.evidence.Stop.TheVariants.{NotAccepted}
 use Rattle.spki_decision.specs.Standing.{FailsAt, signed_of, IsFirstRefused, RefusedAt}
-use Rattle.spki_decision.proofs.Asked.{all_accepted, not_accepted, refused_within, refused_item}
+use Rattle.spki_decision.proofs.Asked.{not_accepted, refused_item}
 use Rattle.spki_decision.proofs.evidence.judge.Goals as goal
-
-pub returns-in-None : goal.returns-in-None
-returns-in-None g c = search (rules, all_accepted)
-
-pub index-requires : goal.index-requires
-index-requires g c = search (rules, refused_within)
 
 pub returns : goal.returns
 returns g c =

@@ -1,12 +1,8 @@
-use Rattle.std.proofs.Common.{rules}
 use Rattle.spki_reduce.specs.Chain.{tuples_of}
 use Rattle.spki_case.specs.View.{model}
 use Rattle.spki_decision.proofs.Explanations.{reasons_for}
-use Rattle.spki_decision.proofs.EntryChains.{all_stand, one_fails, as_many, failure, are_folds}
+use Rattle.spki_decision.proofs.EntryChains.{all_stand, one_fails, failure, are_folds}
 use Rattle.spki_decision.proofs.explanation.explain.Goals as goal
-
-pub put_folds-requires : goal.put_folds-requires
-put_folds-requires g c κs = search (rules, as_many, all_stand)
 
 pub returns-in-Fails-clause-exact : goal.returns-in-Fails-clause-exact
 returns-in-Fails-clause-exact g c =
