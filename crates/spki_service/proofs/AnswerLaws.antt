@@ -10,8 +10,9 @@ use Rattle.spki_decision.specs.declared.decision.Decision.{Decision}
 use Rattle.spki_decision.proofs.Asked.{decision_by, not_accepted, agrees, refused_item, explained_by, reduced_by, failure_by, folds_by, some_large_by}
 use Rattle.spki_cert.specs.declared.entry.Entry.{Entry}
 use Rattle.spki_decision.specs.declared.fault.GuardFault.{GuardFault}
-use Rattle.spki_decision.specs.declared.fault.GuardFault.TheVariants.{Memory, TooLarge}
+use Rattle.spki_decision.specs.declared.fault.GuardFault.TheVariants.{Memory}
 use Rattle.spki_service.specs.AccessLists.{AreEntries, DecidesPartly, IsEntryText, octets_of_texts}
+use Rattle.std.proofs.lemmas.Result.{IfOk-weaker}
 use Rattle.std.specs.declared.alloc.AllocError.{AllocError}
 use Rattle.std.specs.List.{AllByRecursion}
 use Rattle.spki_reduce.specs.Reduction.{Tuple, five, entry_tuple}
@@ -91,20 +92,17 @@ module _ (a : AskedOf) (verified : Verified) where
     agree = agrees verified (asked a.case) accepted
 
     pub decided_all : (r : Result Decision AllocError) → IfOk r (Decides every a) → IfOk r (Decides verified a)
-    decided_all (Ok d) h = λ es are. decision_by (with_entries a.case es) every verified agree d (h es are)
-    decided_all (Err fault) h = tt
+    decided_all r = IfOk-weaker r _ _ (λ d h es are. decision_by (with_entries a.case es) every verified agree d (h es are))
 
     pub explained_all : (r : Result Explanation GuardFault) → Answers (λ c x. IsExplained c every x) a r
         → Answers (λ c x. IsExplained c verified x) a r
-    explained_all (Ok d) h = λ es are. explained_by (with_entries a.case es) every verified agree (Ok d) (h es are)
-    explained_all (Err TooLarge) h = λ es are. explained_by (with_entries a.case es) every verified agree (Err TooLarge) (h es are)
     explained_all (Err Memory) h = tt
+    explained_all r h = λ es are. explained_by (with_entries a.case es) every verified agree r (h es are)
 
     pub reduced_all : (r : Result Reduction GuardFault) → Answers (λ c x. IsReduced c every x) a r
         → Answers (λ c x. IsReduced c verified x) a r
-    reduced_all (Ok d) h = λ es are. reduced_by (with_entries a.case es) every verified agree (Ok d) (h es are)
-    reduced_all (Err TooLarge) h = λ es are. reduced_by (with_entries a.case es) every verified agree (Err TooLarge) (h es are)
     reduced_all (Err Memory) h = tt
+    reduced_all r h = λ es are. reduced_by (with_entries a.case es) every verified agree r (h es are)
 
     folds_all : (failure : Option Failure) (folds : List EntryFold) → AreReduced a every failure folds → AreReduced a verified failure folds
     folds_all (Some f) folds (none, h) =
@@ -123,26 +121,31 @@ module _ (a : AskedOf) (verified : Verified) where
 
   -- ---- one is refused
 
+  module _ (item : ℕ) (stop : Stop) (fails : FailsAt a.case.policy verified a.case.items item stop) where
+    pub decided_failed : Decides verified a No
+    decided_failed = λ es are n g. none_shown a.case.policy verified a.case.items item stop g.tuples fails g.shown
+
+    failed : OfCase a (λ c. IsFailure c verified item stop)
+    failed = λ es are. failure (with_entries a.case es) verified item stop fails
+
+    pub folds_failed : AreReduced a verified (Some (record { item = item; stop = stop })) []
+    folds_failed = (refl, failed)
+
   module _ (place : ℕ) (r : RefusedAt verified (asked a.case) place) where
-    fails : FailsAt a.case.policy verified a.case.items r.refused.item NotAccepted
-    fails = not_accepted a.case.policy verified a.case.items (asked a.case) place refl r
+    fails : (item : ℕ) → item ≡ r.refused.item → FailsAt a.case.policy verified a.case.items item NotAccepted
+    fails item same = rw same (not_accepted a.case.policy verified a.case.items (asked a.case) place refl r)
 
     pub decided_none : Decides verified a No
-    decided_none = λ es are n g. none_shown a.case.policy verified a.case.items r.refused.item NotAccepted g.tuples fails g.shown
-
-    failed : (item : ℕ) → item ≡ r.refused.item → (c : Case) → c.policy ≡ a.case.policy → c.items ≡ a.case.items
-        → IsFailure c verified item NotAccepted
-    failed item same c policy items =
-        failure c verified item NotAccepted (rw (same, policy, items) fails)
+    decided_none = decided_failed r.refused.item NotAccepted (fails r.refused.item refl)
 
     pub explained_none : (item : ℕ) → item ≡ r.refused.item → Answers (λ c x. IsExplained c verified x) a (Ok (explanation.Evidence item NotAccepted))
-    explained_none item same = λ es are. failed item same (with_entries a.case es) refl refl
+    explained_none item same = failed item NotAccepted (fails item same)
 
     pub reduced_none : (item : ℕ) → item ≡ r.refused.item → Answers (λ c x. IsReduced c verified x) a (Ok (reduction.Evidence item NotAccepted))
-    reduced_none item same = λ es are. (failed item same (with_entries a.case es) refl refl, tt)
+    reduced_none item same = λ es are. (failed item NotAccepted (fails item same) es are, tt)
 
     pub folds_none : (item : ℕ) → item ≡ r.refused.item → AreReduced a verified (Some (record { item = item; stop = NotAccepted })) []
-    folds_none item same = (refl, λ es are. failed item same (with_entries a.case es) refl refl)
+    folds_none item same = folds_failed item NotAccepted (fails item same)
 
 -- ---- the same question, as its fields are
 
@@ -157,26 +160,18 @@ refused_there V kept items all place one r same are here =
 
 -- ---- every signature is accepted
 
-module _ (a : AskedOf) where
-  module _ (item : ℕ) (stop : Stop) (fails : FailsAt a.case.policy every a.case.items item stop) where
-    pub decided_failed : Decides every a No
-    decided_failed = λ es are n g. none_shown a.case.policy every a.case.items item stop g.tuples fails g.shown
+module _ (a : AskedOf) (tuples : List Tuple) (shown : AreShown a.case.policy every a.case.items tuples) where
+  is_kept : (es : List Entry) (kept : List (ℕ × Entry)) → AreKept (IsLeftOut (with_entries a.case es) tuples) 1 es kept
+      → IsKept (with_entries a.case es) every kept
+  is_kept es kept are others also = search (rules, one_list)
 
-    pub folds_failed : AreReduced a every (Some (record { item = item; stop = stop })) []
-    folds_failed = (refl, λ es are. failure (with_entries a.case es) every item stop fails)
-
-  module _ (tuples : List Tuple) (shown : AreShown a.case.policy every a.case.items tuples) where
-    is_kept : (es : List Entry) (kept : List (ℕ × Entry)) → AreKept (IsLeftOut (with_entries a.case es) tuples) 1 es kept
-        → IsKept (with_entries a.case es) every kept
-    is_kept es kept are others also = search (rules, one_list)
-
-    pub decided_partly : (r : Result Decision AllocError)
-        → ((es : List Entry) → AreEntries a.texts es → IfOk r (DecidesPartly (with_entries a.case es) tuples)) → IfOk r (Decides every a)
-    decided_partly (Ok d) partly = λ es are.
-        let h = partly es are in
-        let c = with_entries a.case es in
-        renumbered c every h.0 (is_kept es h.0 h.1) h.2.0 d (decided (kept_case c h.0) every tuples shown h.2.0 h.2.1) h.2.2
-    decided_partly (Err fault) partly = tt
+  pub decided_partly : (r : Result Decision AllocError)
+      → ((es : List Entry) → AreEntries a.texts es → IfOk r (DecidesPartly (with_entries a.case es) tuples)) → IfOk r (Decides every a)
+  decided_partly (Ok d) partly = λ es are.
+      let h = partly es are in
+      let c = with_entries a.case es in
+      renumbered c every h.0 (is_kept es h.0 h.1) h.2.0 d (decided (kept_case c h.0) every tuples shown h.2.0 h.2.1) h.2.2
+  decided_partly (Err fault) partly = tt
 
 -- ---- what the entries of texts become, one text after another
 

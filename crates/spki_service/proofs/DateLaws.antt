@@ -1,6 +1,7 @@
 -- Which date seconds are.
-use Rattle.std.proofs.Common.{◌≡◌, ℕ, ◌+◌, ◌-◌, ◌*◌, ◌/◌, ◌%◌, ◌<◌, ◌≤◌, Bool, true, false, ◌&&◌, nat_le, List, Option, Some, None, MatchOption, refl, sym, ap, subst, ◌∙◌, true≢false, arith, rules, inl, inr, neg_ℤ, ℤ, pos, negsuc, ◌*ℤ◌, ◌<ℤ◌, ◌≤ℤ◌, unsigned_abs}
+use Rattle.std.proofs.Common.{◌≡◌, ℕ, ◌+◌, ◌-◌, ◌*◌, ◌/◌, ◌%◌, ◌<◌, ◌≤◌, true, false, ◌&&◌, nat_le, List, Option, Some, None, MatchOption, refl, sym, ap, subst, ◌∙◌, true≢false, arith, rules, inl, inr, neg_ℤ, ℤ, pos, negsuc, ◌*ℤ◌, ◌<ℤ◌, ◌≤ℤ◌, unsigned_abs}
 use Rattle.std.proofs.lemmas.Bool.Decides.{nat_tests}
+use Rattle.std.proofs.lemmas.Bool.{and_from}
 use Rattle.std.proofs.lemmas.Int.{by_lt_z}
 use Rattle.jiff_core.specs.declared.civil.time.Time.{Time}
 use Rattle.jiff_core.specs.declared.civil.date.Date.{Date}
@@ -114,9 +115,6 @@ date_of seconds dt e late =
 
 -- ---- a date is one
 
-and : (a b : Bool) → a ≡ true → b ≡ true → a && b ≡ true
-and a b h k = rw (h, k) refl
-
 digit_true : (n : ℕ) → n < 10 → is_digit (48 + n) ≡ true
 digit_true n h = grind (arith, nat_tests)
 
@@ -126,12 +124,12 @@ le_true m n h = grind (arith, nat_tests)
 number_true : (n low high : ℕ) → n < 100 → low ≤ n → n ≤ high
     → (is_digit (48 + n / 10) && is_digit (48 + n % 10) && nat_le low (10 * ((48 + n / 10) - 48) + ((48 + n % 10) - 48))
     && nat_le (10 * ((48 + n / 10) - 48) + ((48 + n % 10) - 48)) high) ≡ true
-number_true n low high below h k = search (rules, digit_true, le_true, and)
+number_true n low high below h k = search (rules, digit_true, le_true, and_from)
 
 pub date_true : (year month day hour minute second : ℕ) → year < 10000 → 1 ≤ month → month ≤ 12 → 1 ≤ day → day ≤ 31
     → hour < 24 → minute < 60 → second < 60 → is_date (date_octets year month day hour minute second) ≡ true
 unfolding is_date is_time
-date_true year month day hour minute second low m n d e h i s = search (rules, number_true, and)
+date_true year month day hour minute second low m n d e h i s = search (rules, number_true, and_from)
 
 pub is_some_date : (seconds : ℤ) (octets : List ℕ) → IsDateAt seconds octets → is_date octets ≡ true
 is_some_date seconds octets d =

@@ -1,6 +1,6 @@
 -- The index of an access list: the numbers of the entries that pass a test, the numbers that the index has for a key,
 -- and the index with one entry more.
-use Rattle.std.proofs.Common.{◌≡◌, ℕ, List, [], ◌∷◌, length, refl, sym, arith, suc, ◌+◌, ◌<◌, Bool, true, false, cond, ◌&&◌, ◌||◌, ◌++◌, map, ap, ◌∙◌, append-nil, rules, ◌⊎◌, inl, inr, Vec, Option, Some, bytes_eq, reverse}
+use Rattle.std.proofs.Common.{◌≡◌, ℕ, List, [], ◌∷◌, length, refl, sym, arith, suc, ◌+◌, ◌<◌, Bool, true, false, cond, ◌&&◌, ◌||◌, ◌++◌, map, ap, ◌∙◌, append-nil, rules, inl, inr, Vec, Some, bytes_eq, reverse, Global}
 use Rattle.spki_tag.specs.Places.{merge}
 use Rattle.spki_tag.proofs.Places.{merge-nil, StartsAbove, merge-left, merge-right}
 use Rattle.std.proofs.lemmas.List.{map-append, reverse-reverse}
@@ -14,9 +14,8 @@ use Rattle.spki_cert.specs.declared.principal.Principal.{Principal}
 use Rattle.spki_cert.specs.declared.principal.Principal.TheVariants.{Key, Hash}
 use Rattle.spki_cert.specs.Naming.{names, admits, digest_of}
 use Rattle.spki_service.specs.declared.index.EntryIndex.{EntryIndex}
-use Rattle.std.specs.Option.{option_map_or}
-use Rattle.std.specs.declared.alloc.Global.{Global}
-use Rattle.std.proofs.lemmas.Bool.{cases_Bool, true≢false}
+use Rattle.std.proofs.lemmas.Bool.{cases_Bool}
+use Rattle.std.proofs.lemmas.Bool.Decides.{same_from_decides, Decides-like}
 use Rattle.std.proofs.lemmas.Slice.Eq.{bytes_eq-Decides}
 use Rattle.spki_case.specs.Lookups.{at_digest}
 
@@ -40,8 +39,7 @@ numbers_none n (e ∷ es) = numbers_none (suc n) es
 -- ---- one list behind another
 
 joined : (b : Bool) (k : ℕ × Entry) (ks ls : List (ℕ × Entry)) → cond b (k ∷ (ks ++ ls)) (ks ++ ls) ≡ cond b (k ∷ ks) ks ++ ls
-joined true k ks ls = refl
-joined false k ks ls = refl
+joined b k ks ls = grind arith
 
 pub kept-append : (n : ℕ) (p : Entry → Bool) (xs ys : List Entry)
     → kept_from n p (xs ++ ys) ≡ kept_from n p xs ++ kept_from (n + length xs) p ys
@@ -50,8 +48,7 @@ kept-append n p (x ∷ xs) ys = search (rules, joined, kept-append (suc n) p xs 
 
 last : (b : Bool) (numbers : List ℕ) (n : ℕ) (e : Entry)
     → numbers ++ map first (cond b ((n, e) ∷ []) []) ≡ cond b (numbers ++ n ∷ []) numbers
-last true numbers n e = refl
-last false numbers n e = append-nil numbers
+last b numbers n e = grind (arith, append-nil)
 
 -- one entry behind others
 pub numbers_more : (p : Entry → Bool) (es : List Entry) (e : Entry) (number : ℕ) → 1 + length es ≡ number
@@ -110,16 +107,12 @@ module _ (policy : Policy) (key : List ℕ) where
   apart_1 (Hash alg digest) = refl
 
   apart_2 : (p : Principal) → (one p && is_admitted policy Sha256 key p) ≡ false
-  apart_2 (Key own) = simp (and-false, or-false)
   apart_2 (Hash Sha1 digest) = simp and-false
-  apart_2 (Hash Sha256 digest) = simp and-false
-  apart_2 (Hash Sha512 digest) = simp and-false
+  apart_2 _ = simp (and-false, or-false)
 
   apart_3 : (p : Principal) → (two p && is_admitted policy Sha512 key p) ≡ false
-  apart_3 (Key own) = simp (and-false, or-false)
   apart_3 (Hash Sha1 digest) = simp and-false
-  apart_3 (Hash Sha256 digest) = simp and-false
-  apart_3 (Hash Sha512 digest) = simp and-false
+  apart_3 _ = simp (and-false, or-false)
 
   -- and one that names the key is of one of them
   named : (p : Principal) → (two p || is_admitted policy Sha512 key p) ≡ names policy p key
@@ -155,11 +148,7 @@ module _ (policy : Policy) (key : List ℕ) where
       → merge (merge (merge (numbers_of_key index key) (admitted_at index Sha1)) (admitted_at index Sha256)) (admitted_at index Sha512)
       ≡ numbers_from 1 (λ e. names policy e.subject.principal key) es
   found_all es index i =
-      ap (λ l. merge (merge (merge l (admitted_at index Sha1)) (admitted_at index Sha256)) (admitted_at index Sha512)) (i.keys key)
-      ∙ ap (λ l. merge (merge (merge (own_numbers es) l) (admitted_at index Sha256)) (admitted_at index Sha512)) (hash_at Sha1 es index i)
-      ∙ ap (λ l. merge (merge (merge (own_numbers es) (hash_numbers Sha1 es)) l) (admitted_at index Sha512)) (hash_at Sha256 es index i)
-      ∙ ap (λ l. merge (merge (merge (own_numbers es) (hash_numbers Sha1 es)) (hash_numbers Sha256 es)) l) (hash_at Sha512 es index i)
-      ∙ merged_named es
+      rw (i.keys key, hash_at Sha1 es index i, hash_at Sha256 es index i, hash_at Sha512 es index i) (merged_named es)
 
 -- ---- an index, where one entry comes behind others
 
@@ -184,33 +173,17 @@ pub put : (own other : List ℕ) (old new : NumberMap) (value : Vec ℕ Global) 
     → at_digest new other ≡ cond (bytes_eq own other) (Some value) (at_digest old other)
     → value.items ≡ numbers_at old own ++ number ∷ []
     → numbers_at new other ≡ cond (bytes_eq own other) (numbers_at old other ++ number ∷ []) (numbers_at old other)
-put own other old new value number found longer =
-    ap (λ (o : Option (Vec ℕ Global)). option_map_or (λ v. v.items) o []) found ∙ by (cases_Bool (bytes_eq own other))
-  where
-    by : (bytes_eq own other ≡ true) ⊎ (bytes_eq own other ≡ false)
-        → option_map_or (λ (v : Vec ℕ Global). v.items) (cond (bytes_eq own other) (Some value) (at_digest old other)) []
-        ≡ cond (bytes_eq own other) (numbers_at old other ++ number ∷ []) (numbers_at old other)
-    by (inl same) =
-        rw same (longer ∙ ap (λ l. numbers_at old l ++ number ∷ []) ((bytes_eq-Decides own other).0 same))
-    by (inr apart) = rw apart refl
+put own other old new value number found longer = rw found (elim (cases_Bool (bytes_eq own other)) [
+  | inl same ↦ rw same (longer ∙ ap (λ l. numbers_at old l ++ number ∷ []) ((bytes_eq-Decides own other).0 same))
+  | inr apart ↦ rw apart refl
+])
 
 -- ---- octets from the last to the first
 
 pub turned_eq : (a b : List ℕ) → bytes_eq (reverse a) (reverse b) ≡ bytes_eq a b
-turned_eq a b = by (cases_Bool (bytes_eq a b)) (cases_Bool (bytes_eq (reverse a) (reverse b)))
-  where
-    straight : reverse a ≡ reverse b → a ≡ b
-    straight e = sym (reverse-reverse a) ∙ ap reverse e ∙ reverse-reverse b
-
-    by : (bytes_eq a b ≡ true) ⊎ (bytes_eq a b ≡ false)
-        → (bytes_eq (reverse a) (reverse b) ≡ true) ⊎ (bytes_eq (reverse a) (reverse b) ≡ false)
-        → bytes_eq (reverse a) (reverse b) ≡ bytes_eq a b
-    by (inl same) (inl turned) = turned ∙ sym same
-    by (inr apart) (inr turned) = turned ∙ sym apart
-    by (inl same) (inr turned) =
-        absurd (true≢false (sym ((bytes_eq-Decides (reverse a) (reverse b)).1 (ap reverse ((bytes_eq-Decides a b).0 same))) ∙ turned))
-    by (inr apart) (inl turned) =
-        absurd (true≢false (sym ((bytes_eq-Decides a b).1 (straight ((bytes_eq-Decides (reverse a) (reverse b)).0 turned))) ∙ apart))
+turned_eq a b =
+    same_from_decides (bytes_eq (reverse a) (reverse b)) (bytes_eq a b) (bytes_eq-Decides (reverse a) (reverse b))
+    (Decides-like (bytes_eq a b) (ap reverse) (λ e. sym (reverse-reverse a) ∙ ap reverse e ∙ reverse-reverse b) (bytes_eq-Decides a b))
 
 -- a number more at a key's octets, as they are kept
 pub put_key : (own octets : List ℕ) (old new : NumberMap) (number : ℕ)

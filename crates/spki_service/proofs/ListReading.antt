@@ -1,6 +1,6 @@
 -- How a text is read as an access list. It is one list or has one fault.
-use Rattle.std.proofs.Common.{◌≡◌, ◌≢◌, inl, inr, ℕ, ◌≤◌, List, Vec, map, length, sym, subst, Result, Ok, Err, IfOk, IfErr, rules, ◌++◌, ap, ◌∙◌}
-use Rattle.std.specs.declared.alloc.Global.{Global}
+use Rattle.std.proofs.Common.{◌≡◌, ◌≢◌, inl, inr, ℕ, ◌≤◌, List, Vec, map, length, sym, subst, Result, IfOk, IfErr, rules, ◌++◌, ap, ◌∙◌, Global, codes}
+use Rattle.std.proofs.lemmas.Result.{IfOk-weaker, IfErr-weaker}
 use Rattle.std.proofs.lemmas.Slice.Zip.{AllZip-long}
 use Rattle.sexpr_core.specs.Value.{Value, canon}
 use Rattle.sexpr_text.specs.AdvancedForm.{IsTextWithin}
@@ -13,7 +13,6 @@ use Rattle.spki_service.specs.declared.list_fault.AclFault.{AclFault}
 use Rattle.spki_service.specs.declared.list_fault.AclFault.TheVariants as faults
 use Rattle.spki_service.specs.AccessLists.{Held, AreEntries, HoldsValue, HoldsList, octets_of_texts, IsNoAcl, IsNoAccessList, ListRefused}
 use Rattle.spki_service.proofs.SelectedEntries.{held}
-use Rattle.std.specs.Prelude.{codes}
 use Rattle.spki_cert.specs.StructureFaults.{behind_version}
 use Rattle.spki_cert.proofs.Looking.{same_others}
 use Rattle.spki_cert.proofs.EntryFaultLaws.{entries-behind}
@@ -45,13 +44,11 @@ many v es a = sym (AllZip-long EntryOf a.entries es a.each)
 pub list_refused : {A : Type 0} (v w : Value) (r : Result A AclFault) → w ≡ v → length (canon v) ≤ 1048576
     → IfErr r (λ fault. fault ≢ faults.Memory → (inner : CertFault) × (fault ≡ faults.Acl inner) × IsNoAcl inner w)
     → IfErr r (λ fault. fault ≢ faults.Memory → ListRefused v fault)
-list_refused v w (Ok a) same short h = tt
-list_refused v w (Err fault) same short h = search rules
+list_refused v w r same short = IfErr-weaker r _ _ (λ fault h found. search rules)
 
 pub value_there : (v w : Value) (r : Result Held AclFault) → w ≡ v → length (canon v) ≤ 1048576 → IfOk r (λ g. HoldsValue w g.texts)
     → IfOk r (λ g. (length (canon v) ≤ 1048576) × HoldsValue v g.texts)
-value_there v w (Ok g) same short h = (short, subst (λ u. HoldsValue u g.texts) same h)
-value_there v w (Err fault) same short h = tt
+value_there v w r same short = IfOk-weaker r _ _ (λ g h. (short, subst (λ u. HoldsValue u g.texts) same h))
 
 -- ---- a text of which the value is known
 
@@ -62,20 +59,17 @@ holds_list text v texts meant short h =
 
 pub converted_held : (text : List ℕ) (v : Value) → IsTextWithin text v → (r : Result Held AclFault)
     → IfOk r (λ g. (length (canon v) ≤ 1048576) × HoldsValue v g.texts) → IfOk r (λ g. HoldsList text g.texts)
-converted_held text v meant (Ok g) h = holds_list text v g.texts meant h.0 h.1
-converted_held text v meant (Err fault) h = tt
+converted_held text v meant r = IfOk-weaker r _ _ (λ g h. holds_list text v g.texts meant h.0 h.1)
 
 module _ (text : List ℕ) (v w : Value) (same : w ≡ v) (meant : IsTextWithin text v) where
   pub list_held : (r : Result Held AclFault) → length (canon v) ≤ 1048576 → IfOk r (λ g. HoldsValue w g.texts)
       → IfOk r (λ g. HoldsList text g.texts)
-  list_held (Ok g) short h = holds_list text v g.texts meant short (subst (λ u. HoldsValue u g.texts) same h)
-  list_held (Err fault) short h = tt
+  list_held r short = IfOk-weaker r _ _ (λ g h. holds_list text v g.texts meant short (subst (λ u. HoldsValue u g.texts) same h))
 
   pub list_refused_text : (r : Result Held AclFault) → length (canon v) ≤ 1048576
       → IfErr r (λ fault. fault ≢ faults.Memory → (inner : CertFault) × (fault ≡ faults.Acl inner) × IsNoAcl inner w)
       → IfErr r (λ fault. fault ≢ faults.Memory → IsNoAccessList text fault)
-  list_refused_text (Ok g) short h = tt
-  list_refused_text (Err fault) short h = search rules
+  list_refused_text r short = IfErr-weaker r _ _ (λ fault h found. search rules)
 
 -- ---- a text is read as one access list or has one fault
 

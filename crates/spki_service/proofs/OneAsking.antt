@@ -1,15 +1,12 @@
 -- A question asks one case or has one refusal.
-use Rattle.std.proofs.Common.{◌≡◌, ◌≢◌, ◌⊎◌, ℕ, List, inl, inr, Option, Some, refl, sym, ap, subst, ◌∙◌, rules, ◌≤◌, arith}
+use Rattle.std.proofs.Common.{◌≡◌, ◌⊎◌, ℕ, List, inl, inr, Option, Some, refl, sym, ap, subst, ◌∙◌, rules, ◌≤◌, arith}
 use Rattle.sexpr_core.specs.declared.fault.FormFault.{FormFault}
 use Rattle.sexpr_core.specs.declared.fault.FormFault.TheVariants.{TooLong, Memory}
-use Rattle.sexpr_core.specs.Reading.{IsOfForm}
 use Rattle.sexpr_core.specs.Value.{Value}
 use Rattle.sexpr_text.specs.AdvancedForm.{IsText, IsTextWithin}
 use Rattle.sexpr_text.proofs.OneValue.{one_value}
 use Rattle.sexpr_text.proofs.OneRefusal.{one_of_any}
-use Rattle.spki_tag.specs.declared.fault.TagFault.{TagFault}
 use Rattle.spki_tag.proofs.RequestReading.{request_only}
-use Rattle.spki_cert.specs.declared.fault.CertFault.{CertFault}
 use Rattle.spki_cert.specs.declared.fault.CertFaultKind.{CertFaultKind}
 use Rattle.spki_cert.proofs.OneReading.{key-one, date-one, sequence-one}
 use Rattle.spki_case.specs.Case.{Case}
@@ -22,10 +19,8 @@ use Rattle.spki_service.specs.declared.question.Part.{Part}
 use Rattle.spki_service.specs.declared.question.Part.TheVariants as parts
 use Rattle.spki_service.specs.declared.question.AskFault.{AskFault}
 use Rattle.spki_service.specs.declared.question.AskFault.TheVariants as faults
-use Rattle.spki_service.specs.Questions.{RefusesForm, Reads, LacksForm, IsWanted, RefusesWanted, IsAskedAt, IsAskedCase, IsNoSequenceFor, IsNoKeyFor, IsNoRequestFor, ReadsSequence, ReadsKey, ReadsRequest, ReadsBefore, LacksFormOfMoment, LacksFormAt, IsAskedAtNone, IsNotAsked, certificates_in, HasFewStrings, HasManyCertificates, HasManyStrings, IsTooMany, IsRefused}
+use Rattle.spki_service.specs.Questions.{RefusesForm, Reads, LacksForm, IsNoDateFor, IsWanted, RefusesWanted, IsAskedAt, IsAskedCase, IsNoSequenceFor, IsNoKeyFor, IsNoRequestFor, ReadsSequence, ReadsKey, ReadsRequest, ReadsBefore, LacksFormOfMoment, IsAskedAtNone, IsNotAsked, certificates_in, HasFewStrings, HasManyCertificates, HasManyStrings, IsTooMany, IsRefused}
 use Rattle.spki_service.proofs.DateLaws.{no_date, one_date}
-
--- ---- a question asks one case or has one fault
 
 -- ---- texts
 
@@ -36,18 +31,12 @@ text_is text v (inr m) = inr m.braced
 pub text_one : (text : List ℕ) (v w : Value) → IsTextWithin text v → IsTextWithin text w → v ≡ w
 text_one text v w m n = one_value text v w (text_is text v m) (text_is text w n)
 
-too_long_or : (fault : FormFault) → fault ≢ Memory → (fault ≡ TooLong) ⊎ IsOfForm fault
-too_long_or TooLong found = inl refl
-too_long_or Memory found = absurd (found refl)
-too_long_or _ found = inr tt
-
 pub refuses_one : (text : List ℕ) (e f : FormFault) → RefusesForm text e → RefusesForm text f → e ≡ f
-refuses_one text e f a b = by (too_long_or e a.found) (too_long_or f b.found)
-  where
-    by : (e ≡ TooLong) ⊎ IsOfForm e → (f ≡ TooLong) ⊎ IsOfForm f → e ≡ f
-    by (inl p) q = p ∙ sym (b.long.1 (a.long.0 p))
-    by (inr p) (inl q) = a.long.1 (b.long.0 q) ∙ sym q
-    by (inr p) (inr q) = one_of_any text e f p q a.refused b.refused
+refuses_one text TooLong f a b = sym (b.long.1 (a.long.0 refl))
+refuses_one text e TooLong a b = a.long.1 (b.long.0 refl)
+refuses_one text Memory f a b = absurd (a.found refl)
+refuses_one text e Memory a b = absurd (b.found refl)
+refuses_one text e f a b = one_of_any text e f tt tt a.refused b.refused
 
 -- ---- parts of which each means one value
 
@@ -87,6 +76,45 @@ module _ {means : Value → Type 0} {refuses : FormFault → Type 0} (laws : Mea
 pub some-one : {A : Type 0} {found : Option A} {a b : A} → found ≡ Some a → found ≡ Some b → a ≡ b
 some-one e f = cc
 
+-- ---- faults of a part
+
+module _ {means : Value → Type 0} {refuses : FormFault → Type 0} (laws : MeansOne means refuses) (part : Part)
+    {X : Type 0} (named : X → AskFault) (none : X → Value → Type 0) where
+  -- the part has no value, or its value is refused
+  abbrev Lacks : AskFault → Type 0
+  Lacks fault =
+      ((form : FormFault) × (fault ≡ faults.Form part form) × LacksForm means refuses form) ⊎ ((x : X) × (fault ≡ named x) × Reads means (none x))
+
+  lacks_unread : {P : Value → Type 0} → ((x : X) (v : Value) → none x v → ¬ P v) → (f : AskFault) → Lacks f → ¬ Reads means P
+  lacks_unread never f (inl (form, is, lacks)) a = form_unread laws form lacks a
+  lacks_unread never f (inr (x, is, n)) a = let b = both laws n a in never x b.value b.one b.other
+
+  lacks_one : ((x y : X) (v : Value) → none x v → none y v → x ≡ y) → (f g : AskFault) → Lacks f → Lacks g → f ≡ g
+  lacks_one same f g (inl (e, is, a)) (inl (h, at, b)) = is ∙ ap (faults.Form part) (form_one laws e h a b) ∙ sym at
+  lacks_one same f g (inl (e, is, a)) (inr (y, at, n)) = absurd (form_unread laws e a n)
+  lacks_one same f g (inr (x, is, m)) (inl (h, at, b)) = absurd (form_unread laws h b m)
+  lacks_one same f g (inr (x, is, m)) (inr (y, at, n)) =
+      let b = both laws m n in is ∙ ap named (same x y b.value b.one b.other) ∙ sym at
+
+-- what a moment lacks
+abbrev pub MomentLacks : of_question.Moment → AskFault → Type 0
+MomentLacks m fault =
+    ((form : FormFault) × (fault ≡ faults.Form parts.Moment form) × LacksFormOfMoment m form)
+    ⊎ ((kind : CertFaultKind) × (fault ≡ faults.Moment kind) × IsAskedAtNone m kind)
+
+moment_unread : (m : of_question.Moment) (fault : AskFault) (date : List ℕ) → MomentLacks m fault → ¬ IsAskedAt m date
+moment_unread (moments.Text text) fault date n a =
+    lacks_unread (of_text text.now) parts.Moment faults.Moment IsNoDateFor (λ x v no. no.none date) fault n a
+moment_unread (moments.Seconds seconds) fault date (inl (form, is, lacks)) a = lacks
+moment_unread (moments.Seconds seconds) fault date (inr (kind, is, n)) a = no_date seconds date n.1 a
+
+moment_one : (m : of_question.Moment) (f g : AskFault) → MomentLacks m f → MomentLacks m g → f ≡ g
+moment_one (moments.Text text) f g m n =
+    lacks_one (of_text text.now) parts.Moment faults.Moment IsNoDateFor (λ x y v a b. a.named ∙ sym b.named) f g m n
+moment_one (moments.Seconds seconds) f g (inl (form, is, lacks)) n = absurd lacks
+moment_one (moments.Seconds seconds) f g (inr m) (inl (form, is, lacks)) = absurd lacks
+moment_one (moments.Seconds seconds) f g (inr (x, is, m)) (inr (y, at, n)) = is ∙ ap faults.Moment (m.0 ∙ sym n.0) ∙ sym at
+
 -- ---- the parts of a question
 
 -- a part is read
@@ -96,85 +124,27 @@ ReadsPart q parts.Key = ReadsKey q
 ReadsPart q parts.Request = ReadsRequest q
 ReadsPart q parts.Moment = (date : List ℕ) × IsAskedAt q.moment date
 
--- a fault of the value of a part, or of its seconds
-abbrev LacksValue : Question → Part → AskFault → Type 0
-LacksValue q parts.Sequence fault = (inner : CertFault) × (fault ≡ faults.Sequence inner) × Reads (IsTextWithin q.sequence.now) (IsNoSequenceFor inner)
-LacksValue q parts.Key fault = (kind : CertFaultKind) × (fault ≡ faults.Key kind) × Reads (IsTextWithin q.key.now) (IsNoKeyFor kind)
-LacksValue q parts.Request fault = (inner : TagFault) × (fault ≡ faults.Request inner) × Reads (IsWanted q.request) (IsNoRequestFor inner)
-LacksValue q parts.Moment fault = (kind : CertFaultKind) × (fault ≡ faults.Moment kind) × IsAskedAtNone q.moment kind
-
 -- a fault of a part
 abbrev LacksPart : Question → Part → AskFault → Type 0
-LacksPart q part fault = ((form : FormFault) × (fault ≡ faults.Form part form) × LacksFormAt q part form) ⊎ LacksValue q part fault
-
-moment_form_unread : (m : of_question.Moment) (form : FormFault) (date : List ℕ) → LacksFormOfMoment m form → ¬ IsAskedAt m date
-moment_form_unread (moments.Text text) form date lacks a = form_unread (of_text text.now) form lacks a
-moment_form_unread (moments.Seconds seconds) form date lacks a = lacks
-
-moment_none : (m : of_question.Moment) (kind : CertFaultKind) (date : List ℕ) → IsAskedAtNone m kind → ¬ IsAskedAt m date
-moment_none (moments.Text text) kind date n a = let b = both (of_text text.now) n a in b.one.none date b.other
-moment_none (moments.Seconds seconds) kind date n a = no_date seconds date n.1 a
-
-form_unread_at : (q : Question) (part : Part) (form : FormFault) → LacksFormAt q part form → ¬ ReadsPart q part
-form_unread_at q parts.Sequence form lacks (items, a) = form_unread (of_text q.sequence.now) form lacks a
-form_unread_at q parts.Key form lacks (key, a) = form_unread (of_text q.key.now) form lacks a
-form_unread_at q parts.Request form lacks (g, a) = form_unread (of_wanted q.request) form lacks a
-form_unread_at q parts.Moment form lacks (date, a) = moment_form_unread q.moment form date lacks a
-
-value_unread : (q : Question) (part : Part) (fault : AskFault) → LacksValue q part fault → ¬ ReadsPart q part
-value_unread q parts.Sequence fault (inner, is, n) (items, a) = let b = both (of_text q.sequence.now) n a in b.one.none items b.other
-value_unread q parts.Key fault (kind, is, n) (key, a) = let b = both (of_text q.key.now) n a in b.one.none key b.other
-value_unread q parts.Request fault (inner, is, n) (g, a) = let b = both (of_wanted q.request) n a in b.one.none g b.other
-value_unread q parts.Moment fault (kind, is, n) (date, a) = moment_none q.moment kind date n a
+LacksPart q parts.Sequence = Lacks (of_text q.sequence.now) parts.Sequence faults.Sequence IsNoSequenceFor
+LacksPart q parts.Key = Lacks (of_text q.key.now) parts.Key faults.Key IsNoKeyFor
+LacksPart q parts.Request = Lacks (of_wanted q.request) parts.Request faults.Request IsNoRequestFor
+LacksPart q parts.Moment = MomentLacks q.moment
 
 unread : (q : Question) (part : Part) (fault : AskFault) → LacksPart q part fault → ¬ ReadsPart q part
-unread q part fault (inl (form, is, lacks)) a = form_unread_at q part form lacks a
-unread q part fault (inr n) a = value_unread q part fault n a
-
--- ---- one fault of a part
-
-moment_form_one : (m : of_question.Moment) (e f : FormFault) → LacksFormOfMoment m e → LacksFormOfMoment m f → e ≡ f
-moment_form_one (moments.Text text) e f a b = form_one (of_text text.now) e f a b
-moment_form_one (moments.Seconds seconds) e f a b = absurd a
-
-form_one_at : (q : Question) (part : Part) (e f : FormFault) → LacksFormAt q part e → LacksFormAt q part f → e ≡ f
-form_one_at q parts.Sequence e f a b = form_one (of_text q.sequence.now) e f a b
-form_one_at q parts.Key e f a b = form_one (of_text q.key.now) e f a b
-form_one_at q parts.Request e f a b = form_one (of_wanted q.request) e f a b
-form_one_at q parts.Moment e f a b = moment_form_one q.moment e f a b
-
-kind_one : (m : of_question.Moment) (k l : CertFaultKind) → IsAskedAtNone m k → IsAskedAtNone m l → k ≡ l
-kind_one (moments.Text text) k l a b = a.is.named ∙ sym b.is.named
-kind_one (moments.Seconds seconds) k l a b = a.0 ∙ sym b.0
-
-value_one : (q : Question) (part : Part) (f g : AskFault) → LacksValue q part f → LacksValue q part g → f ≡ g
-value_one q parts.Sequence f g (x, is, m) (y, at, n) =
-    let b = both (of_text q.sequence.now) m n in
-    is ∙ ap faults.Sequence (some-one b.one.named b.other.named) ∙ sym at
-value_one q parts.Key f g (x, is, m) (y, at, n) =
-    let b = both (of_text q.key.now) m n in
-    is ∙ ap faults.Key (some-one b.one.named b.other.named) ∙ sym at
-value_one q parts.Request f g (x, is, m) (y, at, n) =
-    let b = both (of_wanted q.request) m n in
-    is ∙ ap faults.Request (some-one b.one.named b.other.named) ∙ sym at
-value_one q parts.Moment f g (x, is, m) (y, at, n) = is ∙ ap faults.Moment (kind_one q.moment x y m n) ∙ sym at
-
--- a part that lacks a form means no value, and so none that is refused
-form_no_value_of_moment : (m : of_question.Moment) (form : FormFault) (kind : CertFaultKind) → LacksFormOfMoment m form → ¬ IsAskedAtNone m kind
-form_no_value_of_moment (moments.Text text) form kind lacks n = form_unread (of_text text.now) form lacks n
-form_no_value_of_moment (moments.Seconds seconds) form kind lacks n = lacks
-
-form_no_value : (q : Question) (part : Part) (form : FormFault) (fault : AskFault) → LacksFormAt q part form → ¬ LacksValue q part fault
-form_no_value q parts.Sequence form fault lacks (x, is, n) = form_unread (of_text q.sequence.now) form lacks n
-form_no_value q parts.Key form fault lacks (x, is, n) = form_unread (of_text q.key.now) form lacks n
-form_no_value q parts.Request form fault lacks (x, is, n) = form_unread (of_wanted q.request) form lacks n
-form_no_value q parts.Moment form fault lacks (x, is, n) = form_no_value_of_moment q.moment form x lacks n
+unread q parts.Sequence f n (items, a) =
+    lacks_unread (of_text q.sequence.now) parts.Sequence faults.Sequence IsNoSequenceFor (λ x v no. no.none items) f n a
+unread q parts.Key f n (key, a) = lacks_unread (of_text q.key.now) parts.Key faults.Key IsNoKeyFor (λ x v no. no.none key) f n a
+unread q parts.Request f n (g, a) =
+    lacks_unread (of_wanted q.request) parts.Request faults.Request IsNoRequestFor (λ x v no. no.none g) f n a
+unread q parts.Moment f n (date, a) = moment_unread q.moment f date n a
 
 part_one : (q : Question) (part : Part) (f g : AskFault) → LacksPart q part f → LacksPart q part g → f ≡ g
-part_one q part f g (inl (e, is, a)) (inl (h, at, b)) = is ∙ ap (faults.Form part) (form_one_at q part e h a b) ∙ sym at
-part_one q part f g (inl (e, is, a)) (inr n) = absurd (form_no_value q part e g a n)
-part_one q part f g (inr n) (inl (h, at, b)) = absurd (form_no_value q part h f b n)
-part_one q part f g (inr m) (inr n) = value_one q part f g m n
+part_one q parts.Sequence =
+    lacks_one (of_text q.sequence.now) parts.Sequence faults.Sequence IsNoSequenceFor (λ x y v m n. some-one m.named n.named)
+part_one q parts.Key = lacks_one (of_text q.key.now) parts.Key faults.Key IsNoKeyFor (λ x y v m n. some-one m.named n.named)
+part_one q parts.Request = lacks_one (of_wanted q.request) parts.Request faults.Request IsNoRequestFor (λ x y v m n. some-one m.named n.named)
+part_one q parts.Moment = moment_one q.moment
 
 -- ---- one fault of a question
 
@@ -185,6 +155,7 @@ record LacksFirst (q : Question) (fault : AskFault) : Type 0 where
   lacks : LacksPart q part fault
 
 first_of : (q : Question) (fault : AskFault) → IsNotAsked q fault → LacksFirst q fault
+first_of q (faults.Form parts.Sequence form) n = record { part = parts.Sequence; before = n.0; lacks = inl (form, refl, n.1) }
 first_of q (faults.Form part form) n = record { part = part; before = n.0; lacks = inl (form, refl, n.1) }
 first_of q (faults.Sequence inner) n = record { part = parts.Sequence; before = tt; lacks = inr (inner, refl, n) }
 first_of q (faults.Key kind) n = record { part = parts.Key; before = n.0; lacks = inr (kind, refl, n.1) }
@@ -195,21 +166,10 @@ first_of q _ n = absurd n
 -- of two parts the earlier is read where the later is the first that isn't
 ordered : (q : Question) (f g : AskFault) (p r : Part) → ReadsBefore q p → ReadsBefore q r → LacksPart q p f → LacksPart q r g → f ≡ g
 ordered q f g parts.Sequence parts.Sequence a b m n = part_one q parts.Sequence f g m n
-ordered q f g parts.Sequence parts.Key a b m n = absurd (unread q parts.Sequence f m b)
-ordered q f g parts.Sequence parts.Request a b m n = absurd (unread q parts.Sequence f m b.0)
-ordered q f g parts.Sequence parts.Moment a b m n = absurd (unread q parts.Sequence f m b.0)
-ordered q f g parts.Key parts.Sequence a b m n = absurd (unread q parts.Sequence g n a)
 ordered q f g parts.Key parts.Key a b m n = part_one q parts.Key f g m n
-ordered q f g parts.Key parts.Request a b m n = absurd (unread q parts.Key f m b.1)
-ordered q f g parts.Key parts.Moment a b m n = absurd (unread q parts.Key f m b.1.0)
-ordered q f g parts.Request parts.Sequence a b m n = absurd (unread q parts.Sequence g n a.0)
-ordered q f g parts.Request parts.Key a b m n = absurd (unread q parts.Key g n a.1)
 ordered q f g parts.Request parts.Request a b m n = part_one q parts.Request f g m n
-ordered q f g parts.Request parts.Moment a b m n = absurd (unread q parts.Request f m b.1.1)
-ordered q f g parts.Moment parts.Sequence a b m n = absurd (unread q parts.Sequence g n a.0)
-ordered q f g parts.Moment parts.Key a b m n = absurd (unread q parts.Key g n a.1.0)
-ordered q f g parts.Moment parts.Request a b m n = absurd (unread q parts.Request g n a.1.1)
 ordered q f g parts.Moment parts.Moment a b m n = part_one q parts.Moment f g m n
+ordered q f g p r a b m n = search (rules, unread q p f m, unread q r g n)
 
 pub fault-one : (q : Question) (f g : AskFault) → IsNotAsked q f → IsNotAsked q g → f ≡ g
 fault-one q f g m n =

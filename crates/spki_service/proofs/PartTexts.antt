@@ -1,15 +1,12 @@
 -- The texts of a question's parts: what is read from them and from their copies, how many strings a request has, and
 -- the text of a request that is given by its strings.
-use Rattle.std.proofs.Common.{◌≡◌, ◌≢◌, ◌⊎◌, ℕ, List, [], inl, inr, refl, sym, subst, Result, Ok, Err, IfOk, IfErr, Vec, ◌∙◌, ap, rules, ◌≤◌, ◌<◌, ◌∷◌, Bool, true, false, Option, Some, None, MatchOption, ◌+◌, ◌*◌, ◌/◌, ◌%◌, ◌++◌, length, map, take, drop, get_or, arith, length-append}
-use Rattle.std.specs.Prelude.{IsErrAnd}
-use Rattle.std.specs.declared.alloc.Global.{Global}
+use Rattle.std.proofs.Common.{◌≡◌, ◌≢◌, ℕ, List, [], inl, inr, refl, sym, subst, Result, Ok, Err, IfOk, IfErr, Vec, ◌∙◌, ap, rules, ◌≤◌, ◌<◌, ◌∷◌, Bool, true, false, Option, Some, None, MatchOption, ◌+◌, ◌*◌, ◌/◌, ◌%◌, ◌++◌, length, map, take, drop, get_or, arith, length-append, IsErrAnd, Global, Bor}
 use Rattle.sexpr_core.specs.declared.fault.FormFault.{FormFault}
 use Rattle.sexpr_core.specs.Value.{Value, canon, IsWithinLimits, values, plain, group, decimal, verbatim, canons, depths, IsShallow}
 use Rattle.sexpr_text.specs.AdvancedForm.{IsTextWithin}
 use Rattle.sexpr_text.proofs.Printed.{canonical_spelled}
 use Rattle.spki_tag.specs.Request.{Request}
 use Rattle.spki_cert.specs.declared.certificate.SeqItem.{SeqItem}
-use Rattle.spki_cert.specs.declared.fault.CertFaultKind.{CertFaultKind}
 use Rattle.spki_cert.specs.declared.fault.CertFaultKind.TheVariants as kinds
 use Rattle.spki_cert.specs.Readings.{KeyOf, DateOf}
 use Rattle.spki_cert.specs.Structures.{SeqOf}
@@ -27,14 +24,13 @@ use Rattle.spki_service.specs.declared.texts.PartText.TheVariants.{Standing, Mad
 use Rattle.spki_service.specs.declared.texts.MomentText.{MomentText}
 use Rattle.spki_service.specs.declared.texts.MomentText.TheVariants as of_moment
 use Rattle.spki_service.specs.declared.texts.Texts.{Texts}
-use Rattle.spki_service.specs.Questions.{RefusesForm, Reads, LacksForm, RefusesWanted, IsAskedAt, IsAskedCase, ReadsSequence, ReadsKey, ReadsRequest, LacksFormOfMoment, IsAskedAtNone, IsNotAsked, IsWanted, strings_in, TellsStrings, TellsStringsOf, HasFewStrings, words_value}
+use Rattle.spki_service.specs.Questions.{RefusesForm, Reads, LacksForm, RefusesWanted, IsAskedAt, IsAskedCase, ReadsSequence, ReadsKey, ReadsRequest, IsNotAsked, IsWanted, strings_in, TellsStrings, TellsStringsOf, HasFewStrings, words_value}
 use Rattle.spki_service.specs.GuardQuestions.{IsReadAs, IsMomentText, IsTextsOf, OfText, HasDate, NamesForm, NamesPart, NamesSequence, NamesKey, NamesRequest, NamesDate, IsKeptOf, IsCopyOf, IsMomentCopy, AreCopies}
 use Rattle.spki_decision.specs.declared.decision.Decision.{Decision}
 use Rattle.spki_decision.specs.Standing.{Signed}
 use Rattle.spki_service.specs.AccessLists.{Held}
 use Rattle.spki_tag.proofs.TagReading.{weight, weights}
-use Rattle.spki_service.proofs.OneAsking.{form_unread, of_wanted}
-use Rattle.std.specs.Borrow.{Bor}
+use Rattle.spki_service.proofs.OneAsking.{form_unread, of_wanted, MomentLacks}
 use Rattle.std.proofs.lemmas.List.{map-append, take_all, take-append-drop, length-map}
 use Rattle.sexpr_core.proofs.Texts.{decimal_digit, decimal_more, verbatim_is}
 use Rattle.sexpr_core.proofs.TreeLaws.{canons-append, member_written}
@@ -92,28 +88,16 @@ form_named means refuses part (Malformed form) fault r n =
 
 asked_at : (m : of_question.Moment) (text : MomentText) (date : List ℕ) → IsMomentText m text → HasDate text date → IsAskedAt m date
 asked_at (moments.Text text) (of_moment.Text part) date r h = said_read _ (RefusesForm text.now) (λ v. DateOf v date) part r h
-asked_at (moments.Text text) (of_moment.At octets) date r h = absurd r
-asked_at (moments.Text text) of_moment.Dateless date r h = absurd r
-asked_at (moments.Seconds seconds) (of_moment.Text part) date r h = absurd r
 asked_at (moments.Seconds seconds) (of_moment.At octets) date r h = rw h r
-asked_at (moments.Seconds seconds) of_moment.Dateless date r h = absurd h
-
--- what a moment lacks
-abbrev MomentLacks : of_question.Moment → AskFault → Type 0
-MomentLacks m fault =
-    ((form : FormFault) × (fault ≡ faults.Form parts.Moment form) × LacksFormOfMoment m form)
-    ⊎ ((kind : CertFaultKind) × (fault ≡ faults.Moment kind) × IsAskedAtNone m kind)
+asked_at m text date r h = search
 
 moment_named : (m : of_question.Moment) (text : MomentText) (fault : AskFault) → IsMomentText m text → NamesDate text fault
     → MomentLacks m fault
 moment_named (moments.Text text) (of_moment.Text part) fault r (inl n) =
     inl (form_named _ (RefusesForm text.now) parts.Moment part fault r n)
 moment_named (moments.Text text) (of_moment.Text part) fault r (inr h) = search (rules, said_read)
-moment_named (moments.Text text) (of_moment.At octets) fault r h = absurd r
-moment_named (moments.Text text) of_moment.Dateless fault r h = absurd r
-moment_named (moments.Seconds seconds) (of_moment.Text part) fault r h = absurd r
-moment_named (moments.Seconds seconds) (of_moment.At octets) fault r h = absurd h
 moment_named (moments.Seconds seconds) of_moment.Dateless fault r h = inr (kinds.BadDate, h, (refl, r))
+moment_named m text fault r h = search
 
 module _ (q : Question) (texts : Texts) (t : IsTextsOf q texts) where
   pub asked_case : (c : Case) → c.entries ≡ [] → c.rows ≡ [] → OfText texts.sequence (λ v. SeqOf v c.items)
@@ -147,11 +131,10 @@ module _ (q : Question) (texts : Texts) (t : IsTextsOf q texts) where
 
   pub moment_lacks : (fault : AskFault) → ReadsSequence q × (ReadsKey q × ReadsRequest q) → NamesDate texts.moment fault
       → IsNotAsked q fault
-  moment_lacks fault before n = by (moment_named q.moment texts.moment fault t.moment n)
-    where
-      by : MomentLacks q.moment fault → IsNotAsked q fault
-      by (inl f) = subst (IsNotAsked q) (sym f.1) (before, f.2)
-      by (inr k) = subst (IsNotAsked q) (sym k.1) (before, k.2)
+  moment_lacks fault before n = elim (moment_named q.moment texts.moment fault t.moment n) [
+    | inl f ↦ subst (IsNotAsked q) (sym f.1) (before, f.2)
+    | inr k ↦ subst (IsNotAsked q) (sym k.1) (before, k.2)
+  ]
 
 -- a fault that is lifted as it is
 pub lifted : {T : Type 0} (q : Question) (inner : AskFault) (r : Result T AskFault) → IsErrAnd r (λ fault. fault ≡ inner)
@@ -163,38 +146,29 @@ lifted q inner (Err fault) is f = λ found. subst (IsNotAsked q) (sym is) (f (su
 
 module _ (means : Value → Type 0) (refuses : FormFault → Type 0) where
   copied : (text copy : PartText) → IsCopyOf text copy → IsReadAs means refuses text → IsReadAs means refuses copy
-  copied (Standing document) (Standing other) is r = absurd is
   copied (Standing document) (Made octets) is r = (document, r.0, r.1, is)
-  copied (Standing document) (Malformed fault) is r = absurd is
-  copied (Made octets) copy is r = rw is r
-  copied (Malformed fault) copy is r = rw is r
+  copied (Standing document) copy is r = search
+  copied text copy is r = rw is r
 
   of_copy : (text copy : PartText) → IsCopyOf text copy → IsReadAs means refuses copy → IsReadAs means refuses text
-  of_copy (Standing document) (Standing other) is r = absurd is
   of_copy (Standing document) (Made octets) is (v, meant, within, written) =
       let same : v ≡ document = sym (one_text octets.items document v is written) in
       (subst means same meant, subst (λ (w : Value). IsWithinLimits w) same within)
-  of_copy (Standing document) (Malformed fault) is r = absurd is
-  of_copy (Made octets) copy is r = subst (IsReadAs means refuses) is r
-  of_copy (Malformed fault) copy is r = subst (IsReadAs means refuses) is r
+  of_copy (Standing document) copy is r = search
+  of_copy text copy is r = subst (IsReadAs means refuses) is r
 
 moment_copied : (i : of_question.Moment) (text copy : MomentText) → IsMomentCopy text copy → IsMomentText i text → IsMomentText i copy
 moment_copied (moments.Text words) (of_moment.Text text) (of_moment.Text copy) is r =
     copied (IsTextWithin words.now) (RefusesForm words.now) text copy is r
-moment_copied (moments.Seconds n) (of_moment.Text text) copy is r = absurd r
-moment_copied i (of_moment.Text text) (of_moment.At date) is r = absurd is
-moment_copied i (of_moment.Text text) of_moment.Dateless is r = absurd is
-moment_copied i (of_moment.At date) copy is r = rw is r
-moment_copied i of_moment.Dateless copy is r = rw is r
+moment_copied i (of_moment.Text text) copy is r = search
+moment_copied i text copy is r = rw is r
 
 of_moment_copy : (i : of_question.Moment) (text copy : MomentText) → IsMomentCopy text copy → IsMomentText i copy → IsMomentText i text
 of_moment_copy (moments.Text words) (of_moment.Text text) (of_moment.Text copy) is r =
     of_copy (IsTextWithin words.now) (RefusesForm words.now) text copy is r
 of_moment_copy (moments.Seconds n) (of_moment.Text text) (of_moment.Text copy) is r = absurd r
-of_moment_copy i (of_moment.Text text) (of_moment.At date) is r = absurd is
-of_moment_copy i (of_moment.Text text) of_moment.Dateless is r = absurd is
-of_moment_copy i (of_moment.At date) copy is r = subst (IsMomentText i) is r
-of_moment_copy i of_moment.Dateless copy is r = subst (IsMomentText i) is r
+of_moment_copy i (of_moment.Text text) copy is r = search
+of_moment_copy i text copy is r = subst (IsMomentText i) is r
 
 module _ (texts copies : Texts) (are : AreCopies texts copies) where
   pub texts_copied : (q : Question) → IsTextsOf q texts → IsTextsOf q copies
@@ -219,36 +193,21 @@ rest_weight all left further first within parts = search (rules, weights)
 
 -- ---- of the text of a request
 
-module _ (means : Value → Type 0) (refuses : FormFault → Type 0) (P : Value → Type 0)
-    (none : (fault : FormFault) → LacksForm means refuses fault → ¬ Reads means P) (most : ℕ) (has_more : Bool) where
-  pub many_read : (text : PartText) → IsReadAs means refuses text → Reads means P → TellsStringsOf most has_more text → has_more ≡ true
-      → Reads means (λ v. most < strings_in v)
-  many_read (Standing document) r a tells is = record { value = document; meant = r.0; short = r.1.short; is = tells.0 is }
-  many_read (Made octets) (v, meant, within, written) a tells is =
-      record { value = v; meant = meant; short = within.short; is = (tells v within written).0 is }
-  many_read (Malformed fault) r a tells is = absurd (none fault r a)
+module _ (q : Question) (texts : Texts) (t : IsTextsOf q texts) (c : Case) (a : IsAskedCase q c) (most : ℕ) (has_more : Bool) where
+  told : (text : PartText) → IsReadAs (IsWanted q.request) (RefusesWanted q.request) text → TellsStringsOf most has_more text
+      → Reads (IsWanted q.request) (TellsStrings most has_more)
+  told (Malformed fault) r tells = absurd (form_unread (of_wanted q.request) fault r a.request)
+  told text r tells = said_read (IsWanted q.request) (RefusesWanted q.request) (TellsStrings most has_more) text r tells
 
   few : (v : Value) → TellsStrings most has_more v → has_more ≡ false → strings_in v ≤ most
   few v tells is = search rules
 
-  pub few_read : (text : PartText) → IsReadAs means refuses text → Reads means P → TellsStringsOf most has_more text → has_more ≡ false
-      → Reads means (λ v. strings_in v ≤ most)
-  few_read (Standing document) r a tells is = record { value = document; meant = r.0; short = r.1.short; is = few document tells is }
-  few_read (Made octets) (v, meant, within, written) a tells is =
-      record { value = v; meant = meant; short = within.short; is = few v (tells v within written) is }
-  few_read (Malformed fault) r a tells is = absurd (none fault r a)
+  module _ (tells : TellsStringsOf most has_more texts.request) where
+    pub has_many : has_more ≡ true → Reads (IsWanted q.request) (λ v. most < strings_in v)
+    has_many is = let r = told texts.request t.request tells in record { value = r.value; meant = r.meant; short = r.short; is = r.is.0 is }
 
-module _ (q : Question) (texts : Texts) (t : IsTextsOf q texts) (c : Case) (a : IsAskedCase q c) (most : ℕ) (has_more : Bool)
-    (tells : TellsStringsOf most has_more texts.request) where
-  pub has_many : has_more ≡ true → Reads (IsWanted q.request) (λ v. most < strings_in v)
-  has_many =
-      many_read (IsWanted q.request) (RefusesWanted q.request) (λ v. RequestOf v c.request) (form_unread (of_wanted q.request)) most has_more
-      texts.request t.request a.request tells
-
-  pub has_few : has_more ≡ false → HasFewStrings most q
-  has_few =
-      few_read (IsWanted q.request) (RefusesWanted q.request) (λ v. RequestOf v c.request) (form_unread (of_wanted q.request)) most has_more
-      texts.request t.request a.request tells
+    pub has_few : has_more ≡ false → HasFewStrings most q
+    has_few is = let r = told texts.request t.request tells in record { value = r.value; meant = r.meant; short = r.short; is = few r.value r.is is }
 
 -- ---- the canonical text of strings, and its length
 

@@ -1,9 +1,9 @@
 -- Entries that are selected from an access list, by a test or by their numbers: their texts, and what they decide.
-use Rattle.std.proofs.Common.{◌≡◌, ℕ, suc, ◌+◌, Bool, true, false, cond, List, [], ◌∷◌, ◌++◌, Some, map, length, slice_get, refl, sym, ap, ◌∙◌, arith, subst, rules, zero, inl, inr, ◌-◌, Option, None, Result, Ok, Err, IfOk, ◌<◌, ◌≤◌, Vec, take, drop, get_or}
+use Rattle.std.proofs.Common.{◌≡◌, ℕ, suc, ◌+◌, Bool, true, false, cond, List, [], ◌∷◌, ◌++◌, Some, map, length, slice_get, refl, sym, ap, ◌∙◌, arith, subst, rules, zero, inl, inr, ◌-◌, Option, None, Result, Ok, Err, IfOk, ◌<◌, ◌≤◌, Vec, drop, get_or, Global}
 use Rattle.std.specs.List.{AllZip, AllByRecursion}
-use Rattle.std.proofs.lemmas.Option.{slice_get_within, none-some}
+use Rattle.std.proofs.lemmas.Option.{slice_get_within, none-some, slice_get-get_or}
 use Rattle.sexpr_core.specs.Value.{Value, canon}
-use Rattle.sexpr_core.proofs.Texts.{canon_one}
+use Rattle.spki_case.proofs.OneCase.{one_text}
 use Rattle.spki_cert.specs.declared.entry.Entry.{Entry}
 use Rattle.spki_cert.specs.Structures.{EntryOf, IsVersion}
 use Rattle.spki_cert.proofs.OneReading.{entry-one}
@@ -19,7 +19,6 @@ use Rattle.spki_decision.specs.declared.decision.Decision.{Decision}
 use Rattle.spki_decision.specs.declared.decision.Decision.TheVariants.{Yes, No}
 use Rattle.spki_decision.specs.Granted.{Names}
 use Rattle.spki_decision.specs.Standing.{with_entries}
-use Rattle.std.specs.declared.alloc.Global.{Global}
 use Rattle.std.proofs.lemmas.List.{length-map}
 
 -- ---- entries that pass a test, as they are found by their numbers and read from their texts
@@ -28,23 +27,17 @@ use Rattle.std.proofs.lemmas.List.{length-map}
 
 text_one : (text : List ℕ) (e f : Entry) → IsEntryText text e → IsEntryText text f → e ≡ f
 text_one text e f one other =
-    let texts : canon one.value ≡ canon other.value = sym one.written ∙ other.written in
-    let value : one.value ≡ other.value = (canon_one one.value other.value [] [] (ap (λ s. s ++ []) texts)).0 in
-    entry-one other.value e f (subst (λ (v : Value). EntryOf v e) value one.is) other.is
+    entry-one other.value e f (subst (λ (v : Value). EntryOf v e) (one_text text one.value other.value one.written other.written) one.is) other.is
 
 pub entries_one : (texts : List (List ℕ)) (es fs : List Entry) → AreEntries texts es → AreEntries texts fs → es ≡ fs
 entries_one [] [] [] one other = refl
-entries_one [] [] (f ∷ fs) one other = absurd other
-entries_one [] (e ∷ es) fs one other = absurd one
-entries_one (t ∷ texts) [] fs one other = absurd one
-entries_one (t ∷ texts) (e ∷ es) [] one other = absurd other
 entries_one (t ∷ texts) (e ∷ es) (f ∷ fs) one other = search (rules, text_one, entries_one texts es fs one.1 other.1)
+entries_one texts es fs one other = search
 
 pub held : (vs : List Value) (es : List Entry) → AllZip EntryOf vs es → AreEntries (map canon vs) es
 held [] [] each = tt
-held [] (e ∷ es) each = absurd each
-held (v ∷ vs) [] each = absurd each
 held (v ∷ vs) (e ∷ es) each = (record { value = v; written = refl; is = each.0 }, held vs es each.1)
+held vs es each = search
 
 -- ---- numbers
 
@@ -71,9 +64,6 @@ are_numbers : (es : List Entry) (long : ℕ) (ks : List (ℕ × Entry)) → leng
 are_numbers es long [] same all = tt
 are_numbers es long (k ∷ ks) same all = search (rules, slice_get_within, are_numbers es long ks same all.1)
 
-pub numbers_within : (p : Entry → Bool) (es : List Entry) (long : ℕ) → length es ≡ long → AreNumbers long (map first (kept_from 1 p es))
-numbers_within p es long same = are_numbers es long (kept_from 1 p es) same (counted p 1 es)
-
 -- ---- what is picked
 
 same_place : (es : List Entry) (n : ℕ) (e f : Entry) → HasNumber es n e → Counted 1 es (n, f) → e ≡ f
@@ -82,13 +72,8 @@ same_place es n e f has is = search (rules, some-one, slice_get)
 all_picked : (es : List Entry) (ks : List (ℕ × Entry)) (picked : List Entry) → AllByRecursion (Counted 1 es) ks
     → ArePicked es (map first ks) picked → picked ≡ map second ks
 all_picked es [] [] all are = refl
-all_picked es [] (p ∷ picked) all are = absurd are
-all_picked es (k ∷ ks) [] all are = absurd are
 all_picked es (k ∷ ks) (p ∷ picked) all are = search (rules, same_place, all_picked es ks picked all.1 are.1)
-
-pub picked_kept : (p : Entry → Bool) (es picked : List Entry) → ArePicked es (map first (kept_from 1 p es)) picked
-    → picked ≡ map second (kept_from 1 p es)
-picked_kept p es picked are = all_picked es (kept_from 1 p es) picked (counted p 1 es) are
+all_picked es ks picked all are = search
 
 -- ---- the entries that pass a test are a part of a list, and those that are missing do not pass it
 
@@ -180,12 +165,14 @@ module _ (c : Case) (es : List Entry) (tuples : List Tuple) where
       → numbers ≡ numbers_from 1 (is_of c.policy (first_key c.key tuples)) es → ArePicked es other picked
       → picked ≡ map second (kept_from 1 (is_of c.policy (first_key c.key tuples)) es)
   entries_found numbers other picked same are h =
-      picked_kept (is_of c.policy (first_key c.key tuples)) es picked (subst (λ (ns : List ℕ). ArePicked es ns picked) (same ∙ are) h)
+      let test = is_of c.policy (first_key c.key tuples) in
+      all_picked es (kept_from 1 test es) picked (counted test 1 es) (subst (λ (ns : List ℕ). ArePicked es ns picked) (same ∙ are) h)
 
   pub numbers_are : (long : ℕ) (numbers other : List ℕ) → length es ≡ long → other ≡ numbers
       → numbers ≡ numbers_from 1 (is_of c.policy (first_key c.key tuples)) es → AreNumbers long other
   numbers_are long numbers other same e are =
-      subst (λ (ns : List ℕ). AreNumbers long ns) (sym (e ∙ are)) (numbers_within (is_of c.policy (first_key c.key tuples)) es long same)
+      let test = is_of c.policy (first_key c.key tuples) in
+      rw (e ∙ are) (are_numbers es long (kept_from 1 test es) same (counted test 1 es))
 
 -- ---- texts and the entries that they are, place by place
 
@@ -200,14 +187,8 @@ entry_there (t ∷ texts) (e ∷ es) (suc i) d are below = entry_there texts es 
 
 pub as_many : (texts : List (Vec ℕ Global)) (es : List Entry) → AreEntries (octets_of_texts texts) es → length texts ≡ length es
 as_many [] [] are = refl
-as_many [] (e ∷ es) are = absurd are
-as_many (t ∷ texts) [] are = absurd are
 as_many (t ∷ texts) (e ∷ es) are = ap suc (as_many texts es are.1)
-
-take_next : (es : List Entry) (i : ℕ) (e : Entry) → slice_get es i ≡ Some e → take (suc i) es ≡ take i es ++ e ∷ []
-take_next [] i e stands = absurd (none-some e stands)
-take_next (f ∷ es) zero e stands = let same : f ≡ e = cc in ap (λ (g : Entry). g ∷ []) same
-take_next (f ∷ es) (suc i) e stands = ap (λ (fs : List Entry). f ∷ fs) (take_next es i e stands)
+as_many texts es are = search
 
 -- ---- picked by their numbers
 
@@ -237,8 +218,7 @@ picked_there texts es picked numbers i d e are within picks below found =
 
 entry_at : (es : List Entry) (i : ℕ) → i < length es → (e : Entry) × (slice_get es i ≡ Some e)
 entry_at [] i below = absurd (omega (arith, below))
-entry_at (e ∷ es) zero below = (e, refl)
-entry_at (e ∷ es) (suc i) below = entry_at es i (omega (arith, below))
+entry_at (e ∷ es) i below = (get_or (e ∷ es) i e, slice_get-get_or (e ∷ es) i e below)
 
 -- there are entries with these numbers
 pub picks : (es : List Entry) (numbers : List ℕ) → AreNumbers (length es) numbers → (picked : List Entry) × ArePicked es numbers picked

@@ -1,6 +1,5 @@
 -- Questions that are put to a guard: the texts of their parts, what is kept of a question that is opened, and the
 -- answers by what a verifier accepts or has marked (RFC 2693, section 6).
-use Rattle.std.specs.Prelude.{◌⊎◌, ◌↔◌, true, slice_get, Result, Ok, Err, Bool, ◌≤◌, ◌<◌}
 use Rattle.sexpr_core.specs.declared.fault.FormFault.{FormFault}
 use Rattle.sexpr_core.specs.Value.{Value, canon, IsShallow, IsWithinLimits}
 use Rattle.sexpr_text.specs.AdvancedForm.{IsTextWithin}
@@ -31,7 +30,7 @@ use Rattle.spki_decision.specs.Granted.{IsDecision, AreFoldsOf, IsDated, EndsAtD
 use Rattle.spki_decision.specs.Standing.{with_entries, Signed, IsAccepted, asked, every}
 use Rattle.spki_service.specs.AccessLists.{AreEntries, Held}
 use Rattle.spki_service.specs.declared.opened.Opened.{Opened}
-use Rattle.std.proofs.Common.{◌≡◌, ℕ, List, [], Option, Some, None}
+use Rattle.std.proofs.Common.{◌≡◌, ℕ, List, [], Option, Some, None, ◌⊎◌, ◌↔◌, true, slice_get, Result, Ok, Err, Bool, ◌≤◌, ◌<◌}
 use Rattle.std.specs.List.{AllByRecursion}
 use Rattle.spki_reduce.specs.Reduction.{Tuple}
 use Rattle.spki_decision.specs.declared.reduction.EntryFold.{EntryFold}

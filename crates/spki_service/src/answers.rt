@@ -1,10 +1,8 @@
 //! The answers to a question.
 
-ghost use Rattle.std.specs.Prelude.{◌≡◌, List, map, IfOk, IsErrOf};
-ghost use Rattle.std.specs.Option.{option_copied};
+ghost use Rattle.std.specs.Prelude.{◌≡◌, List, map, IfOk, IsErrOf, option_copied};
 ghost use Rattle.spki_cert.specs.declared.entry.Entry.{Entry};
 ghost use Rattle.spki_reduce.specs.Chain.{tuples_of};
-ghost use Rattle.spki_case.specs.View.{model};
 ghost use Rattle.spki_decision.specs.Standing.{asked, every, signed_of, with_entries};
 ghost use Rattle.spki_decision.specs.Answered.{IsExplained, IsReduced};
 ghost use Rattle.spki_decision.specs.declared.reduction.EntryFold.{EntryFold};

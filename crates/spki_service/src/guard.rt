@@ -1,7 +1,6 @@
 //! Access lists that are read once.
 
-ghost use Rattle.std.specs.Prelude.{◌≡◌, ◌≢◌, ◌↔◌, ◌⊎◌, ◌<◌, ◌≤◌, ℕ, List, Some, length, IfOk, IfErr, IsErrOf};
-ghost use Rattle.std.specs.Option.{option_copied};
+ghost use Rattle.std.specs.Prelude.{◌≡◌, ◌≢◌, ◌↔◌, ◌⊎◌, ◌<◌, ◌≤◌, ℕ, List, Some, length, IfOk, IfErr, IsErrOf, option_copied};
 ghost use Rattle.sexpr_core.specs.Value.{Value, canon, IsShallow};
 ghost use Rattle.spki_cert.specs.declared.entry.Entry.{Entry};
 ghost use Rattle.spki_case.specs.Case.{IsOuter};

@@ -1,9 +1,8 @@
 //! The texts of a question's parts, in canonical form.
 
 ghost use Rattle.std.specs.Prelude.{◌≡◌, ◌≢◌, ◌<◌, ◌⊎◌, ◌↔◌, map, length, IsTrue, IfOk, IfErr, IsErrOf};
-ghost use Rattle.sexpr_core.specs.Value.{Value, canon};
 ghost use Rattle.sexpr_text.specs.AdvancedForm.{IsTextWithin};
-ghost use Rattle.spki_service.specs.Questions.{RefusesForm, words_value, asked_octets, IsWanted, RefusesWanted};
+ghost use Rattle.spki_service.specs.Questions.{RefusesForm, asked_octets, IsWanted, RefusesWanted};
 ghost use Rattle.spki_service.specs.GuardQuestions.{IsReadAs, IsTextsOf, IsMomentText, IsMade};
 
 use crate::date::date_at;

@@ -1,6 +1,5 @@
-use Rattle.std.proofs.Common.{FitsSigned, w64, arith, true≢false, ◌*ℤ◌, ◌≤ℤ◌, pos, rules}
+use Rattle.std.proofs.Common.{FitsSigned, w64, arith, true≢false, ◌*ℤ◌, ◌≤ℤ◌, pos, rules, to_z-of_z}
 use Rattle.std.specs.Int.{w128}
-use Rattle.std.proofs.lemmas.Int.{to_z-of_z}
 use Rattle.jiff_core.proofs.SignedLemmas.{signed_arith}
 use Rattle.spki_service.proofs.DateLaws.{none_beyond, none_before, date_of, dated}
 use Rattle.spki_service.proofs.date.date_at.Goals as goal

@@ -1,5 +1,4 @@
-use Rattle.std.proofs.Common.{refl, ◌≡◌, Option, Some, None, ◌∷◌, ◌++◌, [], Vec, ℕ, ap, ◌∙◌, rules}
-use Rattle.std.specs.declared.alloc.Global.{Global}
+use Rattle.std.proofs.Common.{refl, ◌≡◌, Option, Some, None, ◌∷◌, ◌++◌, [], Vec, ℕ, ap, ◌∙◌, rules, Global}
 use Rattle.std.specs.BTreeMap.Entry.{map_with_value}
 use Rattle.std.specs.Option.{unwrap_or, option_map_or}
 use Rattle.spki_case.specs.Lookups.{at_digest}

@@ -1,6 +1,3 @@
-use Rattle.spki_decision.specs.Explained.{IsSameExplanation}
-use Rattle.spki_decision.specs.Granted.{IsSameReduction}
-use Rattle.spki_decision.specs.Answered.{IsExplained, IsReduced, AreSame}
 use Rattle.spki_decision.proofs.OneDecision.{decision_one, explained_one, reduced_one}
 use Rattle.spki_decision.specs.Standing.{with_entries}
 use Rattle.spki_service.proofs.AnswerLaws.{answer_one}
@@ -11,9 +8,7 @@ returns-clause-decision g c verifier a es x y are h k =
     decision_one (with_entries a.case es) (g.V.Verifier.accepted verifier) x y (h es are) (k es are)
 
 pub returns-clause-explanation : goal.returns-clause-explanation
-returns-clause-explanation g c verifier =
-    answer_one IsExplained (AreSame IsSameExplanation) explained_one (g.V.Verifier.accepted verifier)
+returns-clause-explanation g c verifier = answer_one _ _ explained_one (g.V.Verifier.accepted verifier)
 
 pub returns-clause-reduction : goal.returns-clause-reduction
-returns-clause-reduction g c verifier =
-    answer_one IsReduced (AreSame IsSameReduction) reduced_one (g.V.Verifier.accepted verifier)
+returns-clause-reduction g c verifier = answer_one _ _ reduced_one (g.V.Verifier.accepted verifier)

@@ -14,10 +14,8 @@ returns-in-Err-clause-refused c found =
 pub invariant_of-result : goal.invariant_of-result
 invariant_of-result c =
     let a = c.in-Ok.ensures.acl in
-    let same = many c.args.list.now c.in-Ok.entries.items a in
-    let value = ap length c.deref.ensures.value in
-    let len = c.len.ensures in
-    let long : length a.entries ≡ c.len.result = omega (arith, same, value, len) in (
+    let long : length a.entries ≡ c.len.result =
+    omega (arith, many c.args.list.now c.in-Ok.entries.items a, ap length c.deref.ensures.value, c.len.ensures) in (
       c.in-Ok.entries.items,
       texts_held c.args.list.now c.in-Ok.entries.items c.in_ok-texts.texts.items a
           (c.in_ok-texts.ensures a.version a.entries a.version_is a.written long),
@@ -27,9 +25,7 @@ invariant_of-result c =
 pub returns-clause-list : goal.returns-clause-list
 returns-clause-list c =
     let a = c.in-Ok.ensures.acl in
-    let same = many c.args.list.now c.in-Ok.entries.items a in
-    let value = ap length c.deref.ensures.value in
-    let len = c.len.ensures in
-    let long : length a.entries ≡ c.len.result = omega (arith, same, value, len) in
+    let long : length a.entries ≡ c.len.result =
+    omega (arith, many c.args.list.now c.in-Ok.entries.items a, ap length c.deref.ensures.value, c.len.ensures) in
     value_held c.args.list.now c.in-Ok.entries.items c.in_ok-texts.texts.items a
     (c.in_ok-texts.ensures a.version a.entries a.version_is a.written long)
