@@ -11,7 +11,7 @@ use Rattle.spki_decision.proofs.Asked.{decision_by, not_accepted, agrees, refuse
 use Rattle.spki_cert.specs.declared.entry.Entry.{Entry}
 use Rattle.spki_decision.specs.declared.fault.GuardFault.{GuardFault}
 use Rattle.spki_decision.specs.declared.fault.GuardFault.TheVariants.{Memory}
-use Rattle.spki_service.specs.AccessLists.{AreEntries, DecidesPartly, IsEntryText, octets_of_texts}
+use Rattle.spki_service.specs.AccessLists.{AreEntries, DecidesPartly, IsEntryText}
 use Rattle.std.proofs.lemmas.Result.{IfOk-weaker}
 use Rattle.std.specs.declared.alloc.AllocError.{AllocError}
 use Rattle.std.specs.List.{AllByRecursion}
@@ -175,19 +175,19 @@ module _ (a : AskedOf) (tuples : List Tuple) (shown : AreShown a.case.policy eve
 
 -- ---- what the entries of texts become, one text after another
 
-module _ (texts : List (Vec ℕ Global)) (c : Case) (tuples : List Tuple) where
+module _ (texts : List (List ℕ)) (c : Case) (tuples : List Tuple) where
   -- so many texts are read, and this is what their entries become; so much work may still be done
   abbrev pub TextsTo : ℕ → Option ℕ → List EntryFold → Type 0
-  TextsTo place left folds = (es : List Entry) → AreEntries (octets_of_texts texts) es → FoldedTo (with_entries c es) tuples place left folds
+  TextsTo place left folds = (es : List Entry) → AreEntries texts es → FoldedTo (with_entries c es) tuples place left folds
 
   -- one text more
-  module _ (place : ℕ) (d : Vec ℕ Global) (below : place < length texts) (e : Entry)
-      (found : (f : Entry) → IsEntryText (get_or texts place d).items f → e ≡ f)
+  module _ (place : ℕ) (below : place < length texts) (e : Entry)
+      (found : (f : Entry) → IsEntryText (get_or texts place []) f → e ≡ f)
       (old : Option ℕ) (folds : List EntryFold) (before : TextsTo place old folds) where
-    stands : (es : List Entry) → AreEntries (octets_of_texts texts) es → slice_get es place ≡ Some e
-    stands es are = let there = entry_there texts es place d are below in there.1 ∙ ap Some (sym (found there.0 there.2))
+    stands : (es : List Entry) → AreEntries texts es → slice_get es place ≡ Some e
+    stands es are = let there = entry_there texts es place are below in there.1 ∙ ap Some (sym (found there.0 there.2))
 
-    pub too_large : (es : List Entry) → AreEntries (octets_of_texts texts) es
+    pub too_large : (es : List Entry) → AreEntries texts es
         → TooLargeAt c.most_nodes c.policy (five (entry_tuple e)) tuples ⊎ IsOverworked old c.policy (five (entry_tuple e)) tuples
         → HasLargeTags (with_entries c es) tuples ⊎ HasMuchWork (with_entries c es) tuples
     too_large es are h = too_large_here (with_entries c es) tuples place e (stands es are) old folds (before es are) h
@@ -199,5 +199,5 @@ module _ (texts : List (Vec ℕ Global)) (c : Case) (tuples : List Tuple) where
         one_folded (with_entries c es) tuples place e (stands es are) old folds (before es are) fold new n (exact es) small work takes
 
   pub all_texts : (place : ℕ) (left : Option ℕ) (folds : List EntryFold) → place ≡ length texts → TextsTo place left folds
-      → (es : List Entry) → AreEntries (octets_of_texts texts) es → AreFoldsOf (with_entries c es) tuples folds
+      → (es : List Entry) → AreEntries texts es → AreFoldsOf (with_entries c es) tuples folds
   all_texts place left folds whole h es are = all_folded (with_entries c es) tuples place left folds (whole ∙ as_many texts es are) (h es are)

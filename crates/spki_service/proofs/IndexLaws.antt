@@ -1,11 +1,9 @@
--- The index of an access list: the numbers of the entries that pass a test, the numbers that the index has for a key,
--- and the index with one entry more.
-use Rattle.std.proofs.Common.{◌≡◌, ℕ, List, [], ◌∷◌, length, refl, sym, arith, suc, ◌+◌, ◌<◌, Bool, true, false, cond, ◌&&◌, ◌||◌, ◌++◌, map, ap, ◌∙◌, append-nil, rules, inl, inr, Vec, Some, bytes_eq, reverse, Global}
+-- The index of an access list: the numbers of the entries that pass a test, and the numbers that the index has for a key.
+use Rattle.std.proofs.Common.{◌≡◌, ℕ, List, [], ◌∷◌, length, refl, sym, arith, suc, ◌+◌, ◌<◌, Bool, true, false, cond, ◌&&◌, ◌||◌, map, ap, ◌∙◌, rules, Some, None}
 use Rattle.spki_tag.specs.Places.{merge}
 use Rattle.spki_tag.proofs.Places.{merge-nil, StartsAbove, merge-left, merge-right}
-use Rattle.std.proofs.lemmas.List.{map-append, reverse-reverse}
 use Rattle.spki_cert.specs.declared.entry.Entry.{Entry}
-use Rattle.spki_service.specs.AccessLists.{kept_from, first, numbers_from, is_key, is_hash, numbers_at, numbers_of_key, by_algorithm, IsIndexOf, NumberMap}
+use Rattle.spki_service.specs.AccessLists.{kept_from, first, numbers_from, is_principal, numbers_with, rows_by, IsIndexOf}
 use Rattle.std.proofs.Math.Bool.{and-false, or-false}
 use Rattle.spki_cert.specs.declared.hash.HashAlg.{HashAlg}
 use Rattle.spki_cert.specs.declared.hash.HashAlg.TheVariants.{Sha1, Sha256, Sha512}
@@ -14,10 +12,7 @@ use Rattle.spki_cert.specs.declared.principal.Principal.{Principal}
 use Rattle.spki_cert.specs.declared.principal.Principal.TheVariants.{Key, Hash}
 use Rattle.spki_cert.specs.Naming.{names, admits, digest_of}
 use Rattle.spki_service.specs.declared.index.EntryIndex.{EntryIndex}
-use Rattle.std.proofs.lemmas.Bool.{cases_Bool}
-use Rattle.std.proofs.lemmas.Bool.Decides.{same_from_decides, Decides-like}
-use Rattle.std.proofs.lemmas.Slice.Eq.{bytes_eq-Decides}
-use Rattle.spki_case.specs.Lookups.{at_digest}
+use Rattle.std.proofs.lemmas.Cmp.{nat_list_eq_equiv}
 
 -- ---- two lists of numbers in one, of which one is empty
 
@@ -35,25 +30,6 @@ empty-merge (x ∷ xs) ys empty = absurd (omega (arith, empty))
 pub numbers_none : (n : ℕ) (es : List Entry) → numbers_from n (λ e. false) es ≡ []
 numbers_none n [] = refl
 numbers_none n (e ∷ es) = numbers_none (suc n) es
-
--- ---- one list behind another
-
-joined : (b : Bool) (k : ℕ × Entry) (ks ls : List (ℕ × Entry)) → cond b (k ∷ (ks ++ ls)) (ks ++ ls) ≡ cond b (k ∷ ks) ks ++ ls
-joined b k ks ls = grind arith
-
-pub kept-append : (n : ℕ) (p : Entry → Bool) (xs ys : List Entry)
-    → kept_from n p (xs ++ ys) ≡ kept_from n p xs ++ kept_from (n + length xs) p ys
-kept-append n p [] ys = let same : n ≡ n + 0 = omega arith in ap (λ m. kept_from m p ys) same
-kept-append n p (x ∷ xs) ys = search (rules, joined, kept-append (suc n) p xs ys)
-
-last : (b : Bool) (numbers : List ℕ) (n : ℕ) (e : Entry)
-    → numbers ++ map first (cond b ((n, e) ∷ []) []) ≡ cond b (numbers ++ n ∷ []) numbers
-last b numbers n e = grind (arith, append-nil)
-
--- one entry behind others
-pub numbers_more : (p : Entry → Bool) (es : List Entry) (e : Entry) (number : ℕ) → 1 + length es ≡ number
-    → numbers_from 1 p (es ++ e ∷ []) ≡ cond (p e) (numbers_from 1 p es ++ number ∷ []) (numbers_from 1 p es)
-numbers_more p es e number counted = search (rules, kept-append, map-append, last)
 
 -- ---- two tests that never both hold
 
@@ -91,18 +67,18 @@ numbers_merged n p q (e ∷ es) apart =
 
 -- whether a principal is the key's hash by an algorithm, and the policy admits it
 abbrev is_admitted : Policy → HashAlg → List ℕ → Principal → Bool
-is_admitted policy alg key p = admits policy alg && is_hash alg (digest_of alg key) p
+is_admitted policy alg key p = admits policy alg && is_principal (Some alg) (digest_of alg key) p
 
 module _ (policy : Policy) (key : List ℕ) where
   abbrev one : Principal → Bool
-  one p = is_key key p || is_admitted policy Sha1 key p
+  one p = is_principal None key p || is_admitted policy Sha1 key p
 
   abbrev two : Principal → Bool
   two p = one p || is_admitted policy Sha256 key p
 
   -- ---- no principal is of two kinds
 
-  apart_1 : (p : Principal) → (is_key key p && is_admitted policy Sha1 key p) ≡ false
+  apart_1 : (p : Principal) → (is_principal None key p && is_admitted policy Sha1 key p) ≡ false
   apart_1 (Key own) = simp and-false
   apart_1 (Hash alg digest) = refl
 
@@ -116,13 +92,14 @@ module _ (policy : Policy) (key : List ℕ) where
 
   -- and one that names the key is of one of them
   named : (p : Principal) → (two p || is_admitted policy Sha512 key p) ≡ names policy p key
+  named (Key own) = simp (and-false, or-false, nat_list_eq_equiv.symm key own)
   named (Hash Sha512 digest) = simp and-false
   named _ = simp (and-false, or-false)
 
   -- ---- their numbers
 
   abbrev own_numbers : List Entry → List ℕ
-  own_numbers es = numbers_from 1 (λ e. is_key key e.subject.principal) es
+  own_numbers es = numbers_from 1 (λ e. is_principal None key e.subject.principal) es
 
   abbrev hash_numbers : HashAlg → List Entry → List ℕ
   hash_numbers alg es = numbers_from 1 (λ e. is_admitted policy alg key e.subject.principal) es
@@ -134,62 +111,18 @@ module _ (policy : Policy) (key : List ℕ) where
   -- ---- what is looked up
 
   abbrev pub admitted_at : EntryIndex → HashAlg → List ℕ
-  admitted_at index alg = cond (admits policy alg) (numbers_at (by_algorithm index alg) (digest_of alg key)) []
+  admitted_at index alg = cond (admits policy alg) (numbers_with index.principals (digest_of alg key) (rows_by index (Some alg))) []
 
   hash_at : (alg : HashAlg) (es : List Entry) (index : EntryIndex) → IsIndexOf es index → admitted_at index alg ≡ hash_numbers alg es
   hash_at alg es index i = by (admits policy alg)
     where
-      by : (b : Bool) → cond b (numbers_at (by_algorithm index alg) (digest_of alg key)) []
-          ≡ numbers_from 1 (λ e. b && is_hash alg (digest_of alg key) e.subject.principal) es
-      by true = i.hashes alg (digest_of alg key)
+      by : (b : Bool) → cond b (numbers_with index.principals (digest_of alg key) (rows_by index (Some alg))) []
+          ≡ numbers_from 1 (λ e. b && is_principal (Some alg) (digest_of alg key) e.subject.principal) es
+      by true = i.numbers (Some alg) (digest_of alg key)
       by false = sym (numbers_none 1 es)
 
   pub found_all : (es : List Entry) (index : EntryIndex) → IsIndexOf es index
-      → merge (merge (merge (numbers_of_key index key) (admitted_at index Sha1)) (admitted_at index Sha256)) (admitted_at index Sha512)
+      → merge (merge (merge (numbers_with index.principals key index.keys.items) (admitted_at index Sha1)) (admitted_at index Sha256)) (admitted_at index Sha512)
       ≡ numbers_from 1 (λ e. names policy e.subject.principal key) es
   found_all es index i =
-      rw (i.keys key, hash_at Sha1 es index i, hash_at Sha256 es index i, hash_at Sha512 es index i) (merged_named es)
-
--- ---- an index, where one entry comes behind others
-
-module _ (es : List Entry) (e : Entry) (number : ℕ) (counted : 1 + length es ≡ number) where
-  more_at : (p : Entry → Bool) (old new : List ℕ) → old ≡ numbers_from 1 p es → new ≡ cond (p e) (old ++ number ∷ []) old
-      → new ≡ numbers_from 1 p (es ++ e ∷ [])
-  more_at p old new stood added =
-      added ∙ ap (λ l. cond (p e) (l ++ number ∷ []) l) stood ∙ sym (numbers_more p es e number counted)
-
-  pub index_more : (old new : EntryIndex) → IsIndexOf es old
-      → ((octets : List ℕ) → numbers_of_key new octets
-      ≡ cond (is_key octets e.subject.principal) (numbers_of_key old octets ++ number ∷ []) (numbers_of_key old octets))
-      → ((alg : HashAlg) (digest : List ℕ) → numbers_at (by_algorithm new alg) digest
-      ≡ cond (is_hash alg digest e.subject.principal) (numbers_at (by_algorithm old alg) digest ++ number ∷ [])
-      (numbers_at (by_algorithm old alg) digest))
-      → IsIndexOf (es ++ e ∷ []) new
-  index_more old new stood keys hashes = search (rules, more_at)
-
--- ---- one number more at octets
-
-pub put : (own other : List ℕ) (old new : NumberMap) (value : Vec ℕ Global) (number : ℕ)
-    → at_digest new other ≡ cond (bytes_eq own other) (Some value) (at_digest old other)
-    → value.items ≡ numbers_at old own ++ number ∷ []
-    → numbers_at new other ≡ cond (bytes_eq own other) (numbers_at old other ++ number ∷ []) (numbers_at old other)
-put own other old new value number found longer = rw found (elim (cases_Bool (bytes_eq own other)) [
-  | inl same ↦ rw same (longer ∙ ap (λ l. numbers_at old l ++ number ∷ []) ((bytes_eq-Decides own other).0 same))
-  | inr apart ↦ rw apart refl
-])
-
--- ---- octets from the last to the first
-
-pub turned_eq : (a b : List ℕ) → bytes_eq (reverse a) (reverse b) ≡ bytes_eq a b
-turned_eq a b =
-    same_from_decides (bytes_eq (reverse a) (reverse b)) (bytes_eq a b) (bytes_eq-Decides (reverse a) (reverse b))
-    (Decides-like (bytes_eq a b) (ap reverse) (λ e. sym (reverse-reverse a) ∙ ap reverse e ∙ reverse-reverse b) (bytes_eq-Decides a b))
-
--- a number more at a key's octets, as they are kept
-pub put_key : (own octets : List ℕ) (old new : NumberMap) (number : ℕ)
-    → numbers_at new (reverse octets)
-    ≡ cond (bytes_eq (reverse own) (reverse octets)) (numbers_at old (reverse octets) ++ number ∷ []) (numbers_at old (reverse octets))
-    → numbers_at new (reverse octets)
-    ≡ cond (bytes_eq own octets) (numbers_at old (reverse octets) ++ number ∷ []) (numbers_at old (reverse octets))
-put_key own octets old new number added =
-    added ∙ ap (λ (b : Bool). cond b (numbers_at old (reverse octets) ++ number ∷ []) (numbers_at old (reverse octets))) (turned_eq own octets)
+      rw (i.numbers None key, hash_at Sha1 es index i, hash_at Sha256 es index i, hash_at Sha512 es index i) (merged_named es)

@@ -1,3 +1,5 @@
+pub mod TextLists
+pub mod SortedRows
 pub mod IndexLaws
 pub mod SelectedEntries
 pub mod PartTexts

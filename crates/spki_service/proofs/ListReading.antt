@@ -11,7 +11,7 @@ use Rattle.spki_cert.specs.Structures.{EntryOf, AclOf}
 use Rattle.spki_case.specs.Case.{IsOuter}
 use Rattle.spki_service.specs.declared.list_fault.AclFault.{AclFault}
 use Rattle.spki_service.specs.declared.list_fault.AclFault.TheVariants as faults
-use Rattle.spki_service.specs.AccessLists.{Held, AreEntries, HoldsValue, HoldsList, octets_of_texts, IsNoAcl, IsNoAccessList, ListRefused}
+use Rattle.spki_service.specs.AccessLists.{Held, AreEntries, HoldsValue, HoldsList, IsNoAcl, IsNoAccessList, ListRefused}
 use Rattle.spki_service.proofs.SelectedEntries.{held}
 use Rattle.spki_cert.specs.StructureFaults.{behind_version}
 use Rattle.spki_cert.proofs.Looking.{same_others}
@@ -30,12 +30,12 @@ named_fault v fault outer (inl memory) refused found = absurd (found memory.1)
 named_fault v fault outer (inr named) refused found = (fault, named.1, refused named.0)
 
 -- the texts of the entries that are read are held
-pub texts_held : (v : Value) (es : List Entry) (texts : List (Vec ℕ Global)) (a : AclOf v es) → octets_of_texts texts ≡ map canon a.entries
-    → AreEntries (octets_of_texts texts) es
+pub texts_held : (v : Value) (es : List Entry) (texts : List (List ℕ)) (a : AclOf v es) → texts ≡ map canon a.entries
+    → AreEntries texts es
 texts_held v es texts a same = subst (λ xs. AreEntries xs es) (sym same) (held a.entries es a.each)
 
-pub value_held : (v : Value) (es : List Entry) (texts : List (Vec ℕ Global)) (a : AclOf v es) → octets_of_texts texts ≡ map canon a.entries
-    → HoldsValue v (octets_of_texts texts)
+pub value_held : (v : Value) (es : List Entry) (texts : List (List ℕ)) (a : AclOf v es) → texts ≡ map canon a.entries
+    → HoldsValue v texts
 value_held v es texts a same = record { entries = es; is = a; texts_are = same; held = texts_held v es texts a same }
 
 pub many : (v : Value) (es : List Entry) (a : AclOf v es) → length a.entries ≡ length es

@@ -7,7 +7,7 @@ use Rattle.spki_case.proofs.OneCase.{one_text}
 use Rattle.spki_cert.specs.declared.entry.Entry.{Entry}
 use Rattle.spki_cert.specs.Structures.{EntryOf, IsVersion}
 use Rattle.spki_cert.proofs.OneReading.{entry-one}
-use Rattle.spki_service.specs.AccessLists.{IsEntryText, AreEntries, kept_from, first, HasNumber, ArePicked, AreNumbers, numbers_from, is_of, DecidesKept, DecidesPartly, IsNumbered, NamesPicked, octets_of_texts}
+use Rattle.spki_service.specs.AccessLists.{IsEntryText, AreEntries, kept_from, first, HasNumber, ArePicked, AreNumbers, numbers_from, is_of, DecidesKept, DecidesPartly, IsNumbered, NamesPicked}
 use Rattle.spki_service.proofs.OneAsking.{some-one}
 use Rattle.spki_decision.specs.Requirements.{second, AreKept, IsOf, IsLeftOut, first_key}
 use Rattle.spki_decision.proofs.KeptEntries.{listed}
@@ -178,14 +178,14 @@ module _ (c : Case) (es : List Entry) (tuples : List Tuple) where
 
 -- ---- one place
 
-pub entry_there : (texts : List (Vec ℕ Global)) (es : List Entry) (i : ℕ) (d : Vec ℕ Global) → AreEntries (octets_of_texts texts) es
-    → i < length texts → (e : Entry) × (slice_get es i ≡ Some e) × IsEntryText (get_or texts i d).items e
-entry_there [] es i d are below = absurd (omega (arith, below))
-entry_there (t ∷ texts) [] i d are below = absurd are
-entry_there (t ∷ texts) (e ∷ es) zero d are below = (e, refl, are.0)
-entry_there (t ∷ texts) (e ∷ es) (suc i) d are below = entry_there texts es i d are.1 (omega (arith, below))
+pub entry_there : (texts : List (List ℕ)) (es : List Entry) (i : ℕ) → AreEntries texts es
+    → i < length texts → (e : Entry) × (slice_get es i ≡ Some e) × IsEntryText (get_or texts i []) e
+entry_there [] es i are below = absurd (omega (arith, below))
+entry_there (t ∷ texts) [] i are below = absurd are
+entry_there (t ∷ texts) (e ∷ es) zero are below = (e, refl, are.0)
+entry_there (t ∷ texts) (e ∷ es) (suc i) are below = entry_there texts es i are.1 (omega (arith, below))
 
-pub as_many : (texts : List (Vec ℕ Global)) (es : List Entry) → AreEntries (octets_of_texts texts) es → length texts ≡ length es
+pub as_many : (texts : List (List ℕ)) (es : List Entry) → AreEntries texts es → length texts ≡ length es
 as_many [] [] are = refl
 as_many (t ∷ texts) (e ∷ es) are = ap suc (as_many texts es are.1)
 as_many texts es are = search
@@ -206,13 +206,13 @@ picked_at es (n ∷ numbers) (p ∷ picked) zero are below = (p, refl, are.0)
 picked_at es (n ∷ numbers) (p ∷ picked) (suc i) are below = picked_at es numbers picked i are.1 (omega (arith, below))
 
 -- an entry that is read by its number is the one that is picked
-pub picked_there : (texts : List (Vec ℕ Global)) (es picked : List Entry) (numbers : List ℕ) (i : ℕ) (d : Vec ℕ Global) (e : Entry)
-    → AreEntries (octets_of_texts texts) es → AreNumbers (length texts) numbers → ArePicked es numbers picked → i < length numbers
-    → ((f : Entry) → IsEntryText (get_or texts (get_or numbers i 0 - 1) d).items f → e ≡ f) → slice_get picked i ≡ Some e
-picked_there texts es picked numbers i d e are within picks below found =
+pub picked_there : (texts : List (List ℕ)) (es picked : List Entry) (numbers : List ℕ) (i : ℕ) (e : Entry)
+    → AreEntries texts es → AreNumbers (length texts) numbers → ArePicked es numbers picked → i < length numbers
+    → ((f : Entry) → IsEntryText (get_or texts (get_or numbers i 0 - 1) []) f → e ≡ f) → slice_get picked i ≡ Some e
+picked_there texts es picked numbers i e are within picks below found =
     let (p, there, (place, numbered, stands)) = picked_at es numbers picked i picks below in
     let (low, high) = number_at (length texts) numbers i 0 within below in
-    let (f, here, is) = entry_there texts es (get_or numbers i 0 - 1) d are (omega (arith, low, high)) in
+    let (f, here, is) = entry_there texts es (get_or numbers i 0 - 1) are (omega (arith, low, high)) in
     let same : place ≡ get_or numbers i 0 - 1 = omega (arith, numbered) in
     there ∙ sym stands ∙ ap (slice_get es) same ∙ here ∙ ap Some (sym (found f is))
 
@@ -231,13 +231,9 @@ picks es (n ∷ numbers) are =
 
 -- ---- behind a version
 
-drop-octets : (all : List (Vec ℕ Global)) → octets_of_texts (drop 1 all) ≡ drop 1 (octets_of_texts all)
-drop-octets [] = refl
-drop-octets (t ∷ all) = refl
-
-pub behind : (version entries : List Value) (all last : List (Vec ℕ Global)) (count : ℕ) → IsVersion version → length entries ≡ count
-    → octets_of_texts all ≡ map canon (version ++ entries) → (length all ≡ count → last ≡ all) → (length all ≡ 1 + count → last ≡ drop 1 all)
-    → octets_of_texts last ≡ map canon entries
+pub behind : (version entries : List Value) (all last : List (List ℕ)) (count : ℕ) → IsVersion version → length entries ≡ count
+    → all ≡ map canon (version ++ entries) → (length all ≡ count → last ≡ all) → (length all ≡ 1 + count → last ≡ drop 1 all)
+    → last ≡ map canon entries
 behind [] entries all last count is long texts same fewer = search (rules, length-map)
-behind (v ∷ []) entries all last count is long texts same fewer = search (rules, length-map, drop-octets)
+behind (v ∷ []) entries all last count is long texts same fewer = search (rules, length-map)
 behind (v ∷ w ∷ vs) entries all last count is long texts same fewer = absurd is

@@ -1,6 +1,6 @@
 -- Access lists (RFC 2693, section 3.4): their entries as a guard contains them, why a text is refused as a list, the
 -- index by principals, and the decision by the entries that are found in it.
-use Rattle.std.specs.Prelude.{◌≡◌, ℕ, ◌≤◌, List, Vec, map, length, ◌≢◌, ◌<◌, Some, suc, Bool, [], ◌∷◌, if◌then◌else◌, false, ◌&&◌, bytes_eq, reverse, slice_get, ◌-◌, Option, None}
+use Rattle.std.specs.Prelude.{◌≡◌, ℕ, ◌≤◌, List, Vec, map, length, ◌≢◌, ◌<◌, Some, suc, Bool, [], ◌∷◌, if◌then◌else◌, true, false, ◌&&◌, bytes_eq, slice_get, slice_index_or, drop, ltb, ◌-◌, Option, None}
 use Rattle.std.specs.declared.alloc.Global.{Global}
 use Rattle.std.specs.List.{AllZip, AllByRecursion}
 use Rattle.sexpr_core.specs.Value.{Value, canon}
@@ -16,14 +16,18 @@ use Rattle.spki_cert.specs.StructureFaults.{acl_fault}
 use Rattle.spki_service.specs.declared.list_fault.AclFault.{AclFault}
 use Rattle.spki_service.specs.declared.list_fault.AclFault.TheVariants as faults
 use Rattle.spki_service.specs.Questions.{RefusesForm, Reads, LacksForm}
-use Rattle.std.specs.Option.{option_map_or}
-use Rattle.std.specs.BTreeMap.{BTreeMap}
+use Rattle.std.specs.List.{filter}
+use Rattle.std.specs.List.Sorted.{IsSortedByKey}
+use Rattle.std.specs.Ordering.{nat_cmp, ordering_then}
+use Rattle.std.specs.declared.cmp.Ordering.{Ordering}
+use Rattle.std.specs.Cmp.Lexicographic.{slice_cmp}
+use Rattle.std.specs.Int.{from_le_bytes, w64}
+use Rattle.spki_service.specs.declared.index.Row.{Row}
 use Rattle.spki_cert.specs.declared.hash.HashAlg.{HashAlg}
 use Rattle.spki_cert.specs.declared.hash.HashAlg.TheVariants.{Sha1, Sha256, Sha512}
 use Rattle.spki_cert.specs.declared.principal.Principal.{Principal}
 use Rattle.spki_cert.specs.declared.principal.Principal.TheVariants.{Key, Hash}
 use Rattle.spki_cert.specs.Naming.{is_same, names}
-use Rattle.spki_case.specs.Lookups.{at_digest}
 use Rattle.spki_service.specs.declared.index.EntryIndex.{EntryIndex}
 use Rattle.spki_reduce.specs.Reduction.{Tuple}
 use Rattle.spki_case.specs.Case.{Case}
@@ -80,10 +84,6 @@ pub record HoldsList (list : List ℕ) (texts : List (List ℕ)) : Type 0 where
   pub short : length (canon value) ≤ 1048576
   pub holds : HoldsValue value texts
 
--- the octets of some texts
-abbrev pub octets_of_texts : List (Vec ℕ Global) → List (List ℕ)
-octets_of_texts texts = map (λ text. text.items) texts
-
 -- ---- why a text is refused as an access list (RFC 2693, section 3.4)
 
 -- The value is no access list. The fault names one of its entries, or the whole list, and is the first one from the left.
@@ -120,40 +120,72 @@ numbers_from n test es = map first (kept_from n test es)
 
 -- ---- an index of an access list by the principals of its entries' subjects (RFC 2693, section 2.5)
 
--- whether a principal is the key with these octets
-abbrev pub is_key : List ℕ → Principal → Bool
-is_key octets (Key own) = bytes_eq own octets
-is_key octets (Hash alg digest) = false
+-- the octets of a principal: those of the key, or the digest
+abbrev pub octets_of : Principal → List ℕ
+octets_of (Key own) = own
+octets_of (Hash alg digest) = digest
 
--- whether a principal is the hash with this algorithm and digest
-abbrev pub is_hash : HashAlg → List ℕ → Principal → Bool
-is_hash alg digest (Key own) = false
-is_hash alg digest (Hash by own) = is_same by alg && bytes_eq digest own
+-- a kind of principals: the hashes by an algorithm, or the keys if there is none
+abbrev pub Kind : Type 0
+Kind = Option HashAlg
 
--- numbers by octets
-abbrev pub NumberMap : Type 0
-NumberMap = BTreeMap (Vec ℕ Global) (Vec ℕ Global)
+-- whether a principal is of a kind
+abbrev pub is_by : Kind → Principal → Bool
+is_by None (Key own) = true
+is_by None (Hash alg digest) = false
+is_by (Some alg) (Key own) = false
+is_by (Some alg) (Hash by digest) = is_same by alg
 
--- the numbers at these octets, if there are any
-abbrev pub numbers_at : NumberMap → List ℕ → List ℕ
-numbers_at m octets = option_map_or (λ v. v.items) (at_digest m octets) []
+-- whether a principal is the one of a kind with these octets
+abbrev pub is_principal : Kind → List ℕ → Principal → Bool
+is_principal kind octets p = is_by kind p && bytes_eq octets (octets_of p)
 
--- the numbers of a key with these octets, which are at its octets from the last to the first
-abbrev pub numbers_of_key : EntryIndex → List ℕ → List ℕ
-numbers_of_key index octets = numbers_at index.by_key (reverse octets)
+-- the octets of a row's principal, if these are the octets of the principals of all entries
+abbrev pub row_octets : List (List ℕ) → Row → List ℕ
+row_octets principals row = slice_index_or principals (row.number - 1) []
 
--- the numbers by the digests of an algorithm
-abbrev pub by_algorithm : EntryIndex → HashAlg → NumberMap
-by_algorithm index Sha1 = index.by_sha1
-by_algorithm index Sha256 = index.by_sha256
-by_algorithm index Sha512 = index.by_sha512
+-- the last eight octets as a number, or 0 if there are fewer
+abbrev pub tail_of : List ℕ → ℕ
+tail_of octets = if ltb (length octets) 8 then 0 else from_le_bytes w64 (drop (length octets - 8) octets)
 
--- An index of these entries. For a key's octets it has the numbers of the entries whose principal is this key. At a digest of
--- an algorithm it has the numbers of the entries whose principal is this hash.
+-- what rows are sorted by, and how
+abbrev pub row_key : List (List ℕ) → Row → ℕ × List ℕ
+row_key principals row = (row.tail, row_octets principals row)
+
+abbrev pub key_order : ℕ × List ℕ → ℕ × List ℕ → Ordering
+key_order x y = ordering_then (nat_cmp x.0 y.0) (slice_cmp nat_cmp x.1 y.1)
+
+-- Rows in order.
+pub record IsInOrder (principals : List (List ℕ)) (rows : List Row) : Type 0 where
+  pub tails : AllByRecursion (λ row. row.tail ≡ tail_of (row_octets principals row)) rows
+  pub ascend : IsSortedByKey (row_key principals) key_order rows
+
+-- the rows of a kind
+abbrev pub rows_by : EntryIndex → Kind → List Row
+rows_by index None = index.keys.items
+rows_by index (Some Sha1) = index.sha1.items
+rows_by index (Some Sha256) = index.sha256.items
+rows_by index (Some Sha512) = index.sha512.items
+
+abbrev pub row_number : Row → ℕ
+row_number row = row.number
+
+-- the rows of the entries of a kind, in the order of the entries; the first entry has number n
+abbrev pub rows_from : ℕ → Kind → List Entry → List Row
+rows_from n kind [] = []
+rows_from n kind (e ∷ es) =
+    if is_by kind e.subject.principal then record { tail = tail_of (octets_of e.subject.principal); number = n } ∷ rows_from (suc n) kind es
+    else rows_from (suc n) kind es
+
+-- the numbers of the rows whose principal has these octets
+abbrev pub numbers_with : List (List ℕ) → List ℕ → List Row → List ℕ
+numbers_with principals octets rows = map row_number (filter (λ row. bytes_eq octets (row_octets principals row)) rows)
+
+-- An index of these entries. For each kind its rows have the numbers of the entries of this kind, and are in order.
 pub record IsIndexOf (es : List Entry) (index : EntryIndex) : Type 0 where
-  pub keys : (octets : List ℕ) → numbers_of_key index octets ≡ numbers_from 1 (λ e. is_key octets e.subject.principal) es
-  pub hashes : (alg : HashAlg) (digest : List ℕ)
-      → numbers_at (by_algorithm index alg) digest ≡ numbers_from 1 (λ e. is_hash alg digest e.subject.principal) es
+  pub numbers : (kind : Kind) (octets : List ℕ) → numbers_with index.principals octets (rows_by index kind)
+      ≡ numbers_from 1 (λ e. is_principal kind octets e.subject.principal) es
+  pub ordered : (kind : Kind) → IsInOrder index.principals (rows_by index kind)
 
 -- ---- entries that are selected from a list by their numbers, counted from 1
 

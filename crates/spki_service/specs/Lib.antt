@@ -2,3 +2,4 @@
 pub mod AccessLists
 pub mod Questions
 pub mod GuardQuestions
+pub mod TextLists

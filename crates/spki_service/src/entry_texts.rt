@@ -4,8 +4,9 @@ ghost use Rattle.std.specs.Prelude.{◌≡◌, ◌<◌, ◌∷◌, ◌++◌, [],
 ghost use Rattle.sexpr_core.specs.Value.{Value, canon, group, plain};
 ghost use Rattle.spki_cert.specs.declared.entry.Entry.{Entry};
 ghost use Rattle.spki_cert.specs.Structures.{IsVersion};
-ghost use Rattle.spki_service.specs.AccessLists.{IsEntryText, octets_of_texts};
+ghost use Rattle.spki_service.specs.AccessLists.{IsEntryText};
 
+use crate::text_list::TextList;
 use sexpr_core::Doc;
 use sexpr_core::syntax::{Members, Node};
 use spki_cert::{Entry, entry_of};
@@ -13,41 +14,37 @@ use std::alloc::{AllocError, Global};
 
 /// Returns the canonical texts of the entries of an access list, in order, without a version before them. `list` must
 /// be an access list, and `count` the number of its entries. Err if memory ran out.
-pub(crate) fn entry_texts(
-    alloc: Global,
-    list: &Node,
-    count: usize,
-) -> Result<Vec<Vec<u8>>, AllocError>
+pub(crate) fn entry_texts(alloc: Global, list: &Node, count: usize) -> Result<TextList, AllocError>
     ensures { (version entries : List Value) → IsVersion version
         → list.now ≡ group (plain (codes "acl") ∷ (version ++ entries)) → length entries ≡ count
-        → IfOk result (λ texts. octets_of_texts texts.items ≡ map canon entries) }
+        → IfOk result (λ texts. texts ≡ map canon entries) }
 {
     let Some(members) = list.headed(b"acl") else {
-        return Ok(Vec::new(alloc));
+        return Ok(TextList::new(alloc));
     };
     Ok(last(member_texts(alloc, members)?, count))
 }
 
 /// Returns the last `count` texts. There must be `count` texts, or one more.
-fn last(texts: Vec<Vec<u8>>, count: usize) -> Vec<Vec<u8>>
-    ensures all { length texts.items ≡ count → result.items ≡ texts.items }
-    ensures behind { length texts.items ≡ 1 + count → result.items ≡ drop 1 texts.items }
+fn last(texts: TextList, count: usize) -> TextList
+    ensures all { length texts ≡ count → result ≡ texts }
+    ensures behind { length texts ≡ 1 + count → result ≡ drop 1 texts }
 {
     let mut texts = texts;
     if texts.len() > count {
-        texts.remove(0);
+        texts.remove_first();
     }
     texts
 }
 
 /// Returns the canonical texts of the members of a list, in order. Err if memory ran out.
-fn member_texts(alloc: Global, members: Members<'_, '_>) -> Result<Vec<Vec<u8>>, AllocError>
-    ensures { IfOk result (λ texts. octets_of_texts texts.items ≡ map canon members.entry) }
+fn member_texts(alloc: Global, members: Members<'_, '_>) -> Result<TextList, AllocError>
+    ensures { IfOk result (λ texts. texts ≡ map canon members.entry) }
 {
     let mut rest = members;
-    let mut texts = Vec::new(alloc);
+    let mut texts = TextList::new(alloc);
     while let Some((member, others)) = rest.split_first() {
-        texts.push(Vec::from_slice(alloc, member.slice())?)?;
+        texts.push(member.slice())?;
         rest = others;
     }
     Ok(texts)

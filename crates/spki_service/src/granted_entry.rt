@@ -5,9 +5,10 @@ ghost use Rattle.spki_cert.specs.declared.entry.Entry.{Entry};
 ghost use Rattle.spki_reduce.specs.Chain.{tuples_of};
 ghost use Rattle.spki_case.specs.View.{model};
 ghost use Rattle.spki_decision.specs.Standing.{with_entries};
-ghost use Rattle.spki_service.specs.AccessLists.{AreEntries, octets_of_texts, NamesPicked, AreNumbers, ArePicked};
+ghost use Rattle.spki_service.specs.AccessLists.{AreEntries, NamesPicked, AreNumbers, ArePicked};
 
 use crate::entry_texts::entry_in;
+use crate::text_list::TextList;
 use spki_case::Case;
 use spki_decision::{Decision, Membership};
 use spki_reduce::Step;
@@ -23,18 +24,18 @@ use std::alloc::{AllocError, Global};
 /// `AllocError` if memory ran out.
 pub(crate) fn first_granted<'a>(
     alloc: Global,
-    texts: &'a [Vec<u8>],
+    texts: &'a TextList,
     numbers: &[usize],
     case: &Case<'a>,
     steps: &[Step<'a>],
 ) -> Result<Decision, AllocError>
     requires { AreNumbers (length texts.now) numbers.now }
-    ensures { (es picked : List Entry) → AreEntries (octets_of_texts texts.entry.now) es → ArePicked es numbers.now picked
+    ensures { (es picked : List Entry) → AreEntries texts.entry.now es → ArePicked es numbers.now picked
         → IfOk result (NamesPicked (with_entries (model case.now) picked) (tuples_of steps.now) numbers.now) }
 {
     let membership = Membership::of(alloc, case, steps)?;
     for number in numbers {
-        let entry = entry_in(alloc, &texts[*number - 1])?;
+        let entry = entry_in(alloc, texts.text(*number - 1))?;
         if membership.grants(&entry, case) {
             return Ok(Decision::Yes(*number));
         }

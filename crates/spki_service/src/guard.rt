@@ -17,6 +17,7 @@ use crate::limits::Limits;
 use crate::list_fault::AclFault;
 use crate::parts::case_of;
 use crate::question::{AskFault, Question};
+use crate::text_list::TextList;
 use crate::texts::{Texts, texts_of};
 use sexpr_core::syntax::Node;
 use sexpr_core::{Doc, FormFault};
@@ -32,7 +33,7 @@ use std::marker::Model;
 /// In a contract it is these texts, the policy and the limits of its questions.
 #[derive(Drop)]
 pub struct Guard {
-    pub(crate) texts: Vec<Vec<u8>>,
+    pub(crate) texts: TextList,
     index: EntryIndex,
     policy: Policy,
     limits: Limits,
@@ -41,12 +42,12 @@ pub struct Guard {
 impl Model for Guard {
     ghost use Rattle.std.specs.Prelude.{List};
     ghost use Rattle.spki_cert.specs.declared.entry.Entry.{Entry};
-    ghost use Rattle.spki_service.specs.AccessLists.{Held, AreEntries, octets_of_texts, IsIndexOf};
+    ghost use Rattle.spki_service.specs.AccessLists.{Held, AreEntries, IsIndexOf};
 
     ghost Value = { Held };
 
     ghost view = { λ g. record {
-      texts = octets_of_texts g.texts.items;
+      texts = g.texts;
       policy = g.policy;
       octets = g.limits.octets;
       certificates = g.limits.certificates;
@@ -56,7 +57,7 @@ impl Model for Guard {
       answer = g.limits.answer;
     } };
 
-    ghost invariant = { λ g. (es : List Entry) × AreEntries (octets_of_texts g.texts.items) es × IsIndexOf es g.index };
+    ghost invariant = { λ g. (es : List Entry) × AreEntries g.texts es × IsIndexOf es g.index };
 }
 
 impl Guard {

@@ -1,33 +1,43 @@
 //! An index of an access list's entries by the principals of their subjects.
 
-ghost use Rattle.std.specs.Prelude.{◌≡◌, ◌+◌, ◌∷◌, ◌++◌, [], ℕ, List, length, reverse, bytes_eq, IfOk, OnOk, if◌then◌else◌};
+ghost use Rattle.std.specs.Prelude.{◌≡◌, [], List, ℕ, Some, map, slice_index_or, IfOk, if◌then◌else◌};
+ghost use Rattle.std.specs.List.{filter};
+ghost use Rattle.std.specs.Str.{bytes_eq};
 ghost use Rattle.spki_cert.specs.declared.entry.Entry.{Entry};
-ghost use Rattle.spki_cert.specs.declared.hash.HashAlg.{HashAlg};
 ghost use Rattle.spki_cert.specs.Naming.{names, admits, digest_of};
-ghost use Rattle.spki_service.specs.AccessLists.{numbers_from, is_key, is_hash, numbers_at, numbers_of_key, by_algorithm, IsIndexOf};
+ghost use Rattle.spki_service.specs.AccessLists.{numbers_from, rows_from, is_by, is_principal, octets_of, row_number, row_key, key_order, tail_of, numbers_with, rows_by, IsIndexOf, IsInOrder};
 ghost use Rattle.spki_tag.specs.Places.{merge};
 
+use crate::text_list::TextList;
 use spki_cert::{Algorithms, Entry, HashAlg, Key, Policy, Principal};
 use spki_tag::merged;
 use std::alloc::{AllocError, Global};
-use std::collections::BTreeMap;
+use std::cmp::Ordering;
 
-/// For each octet string the numbers of entries, ascending.
-type Numbers = BTreeMap<Vec<u8>, Vec<usize>>;
+/// An entry in the index.
+#[derive(Clone, Copy)]
+pub(crate) struct Row {
+    /// The last eight octets of the principal, as a number. 0 if it has fewer.
+    tail: u64,
+    /// The entry's number, counted from 1.
+    number: usize,
+}
 
 /// An index of an access list: for each principal, the numbers of the entries whose subject has it. Numbers are ascending and count
-/// from 1. A key is found by its canonical octets from the last to the first, since keys of one algorithm begin alike. A hash is
-/// found by its digest, in a map for each algorithm.
+/// from 1. The rows of keys, and those of hashes by each algorithm, are sorted by the octets of the principals, so that those with
+/// some octets are found by halves. Most rows differ in their last octets, which are compared first.
 #[derive(Drop)]
 pub(crate) struct EntryIndex {
-    by_key: Numbers,
-    by_sha1: Numbers,
-    by_sha256: Numbers,
-    by_sha512: Numbers,
+    /// For each entry the octets of its principal: those of a key, or a digest.
+    principals: TextList,
+    keys: Vec<Row>,
+    sha1: Vec<Row>,
+    sha256: Vec<Row>,
+    sha512: Vec<Row>,
 }
 
 impl EntryIndex {
-    /// Makes the index of these entries. For n entries this takes n look-ups in maps of at most n keys.
+    /// Makes the index of these entries. For n entries this takes a number of comparisons in proportion to n log n.
     ///
     /// # Errors
     ///
@@ -35,31 +45,33 @@ impl EntryIndex {
     pub(crate) fn of(alloc: Global, entries: &[Entry]) -> Result<EntryIndex, AllocError>
         ensures { IfOk result (IsIndexOf entries.now) }
     {
-        let mut index = EntryIndex {
-            by_key: BTreeMap::new(alloc),
-            by_sha1: BTreeMap::new(alloc),
-            by_sha256: BTreeMap::new(alloc),
-            by_sha512: BTreeMap::new(alloc),
-        };
-        for (place, entry) in entries.iter().enumerate() {
-            index.add(alloc, &entry.subject.principal, place + 1)?;
-        }
-        Ok(index)
+        let principals = principals_of(alloc, entries)?;
+        let keys = sorted_rows(alloc, entries, &principals, None)?;
+        let sha1 = sorted_rows(alloc, entries, &principals, Some(HashAlg::Sha1))?;
+        let sha256 = sorted_rows(alloc, entries, &principals, Some(HashAlg::Sha256))?;
+        let sha512 = sorted_rows(alloc, entries, &principals, Some(HashAlg::Sha512))?;
+        Ok(EntryIndex {
+            principals,
+            keys,
+            sha1,
+            sha256,
+            sha512,
+        })
     }
 
     /// The algorithms by which `found` may digest a key: those of the hashes in the index that may name keys under the
     /// policy. `found` does not digest a key that carries these digests.
     pub(crate) fn algorithms(&self, policy: Policy) -> Algorithms {
         Algorithms {
-            sha1: !self.by_sha1.is_empty() && policy.admits(HashAlg::Sha1),
-            sha256: !self.by_sha256.is_empty() && policy.admits(HashAlg::Sha256),
-            sha512: !self.by_sha512.is_empty() && policy.admits(HashAlg::Sha512),
+            sha1: !self.sha1.is_empty() && policy.admits(HashAlg::Sha1),
+            sha256: !self.sha256.is_empty() && policy.admits(HashAlg::Sha256),
+            sha512: !self.sha512.is_empty() && policy.admits(HashAlg::Sha512),
         }
     }
 
     /// The numbers of the entries whose subject's principal names the key under the policy (RFC 2693, section 2.5),
-    /// ascending and counted from 1. Names after the principal are not compared. This takes at most four look-ups in
-    /// maps, three digests, and steps in proportion to the numbers found.
+    /// ascending and counted from 1. Names after the principal are not compared. This takes at most four searches by
+    /// halves, three digests, and steps in proportion to the numbers found.
     ///
     /// # Errors
     ///
@@ -73,43 +85,17 @@ impl EntryIndex {
         ensures { (es : List Entry) → IsIndexOf es self.now
             → IfOk result (λ numbers. numbers.items ≡ numbers_from 1 (λ e. names policy e.subject.principal key.now) es) }
     {
-        let octets = reversed(alloc, key.as_slice())?;
-        let own = Vec::from_slice(alloc, numbers_at(&self.by_key, &octets))?;
+        let own = numbers_of(alloc, self.rows_at(&self.keys, key.as_slice()))?;
         let first = joined(alloc, own, self.admitted(HashAlg::Sha1, key, policy))?;
         let second = joined(alloc, first, self.admitted(HashAlg::Sha256, key, policy))?;
         joined(alloc, second, self.admitted(HashAlg::Sha512, key, policy))
     }
 
-    /// Adds to the index that the entry with this number, counted from 1, has this principal. Entries are added in
-    /// their order, so that numbers ascend. Err if memory ran out.
-    fn add(&mut self, alloc: Global, principal: &Principal, number: usize) -> Result<(), AllocError>
-        ensures keys { OnOk result ((octets : List ℕ) → numbers_of_key self.new octets
-            ≡ (if is_key octets principal.now then numbers_of_key self.old octets ++ number ∷ []
-            else numbers_of_key self.old octets)) }
-        ensures hashes { OnOk result ((alg : HashAlg) (digest : List ℕ) → numbers_at (by_algorithm self.new alg) digest
-            ≡ (if is_hash alg digest principal.now then numbers_at (by_algorithm self.old alg) digest ++ number ∷ []
-            else numbers_at (by_algorithm self.old alg) digest)) }
-    {
-        match principal {
-            Principal::Key(key) => {
-                let octets = reversed(alloc, key.as_slice())?;
-                add_number(&mut self.by_key, alloc, octets, number)
-            }
-            Principal::Hash { alg, digest } => {
-                let octets = Vec::from_slice(alloc, digest.as_slice())?;
-                match alg {
-                    HashAlg::Sha1 => add_number(&mut self.by_sha1, alloc, octets, number),
-                    HashAlg::Sha256 => add_number(&mut self.by_sha256, alloc, octets, number),
-                    HashAlg::Sha512 => add_number(&mut self.by_sha512, alloc, octets, number),
-                }
-            }
-        }
-    }
-
-    /// The numbers of the entries whose principal is the key's hash by the algorithm. Empty if the policy lets no such
+    /// The rows of the entries whose principal is the key's hash by the algorithm. Empty if the policy lets no such
     /// hash name a key.
-    fn admitted(&self, alg: HashAlg, key: &Key, policy: Policy) -> &[usize]
-        ensures { result.now ≡ (if admits policy alg then numbers_at (by_algorithm self.now alg) (digest_of alg key.now) else []) }
+    fn admitted(&self, alg: HashAlg, key: &Key, policy: Policy) -> &[Row]
+        ensures { IsInOrder self.now.principals (rows_by self.now (Some alg)) → map row_number result.now
+            ≡ (if admits policy alg then numbers_with self.now.principals (digest_of alg key.now) (rows_by self.now (Some alg)) else []) }
     {
         if policy.admits(alg) {
             self.hashed(alg, key)
@@ -118,83 +104,182 @@ impl EntryIndex {
         }
     }
 
-    /// The numbers of the entries whose principal is the key's hash by the algorithm, under any policy. If the index
-    /// has no hash by the algorithm, they are none, and the key is not digested.
-    fn hashed(&self, alg: HashAlg, key: &Key) -> &[usize]
-        ensures { result.now ≡ numbers_at (by_algorithm self.now alg) (digest_of alg key.now) }
+    /// The rows of the entries whose principal is the key's hash by the algorithm, under any policy. If the index has
+    /// no hash by the algorithm, they are none, and the key is not digested.
+    fn hashed(&self, alg: HashAlg, key: &Key) -> &[Row]
+        ensures { IsInOrder self.now.principals (rows_by self.now (Some alg))
+            → map row_number result.now ≡ numbers_with self.now.principals (digest_of alg key.now) (rows_by self.now (Some alg)) }
     {
         match alg {
             HashAlg::Sha1 => {
-                if self.by_sha1.is_empty() {
+                if self.sha1.is_empty() {
                     &[]
                 } else {
-                    numbers_at(&self.by_sha1, key.sha1().as_slice())
+                    self.rows_at(&self.sha1, key.sha1().as_slice())
                 }
             }
             HashAlg::Sha256 => {
-                if self.by_sha256.is_empty() {
+                if self.sha256.is_empty() {
                     &[]
                 } else {
-                    numbers_at(&self.by_sha256, key.sha256().as_slice())
+                    self.rows_at(&self.sha256, key.sha256().as_slice())
                 }
             }
             HashAlg::Sha512 => {
-                if self.by_sha512.is_empty() {
+                if self.sha512.is_empty() {
                     &[]
                 } else {
-                    numbers_at(&self.by_sha512, key.sha512().as_slice())
+                    self.rows_at(&self.sha512, key.sha512().as_slice())
                 }
             }
         }
     }
-}
 
-/// Returns a copy of the octets, from the last to the first. Err if memory ran out.
-fn reversed(alloc: Global, octets: &[u8]) -> Result<Vec<u8>, AllocError>
-    ensures { IfOk result (λ turned. turned.items ≡ reverse octets.now) }
-{
-    let mut turned = Vec::from_slice(alloc, octets)?;
-    turned.reverse();
-    Ok(turned)
-}
-
-/// Appends `number` to the list that the map has for `octets`, or begins such a list. Err if memory ran out.
-fn add_number(
-    numbers: &mut Numbers,
-    alloc: Global,
-    octets: Vec<u8>,
-    number: usize,
-) -> Result<(), AllocError>
-    ensures { OnOk result ((other : List ℕ) → numbers_at numbers.new other
-        ≡ (if bytes_eq octets.items other then numbers_at numbers.old other ++ number ∷ [] else numbers_at numbers.old other)) }
-{
-    numbers
-        .entry(octets)?
-        .or_insert(Vec::new(alloc))
-        .push(number)?;
-    Ok(())
-}
-
-/// The list that the map has for `octets`. Empty if it has none.
-fn numbers_at<'i>(numbers: &'i Numbers, octets: &[u8]) -> &'i [usize]
-    ensures { result.now ≡ numbers_at numbers.now octets.now }
-{
-    match numbers.get(octets) {
-        Some(at) => at.as_slice(),
-        None => &[],
+    /// Those of the rows whose principal has these octets. The rows must be in order.
+    fn rows_at<'i>(&'i self, rows: &'i [Row], octets: &[u8]) -> &'i [Row]
+        ensures { IsInOrder self.now.principals rows.now
+            → map row_number result.now ≡ numbers_with self.now.principals octets.now rows.now }
+    {
+        let tail = tail_of(octets);
+        let before = rows.partition_point(|row| compare(
+            &self.principals,
+            row,
+            tail,
+            octets,
+        ).is_lt());
+        let rest = &rows[before..];
+        let count = rest.partition_point(|row| compare(
+            &self.principals,
+            row,
+            tail,
+            octets,
+        ).is_le());
+        &rest[..count]
     }
 }
 
-/// Merges two ascending lists into one. A number that both have comes twice. If one is empty, the other is kept or
-/// copied without comparisons. Err if memory ran out.
-fn joined(alloc: Global, own: Vec<usize>, more: &[usize]) -> Result<Vec<usize>, AllocError>
-    ensures { IfOk result (λ numbers. numbers.items ≡ merge own.items more.now) }
+/// Returns the octets of the entries' principals, in order. Err if memory ran out.
+fn principals_of(alloc: Global, entries: &[Entry]) -> Result<TextList, AllocError>
+    ensures { IfOk result (λ principals. principals ≡ map (λ e. octets_of e.subject.principal) entries.now) }
 {
-    if more.is_empty() {
-        Ok(own)
-    } else if own.is_empty() {
-        Vec::from_slice(alloc, more)
+    let mut principals = TextList::new(alloc);
+    for entry in entries {
+        principals.push(octets_of(&entry.subject.principal))?;
+    }
+    Ok(principals)
+}
+
+/// The octets of a principal: those of the key, or the digest.
+fn octets_of<'p>(principal: &'p Principal) -> &'p [u8]
+    ensures { result.now ≡ octets_of principal.now }
+{
+    match principal {
+        Principal::Key(key) => key.as_slice(),
+        Principal::Hash { digest, .. } => digest.as_slice(),
+    }
+}
+
+/// Whether a principal is a hash by the algorithm, or a key if there is no algorithm.
+fn is_by(principal: &Principal, alg: Option<HashAlg>) -> bool
+    ensures { result ≡ is_by alg principal.now }
+{
+    match principal {
+        Principal::Key(_) => alg.is_none(),
+        Principal::Hash { alg: own, .. } => alg == Some(*own),
+    }
+}
+
+/// Returns the rows of the entries whose principal is a hash by the algorithm, or a key if there is no algorithm. They are in order.
+/// `principals` must have the octets of the principals of all entries.
+///
+/// # Errors
+///
+/// `AllocError` if memory ran out.
+fn sorted_rows(
+    alloc: Global,
+    entries: &[Entry],
+    principals: &TextList,
+    alg: Option<HashAlg>,
+) -> Result<Vec<Row>, AllocError>
+    requires { principals.now ≡ map (λ e. octets_of e.subject.principal) entries.now }
+    ensures ordered { IfOk result (λ rows. IsInOrder principals.now rows.items) }
+    ensures numbers { IfOk result (λ rows. (octets : List ℕ) → numbers_with principals.now octets rows.items
+        ≡ numbers_from 1 (λ e. is_principal alg octets e.subject.principal) entries.now) }
+{
+    let mut rows = rows_of(alloc, entries, alg)?;
+    rows.sort_by(|one, other| {
+        compare(
+            principals,
+            one,
+            other.tail,
+            principals.text(other.number.saturating_sub(1)),
+        )
+    })?;
+    Ok(rows)
+}
+
+/// Returns the rows of the entries whose principal is a hash by the algorithm, or a key if there is no algorithm, in the order of
+/// the entries. Err if memory ran out.
+fn rows_of(alloc: Global, entries: &[Entry], alg: Option<HashAlg>) -> Result<Vec<Row>, AllocError>
+    ensures { IfOk result (λ rows. rows.items ≡ rows_from 1 alg entries.now) }
+{
+    let mut rows = Vec::new(alloc);
+    for (place, entry) in entries.iter().enumerate() {
+        let principal = &entry.subject.principal;
+        if is_by(principal, alg) {
+            rows.push(Row {
+                tail: tail_of(octets_of(principal)),
+                number: place + 1,
+            })?;
+        }
+    }
+    Ok(rows)
+}
+
+/// The last eight octets as a number. 0 if there are fewer.
+fn tail_of(octets: &[u8]) -> u64
+    ensures { result ≡ tail_of octets.now }
+{
+    match octets.last_chunk::<8>() {
+        Some(last) => u64::from_le_bytes(*last),
+        None => 0,
+    }
+}
+
+/// Compares the principal of a row with these octets, whose tail is `tail`: first the tails, then all octets. `principals` must
+/// have the octets of the principals of all entries.
+fn compare(principals: &TextList, row: &Row, tail: u64, octets: &[u8]) -> Ordering
+    ensures { result ≡ key_order (row_key principals.now row.now) (tail, octets.now) }
+{
+    match row.tail.cmp(&tail) {
+        Ordering::Equal => principals.text(row.number.saturating_sub(1)).cmp(octets),
+        apart => apart,
+    }
+}
+
+/// The numbers of the rows, in order. Err if memory ran out.
+fn numbers_of(alloc: Global, rows: &[Row]) -> Result<Vec<usize>, AllocError>
+    ensures { IfOk result (λ numbers. numbers.items ≡ map row_number rows.now) }
+{
+    let mut numbers = Vec::with_capacity(alloc, rows.len())?;
+    for row in rows {
+        numbers.push(row.number)?;
+    }
+    Ok(numbers)
+}
+
+/// Merges ascending numbers with those of the rows, which ascend too. A number that both have comes twice. If one has none, nothing
+/// is compared. Err if memory ran out.
+fn joined(alloc: Global, own: Vec<usize>, rows: &[Row]) -> Result<Vec<usize>, AllocError>
+    ensures { IfOk result (λ numbers. numbers.items ≡ merge own.items (map row_number rows.now)) }
+{
+    if rows.is_empty() {
+        return Ok(own);
+    }
+    let more = numbers_of(alloc, rows)?;
+    if own.is_empty() {
+        Ok(more)
     } else {
-        merged(alloc, &own, more)
+        merged(alloc, &own, &more)
     }
 }

@@ -24,6 +24,7 @@ mod parts;
 mod question;
 mod shared;
 mod text_folds;
+mod text_list;
 mod texts;
 mod words;
 

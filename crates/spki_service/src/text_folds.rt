@@ -9,9 +9,10 @@ ghost use Rattle.spki_decision.specs.declared.reduction.EntryFold.{EntryFold};
 ghost use Rattle.spki_decision.specs.Granted.{HasLargeTags, HasMuchWork};
 ghost use Rattle.spki_decision.specs.Standing.{with_entries};
 ghost use Rattle.spki_service.specs.GuardQuestions.{AreTextFolds};
-ghost use Rattle.spki_service.specs.AccessLists.{AreEntries, octets_of_texts};
+ghost use Rattle.spki_service.specs.AccessLists.{AreEntries};
 
 use crate::entry_texts::entry_in;
+use crate::text_list::TextList;
 use spki_case::Case;
 use spki_decision::{FoldSink, GuardFault, certificates_of, entry_fold};
 use spki_reduce::{Step, Work};
@@ -26,22 +27,22 @@ use std::alloc::Global;
 /// Those of `Asked::reduce`.
 pub(crate) fn fold_texts<'a, S: FoldSink<'a>>(
     alloc: Global,
-    texts: &'a [Vec<u8>],
+    texts: &'a TextList,
     case: &Case<'a>,
     steps: &[Step<'a>],
     sink: &mut S,
 ) -> Result<(), GuardFault>
     requires { length steps.now ≡ length (certificates case.now.sequence.items) }
     ensures folds { OnOk result ((folds : List EntryFold) × S.takes sink.old folds sink.new
-        × AreTextFolds (octets_of_texts texts.entry.now) (model case.now) (tuples_of steps.now) folds) }
-    ensures too_large { (es : List Entry) → AreEntries (octets_of_texts texts.entry.now) es → IsErrOf result GuardFault.TooLarge →
+        × AreTextFolds texts.entry.now (model case.now) (tuples_of steps.now) folds) }
+    ensures too_large { (es : List Entry) → AreEntries texts.entry.now es → IsErrOf result GuardFault.TooLarge →
         HasLargeTags (with_entries (model case.now) es) (tuples_of steps.now)
         ⊎ HasMuchWork (with_entries (model case.now) es) (tuples_of steps.now) }
 {
     let shown = certificates_of(alloc, &case.sequence)?;
     let mut work = Work::new(case.most_work);
-    for (place, text) in texts.iter().enumerate() {
-        let entry = entry_in(alloc, text)?;
+    for place in 0..texts.len() {
+        let entry = entry_in(alloc, texts.text(place))?;
         let fold = entry_fold(alloc, case, &entry, &shown, steps, &mut work)?;
         sink.put(alloc, place + 1, fold)?;
     }

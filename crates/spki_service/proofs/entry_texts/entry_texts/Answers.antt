@@ -4,4 +4,6 @@ use Rattle.spki_service.proofs.SelectedEntries.{behind}
 use Rattle.spki_service.proofs.entry_texts.entry_texts.Goals as goal
 
 pub returns : goal.returns
-returns c version entries is written long = search (rules, behind_head, behind)
+returns c version entries is written long =
+    behind version entries c.in_ok-member_texts.field-0 c.last.result c.args.count is long (search (rules, behind_head)) c.last.ensures.all
+    c.last.ensures.behind

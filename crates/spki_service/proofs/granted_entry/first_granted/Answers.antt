@@ -14,9 +14,8 @@ returns-then-grants c es picked are picks =
     let case = with_entries (model c.args.case.now) picked in
     let tuples = tuples_of c.args.steps.now in
     let i = c.loop-number.number-index in
-    let same = c.deref.ensures.value ∙ ap (λ v. v.items) c.index-texts-number.is in
-    let stands = picked_there c.args.texts.now es picked c.args.numbers.now i c.index-texts-number.result c.in_ok-entry.entry are c.requires picks
-    c.loop-number-test.true (λ f is. c.in_ok-entry.ensures f (rw same is)) in
+    let stands = picked_there c.args.texts.now es picked c.args.numbers.now i c.in_ok-entry.entry are c.requires picks
+    c.loop-number-test.true (λ f is. c.in_ok-entry.ensures f (rw c.text.ensures is)) in
     let named = found case tuples i c.in_ok-entry.entry stands ((c.grants.ensures tuples c.in_ok-membership.ensures).0 c.if-grants.true)
     (c.loop-number.invariant es picked are picks) in
     let here : i + 1 - 1 ≡ i = omega arith in
@@ -27,9 +26,8 @@ loop-number-preserved c es picked are picks =
     let case = with_entries (model c.args.case.now) picked in
     let tuples = tuples_of c.args.steps.now in
     let i = c.loop-number.number-index in
-    let same = c.deref.ensures.value ∙ ap (λ v. v.items) c.index-texts-number.is in
-    let stands = picked_there c.args.texts.now es picked c.args.numbers.now i c.index-texts-number.result c.in_ok-entry.entry are c.requires picks
-    c.loop-number-test.true (λ f is. c.in_ok-entry.ensures f (rw same is)) in
+    let stands = picked_there c.args.texts.now es picked c.args.numbers.now i c.in_ok-entry.entry are c.requires picks
+    c.loop-number-test.true (λ f is. c.in_ok-entry.ensures f (rw c.text.ensures is)) in
     not_yet case tuples i c.in_ok-entry.entry stands c.grants.result c.if-grants.false (c.grants.ensures tuples c.in_ok-membership.ensures).1
     (c.loop-number.invariant es picked are picks)
 

@@ -5,9 +5,9 @@ use Rattle.spki_reduce.specs.Chain.{tuples_of}
 use Rattle.spki_case.specs.View.{model}
 use Rattle.spki_decision.specs.Granted.{NoneBefore}
 use Rattle.spki_decision.specs.Standing.{with_entries}
-use Rattle.spki_service.specs.AccessLists.{AreEntries, octets_of_texts, ArePicked}
+use Rattle.spki_service.specs.AccessLists.{AreEntries, ArePicked}
 use Rattle.spki_service.proofs.granted_entry.first_granted.Given as goal
 
 abbrev pub invariant-loop-number : goal.invariant-loop-number
-invariant-loop-number l = (es picked : List Entry) → AreEntries (octets_of_texts l.texts) es → ArePicked es l.numbers picked
+invariant-loop-number l = (es picked : List Entry) → AreEntries l.texts es → ArePicked es l.numbers picked
     → NoneBefore (with_entries (model l.case) picked) (tuples_of l.steps) l.number-index

@@ -1,11 +1,12 @@
 use Rattle.std.proofs.Common.{rules}
+use Rattle.std.proofs.lemmas.List.{length-map}
 use Rattle.std.proofs.lemmas.Result.{IfOk-weaker}
 use Rattle.spki_service.proofs.IndexLaws.{merge-empty, empty-merge}
 use Rattle.spki_service.proofs.index.joined.Goals as goal
 
 -- nothing is added
 pub returns-then-is_empty : goal.returns-then-is_empty
-returns-then-is_empty c = search (rules, merge-empty)
+returns-then-is_empty c = search (rules, length-map, merge-empty)
 
 -- nothing was there
 pub returns-then-is_empty-2 : goal.returns-then-is_empty-2

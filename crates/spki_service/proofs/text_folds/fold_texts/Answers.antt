@@ -17,22 +17,20 @@ loop-place-init g c = (
 pub returns-in_err-fold-clause-too_large : goal.returns-in_err-fold-clause-too_large
 returns-in_err-fold-clause-too_large g c es are h =
     let (folds, taken, put, before) = c.loop-place.invariant in
-    let same = c.deref-in-loop-place.ensures.value ∙ ap (λ v. v.items) c.index-texts-place.is in
-    too_large c.args.texts.now (model c.args.case.now) (tuples_of c.args.steps.now) c.loop-place.place c.index-texts-place.result
-    c.loop-place-test.true c.in_ok-entry.entry (λ f is. c.in_ok-entry.ensures f (rw same is)) (left_of c.loop-place.work) folds before es are
+    too_large c.args.texts.now (model c.args.case.now) (tuples_of c.args.steps.now) c.loop-place.place
+    (omega (arith, c.loop-place-test.true, c.len-place-end.ensures)) c.in_ok-entry.entry (λ f is. c.in_ok-entry.ensures f (rw c.text.ensures is)) (left_of c.loop-place.work) folds before es are
     (search rules)
 
 pub loop-place-preserved : goal.loop-place-preserved
 loop-place-preserved g c =
     let (folds, taken, put, before) = c.loop-place.invariant in
-    let same = c.deref-in-loop-place.ensures.value ∙ ap (λ v. v.items) c.index-texts-place.is in
     let told = c.in_ok-fold.ensures in
     let numbered = put.count in (
       folds ++ c.in_ok-fold.fold ∷ [],
       c.in_ok-put.ensures c.args.sink.now folds taken (omega (arith, numbered)),
       one_put c.loop-place.place folds c.in_ok-fold.fold put told.dated told.end,
-      one_more c.args.texts.now (model c.args.case.now) (tuples_of c.args.steps.now) c.loop-place.place c.index-texts-place.result
-          c.loop-place-test.true c.in_ok-entry.entry (λ f is. c.in_ok-entry.ensures f (rw same is)) (left_of c.loop-place.work) folds before
+      one_more c.args.texts.now (model c.args.case.now) (tuples_of c.args.steps.now) c.loop-place.place
+          (omega (arith, c.loop-place-test.true, c.len-place-end.ensures)) c.in_ok-entry.entry (λ f is. c.in_ok-entry.ensures f (rw c.text.ensures is)) (left_of c.loop-place.work) folds before
           c.in_ok-fold.fold (left_of c.entry_fold.new.work) told.worked.0 told.exact told.within_limit told.worked.1 told.worked.2,
     )
 
@@ -42,5 +40,5 @@ returns-clause-folds g c =
     let low = c.loop-place-test.false in
     let high = c.loop-place.auto.place-end in
     let each = all_texts c.args.texts.now (model c.args.case.now) (tuples_of c.args.steps.now) c.loop-place.place (left_of c.loop-place.work)
-    folds (omega (arith, low, high)) all in
+    folds (omega (arith, low, high, c.len-place-end.ensures)) all in
     (folds, taken, (each, put.dated, put.end))

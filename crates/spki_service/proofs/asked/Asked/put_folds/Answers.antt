@@ -7,7 +7,7 @@ use Rattle.spki_decision.specs.Judged.{IsEvidence}
 use Rattle.spki_decision.specs.Granted.{AreFolds}
 use Rattle.spki_decision.proofs.EntryChains.{as_many, are_folds}
 use Rattle.spki_service.specs.GuardQuestions.{AskedOf}
-use Rattle.spki_service.specs.AccessLists.{AreEntries, octets_of_texts}
+use Rattle.spki_service.specs.AccessLists.{AreEntries}
 use Rattle.spki_service.proofs.AnswerLaws.{folds_failed}
 use Rattle.spki_service.proofs.asked.Asked.put_folds.Goals as goal
 
@@ -23,8 +23,8 @@ returns-in_ok-fold_texts-in-Verified-clause-folds g c =
     let (folds, taken, (all, dated, end)) = c.in_ok-fold_texts-in-Verified.ensures.folds in
     let evident : IsEvidence m.policy every m.items c.self.inside.examined.evidence = c.self.invariant.1 in
     let stands = rw c.in-Verified.is at evident in
-    let whole = rw c.deref-in-Verified.ensures.value at all in
-    let texts = ap octets_of_texts c.deref.ensures.value ∙ ap (λ h. h.texts) c.guard.view_is in
+    let whole = rw c.deref.ensures.value at all in
+    let texts = ap (λ h. h.texts) c.guard.view_is in
     let inner : (es : List Entry) → AreEntries c.self.inside.guard.now.texts es → AreFolds (with_entries m es) every folds =
     λ es are. are_folds (with_entries m es) every (tuples_of c.in-Verified.steps.items) folds stands
     (whole es (subst (λ ts. AreEntries ts es) (sym texts) are)) in

@@ -17,7 +17,7 @@ invariant_of-result c =
     let long : length a.entries ≡ c.len.result =
     omega (arith, many c.args.list.now c.in-Ok.entries.items a, ap length c.deref.ensures.value, c.len.ensures) in (
       c.in-Ok.entries.items,
-      texts_held c.args.list.now c.in-Ok.entries.items c.in_ok-texts.texts.items a
+      texts_held c.args.list.now c.in-Ok.entries.items c.in_ok-texts.texts a
           (c.in_ok-texts.ensures a.version a.entries a.version_is a.written long),
       rw c.deref.ensures.value at c.in_ok-index.ensures,
     )
@@ -27,5 +27,5 @@ returns-clause-list c =
     let a = c.in-Ok.ensures.acl in
     let long : length a.entries ≡ c.len.result =
     omega (arith, many c.args.list.now c.in-Ok.entries.items a, ap length c.deref.ensures.value, c.len.ensures) in
-    value_held c.args.list.now c.in-Ok.entries.items c.in_ok-texts.texts.items a
+    value_held c.args.list.now c.in-Ok.entries.items c.in_ok-texts.texts a
     (c.in_ok-texts.ensures a.version a.entries a.version_is a.written long)

@@ -1,0 +1,23 @@
+use Rattle.std.proofs.Common.{◌≡◌, ◌+◌, ◌<◌, ◌∷◌, ◌++◌, [], List, length, take, sym, refl, arith, length-take-le, rules}
+use Rattle.std.proofs.lemmas.List.{take_more}
+use Rattle.spki_service.specs.declared.index.Row.{Row}
+use Rattle.spki_service.specs.AccessLists.{tail_of, octets_of}
+use Rattle.spki_service.proofs.SortedRows.{rows_more}
+use Rattle.spki_service.proofs.index.rows_of.Goals.{then-is_by+in_ok-push, else-is_by}
+use Rattle.spki_service.proofs.index.rows_of.Goals as goal
+
+-- one entry more
+pub loop-place-preserved : goal.loop-place-preserved
+loop-place-preserved c =
+    let es = c.args.entries.now in
+    let place = c.loop-place.place in
+    let e = c.index-entries-place.result in
+    let within : place < length es = c.loop-place-test.true in
+    let counted : place + 1 ≡ 1 + length (take place es) = omega (arith, length-take-le place es (omega arith)) in
+    let more : take (place + 1) es ≡ take place es ++ e ∷ [] = rw (← c.index-entries-place.is) at (take_more es place e within) in
+    let row : Row = record { tail = tail_of (octets_of e.subject.principal); number = place + 1 } in
+    let longer = rows_more c.args.alg e 1 (take place es) row refl counted in
+    rw more (elim c.if-is_by.branch [
+      | then-is_by+in_ok-push w ↦ search (rules, longer)
+      | else-is_by w ↦ search (rules, longer)
+    ])

@@ -1,0 +1,82 @@
+//! A list of texts in one buffer.
+
+ghost use Rattle.std.specs.Prelude.{◌≡◌, ◌∷◌, ◌++◌, [], length, drop, slice_index_or, OnOk};
+
+use std::alloc::{AllocError, Global};
+use std::marker::Model;
+
+/// Where a text begins and where it ends in a buffer, in octets.
+#[derive(Clone, Copy)]
+struct Place {
+    start: usize,
+    end: usize,
+}
+
+/// A list of texts. Their octets are behind one another in one buffer.
+///
+/// In a contract it is these texts, in order.
+#[derive(Drop)]
+pub(crate) struct TextList {
+    octets: Vec<u8>,
+    places: Vec<Place>,
+}
+
+impl Model for TextList {
+    ghost use Rattle.std.specs.Prelude.{ℕ, List, map, length};
+    ghost use Rattle.spki_service.specs.TextLists.{text_at, AreWithin};
+
+    ghost Value = { List (List ℕ) };
+
+    ghost view = { λ t. map (text_at t.octets.items) t.places.items };
+
+    ghost invariant = { λ t. AreWithin (length t.octets.items) t.places.items };
+}
+
+impl TextList {
+    /// A list without a text.
+    pub(crate) fn new(alloc: Global) -> TextList
+        ensures { result ≡ [] }
+    {
+        TextList {
+            octets: Vec::new(alloc),
+            places: Vec::new(alloc),
+        }
+    }
+
+    /// Adds a copy of a text at the end. Err if memory ran out.
+    pub(crate) fn push(&mut self, text: &[u8]) -> Result<(), AllocError>
+        ensures { OnOk result (self.new ≡ self.old ++ text.now ∷ []) }
+    {
+        let start = self.octets.len();
+        self.octets.extend_from_slice(text)?;
+        let end = self.octets.len();
+        self.places.push(Place { start, end })?;
+        Ok(())
+    }
+
+    /// Removes the first text. Nothing changes if there is none.
+    pub(crate) fn remove_first(&mut self)
+        ensures { self.new ≡ drop 1 self.old }
+    {
+        if !self.places.is_empty() {
+            self.places.remove(0);
+        }
+    }
+
+    /// The number of texts.
+    pub(crate) fn len(&self) -> usize
+        ensures { result ≡ length self.now }
+    {
+        self.places.len()
+    }
+
+    /// The text at a place, counted from 0. Empty if there is none.
+    pub(crate) fn text(&self, place: usize) -> &[u8]
+        ensures { result.now ≡ slice_index_or self.now place [] }
+    {
+        match self.places.get(place) {
+            Some(at) => &self.octets[at.start..at.end],
+            None => &[],
+        }
+    }
+}
