@@ -52,7 +52,7 @@ SECONDS = 600
 # The function that digests by SHA-256.
 DIGEST = "sha2::block256::Core256::update"
 MOST = {"10,000 keys, no certificate": 1.5, "10,000 keys, three certificates": 1.5, "10,000 hashes, no certificate": 1.5,
-        "10,000 hashes, three certificates": 1.5, "opening 1 MiB": 1.9, "instructions of a case": 96_000, "three caveats": 1.0,
+        "10,000 hashes, three certificates": 1.5, "opening 1 MiB": 1.2, "instructions of a case": 96_000, "three caveats": 1.0,
         "three caveats, opened before": 0.05, "by the digests": 5.0, "Rust": 1.02, "Python, µs more": 12.0,
         "memory of an opened question by its octets": 70.0,
         "opening a question of 1 MiB, ms": 500.0, "a decision, ms": 100.0, "a decision, MiB": 16.0, "a decision by default, ms": 100.0,

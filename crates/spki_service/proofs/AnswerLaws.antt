@@ -1,5 +1,5 @@
 -- The answers to a question that was read: by a verifier, by its marks, and from the texts of the guard's entries.
-use Rattle.std.proofs.Common.{◌≡◌, ℕ, ◌<◌, List, Some, true, Bool, map, length, get_or, slice_get, sym, ap, ◌∙◌, ◌↔◌, suc, [], ◌∷◌, refl, rules, ◌≢◌, Result, Err, Option, None, subst, Ok, IfOk, ◌⊎◌, ◌+◌, ◌++◌, Vec, Global}
+use Rattle.std.proofs.Common.{◌≡◌, ℕ, ◌<◌, List, Some, true, Bool, map, length, get_or, slice_get, sym, ap, ◌∙◌, ◌↔◌, suc, [], ◌∷◌, refl, rules, ◌≢◌, Result, Err, Option, None, subst, Ok, IfOk, ◌⊎◌, ◌+◌, ◌++◌}
 use Rattle.std.proofs.lemmas.Option.{slice_get-get_or}
 use Rattle.spki_decision.specs.declared.signed.Signed as examined
 use Rattle.spki_decision.specs.Standing.{signed_of, Signed, IsAccepted, asked, AgreeOn, with_entries, FailsAt, AreShown, every, RefusedAt}

@@ -1,5 +1,5 @@
 -- The index of an access list: the numbers of the entries that pass a test, and the numbers that the index has for a key.
-use Rattle.std.proofs.Common.{◌≡◌, ℕ, List, [], ◌∷◌, length, refl, sym, arith, suc, ◌+◌, ◌<◌, Bool, true, false, cond, ◌&&◌, ◌||◌, map, ap, ◌∙◌, rules, Some, None}
+use Rattle.std.proofs.Common.{◌≡◌, ℕ, List, [], ◌∷◌, length, refl, sym, arith, suc, ◌<◌, Bool, true, false, cond, ◌&&◌, ◌||◌, map, ap, ◌∙◌, rules, Some, None}
 use Rattle.spki_tag.specs.Places.{merge}
 use Rattle.spki_tag.proofs.Places.{merge-nil, StartsAbove, merge-left, merge-right}
 use Rattle.spki_cert.specs.declared.entry.Entry.{Entry}

@@ -1,5 +1,5 @@
 -- How a text is read as an access list. It is one list or has one fault.
-use Rattle.std.proofs.Common.{◌≡◌, ◌≢◌, inl, inr, ℕ, ◌≤◌, List, Vec, map, length, sym, subst, Result, IfOk, IfErr, rules, ◌++◌, ap, ◌∙◌, Global, codes}
+use Rattle.std.proofs.Common.{◌≡◌, ◌≢◌, inl, inr, ℕ, ◌≤◌, List, map, length, sym, subst, Result, IfOk, IfErr, rules, ◌++◌, ap, ◌∙◌, codes}
 use Rattle.std.proofs.lemmas.Result.{IfOk-weaker, IfErr-weaker}
 use Rattle.std.proofs.lemmas.Slice.Zip.{AllZip-long}
 use Rattle.sexpr_core.specs.Value.{Value, canon}

@@ -1,5 +1,5 @@
 -- Entries that are selected from an access list, by a test or by their numbers: their texts, and what they decide.
-use Rattle.std.proofs.Common.{◌≡◌, ℕ, suc, ◌+◌, Bool, true, false, cond, List, [], ◌∷◌, ◌++◌, Some, map, length, slice_get, refl, sym, ap, ◌∙◌, arith, subst, rules, zero, inl, inr, ◌-◌, Option, None, Result, Ok, Err, IfOk, ◌<◌, ◌≤◌, Vec, drop, get_or, Global}
+use Rattle.std.proofs.Common.{◌≡◌, ℕ, suc, ◌+◌, Bool, true, false, cond, List, [], ◌∷◌, ◌++◌, Some, map, length, slice_get, refl, sym, ap, ◌∙◌, arith, subst, rules, zero, inl, inr, ◌-◌, Option, None, Result, Ok, Err, IfOk, ◌<◌, ◌≤◌, drop, get_or}
 use Rattle.std.specs.List.{AllZip, AllByRecursion}
 use Rattle.std.proofs.lemmas.Option.{slice_get_within, none-some, slice_get-get_or}
 use Rattle.sexpr_core.specs.Value.{Value, canon}

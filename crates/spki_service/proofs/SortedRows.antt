@@ -1,5 +1,5 @@
 -- Rows of an index: those of the entries of a kind, what sorting leaves of them, and those that are found by halves.
-use Rattle.std.proofs.Common.{◌≡◌, ℕ, List, [], ◌∷◌, length, refl, sym, arith, suc, ◌+◌, ◌-◌, ◌<◌, ◌≤◌, Bool, true, false, cond, not, ◌&&◌, ◌⊎◌, inl, inr, map, take, drop, ◌++◌, get_or, ap, ◌∙◌, Some, slice_get, rules, bytes_eq, zero, ltb, leb, true≢false, get_or-drop, length-drop}
+use Rattle.std.proofs.Common.{◌≡◌, ℕ, List, [], ◌∷◌, length, refl, sym, arith, suc, ◌+◌, ◌-◌, ◌<◌, ◌≤◌, Bool, true, false, cond, not, ◌&&◌, ◌⊎◌, inl, inr, map, take, drop, ◌++◌, get_or, ap, ◌∙◌, Some, slice_get, bytes_eq, zero, ltb, leb, true≢false, get_or-drop, length-drop}
 use Rattle.std.specs.Prelude.{slice_range}
 use Rattle.std.proofs.lemmas.Grind.{common_steps}
 use Rattle.std.specs.List.{filter, AllByRecursion}
@@ -11,7 +11,7 @@ use Rattle.std.specs.Cmp.{IsTotalOrder, IsStrictWeakOrder}
 use Rattle.std.specs.Cmp.Lexicographic.{slice_cmp}
 use Rattle.spki_cert.specs.declared.entry.Entry.{Entry}
 use Rattle.spki_service.specs.declared.index.Row.{Row}
-use Rattle.spki_service.specs.AccessLists.{kept_from, first, numbers_from, octets_of, Kind, is_by, is_principal, row_octets, tail_of, row_key, key_order, IsInOrder, row_number, rows_from, numbers_with}
+use Rattle.spki_service.specs.AccessLists.{first, numbers_from, octets_of, Kind, is_by, is_principal, row_octets, tail_of, row_key, key_order, IsInOrder, row_number, rows_from, numbers_with}
 use Rattle.std.specs.Cmp.{tied_then, tied_itself, nat_cmp_total}
 use Rattle.std.specs.List.Sorted.{IsNonDecreasingBy, IsPartitionPoint}
 use Rattle.std.proofs.lemmas.Bool.{cases_Bool}

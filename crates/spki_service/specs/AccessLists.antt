@@ -1,7 +1,6 @@
 -- Access lists (RFC 2693, section 3.4): their entries as a guard contains them, why a text is refused as a list, the
 -- index by principals, and the decision by the entries that are found in it.
-use Rattle.std.specs.Prelude.{◌≡◌, ℕ, ◌≤◌, List, Vec, map, length, ◌≢◌, ◌<◌, Some, suc, Bool, [], ◌∷◌, if◌then◌else◌, true, false, ◌&&◌, bytes_eq, slice_get, slice_index_or, drop, ltb, ◌-◌, Option, None}
-use Rattle.std.specs.declared.alloc.Global.{Global}
+use Rattle.std.specs.Prelude.{◌≡◌, ℕ, ◌≤◌, List, map, length, ◌≢◌, ◌<◌, Some, suc, Bool, [], ◌∷◌, if◌then◌else◌, true, false, ◌&&◌, bytes_eq, slice_get, slice_index_or, drop, ltb, ◌-◌, Option, None}
 use Rattle.std.specs.List.{AllZip, AllByRecursion}
 use Rattle.sexpr_core.specs.Value.{Value, canon}
 use Rattle.sexpr_text.specs.AdvancedForm.{IsTextWithin}

@@ -5,7 +5,7 @@ ghost use Rattle.std.specs.List.{filter};
 ghost use Rattle.std.specs.Str.{bytes_eq};
 ghost use Rattle.spki_cert.specs.declared.entry.Entry.{Entry};
 ghost use Rattle.spki_cert.specs.Naming.{names, admits, digest_of};
-ghost use Rattle.spki_service.specs.AccessLists.{numbers_from, rows_from, is_by, is_principal, octets_of, row_number, row_key, key_order, tail_of, numbers_with, rows_by, IsIndexOf, IsInOrder};
+ghost use Rattle.spki_service.specs.AccessLists.{numbers_from, rows_from, is_by, is_principal, octets_of, row_octets, row_number, row_key, key_order, tail_of, numbers_with, rows_by, IsIndexOf, IsInOrder};
 ghost use Rattle.spki_tag.specs.Places.{merge};
 
 use crate::text_list::TextList;
@@ -140,20 +140,11 @@ impl EntryIndex {
         ensures { IsInOrder self.now.principals rows.now
             → map row_number result.now ≡ numbers_with self.now.principals octets.now rows.now }
     {
+        let principals = &self.principals;
         let tail = tail_of(octets);
-        let before = rows.partition_point(|row| compare(
-            &self.principals,
-            row,
-            tail,
-            octets,
-        ).is_lt());
+        let before = rows.partition_point(|row| compare(principals, row, tail, octets).is_lt());
         let rest = &rows[before..];
-        let count = rest.partition_point(|row| compare(
-            &self.principals,
-            row,
-            tail,
-            octets,
-        ).is_le());
+        let count = rest.partition_point(|row| compare(principals, row, tail, octets).is_le());
         &rest[..count]
     }
 }
@@ -207,14 +198,7 @@ fn sorted_rows(
         ≡ numbers_from 1 (λ e. is_principal alg octets e.subject.principal) entries.now) }
 {
     let mut rows = rows_of(alloc, entries, alg)?;
-    rows.sort_by(|one, other| {
-        compare(
-            principals,
-            one,
-            other.tail,
-            principals.text(other.number.saturating_sub(1)),
-        )
-    })?;
+    rows.sort_by(|one, other| compare(principals, one, other.tail, row_octets(principals, other)))?;
     Ok(rows)
 }
 
@@ -252,9 +236,16 @@ fn compare(principals: &TextList, row: &Row, tail: u64, octets: &[u8]) -> Orderi
     ensures { result ≡ key_order (row_key principals.now row.now) (tail, octets.now) }
 {
     match row.tail.cmp(&tail) {
-        Ordering::Equal => principals.text(row.number.saturating_sub(1)).cmp(octets),
+        Ordering::Equal => row_octets(principals, row).cmp(octets),
         apart => apart,
     }
+}
+
+/// The octets of a row's principal, of the octets of the principals of all entries.
+fn row_octets<'p>(principals: &'p TextList, row: &Row) -> &'p [u8]
+    ensures { result.now ≡ row_octets principals.now row.now }
+{
+    principals.text(row.number.saturating_sub(1))
 }
 
 /// The numbers of the rows, in order. Err if memory ran out.

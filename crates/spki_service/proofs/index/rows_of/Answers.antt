@@ -1,4 +1,4 @@
-use Rattle.std.proofs.Common.{◌≡◌, ◌+◌, ◌<◌, ◌∷◌, ◌++◌, [], List, length, take, sym, refl, arith, length-take-le, rules}
+use Rattle.std.proofs.Common.{◌≡◌, ◌+◌, ◌<◌, ◌∷◌, ◌++◌, [], length, take, refl, arith, length-take-le, rules}
 use Rattle.std.proofs.lemmas.List.{take_more}
 use Rattle.spki_service.specs.declared.index.Row.{Row}
 use Rattle.spki_service.specs.AccessLists.{tail_of, octets_of}

@@ -1,4 +1,4 @@
-use Rattle.std.proofs.Common.{◌++◌, [], ◌∷◌, ◌∙◌, ap, arith, rules}
+use Rattle.std.proofs.Common.{◌++◌, [], ◌∷◌, arith, rules}
 use Rattle.spki_reduce.specs.Chain.{tuples_of, left_of}
 use Rattle.spki_case.specs.View.{model}
 use Rattle.spki_decision.specs.Standing.{with_entries}

@@ -1,4 +1,4 @@
-use Rattle.std.proofs.Common.{◌≡◌, ℕ, refl, sym, ◌∙◌, ap, subst, List, length, IfOk, option_copied}
+use Rattle.std.proofs.Common.{ℕ, refl, sym, ◌∙◌, ap, subst, List, length, IfOk, option_copied}
 use Rattle.spki_cert.specs.declared.entry.Entry.{Entry}
 use Rattle.spki_reduce.specs.Chain.{tuples_of}
 use Rattle.spki_case.specs.View.{model}

@@ -1,4 +1,4 @@
-use Rattle.std.proofs.Common.{◌∙◌, sym, ap, subst, List, rules}
+use Rattle.std.proofs.Common.{sym, ap, subst, List, rules}
 use Rattle.spki_cert.specs.declared.entry.Entry.{Entry}
 use Rattle.spki_reduce.specs.Chain.{tuples_of}
 use Rattle.spki_case.specs.View.{model}
