@@ -1,5 +1,7 @@
 -- Questions of a C program: the texts that it lends, what it receives, and the signatures that it reads.
 use Rattle.std.specs.Prelude.{◌≡◌, List, length, All, ◌≢◌, ◌⊎◌, ◌==◌, ℕ, ℤ, [], ◌∷◌, map, Bool, true, false, Option, Some, None}
+use Rattle.spki_c.specs.declared.content.Content.{Content}
+use Rattle.spki_c.specs.declared.content.Content.TheVariants as contents
 use Rattle.spki_c.specs.declared.text.Text.{Text}
 use Rattle.spki_c.specs.declared.parts.Parts.{Parts}
 use Rattle.spki_service.specs.AccessLists.{Held}
@@ -72,9 +74,9 @@ IsQuestionOf parts words seconds q = IsQuestionBy parts (map (λ t. t.octets) wo
 -- ---- opened
 
 -- The question is read, and the handle has it.
-pub record IsHeldQuestion (guard : Held) (q : Question) (held : Option Opened) (old new : List ℕ) (needed status : ℕ) : Type 0 where
+pub record IsHeldQuestion (guard : Held) (q : Question) (held : Option Content) (old new : List ℕ) (needed status : ℕ) : Type 0 where
   pub question : Opened
-  pub held_is : held ≡ Some question
+  pub held_is : held ≡ Some (contents.Question question)
   pub opened : IsOpened guard q question
   pub unchanged : new ≡ old
   pub needed_is : needed ≡ 0

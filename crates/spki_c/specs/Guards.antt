@@ -12,6 +12,8 @@ use Rattle.spki_guard.specs.declared.question_answers.Query.TheVariants.{Decide,
 use Rattle.spki_guard.specs.HeldQuestions.{IsAnswerHeld, HasOtherCount, refused_list}
 use Rattle.spki_guard.specs.Lines.{refused_memory}
 use Rattle.spki_c.specs.Results.{IsHanded, IsMisuse, decided, written}
+use Rattle.spki_c.specs.declared.content.Content.{Content}
+use Rattle.spki_c.specs.declared.content.Content.TheVariants as contents
 use Rattle.spki_c.specs.declared.limits.LimitParts.{LimitParts}
 
 -- ---- numbers
@@ -72,9 +74,9 @@ pub record HasNumbers (guard : Held) (n : Numbers) : Type 0 where
   pub answer_is : guard.answer ≡ n.answer
 
 -- The list is read, and the handle has its guard.
-pub record IsOpened (list : List ℕ) (p : Policy) (n : Numbers) (held : Option Held) (old new : List ℕ) (needed status : ℕ) : Type 0 where
+pub record IsOpened (list : List ℕ) (p : Policy) (n : Numbers) (held : Option Content) (old new : List ℕ) (needed status : ℕ) : Type 0 where
   pub guard : Held
-  pub held_is : held ≡ Some guard
+  pub held_is : held ≡ Some (contents.Guard guard)
   pub list_is : HoldsList list guard.texts
   pub policy_is : guard.policy ≡ p
   pub limits_are : HasNumbers guard n

@@ -4,12 +4,9 @@ use denote.RattleType.{RattleType}
 use denote.RawPtr.{Ptr, block_ptr, null_ptr, Testable}
 use denote.Struct.Lending.{lent_at}
 use Rattle.std.specs.Prelude.{Option, Some, None, ◌≡◌, ℕ, ◌^◌, List, length, Bool, true, false}
-use base.Stored.{Coded}
 use Rattle.std.specs.contracts.impls.GlobalAllocator.TheImpl.{ghosts}
 use Rattle.std.specs.declared.alloc.Global.{Global}
 use Rattle.std_alloc.specs.Box.Ownership.{box_owns}
-use Rattle.spki_service.specs.contracts.shared.SharedGuard as shared
-use Rattle.spki_service.specs.contracts.opened.Opened as opened
 use lib.Dec.{ltb}
 use denote.Array.{Array}
 use denote.Builtin.{u8}
@@ -37,28 +34,6 @@ heap = record { memory = record { seal = tt } }
 abbrev pub held_owns : (R : RattleType) → Ptr → Option R.Denot → Fml
 held_owns R p None = ftrue
 held_owns R p (Some x) = box_owns (ghosts.dealloc_token heap) R p x
-
--- ---- guards
-
-abbrev pub guard_row : RattleType
-guard_row = shared.the_row
-
-abbrev pub Kept : Type 0
-Kept = guard_row.Denot
-
-abbrev pub kept_code : Coded Kept
-kept_code = guard_row.coded
-
--- ---- questions
-
-abbrev pub question_row : RattleType
-question_row = opened.the_row
-
-abbrev pub KeptQuestion : Type 0
-KeptQuestion = question_row.Denot
-
-abbrev pub question_code : Coded KeptQuestion
-question_code = question_row.coded
 
 -- ---- what a call may read of a text that it is passed
 

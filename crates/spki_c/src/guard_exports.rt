@@ -1,12 +1,14 @@
 //! The exported functions for guards that a caller holds.
 ghost use Rattle.std.specs.Prelude.{◌≡◌, ◌≢◌, ◌⊎◌, None, IsSome, length};
 ghost use Rattle.spki_cert.specs.declared.principal.Policy.{Policy};
+ghost use Rattle.spki_service.specs.AccessLists.{Held};
 ghost use Rattle.spki_c.specs.Guards.{policy_number, numbers_in, AreAllowed, IsOpened, IsUnopened};
 ghost use Rattle.spki_c.specs.Results.{IsMisuse};
 ghost use Rattle.spki_c.specs.Asking.{IsLent};
 
 use crate::box_pointer::BoxPointer;
 use crate::buffer::{hand_over, misused};
+use crate::content::Content;
 use crate::guards::{policy_of, read_guard};
 use crate::handle::{Handle, Lent};
 use crate::limits::{LimitParts, limits_of};
@@ -61,18 +63,22 @@ pub extern "C" fn spki_c_guard_open(
     }
 }
 
-/// Frees the guard of a handle, which must have one.
+/// Frees the guard or the question of a handle, which must have one.
 #[unsafe(no_mangle)]
-pub extern "C" fn spki_c_guard_close(alloc: Global, handle: Handle)
+pub extern "C" fn spki_c_close(alloc: Global, handle: Handle)
     requires held { IsSome handle.held }
 {
     drop(handle.take(alloc).into_box());
 }
 
-/// The number of entries of the guard's access list.
+/// The number of entries of the guard's access list. 0 for a question.
 #[unsafe(no_mangle)]
 pub extern "C" fn spki_c_guard_entries(lent: &mut Lent) -> usize
-    ensures { result ≡ length lent.old.guard.texts }
+    ensures entries { (g : Held) → lent.old.content ≡ Content.Guard g → result ≡ length g.texts }
+    ensures other { ((g : Held) → lent.old.content ≢ Content.Guard g) → result ≡ 0 }
 {
-    lent.guard().guard().entries()
+    match lent.content().guard() {
+        Some(guard) => guard.guard().entries(),
+        None => 0,
+    }
 }

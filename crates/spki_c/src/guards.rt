@@ -1,8 +1,9 @@
 //! Guards on the heap, and what a caller may set for them.
 ghost use Rattle.std.specs.Prelude.{◌≡◌, ◌≢◌, IfOk, IfErr, MatchOption};
-ghost use Rattle.spki_service.specs.AccessLists.{HasLimits, HoldsList, IsNoAccessList};
+ghost use Rattle.spki_service.specs.AccessLists.{Held, HasLimits, HoldsList, IsNoAccessList};
 ghost use Rattle.spki_c.specs.Guards.{policy_number};
 
+use crate::content::{Content, boxed};
 use spki_cert::Policy;
 use spki_guard::{AclFault, Guard, Limits, SharedGuard};
 use std::alloc::Global;
@@ -13,25 +14,14 @@ pub(crate) fn read_guard(
     list: &[u8],
     policy: Policy,
     limits: Limits,
-) -> Result<Box<SharedGuard>, AclFault>
-    ensures list { IfOk result (λ g. HoldsList list.now g.value.texts) }
-    ensures given { IfOk result (λ g. (g.value.policy ≡ policy) × HasLimits g.value limits) }
+) -> Result<Box<Content>, AclFault>
+    ensures read { IfOk result (λ c. (g : Held) × (c.value ≡ Content.Guard g) × HoldsList list.now g.texts
+        × (g.policy ≡ policy) × HasLimits g limits) }
     ensures refused { IfErr result (λ fault. fault ≢ AclFault.Memory → IsNoAccessList list.now fault) }
 {
     let guard = Guard::read(alloc, list, policy, limits)?;
     match SharedGuard::new(alloc, guard) {
-        Ok(guard) => boxed(alloc, guard),
-        Err(_) => Err(AclFault::Memory),
-    }
-}
-
-/// Puts a guard on the heap. Err is `Memory` if memory ran out.
-fn boxed(alloc: Global, guard: SharedGuard) -> Result<Box<SharedGuard>, AclFault>
-    ensures same { IfOk result (λ g. g.value ≡ guard) }
-    ensures only { IfErr result (λ fault. fault ≡ AclFault.Memory) }
-{
-    match Box::new(alloc, guard) {
-        Ok(guard) => Ok(guard),
+        Ok(guard) => boxed(alloc, Content::Guard(guard)),
         Err(_) => Err(AclFault::Memory),
     }
 }

@@ -1,39 +1,41 @@
-//! Pointers to guards that are passed to C and come back.
+//! Pointers to guards and questions that are passed to C and come back.
 ghost use Rattle.std.specs.Prelude.{◌≡◌, Some, None, IsSome};
 ghost use Rattle.std.specs.declared.option.Option.{Option};
 ghost use Rattle.std.specs.Coded.{coded_option};
-ghost use Rattle.spki_c.specs.Pointers.{Kept, kept_code, guard_row, held_owns, held_lent};
+ghost use Rattle.spki_c.specs.declared.content.Content.{Content};
+ghost use Rattle.spki_c.specs.contracts.content.Content.{the_row};
+ghost use Rattle.spki_c.specs.Pointers.{held_owns, held_lent};
 
 use crate::box_pointer::BoxPointer;
-use spki_guard::SharedGuard;
+use crate::content::Content;
 use std::alloc::Global;
 use std::marker::Model;
 
-/// A pointer to a guard on the heap. It owns the guard and the right to free it, if `held` has a guard.
+/// A pointer to a guard or a question on the heap. It owns that value and the right to free it, if `held` has one.
 #[repr(C)]
 pub struct Handle {
     at: *mut u8,
-    pub ghost held: { Option Kept } by { coded_option kept_code },
+    pub ghost held: { Option Content } by { coded_option the_row.coded },
 }
 
 impl Model for Handle {
-    ghost also_owns = { λ h. held_owns guard_row h.at h.held };
+    ghost also_owns = { λ h. held_owns the_row h.at h.held };
 }
 
-/// A pointer to a guard that a call borrows. The guard lasts at least as long as the call.
+/// A pointer to a guard or a question that a call borrows. The value lasts at least as long as the call.
 #[repr(C)]
 pub struct Lent {
     at: *const u8,
-    pub ghost guard: { Kept } by { kept_code },
+    pub ghost content: { Content } by { the_row.coded },
 }
 
 impl Model for Lent {
-    ghost also_owns = { λ l. held_lent guard_row l.at l.guard };
+    ghost also_owns = { λ l. held_lent the_row l.at l.content };
 }
 
 impl Handle {
-    /// Makes the handle own the guard of this pointer. The handle must have none.
-    pub(crate) fn hold(&mut self, pointer: BoxPointer<SharedGuard, Global>)
+    /// Makes the handle own the value of this pointer. The handle must have none.
+    pub(crate) fn hold(&mut self, pointer: BoxPointer<Content, Global>)
         requires { self.old.held ≡ None }
         ensures { self.new.held ≡ Some pointer.value }
     {
@@ -41,31 +43,31 @@ impl Handle {
         self.at = at as *mut u8;
     }
 
-    /// Returns the pointer of the guard, with the right to free it. The handle must have a guard.
-    pub(crate) fn take(self, alloc: Global) -> BoxPointer<SharedGuard, Global>
+    /// Returns the pointer of the value, with the right to free it. The handle must have a value.
+    pub(crate) fn take(self, alloc: Global) -> BoxPointer<Content, Global>
         requires { IsSome self.held }
         ensures { self.held ≡ Some result.value }
     {
         let Handle { at } = self;
         BoxPointer {
-            at: at as *mut SharedGuard,
+            at: at as *mut Content,
             alloc,
         }
     }
 }
 
 impl Lent {
-    /// The guard that this call borrows.
-    pub(crate) fn guard(&mut self) -> &SharedGuard
-        ensures { result.now ≡ self.entry.now.guard }
+    /// The value that this call borrows.
+    pub(crate) fn content(&mut self) -> &Content
+        ensures { result.now ≡ self.entry.now.content }
     {
         let at = self.at;
-        unsafe { &*(at as *const SharedGuard) }
+        unsafe { &*(at as *const Content) }
     }
 }
 
-// A guard is `Send`, so another thread may free it.
+// A guard and a question are `Send`, so another thread may free them.
 unsafe impl Send for Handle {}
 
-// A guard is `Sync`, so it may be lent to calls in several threads at the same time.
+// Both are `Sync`, so they may be lent to calls in several threads at the same time.
 unsafe impl Send for Lent {}

@@ -5,6 +5,7 @@
 
 mod box_pointer;
 mod buffer;
+mod content;
 mod exports;
 mod guard_exports;
 mod guards;
@@ -15,15 +16,13 @@ mod numbers;
 mod opening;
 mod parts;
 mod question_exports;
-mod question_handle;
 mod questions;
 mod signatures;
 mod strings;
 mod text;
 
 pub use exports::{spki_c_answer, spki_c_check_accepted, spki_c_string};
-pub use guard_exports::{spki_c_guard_close, spki_c_guard_entries, spki_c_guard_open};
+pub use guard_exports::{spki_c_close, spki_c_guard_entries, spki_c_guard_open};
 pub use question_exports::{
-    spki_c_asked_answer, spki_c_asked_close, spki_c_asked_count, spki_c_asked_signature,
-    spki_c_guard_ask,
+    spki_c_asked_answer, spki_c_asked_count, spki_c_asked_signature, spki_c_guard_ask,
 };

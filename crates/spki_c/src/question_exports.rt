@@ -1,7 +1,9 @@
 //! The exported functions for opened questions that a caller holds.
 ghost use Rattle.std.specs.Prelude.{◌≡◌, ◌≢◌, ◌⊎◌, None, Some, IsSome, length, slice_get};
 ghost use Rattle.spki_decision.specs.Standing.{Signed};
+ghost use Rattle.spki_service.specs.AccessLists.{Held};
 ghost use Rattle.spki_service.specs.declared.question.Question.{Question};
+ghost use Rattle.spki_service.specs.declared.opened.Opened.{Opened};
 ghost use Rattle.spki_service.specs.GuardQuestions.{IsOpened};
 ghost use Rattle.spki_guard.specs.declared.question_answers.Query.{Query};
 ghost use Rattle.spki_c.specs.Asking.{IsAmbiguous, IsQuestionOf, IsHeldQuestion, IsUnheld, marks_from, IsLent, AreLent, IsSignature};
@@ -10,12 +12,12 @@ ghost use Rattle.spki_c.specs.Results.{IsMisuse};
 
 use crate::box_pointer::BoxPointer;
 use crate::buffer::{hand_over, misused};
-use crate::handle::Lent;
+use crate::content::Content;
+use crate::handle::{Handle, Lent};
 use crate::lent_texts::words_of;
 use crate::numbers::{DONE, NO_MEMORY, NONE, REFUSED, query_of, query_status};
 use crate::opening::open_boxed;
 use crate::parts::Parts;
-use crate::question_handle::{LentQuestion, QuestionHandle};
 use crate::questions::marks_of;
 use crate::signatures::{SignatureTexts, texts_of};
 use crate::text::Text;
@@ -27,9 +29,9 @@ use std::alloc::Global;
 /// true. The moment is the first of `seconds`, if there are any.
 ///
 /// Returns 6 if the handle has the question. Otherwise the handle is unchanged. Returns 2 for a refusal, also if memory
-/// ran out, and 4 if the buffer is too small for its line. Returns 5 if a request or a moment is given both ways
-/// (`Parts::is_ambiguous`), or a text is not lent whole (`Text::is_lent`). With 2 the line is at the front of the
-/// buffer. Otherwise the buffer is unchanged. `needed` is the length of the line, and 0 if there is none.
+/// ran out, and 4 if the buffer is too small for its line. Returns 5 if `lent` is no guard, a request or a moment is
+/// given both ways (`Parts::is_ambiguous`), or a text is not lent whole (`Text::is_lent`). With 2 the line is at the
+/// front of the buffer. Otherwise the buffer is unchanged. `needed` is the length of the line, and 0 if there is none.
 #[unsafe(no_mangle)]
 pub extern "C" fn spki_c_guard_ask(
     alloc: Global,
@@ -37,23 +39,28 @@ pub extern "C" fn spki_c_guard_ask(
     parts: &mut Parts,
     words: &mut [Text],
     seconds: &[i64],
-    handle: &mut QuestionHandle,
+    handle: &mut Handle,
     buffer: &mut [u8],
     needed: &mut usize,
 ) -> u32
     requires empty { handle.old.held ≡ None }
-    ensures asked { AreLent parts.old words.old → ¬ IsAmbiguous parts.old seconds.now
+    ensures asked { (g : Held) → lent.old.content ≡ Content.Guard g → AreLent parts.old words.old → ¬ IsAmbiguous parts.old seconds.now
         → (q : Question) × IsQuestionOf parts.old words.old seconds.now q
-        × (IsHeldQuestion lent.old.guard q handle.new.held buffer.old buffer.new needed.new result
-        ⊎ IsUnheld lent.old.guard q handle.old handle.new buffer.old buffer.new needed.new result) }
+        × (IsHeldQuestion g q handle.new.held buffer.old buffer.new needed.new result
+        ⊎ IsUnheld g q handle.old handle.new buffer.old buffer.new needed.new result) }
     ensures ambiguous { IsAmbiguous parts.old seconds.now
         → (handle.new ≡ handle.old) × IsMisuse buffer.old buffer.new needed.new result }
     ensures unlent { ¬ AreLent parts.old words.old
+        → (handle.new ≡ handle.old) × IsMisuse buffer.old buffer.new needed.new result }
+    ensures other { ((g : Held) → lent.old.content ≢ Content.Guard g)
         → (handle.new ≡ handle.old) × IsMisuse buffer.old buffer.new needed.new result }
 {
     if !parts.are_lent(words) || parts.is_ambiguous(seconds) {
         return misused(needed);
     }
+    let Some(guard) = lent.content().guard() else {
+        return misused(needed);
+    };
     let Ok(words) = words_of(alloc, words) else {
         return hand_over(
             &refused_list(alloc, AclFault::Memory),
@@ -63,7 +70,7 @@ pub extern "C" fn spki_c_guard_ask(
         );
     };
     let question = parts.question(words.as_slice(), seconds);
-    match open_boxed(alloc, lent.guard(), &question) {
+    match open_boxed(alloc, guard, &question) {
         Ok(opened) => {
             handle.hold(BoxPointer::of(opened));
             *needed = 0;
@@ -73,37 +80,39 @@ pub extern "C" fn spki_c_guard_ask(
     }
 }
 
-/// Frees the question of a handle, which must have one.
+/// The number of signatures that a verifier must decide for this question. 0 for a guard.
 #[unsafe(no_mangle)]
-pub extern "C" fn spki_c_asked_close(alloc: Global, handle: QuestionHandle)
-    requires held { IsSome handle.held }
+pub extern "C" fn spki_c_asked_count(lent: &mut Lent) -> usize
+    ensures count { (o : Opened) → lent.old.content ≡ Content.Question o → result ≡ length o.signed.items }
+    ensures other { ((o : Opened) → lent.old.content ≢ Content.Question o) → result ≡ 0 }
 {
-    drop(handle.take(alloc).into_box());
-}
-
-/// The number of signatures that a verifier must decide for this question.
-#[unsafe(no_mangle)]
-pub extern "C" fn spki_c_asked_count(lent: &mut LentQuestion) -> usize
-    ensures { result ≡ length lent.old.question.signed.items }
-{
-    lent.question().signed().len()
+    match lent.content().question() {
+        Some(opened) => opened.signed().len(),
+        None => 0,
+    }
 }
 
 /// Sets `texts` to those of the signature at this place, from 0. They are those of the question: nothing is copied.
 ///
-/// Returns 6 if they are set. Otherwise they are unchanged: returns 7 if there is no signature at this place, and 8 if memory ran out.
+/// Returns 6 if they are set. Otherwise they are unchanged: returns 7 if there is no signature at this place, or `lent` is a guard,
+/// and 8 if memory ran out.
 #[unsafe(no_mangle)]
 pub extern "C" fn spki_c_asked_signature<'a>(
     alloc: Global,
-    lent: &'a mut LentQuestion,
+    lent: &'a mut Lent,
     place: usize,
     texts: &mut SignatureTexts<'a>,
 ) -> u32
-    ensures set { (s : Signed) → slice_get lent.entry.now.question.signed.items place ≡ Some s
+    ensures set { (o : Opened) (s : Signed) → lent.entry.now.content ≡ Content.Question o → slice_get o.signed.items place ≡ Some s
         → ((result ≡ 6) × IsSignature s texts.new) ⊎ ((result ≡ 8) × (texts.new ≡ texts.old)) }
-    ensures none { slice_get lent.entry.now.question.signed.items place ≡ None → (result ≡ 7) × (texts.new ≡ texts.old) }
+    ensures none { (o : Opened) → lent.entry.now.content ≡ Content.Question o → slice_get o.signed.items place ≡ None
+        → (result ≡ 7) × (texts.new ≡ texts.old) }
+    ensures other { ((o : Opened) → lent.entry.now.content ≢ Content.Question o) → (result ≡ 7) × (texts.new ≡ texts.old) }
 {
-    let Some(signed) = lent.question().signed().get(place) else {
+    let Some(opened) = lent.content().question() else {
+        return NONE;
+    };
+    let Some(signed) = opened.signed().get(place) else {
         return NONE;
     };
     match texts_of(alloc, signed) {
@@ -120,27 +129,31 @@ pub extern "C" fn spki_c_asked_signature<'a>(
 ///
 /// A decision returns 9 for yes and 1 for no. An explanation or a reduction returns 6. All return 2 for a refusal, also
 /// if memory ran out, and 4 if the buffer is too small. All return 5 if there are more or fewer marks than signatures,
-/// if no query has this number, or if the marks are not lent whole (`Text::is_lent`). `needed` is the length of the
-/// answer, and 0 with status 5. With 4 and 5 the buffer is unchanged.
+/// if no query has this number, if `lent` is no question, or if the marks are not lent whole (`Text::is_lent`). `needed`
+/// is the length of the answer, and 0 with status 5. With 4 and 5 the buffer is unchanged.
 #[unsafe(no_mangle)]
 pub extern "C" fn spki_c_asked_answer(
     alloc: Global,
     query: u32,
-    lent: &mut LentQuestion,
+    lent: &mut Lent,
     mut verified: Text,
     buffer: &mut [u8],
     needed: &mut usize,
 ) -> u32
-    ensures answered { (w : Query) (q : Question) → query ≡ query_number w → IsOpened lent.old.question.guard q lent.old.question
-        → IsLent verified
-        → IsAsked w lent.old.question.guard q (marks_from verified.octets) buffer.old buffer.new needed.new result }
+    ensures answered { (o : Opened) (w : Query) (q : Question) → lent.old.content ≡ Content.Question o → query ≡ query_number w
+        → IsOpened o.guard q o → IsLent verified
+        → IsAsked w o.guard q (marks_from verified.octets) buffer.old buffer.new needed.new result }
     ensures misused { ((w : Query) → query ≢ query_number w) → IsMisuse buffer.old buffer.new needed.new result }
     ensures unlent { ¬ IsLent verified → IsMisuse buffer.old buffer.new needed.new result }
+    ensures other { ((o : Opened) → lent.old.content ≢ Content.Question o) → IsMisuse buffer.old buffer.new needed.new result }
 {
     if !verified.is_lent() {
         return misused(needed);
     }
     let Some(query) = query_of(query) else {
+        return misused(needed);
+    };
+    let Some(opened) = lent.content().question() else {
         return misused(needed);
     };
     let Ok(marks) = marks_of(alloc, verified.octets()) else {
@@ -151,7 +164,7 @@ pub extern "C" fn spki_c_asked_answer(
             needed,
         );
     };
-    match answer_opened(alloc, query, lent.question(), marks.as_slice()) {
+    match answer_opened(alloc, query, opened, marks.as_slice()) {
         Some(answer) => hand_over(&answer, query_status(query, answer.verdict), buffer, needed),
         None => misused(needed),
     }

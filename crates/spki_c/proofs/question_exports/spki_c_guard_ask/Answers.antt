@@ -1,4 +1,4 @@
-use Rattle.std.proofs.Common.{ℕ, List, map, inl, inr, ap, subst, ◌∙◌, Some, refl}
+use Rattle.std.proofs.Common.{◌≡◌, rules, ℕ, List, map, inl, inr, ap, subst, ◌∙◌, Some, refl}
 use Rattle.spki_service.specs.AccessLists.{Held}
 use Rattle.spki_service.specs.GuardQuestions.{IsOpened}
 use Rattle.spki_guard.specs.TextAnswers.{written_by}
@@ -9,8 +9,8 @@ use Rattle.spki_c.specs.declared.text.Text.{Text}
 use Rattle.spki_c.proofs.Answering.{question_by, is_question_by, one_line}
 use Rattle.spki_c.proofs.question_exports.spki_c_guard_ask.Goals as goal
 
-pub returns-in_default-clause-asked : goal.returns-in_default-clause-asked
-returns-in_default-clause-asked c lent clear =
+pub returns-in_default-words_of-clause-asked : goal.returns-in_default-words_of-clause-asked
+returns-in_default-words_of-clause-asked c g held lent clear =
     let words = map (λ (t : Text). t.octets) c.args.words.now in (
       question_by c.args.parts.now words c.args.seconds.now,
       is_question_by c.args.parts.now words c.args.seconds.now,
@@ -24,17 +24,18 @@ returns-in_default-clause-asked c lent clear =
     )
 
 pub returns-in-Ok-open_boxed-clause-asked : goal.returns-in-Ok-open_boxed-clause-asked
-returns-in-Ok-open_boxed-clause-asked c lent clear =
+returns-in-Ok-open_boxed-clause-asked c g held lent clear =
     let parts = c.is_ambiguous.ensures.same ∙ c.are_lent.ensures.same.0 in
     let words = ap (map (λ w. w.now)) c.as_slice.ensures.value ∙ c.in-Ok.ensures ∙ ap (map (λ (t : Text). t.octets)) c.are_lent.ensures.same.1 in
-    let q = c.question.result in let opened = c.in-Ok-open_boxed.opened.value in (
+    let q = c.question.result in let opened = c.in-Ok-open_boxed.ensures.opened in
+    let same : c.in-Some.guard.now ≡ g = search rules in (
       q,
       subst (λ (p : Parts). IsQuestionBy p (map (λ (t : Text). t.octets) c.args.words.now) c.args.seconds.now q) parts
           (subst (λ (ws : List (List ℕ)). IsQuestionBy c.is_ambiguous.new.self ws c.args.seconds.now q) words c.question.ensures),
       inl (record {
-        question = opened;
-        held_is = c.hold.ensures ∙ ap Some c.of.ensures;
-        opened = subst (λ (g : Held). IsOpened g q opened) c.guard.ensures c.in-Ok-open_boxed.ensures.opened;
+        question = opened.0;
+        held_is = c.hold.ensures ∙ ap Some (c.of.ensures ∙ opened.1);
+        opened = subst (λ (h : Held). IsOpened h q opened.0) same opened.2;
         unchanged = refl;
         needed_is = refl;
         status_is = refl;
@@ -42,10 +43,11 @@ returns-in-Ok-open_boxed-clause-asked c lent clear =
     )
 
 pub returns-clause-asked : goal.returns-clause-asked
-returns-clause-asked c lent clear =
+returns-clause-asked c g held lent clear =
     let parts = c.is_ambiguous.ensures.same ∙ c.are_lent.ensures.same.0 in
     let words = ap (map (λ w. w.now)) c.as_slice.ensures.value ∙ c.in-Ok.ensures ∙ ap (map (λ (t : Text). t.octets)) c.are_lent.ensures.same.1 in
-    let q = c.question.result in let answer = c.in-Err.answer in (
+    let q = c.question.result in let answer = c.in-Err.answer in
+    let same : c.in-Some.guard.now ≡ g = search rules in (
       q,
       subst (λ (p : Parts). IsQuestionBy p (map (λ (t : Text). t.octets) c.args.words.now) c.args.seconds.now q) parts
           (subst (λ (ws : List (List ℕ)). IsQuestionBy c.is_ambiguous.new.self ws c.args.seconds.now q) words c.question.ensures),
@@ -53,7 +55,7 @@ returns-clause-asked c lent clear =
         kept = refl;
         verdict = answer.verdict;
         output = written_by answer;
-        unread = subst (λ (g : Held). IsUnreadQuestion g q answer.verdict (written_by answer)) c.guard.ensures c.in-Err.ensures.refused;
+        unread = subst (λ (h : Held). IsUnreadQuestion h q answer.verdict (written_by answer)) same c.in-Err.ensures.refused;
         handed = c.hand_over-in-Err.ensures;
       }),
     )

@@ -1,4 +1,4 @@
--- A handle owns a guard and the right to free it, and both say the same to every thread.
+-- A handle owns a guard or a question, and the right to free it. Both say the same to every thread.
 use mir.Raw.{raw}
 use base.Shift.{Keyless}
 use denote.Memory.{lone}
@@ -9,14 +9,15 @@ use denote.Param.Send.{IsSend, AllSend, owning_send, struct_send, sendable}
 use Rattle.std.specs.Prelude.{Option, Some, None}
 use Rattle.std.proofs.Crossing.{frees}
 use Rattle.std_alloc.proofs.SendSync.{quiet, lies}
-use Rattle.spki_service.specs.contracts.shared.SharedGuard as guard
-use Rattle.spki_service.proofs.shared.SharedGuard.TheSendSync.{the_send as guard_send}
-use Rattle.spki_c.specs.Pointers.{Kept, heap, held_owns}
+use Rattle.spki_c.specs.contracts.content.Content as content
+use Rattle.spki_c.specs.declared.content.Content.{Content}
+use Rattle.spki_c.proofs.content.Content.TheSendSync.{the_send as content_send}
+use Rattle.spki_c.specs.Pointers.{heap, held_owns}
 use Rattle.spki_c.specs.contracts.handle.Handle.{the_row, the_type}
 
-held_keyless : (p : Ptr) (held : Option Kept) → Keyless (held_owns guard.the_row p held)
+held_keyless : (p : Ptr) (held : Option Content) → Keyless (held_owns content.the_row p held)
 held_keyless p None = tt
-held_keyless p (Some g) = (lies guard.the_row guard_send p g, frees.frees heap (raw (lone guard.the_row.mir)) p)
+held_keyless p (Some g) = (lies content.the_row content_send p g, frees.frees heap (raw (lone content.the_row.mir)) p)
 
 pub send : IsSend the_row
 send =

@@ -12,7 +12,7 @@ use types.ByLocal.{alloc_all, pass_all, free_all, look_at, get, get_in, through,
 use types.Part.{sub, whole, store_in}
 use contract.Monad.{fact}
 use contract.Running.{tables}
-use denote.Exit.{yes}
+use denote.Exit.{no}
 use denote.Laws.{shows}
 use denote.Memory.{cell_at}
 use denote.RattleType.{RattleType, owns, Valss}
@@ -28,7 +28,7 @@ use Rattle.std.specs.contracts.alloc.Global as heap
 use Rattle.std.proofs.alloc.Global.TheLaws as heap_laws
 use Rattle.std.specs.contracts.impls.GlobalAllocator.TheImpl.{ghosts}
 use Rattle.std.proofs.raw_atomic.Walks.{proved_at}
-use Rattle.spki_service.specs.contracts.shared.SharedGuard.{the_row as G}
+use Rattle.spki_c.specs.contracts.content.Content.{the_row as G}
 use Rattle.spki_c.specs.contracts.handle.Handle.{the_row as R, the_type}
 use Rattle.spki_c.specs.contracts.box_pointer.BoxPointer as box_pointer
 use Rattle.spki_c.specs.contracts.handle.Handle.hold as f
@@ -41,13 +41,13 @@ abbrev B : RattleType
 B = box_pointer.the_row G heap.the_row ghosts
 
 abbrev stayed : Stays f.ended.signature.params f.ended.kept
-stayed = (stay_ref (0 ∷ []) tt (plain (λ _. R)), (stay_dropped _ yes, tt))
+stayed = (stay_ref (0 ∷ []) tt (plain (λ _. R)), (stay_dropped _ no, tt))
 
 pub hold_spec : {M : Type 1} → statement M
 hold_spec 𝓤 𝓛 𝓜 𝓡 wired =
     let c = f.clauses 𝓛 𝓜.mem 𝓡.returns in let W = walk_of 𝓛 f.ended stayed c in let 𝓣 = tables 𝓤 𝓛.H 𝓜 𝓡 𝓡.env in
     let Z : RattleType = heap.the_row in let LZ = heap_laws.the_row_laws in
-    proved_at 𝓛 f.ended stayed c 𝓜 𝓡 (Goes-ref 𝓛 1 0 tt (plain (λ _. R)), (Goes-dropped 𝓛 1 (plain (λ _. B)) yes (λ κs x w. refl), tt))
+    proved_at 𝓛 f.ended stayed c 𝓜 𝓡 (Goes-ref 𝓛 1 0 tt (plain (λ _. R)), (Goes-dropped 𝓛 1 (plain (λ _. B)) no (λ κs x w. refl), tt))
     f.Key.name code.function (code.unfolded 𝓤 𝓛.H 𝓜 𝓡 wired) (λ z are.
     let κ = z.0.0.0 in let q = z.0.1.0 in let x = z.0.3.0 in let d = z.0.3.1.0 in let rs = z.0.4.0 in let ws = z.0.4.1.0 in let h = x.now in
     let b = x.ref_ptr.0 in let o = x.ref_ptr.1 in
