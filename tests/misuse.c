@@ -1,6 +1,7 @@
 /* Makes each call of `spki.h` with each of its arguments null with a length, too long, or of another size, which must be misuse that changes
- * nothing, and with what may be null. What no call can see is the caller's duty: a handle that was closed, or is of another library. Is linked
- * with --wrap=malloc and --wrap=realloc. Ends with 99 where a call does otherwise, with a line on standard error. */
+ * nothing, with a handle of the other kind, and with what may be null. What no call can see is the caller's duty: a handle that was closed, or
+ * is of another library. Is linked with --wrap=malloc and --wrap=realloc. Ends with 99 where a call does otherwise, with a line on standard
+ * error. */
 #include "cguard.h"
 
 enum { UNTOUCHED = 0x5a };
@@ -170,6 +171,22 @@ static void nulls(void)
     misused_question(&twice, "spki_guard_ask: two requests");
 }
 
+/* A question in place of a guard, and a guard in place of a question. */
+static void other_kinds(void)
+{
+    struct spki_question question = granted();
+    spki_guard *no_such_guard = (spki_guard *)asked;
+    spki_asked *no_such_question = (spki_asked *)guard;
+    struct spki_signed signature;
+    memset(&signature, 1, sizeof signature);
+    opens_no_question(spki_guard_ask(no_such_guard, &question, &no_asked, BUFFER), "spki_guard_ask: a question");
+    misused(spki_asked_decide(no_such_question, NULL, 0, BUFFER), "spki_asked_decide: a guard");
+    misused(spki_asked_explain(no_such_question, NULL, 0, BUFFER), "spki_asked_explain: a guard");
+    misused(spki_asked_reduce(no_such_question, NULL, 0, BUFFER), "spki_asked_reduce: a guard");
+    expect(spki_asked_signature(no_such_question, 0, &signature) == SPKI_MISUSED && !signature.key.octets, "spki_asked_signature: a guard");
+    expect(!spki_guard_entries(no_such_guard) && !spki_asked_count(no_such_question), "the counts of another kind");
+}
+
 /* What may be null: what has no octets, `needed`, limits. */
 static void allowed(void)
 {
@@ -209,6 +226,7 @@ int main(void)
     wrong_sizes();
     wrong_numbers();
     nulls();
+    other_kinds();
     allowed();
     decides(guard, &question, NULL, 0, SPKI_YES, "yes entry 1\n");
     spki_asked_close(asked);

@@ -24,11 +24,10 @@ struct texts { /* the texts of a signature, and whether its value is one string 
 uint32_t spki_c_answer(uint32_t command, struct spki_text text, ANSWER);
 uint32_t spki_c_check_accepted(struct spki_text text, struct spki_text rows, ANSWER);
 uint32_t spki_c_guard_open(struct spki_text list, uint32_t policy, const struct spki_limits *limits, size_t count, struct handle *guard, ANSWER);
-void spki_c_guard_close(struct handle guard);
+void spki_c_close(struct handle value);
 size_t spki_c_guard_entries(struct handle *guard);
 uint32_t spki_c_guard_ask(struct handle *guard, struct parts *parts, struct spki_text *words, size_t word_count, const int64_t *seconds,
                           size_t count, struct handle *asked, ANSWER);
-void spki_c_asked_close(struct handle asked);
 size_t spki_c_asked_count(struct handle *asked);
 uint32_t spki_c_asked_signature(struct handle *asked, size_t place, struct texts *texts);
 uint32_t spki_c_asked_answer(uint32_t wish, struct handle *asked, struct spki_text verified, ANSWER);
@@ -83,7 +82,7 @@ enum spki_status spki_guard_open(const void *list, size_t list_length, enum spki
 void spki_guard_close(spki_guard *guard)
 {
     if (guard)
-        spki_c_guard_close((struct handle){guard});
+        spki_c_close((struct handle){guard});
 }
 
 size_t spki_guard_entries(const spki_guard *guard)
@@ -113,7 +112,7 @@ enum spki_status spki_guard_ask(const spki_guard *guard, const struct spki_quest
 void spki_asked_close(spki_asked *asked)
 {
     if (asked)
-        spki_c_asked_close((struct handle){asked});
+        spki_c_close((struct handle){asked});
 }
 
 size_t spki_asked_count(const spki_asked *asked)

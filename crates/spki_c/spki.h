@@ -53,7 +53,8 @@
  *   length is 0. The contents of the buffer before the call do not matter. `needed` may be null.
  * - A buffer, `needed`, `guard`, `asked` and `signature` overlap neither each other nor a text.
  * - A guard and an opened question are closed once, when no call uses them. Their pointers are only passed on: do not read or write
- *   through them. A guard may be closed before the questions that were opened with it.
+ *   through them. A guard may be closed before the questions that were opened with it. The pointer of a question in place of that of a
+ *   guard, or the reverse, is seen: the call is SPKI_MISUSED, and a count is 0.
  * - A guard and an opened question are passed to another thread by a lock, by the start or end of a thread, or by a sequentially
  *   consistent atomic.
  * - `malloc`, `realloc` and `free` of the program are those of one allocator. They align a block to each power of two up to 16 that

@@ -15,7 +15,7 @@ use crate::buffer::{hand_over, misused};
 use crate::content::Content;
 use crate::handle::{Handle, Lent};
 use crate::lent_texts::words_of;
-use crate::numbers::{DONE, NO_MEMORY, NONE, REFUSED, query_of, query_status};
+use crate::numbers::{DONE, MISUSED, NO_MEMORY, NONE, REFUSED, query_of, query_status};
 use crate::opening::open_boxed;
 use crate::parts::Parts;
 use crate::questions::marks_of;
@@ -94,8 +94,8 @@ pub extern "C" fn spki_c_asked_count(lent: &mut Lent) -> usize
 
 /// Sets `texts` to those of the signature at this place, from 0. They are those of the question: nothing is copied.
 ///
-/// Returns 6 if they are set. Otherwise they are unchanged: returns 7 if there is no signature at this place, or `lent` is a guard,
-/// and 8 if memory ran out.
+/// Returns 6 if they are set. Otherwise they are unchanged: returns 7 if there is no signature at this place, 8 if memory ran out, and 5
+/// if `lent` is a guard.
 #[unsafe(no_mangle)]
 pub extern "C" fn spki_c_asked_signature<'a>(
     alloc: Global,
@@ -107,10 +107,10 @@ pub extern "C" fn spki_c_asked_signature<'a>(
         → ((result ≡ 6) × IsSignature s texts.new) ⊎ ((result ≡ 8) × (texts.new ≡ texts.old)) }
     ensures none { (o : Opened) → lent.entry.now.content ≡ Content.Question o → slice_get o.signed.items place ≡ None
         → (result ≡ 7) × (texts.new ≡ texts.old) }
-    ensures other { ((o : Opened) → lent.entry.now.content ≢ Content.Question o) → (result ≡ 7) × (texts.new ≡ texts.old) }
+    ensures other { ((o : Opened) → lent.entry.now.content ≢ Content.Question o) → (result ≡ 5) × (texts.new ≡ texts.old) }
 {
     let Some(opened) = lent.content().question() else {
-        return NONE;
+        return MISUSED;
     };
     let Some(signed) = opened.signed().get(place) else {
         return NONE;
