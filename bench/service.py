@@ -59,6 +59,8 @@ MOST = {"10,000 keys, no certificate": 1.5, "10,000 keys, three certificates": 1
         "an explanation or a reduction, ms": 200.0, "an explanation or a reduction, MiB": 16.0,
         "waits of 1,000 decisions": 1.0}
 LEAST = {"threads": 3.5}
+# The C library gives a block of 128 KiB or more pages of its own, also after it has freed one.
+APART = {"GLIBC_TUNABLES": "glibc.malloc.mmap_threshold=131072"}
 # What the library's statuses say.
 ANSWERS = {1: "no", 2: "refused", 6: "done", 9: "yes"}
 
@@ -95,8 +97,9 @@ class Driver:
         return program
 
     def run(self, *words):
-        """The numbers that the driver prints."""
-        done = subprocess.run([self.program, *map(str, words)], stdout=subprocess.PIPE, text=True, timeout=SECONDS)
+        """The numbers that the driver prints. Large blocks of memory lie apart, so that the pages in use do not depend on the gaps that
+        earlier blocks left."""
+        done = subprocess.run([self.program, *map(str, words)], stdout=subprocess.PIPE, text=True, timeout=SECONDS, env={**os.environ, **APART})
         if done.returncode:
             sys.exit(f"service {' '.join(map(str, words))}: status {done.returncode}")
         return [float(number) for number in done.stdout.split()]
