@@ -22,6 +22,12 @@ def counted_inside(function):
     return lambda command, text: counted_by_valgrind(command, text, f"--toggle-collect={function}")
 
 
+def counted_outside(*functions):
+    """What counts the instructions outside some functions, none of which calls another: valgrind."""
+    flags = [f"--toggle-collect={function}" for function in functions]
+    return lambda command, text: counted_by_valgrind(command, text, *flags, "--collect-atstart=yes")
+
+
 def counted(count, words, text):
     """The instructions of a command on a text, by what counts them."""
     with tempfile.NamedTemporaryFile() as file:

@@ -7,7 +7,8 @@
 - A decision by three certificates from the text of a case, and one through a guard beside libmacaroons' verification of a macaroon with three
   caveats: with the question opened for it, and opened before. Where libmacaroons is not there (Debian: libmacaroons-dev) this is left out.
 - A question that is opened, listed and decided, beside the digests of its certificates.
-- The memory that is taken while questions of 1 MiB are opened, beside their octets, and the time, at the highest limits.
+- The memory that is kept of questions of 1 MiB that were opened, and the most that is taken meanwhile, beside their octets, and the time, at
+  the highest limits.
 - With a limit of 64 KiB for a question, the time and the memory of decisions, explanations and reductions of the widest questions that are
   known, with lists of up to 1 MiB. The limits on nodes, work and answers are those that a guard without limits has.
 - A decision through the bindings for Rust and Python, beside the calls in C. Where `cargo` is not there Rust is left out.
@@ -28,7 +29,7 @@ import time
 
 from chains import MOST_OCTETS, large_tags
 from check import group, key, string
-from counting import counted_by_valgrind, counted_inside, counter, of_one_call
+from counting import counted_by_valgrind, counted_inside, counted_outside, counter, of_one_call
 from macaroons import GUARD, MACAROON, OPENED, built, measured, written_parts
 from shapes import by_keys, case, certificate, definition, digest, entry, keys_of, name, parts_of
 from slowest import (LARGE_TAG, LARGE_TAG_AND_RANGE, LARGE_TAG_AND_SET, SHAPES, Shape, large_tag, long_issuer, most,
@@ -41,7 +42,6 @@ FLAGS = ["-std=c11", "-O2", "-Wall", "-Wextra", "-Wpedantic", "-Werror", "-pthre
 ENTRIES = 10_000
 THREADS, CORES = 8, 4
 ROUNDS, CALLS = 40, 50
-LAYOUTS = 4
 # How often a time is taken, at least and at most, and the seconds of a pause.
 TURNS, MOST_TURNS, PAUSE = 3, 20, 10
 # The limits of a guard for strangers' questions: octets, and the members of two sets or lists whose product of nodes is 10,000.
@@ -51,10 +51,11 @@ USUAL_CERTIFICATES = 16
 SECONDS = 600
 # The function that digests by SHA-256.
 DIGEST = "sha2::block256::Core256::update"
+ALLOCATOR = ("malloc", "realloc", "free")
 MOST = {"10,000 keys, no certificate": 1.5, "10,000 keys, three certificates": 1.5, "10,000 hashes, no certificate": 1.5,
         "10,000 hashes, three certificates": 1.5, "opening 1 MiB": 1.2, "instructions of a case": 96_000, "three caveats": 1.0,
         "three caveats, opened before": 0.05, "by the digests": 5.0, "Rust": 1.02, "Python, µs more": 12.0,
-        "memory of an opened question by its octets": 70.0,
+        "memory kept of a question by its octets": 3.0, "memory while it is opened": 70.0,
         "opening a question of 1 MiB, ms": 500.0, "a decision, ms": 100.0, "a decision, MiB": 16.0, "a decision by default, ms": 100.0,
         "an explanation or a reduction, ms": 200.0, "an explanation or a reduction, MiB": 16.0,
         "waits of 1,000 decisions": 1.0}
@@ -200,15 +201,14 @@ spki = {{ path = "{TOP}/bindings/rust" }}
 
 
 def through_rust(driver):
-    """The ratio of a decision through Rust to the two calls in C, where there is `cargo`. The allocator takes up to 3 % more or less, by how the
-    memory lies that a program took before. So each is counted with names of several lengths for its file, and the least counts."""
-    if shutil.which("cargo") is None:
-        print("cargo is not there (Debian: cargo): the decision through Rust is left out")
+    """The ratio of a decision through Rust to the calls in C, where there is `cargo`. What the allocator takes is not counted: it depends on how
+    the memory lies that a program took before, and the binding allocates nothing for a decision."""
+    if shutil.which("cargo") is None or shutil.which("valgrind") is None:
+        print("cargo or valgrind is not there (Debian: cargo, valgrind): the decision through Rust is left out")
         return
-    program = built_in_rust(driver)
-    paths = [driver.question("three" + "e" * 16 * place, with_three(1)) for place in range(LAYOUTS)]
-    calls, rust = min(driver.instructions("ask", path) for path in paths), min(of_one_call(counter(), [program, path]) for path in paths)
-    print(f"signatures listed and a decision: in C {calls:,.0f} instructions, through Rust {rust:,.0f}", flush=True)
+    path = driver.question("three", with_three(1))
+    calls, rust = (of_one_call(counted_outside(*ALLOCATOR), [*words, path]) for words in ([driver.program, "ask"], [built_in_rust(driver)]))
+    print(f"signatures listed and a decision, without the allocator: in C {calls:,.0f} instructions, through Rust {rust:,.0f}", flush=True)
     yield "Rust", rust / calls
 
 
@@ -445,17 +445,19 @@ WIDE = {"{:,} certificates in a chain": chained, "the same of {:,} in transport 
 
 
 def opening_of_widest(driver):
-    """The most memory that is taken while a question of 1 MiB is opened, beside its octets, and the most time."""
-    program, met, times = driver.counts_memory(), [], []
+    """The most memory that is kept of a question of 1 MiB, and taken while it is opened, beside its octets, and the most time."""
+    program, held, met, times = driver.counts_memory(), [], [], []
     for what, make in WIDE.items():
         count = most(lambda count: sum(map(len, make(count)[1:])), MOST_OCTETS)
         path = driver.file("opened", b"".join(b"%d\n%s" % (len(part), part) for part in make(count)))
         octets, taken, kept, took = map(float, subprocess.run([program, path], stdout=subprocess.PIPE, check=True).stdout.split())
         print(f"{what.format(count)}: question of {octets:,.0f} octets, {taken:,.0f} octets of memory at most, {kept:,.0f} kept, {took:.1f} ms",
               flush=True)
+        held.append(kept / octets)
         met.append(taken / octets)
         times.append(took)
-    yield "memory of an opened question by its octets", max(met)
+    yield "memory kept of a question by its octets", max(held)
+    yield "memory while it is opened", max(met)
     yield "opening a question of 1 MiB, ms", max(times)
 
 
