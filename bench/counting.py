@@ -28,6 +28,12 @@ def counted_outside(*functions):
     return lambda command, text: counted_by_valgrind(command, text, *flags, "--collect-atstart=yes")
 
 
+def counted_allocations(command, text):
+    """The blocks of memory that a command takes: valgrind."""
+    done = subprocess.run(["valgrind", *command], stdin=text, capture_output=True)
+    return int(re.search(rb"total heap usage: ([\d,]+) allocs", done.stderr).group(1).replace(b",", b""))
+
+
 def counted(count, words, text):
     """The instructions of a command on a text, by what counts them."""
     with tempfile.NamedTemporaryFile() as file:

@@ -29,7 +29,7 @@ import time
 
 from chains import MOST_OCTETS, large_tags
 from check import group, key, string
-from counting import counted_by_valgrind, counted_inside, counted_outside, counter, of_one_call
+from counting import counted_allocations, counted_by_valgrind, counted_inside, counted_outside, counter, of_one_call
 from macaroons import GUARD, MACAROON, OPENED, built, measured, written_parts
 from shapes import by_keys, case, certificate, definition, digest, entry, keys_of, name, parts_of
 from slowest import (LARGE_TAG, LARGE_TAG_AND_RANGE, LARGE_TAG_AND_SET, SHAPES, Shape, large_tag, long_issuer, most,
@@ -54,7 +54,7 @@ DIGEST = "sha2::block256::Core256::update"
 ALLOCATOR = ("malloc", "realloc", "free")
 MOST = {"10,000 keys, no certificate": 1.5, "10,000 keys, three certificates": 1.5, "10,000 hashes, no certificate": 1.5,
         "10,000 hashes, three certificates": 1.5, "opening 1 MiB": 1.2, "instructions of a case": 96_000, "three caveats": 1.0,
-        "three caveats, opened before": 0.05, "by the digests": 5.0, "Rust": 1.02, "Python, µs more": 12.0,
+        "three caveats, opened before": 0.05, "by the digests": 5.0, "Rust": 1.02, "blocks more through Rust": 0.0, "Python, µs more": 12.0,
         "memory kept of a question by its octets": 3.0, "memory while it is opened": 70.0,
         "opening a question of 1 MiB, ms": 500.0, "a decision, ms": 100.0, "a decision, MiB": 16.0, "a decision by default, ms": 100.0,
         "an explanation or a reduction, ms": 200.0, "an explanation or a reduction, MiB": 16.0,
@@ -202,14 +202,18 @@ spki = {{ path = "{TOP}/bindings/rust" }}
 
 def through_rust(driver):
     """The ratio of a decision through Rust to the calls in C, where there is `cargo`. What the allocator takes is not counted: it depends on how
-    the memory lies that a program took before, and the binding allocates nothing for a decision."""
+    the memory lies that a program took before. So the blocks of memory are counted, and Rust must take no more of them."""
     if shutil.which("cargo") is None or shutil.which("valgrind") is None:
         print("cargo or valgrind is not there (Debian: cargo, valgrind): the decision through Rust is left out")
         return
     path = driver.question("three", with_three(1))
-    calls, rust = (of_one_call(counted_outside(*ALLOCATOR), [*words, path]) for words in ([driver.program, "ask"], [built_in_rust(driver)]))
-    print(f"signatures listed and a decision, without the allocator: in C {calls:,.0f} instructions, through Rust {rust:,.0f}", flush=True)
+    ways = [[driver.program, "ask", path], [built_in_rust(driver), path]]
+    calls, rust = (of_one_call(counted_outside(*ALLOCATOR), words) for words in ways)
+    few, many = (of_one_call(counted_allocations, words) for words in ways)
+    print(f"signatures listed and a decision, without the allocator: in C {calls:,.0f} instructions and {few:.0f} blocks, "
+          f"through Rust {rust:,.0f} and {many:.0f}", flush=True)
     yield "Rust", rust / calls
+    yield "blocks more through Rust", many - few
 
 
 def by_instructions(driver):
