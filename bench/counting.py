@@ -1,4 +1,5 @@
 """How many instructions a run of a program takes, or a call that it repeats."""
+import os
 import re
 import subprocess
 import tempfile
@@ -10,10 +11,10 @@ def counted_by_perf(command, text):
     return int(found.group(1)) if found else None
 
 
-def counted_by_valgrind(command, text, *flags):
+def counted_by_valgrind(command, text, *flags, settings=None):
     with tempfile.NamedTemporaryFile() as out:
         words = ["valgrind", "--tool=callgrind", f"--callgrind-out-file={out.name}", *flags]
-        done = subprocess.run(words + command, stdin=text, capture_output=True)
+        done = subprocess.run(words + command, stdin=text, capture_output=True, env={**os.environ, **(settings or {})})
     return int(re.search(rb"Collected : (\d+)", done.stderr).group(1))
 
 
@@ -22,10 +23,10 @@ def counted_inside(function):
     return lambda command, text: counted_by_valgrind(command, text, f"--toggle-collect={function}")
 
 
-def counted_outside(*functions):
-    """What counts the instructions outside some functions, none of which calls another: valgrind."""
-    flags = [f"--toggle-collect={function}" for function in functions]
-    return lambda command, text: counted_by_valgrind(command, text, *flags, "--collect-atstart=yes")
+def counted_with_cache(blocks):
+    """What counts the instructions of a command for which the C library keeps so many freed blocks of each size: valgrind."""
+    settings = {"GLIBC_TUNABLES": f"glibc.malloc.tcache_count={blocks}"}
+    return lambda command, text: counted_by_valgrind(command, text, settings=settings)
 
 
 def counted_allocations(command, text):

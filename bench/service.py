@@ -29,7 +29,7 @@ import time
 
 from chains import MOST_OCTETS, large_tags
 from check import group, key, string
-from counting import counted_allocations, counted_by_valgrind, counted_inside, counted_outside, counter, of_one_call
+from counting import counted_allocations, counted_by_valgrind, counted_inside, counted_with_cache, counter, of_one_call
 from macaroons import GUARD, MACAROON, OPENED, built, measured, written_parts
 from shapes import by_keys, case, certificate, definition, digest, entry, keys_of, name, parts_of
 from slowest import (LARGE_TAG, LARGE_TAG_AND_RANGE, LARGE_TAG_AND_SET, SHAPES, Shape, large_tag, long_issuer, most,
@@ -51,7 +51,8 @@ USUAL_CERTIFICATES = 16
 SECONDS = 600
 # The function that digests by SHA-256.
 DIGEST = "sha2::block256::Core256::update"
-ALLOCATOR = ("malloc", "realloc", "free")
+# How many freed blocks of each size glibc keeps for a thread; 7 unless it is told.
+CACHES = (0, 7, 16, 64)
 MOST = {"10,000 keys, no certificate": 1.5, "10,000 keys, three certificates": 1.5, "10,000 hashes, no certificate": 1.5,
         "10,000 hashes, three certificates": 1.5, "opening 1 MiB": 1.2, "instructions of a case": 96_000, "three caveats": 1.0,
         "three caveats, opened before": 0.05, "by the digests": 5.0, "Rust": 1.02, "blocks more through Rust": 0.0, "Python, µs more": 12.0,
@@ -201,17 +202,17 @@ spki = {{ path = "{TOP}/bindings/rust" }}
 
 
 def through_rust(driver):
-    """The ratio of a decision through Rust to the calls in C, where there is `cargo`. What the allocator takes is not counted: it depends on how
-    the memory lies that a program took before. So the blocks of memory are counted, and Rust must take no more of them."""
+    """The ratio of a decision through Rust to the calls in C, where there is `cargo`. The same blocks of memory cost up to 3 percent more or less
+    as the C library keeps few or many that were freed. So the mean for several numbers of them is taken. Rust must take no more blocks."""
     if shutil.which("cargo") is None or shutil.which("valgrind") is None:
         print("cargo or valgrind is not there (Debian: cargo, valgrind): the decision through Rust is left out")
         return
     path = driver.question("three", with_three(1))
     ways = [[driver.program, "ask", path], [built_in_rust(driver), path]]
-    calls, rust = (of_one_call(counted_outside(*ALLOCATOR), words) for words in ways)
+    calls, rust = (sum(of_one_call(counted_with_cache(kept), words) for kept in CACHES) / len(CACHES) for words in ways)
     few, many = (of_one_call(counted_allocations, words) for words in ways)
-    print(f"signatures listed and a decision, without the allocator: in C {calls:,.0f} instructions and {few:.0f} blocks, "
-          f"through Rust {rust:,.0f} and {many:.0f}", flush=True)
+    print(f"signatures listed and a decision: in C {calls:,.0f} instructions and {few:.0f} blocks, through Rust {rust:,.0f} and {many:.0f}",
+          flush=True)
     yield "Rust", rust / calls
     yield "blocks more through Rust", many - few
 

@@ -266,7 +266,9 @@ fn reply_to_canonical<'o>(
     ensures refused { (v : Value) → text.entry.now ≡ canon v → IfErr result (λ refusal. RefusesValue (command_of command) v refusal) }
 {
     let case = Case::read(alloc, text)?;
-    reply_to_case(alloc, command, &case)
+    let reply = reply_to_case(alloc, command, &case);
+    drop(case);
+    reply
 }
 
 /// The reply of `reduce`, `check` or `explain` to a case that was read. Err is `TooLarge` or `Memory`.

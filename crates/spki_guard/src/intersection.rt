@@ -110,9 +110,15 @@ fn meet_in(alloc: Global, node: &Node) -> Result<Tag, IntersectFault>
     };
     let second = match Tag::of(alloc, &operands.second) {
         Ok(tag) => tag,
-        Err(fault) => return Err(fault_of_second(fault)),
+        Err(fault) => {
+            drop(first);
+            return Err(fault_of_second(fault));
+        }
     };
-    Ok(first.meet(alloc, &second)?)
+    let met = first.meet(alloc, &second);
+    drop(first);
+    drop(second);
+    Ok(met?)
 }
 
 /// Reads `(intersect A B)` in canonical form, where A and B are written tags, and returns their intersection (RFC 2693,

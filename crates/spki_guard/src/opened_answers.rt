@@ -74,7 +74,11 @@ fn answer_again(alloc: Global, query: Query, opened: &Opened, marks: &[bool]) ->
         → IsNone result → HasOtherCount opened.now.guard q marks.now }
 {
     match opened.ask(alloc) {
-        Ok(read) => answer_asked(alloc, query, &read, marks),
+        Ok(read) => {
+            let answer = answer_asked(alloc, query, &read, marks);
+            drop(read);
+            answer
+        }
         Err(fault) => Some(refuse_question(alloc, fault)),
     }
 }

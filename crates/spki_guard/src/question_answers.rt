@@ -51,7 +51,11 @@ pub fn answer_question(
         Err(fault) => return Some(refuse_question(alloc, fault)),
     };
     match guard.ask(alloc, &texts) {
-        Ok(asked) => answer_asked(alloc, query, &asked, marks),
+        Ok(asked) => {
+            let answer = answer_asked(alloc, query, &asked, marks);
+            drop(asked);
+            answer
+        }
         Err(fault) => Some(refuse_question(alloc, fault)),
     }
 }

@@ -63,7 +63,13 @@ module _ (verified : Verified) (marks : List Bool) (a : AskedOf) (tell : MarksTe
   from_marks s m = (tell m.0 (record { item = m.1; key = s.key; message = s.message; value = s.value }) m.3).0 m.2
 
   pub decided_alike : (d : Decision) → Decides (MarksAccept (asked a.case) marks) a d ↔ Decides verified a d
-  decided_alike d = search (rules, decision_by, agree_at, from_marks, to_marks)
+  decided_alike d =
+      let marked = MarksAccept (asked a.case) marks in
+      let one = agree_at marked verified (asked a.case) (λ place s stands. (from_marks s, to_marks place s stands)) in
+      let other = agree_at verified marked (asked a.case) (λ place s stands. (to_marks place s stands, from_marks s)) in (
+        λ h es are. decision_by (with_entries a.case es) marked verified one d (h es are),
+        λ h es are. decision_by (with_entries a.case es) verified marked other d (h es are),
+      )
 
 -- ---- a question that was read has one answer
 
@@ -163,7 +169,9 @@ refused_there V kept items all place one r same are here =
 module _ (a : AskedOf) (tuples : List Tuple) (shown : AreShown a.case.policy every a.case.items tuples) where
   is_kept : (es : List Entry) (kept : List (ℕ × Entry)) → AreKept (IsLeftOut (with_entries a.case es) tuples) 1 es kept
       → IsKept (with_entries a.case es) every kept
-  is_kept es kept are others also = search (rules, one_list)
+  is_kept es kept are others also =
+      subst (λ (ts : List Tuple). AreKept (IsLeftOut (with_entries a.case es) ts) 1 es kept)
+      (one_list _ _ _ _ tuples others shown also) are
 
   pub decided_partly : (r : Result Decision AllocError)
       → ((es : List Entry) → AreEntries a.texts es → IfOk r (DecidesPartly (with_entries a.case es) tuples)) → IfOk r (Decides every a)

@@ -36,7 +36,9 @@ pub(crate) fn first_granted<'a>(
     let membership = Membership::of(alloc, case, steps)?;
     for number in numbers {
         let entry = entry_in(alloc, texts.text(*number - 1))?;
-        if membership.grants(&entry, case) {
+        let grants = membership.grants(&entry, case);
+        drop(entry);
+        if grants {
             return Ok(Decision::Yes(*number));
         }
     }

@@ -1,7 +1,7 @@
 //! Opening of questions, and the answers of those that were opened.
 
 ghost use Rattle.std.specs.Prelude.{◌≡◌, ◌≢◌, ◌↔◌, ◌<◌, List, IfOk, IfErr, IsErrOf};
-ghost use Rattle.spki_decision.specs.Standing.{asked};
+ghost use Rattle.spki_decision.specs.Standing.{asked, every};
 ghost use Rattle.spki_service.specs.GuardQuestions.{Decides, MarksAccept, AskedOf, IsReadFrom, IsKeptOf, IsOpened, IsTextsOf};
 ghost use Rattle.spki_service.specs.Questions.{IsRefused, asked_octets};
 ghost use Rattle.spki_service.specs.declared.question.Question.{Question};
@@ -15,7 +15,7 @@ use crate::question::{AskFault, Question};
 use crate::shared::SharedGuard;
 use crate::texts::Texts;
 use spki_decision::Decision;
-use std::alloc::Global;
+use std::alloc::{AllocError, Global};
 
 /// What is kept of the case of a question.
 #[derive(Drop)]
@@ -96,7 +96,17 @@ fn kept_of(alloc: Global, guard: &Guard, texts: &Texts) -> Result<Kept, AskFault
         → IsRefused guard.now.certificates guard.now.words q fault) }
 {
     let read = guard.ask(alloc, texts)?;
-    let signed = owned_signed(alloc, read.signed())?;
+    let kept = kept_from(alloc, &read);
+    drop(read);
+    Ok(kept?)
+}
+
+/// Returns copies of the signatures of a question that was read, and the decision if the verifier accepts all of them. Err if memory ran
+/// out.
+fn kept_from(alloc: Global, read: &Asked) -> Result<Kept, AllocError>
+    ensures { IfOk result (λ kept. (kept.signed.items ≡ asked read.now.case) × Decides every read.now kept.decision) }
+{
     let decision = read.decided(alloc)?;
+    let signed = owned_signed(alloc, read.signed())?;
     Ok(Kept { signed, decision })
 }

@@ -150,12 +150,12 @@ fn found_key<'o>(
 /// Whether `one` is before `other` in the order of their octets. Long equal beginnings are skipped by a test for
 /// equality, which takes a tenth of the time of a comparison by order.
 fn is_before(one: &[u8], other: &[u8]) -> bool {
-    let shorter = one.len().min(other.len());
-    let mut at = 0;
-    while shorter - at >= PIECE && one[at..at + PIECE] == other[at..at + PIECE] {
-        at += PIECE;
+    for (mine, its) in one.chunks(PIECE).zip(other.chunks(PIECE)) {
+        if mine != its {
+            return mine < its;
+        }
     }
-    one[at..] < other[at..]
+    one.len() < other.len()
 }
 
 /// Returns a copy of the octets of a key, which several signatures can own. Err if memory ran out.

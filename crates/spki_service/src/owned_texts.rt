@@ -41,8 +41,9 @@ impl PartText<'_> {
     {
         match self {
             PartText::Standing(document) => {
-                let octets = Vec::from_slice(alloc, document.top().slice())?;
-                Ok(PartText::Made(octets))
+                let octets = Vec::from_slice(alloc, document.top().slice());
+                drop(document);
+                Ok(PartText::Made(octets?))
             }
             PartText::Made(octets) => Ok(PartText::Made(octets)),
             PartText::Malformed(fault) => Ok(PartText::Malformed(fault)),

@@ -43,7 +43,9 @@ pub(crate) fn fold_texts<'a, S: FoldSink<'a>>(
     let mut work = Work::new(case.most_work);
     for place in 0..texts.len() {
         let entry = entry_in(alloc, texts.text(place))?;
-        let fold = entry_fold(alloc, case, &entry, &shown, steps, &mut work)?;
+        let folded = entry_fold(alloc, case, &entry, &shown, steps, &mut work);
+        drop(entry);
+        let fold = folded?;
         sink.put(alloc, place + 1, fold)?;
     }
     Ok(())

@@ -11,7 +11,7 @@ normal_read v t r = IsNormalTag-of r.w t r.normal (omega (arith, r.few))
 
 pub returns-clause-read : goal.returns-clause-read
 returns-clause-read c =
-    let met = c.in_ok-meet.ensures in
+    let met = c.in_ok-met.ensures in
     let a : IsNormalTag c.in-Ok.tag = normal_read _ _ c.in-Ok.ensures.read in
     let b : IsNormalTag c.in-Ok-of.tag = normal_read _ _ c.in-Ok-of.ensures.read in
     let large : ¬ (1000000 < nodes c.in-Ok.tag * nodes c.in-Ok-of.tag) = λ h. let e = met.too_large.1 h in cc in

@@ -6,9 +6,9 @@ pub returns-in-Ok-clause-answer : goal.returns-in-Ok-clause-answer
 returns-in-Ok-clause-answer c q opened =
     let held = c.args.opened.now.guard in
     let read = c.in-Ok.ensures.asked in
-    answered c.args.query held q c.args.marks.now c.in-Ok.read c.answer_asked.result
+    answered c.args.query held q c.args.marks.now c.in-Ok.read c.answer_asked-answer.result
     (opened_reads held q c.args.opened.now c.in-Ok.read opened read)
-    read.entries read.answer c.answer_asked.ensures.answer c.answer_asked.ensures.counted
+    read.entries read.answer c.answer_asked-answer.ensures.answer c.answer_asked-answer.ensures.counted
 
 pub returns-in-Ok-clause-none : goal.returns-in-Ok-clause-none
 returns-in-Ok-clause-none c q opened none = search (rules, opened_reads)

@@ -6,9 +6,9 @@ pub returns-in-Ok-ask-clause-answer : goal.returns-in-Ok-ask-clause-answer
 returns-in-Ok-ask-clause-answer c =
     let q = c.args.question.now in
     let read = c.in-Ok-ask.ensures in
-    answered c.args.query c.args.guard.now q c.args.marks.now c.in-Ok-ask.asked c.answer_asked.result
+    answered c.args.query c.args.guard.now q c.args.marks.now c.in-Ok-ask.asked c.answer_asked-answer.result
     (reads c.args.guard.now q c.in-Ok-ask.asked.case (λ long. let e = c.in-Ok.ensures.too_long.1 long in cc) (read.asked q c.in-Ok.ensures.texts) read.policy read.nodes read.work read.few (read.short q c.in-Ok.ensures.texts))
-    read.entries read.answer c.answer_asked.ensures.answer c.answer_asked.ensures.counted
+    read.entries read.answer c.answer_asked-answer.ensures.answer c.answer_asked-answer.ensures.counted
 
 pub returns-clause-answer : goal.returns-clause-answer
 returns-clause-answer c =

@@ -16,7 +16,7 @@ returns-then-grants c es picked are picks =
     let i = c.loop-number.number-index in
     let stands = picked_there c.args.texts.now es picked c.args.numbers.now i c.in_ok-entry.entry are c.requires picks
     c.loop-number-test.true (λ f is. c.in_ok-entry.ensures f (rw c.text.ensures is)) in
-    let named = found case tuples i c.in_ok-entry.entry stands ((c.grants.ensures tuples c.in_ok-membership.ensures).0 c.if-grants.true)
+    let named = found case tuples i c.in_ok-entry.entry stands ((c.grants-grants.ensures tuples c.in_ok-membership.ensures).0 c.if-grants.true)
     (c.loop-number.invariant es picked are picks) in
     let here : i + 1 - 1 ≡ i = omega arith in
     (Yes (i + 1), named, ap (slice_get c.args.numbers.now) here ∙ slice_get-get_or c.args.numbers.now i 0 c.loop-number-test.true)
@@ -28,7 +28,7 @@ loop-number-preserved c es picked are picks =
     let i = c.loop-number.number-index in
     let stands = picked_there c.args.texts.now es picked c.args.numbers.now i c.in_ok-entry.entry are c.requires picks
     c.loop-number-test.true (λ f is. c.in_ok-entry.ensures f (rw c.text.ensures is)) in
-    not_yet case tuples i c.in_ok-entry.entry stands c.grants.result c.if-grants.false (c.grants.ensures tuples c.in_ok-membership.ensures).1
+    not_yet case tuples i c.in_ok-entry.entry stands c.grants-grants.result c.if-grants.false (c.grants-grants.ensures tuples c.in_ok-membership.ensures).1
     (c.loop-number.invariant es picked are picks)
 
 pub returns : goal.returns

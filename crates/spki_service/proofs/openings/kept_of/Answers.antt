@@ -1,4 +1,3 @@
-use Rattle.std.proofs.Common.{◌∙◌}
 use Rattle.spki_service.proofs.openings.kept_of.Goals as goal
 
 pub returns-clause-kept : goal.returns-clause-kept
@@ -16,6 +15,6 @@ returns-clause-kept c =
         few = read.few;
         short = read.short;
       };
-      signed_are = c.in_ok-signed.ensures ∙ c.signed.ensures;
-      decision_is = c.in_ok-decision.ensures;
+      signed_are = c.in_ok-kept.ensures.0;
+      decision_is = c.in_ok-kept.ensures.1;
     }

@@ -31,7 +31,7 @@ loop-place-preserved g c =
       one_put c.loop-place.place folds c.in_ok-fold.fold put told.dated told.end,
       one_more c.args.texts.now (model c.args.case.now) (tuples_of c.args.steps.now) c.loop-place.place
           (omega (arith, c.loop-place-test.true, c.len-place-end.ensures)) c.in_ok-entry.entry (λ f is. c.in_ok-entry.ensures f (rw c.text.ensures is)) (left_of c.loop-place.work) folds before
-          c.in_ok-fold.fold (left_of c.entry_fold.new.work) told.worked.0 told.exact told.within_limit told.worked.1 told.worked.2,
+          c.in_ok-fold.fold (left_of c.entry_fold-folded.new.work) told.worked.0 told.exact told.within_limit told.worked.1 told.worked.2,
     )
 
 pub returns-clause-folds : goal.returns-clause-folds
