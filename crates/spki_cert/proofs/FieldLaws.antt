@@ -266,8 +266,8 @@ gather-more xs v k s known says fresh = search (rules, filled, given-kept, heade
 
 -- ---- all fields
 
-pub read-none : AreRead [] [] (record { issuer = None; subject = None; tag = None; limits = record { not_before = None; not_after = None }; valid = None })
-read-none = search rules
+pub read-none : (k : Known) → KnownOf [] k → AreRead [] [] k
+read-none k known = search rules
 
 pub read-more : (xs : List Value) (heads : List (List ℕ)) (k : Known) (v : Value) (head : List ℕ) (s : Said)
     → AreRead xs heads k → IsNew v heads head → Says v s → AreRead (xs ++ v ∷ []) (heads ++ head ∷ []) (gather k s)

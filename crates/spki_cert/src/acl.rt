@@ -13,6 +13,7 @@ ghost use Rattle.spki_cert.specs.Structures.{EntryOf, AclOf, BeginsWell};
 use crate::entry::{Entry, Subject};
 use crate::fault::{CertFault, CertFaultKind};
 use crate::fields::{Fields, Known, Place, fields_of};
+use crate::items::push_read;
 use crate::names::Names;
 use crate::principal_reader::{Who, written_subject_of};
 use crate::validity::one_way;
@@ -59,15 +60,19 @@ pub fn entry_of<'a>(alloc: Global, node: &Node<'_, 'a>) -> Result<Entry<'a>, Cer
     let subject = entry_subject(alloc, &subject)?;
     let Fields { propagate, known } = fields_of(alloc, Place::Entry, rest)?;
     let Known {
+        issuer,
+        subject: who,
         tag,
         limits,
         valid,
-        ..
     } = known;
+    drop((issuer, who));
     let Some(window) = one_way(limits, valid) else {
+        drop((subject, tag));
         return Err(CertFaultKind::Shape);
     };
     let Some(tag) = tag else {
+        drop(subject);
         return Err(CertFaultKind::Shape);
     };
     Ok(Entry {
@@ -89,19 +94,7 @@ fn entries_of<'a>(alloc: Global, members: Members<'_, 'a>) -> Result<Vec<Entry<'
     let mut rest = members;
     let mut entries = Vec::new(alloc);
     while let Some((member, others)) = rest.split_first() {
-        let item = entries.len() + 1;
-        match entry_of(alloc, &member) {
-            Ok(entry) => match entries.push(entry) {
-                Ok(()) => {}
-                Err(_) => {
-                    return Err(CertFault {
-                        item,
-                        kind: CertFaultKind::Memory,
-                    });
-                }
-            },
-            Err(kind) => return Err(CertFault { item, kind }),
-        }
+        push_read(&mut entries, entry_of(alloc, &member))?;
         rest = others;
     }
     Ok(entries)

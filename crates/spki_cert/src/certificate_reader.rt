@@ -60,12 +60,15 @@ fn parts_of<'a>(alloc: Global, members: Members<'_, 'a>) -> Result<CertParts<'a>
         valid,
     } = known;
     let Some(window) = one_way(limits, valid) else {
+        drop((issuer, subject, tag));
         return Err(CertFaultKind::Shape);
     };
     let Some(issuer) = issuer else {
+        drop((subject, tag));
         return Err(CertFaultKind::Shape);
     };
     let Some(who) = subject else {
+        drop((issuer, tag));
         return Err(CertFaultKind::Shape);
     };
     let subject = issued_to(who, &issuer.principal);
@@ -108,6 +111,7 @@ pub(crate) fn cert_of<'a>(alloc: Global, node: &Node<'_, 'a>) -> Result<SeqItem<
         })),
         (Some(name), None) => {
             if propagate {
+                drop((principal, name, subject));
                 return Err(CertFaultKind::Shape);
             }
             Ok(SeqItem::Name(NameCert {
@@ -118,7 +122,13 @@ pub(crate) fn cert_of<'a>(alloc: Global, node: &Node<'_, 'a>) -> Result<SeqItem<
                 octets,
             }))
         }
-        (None, None) => Err(CertFaultKind::Shape),
-        (Some(_), Some(_)) => Err(CertFaultKind::Shape),
+        (None, None) => {
+            drop((principal, subject));
+            Err(CertFaultKind::Shape)
+        }
+        (Some(name), Some(tag)) => {
+            drop((principal, name, subject, tag));
+            Err(CertFaultKind::Shape)
+        }
     }
 }

@@ -228,6 +228,22 @@ fn said_by<'a>(alloc: Global, place: Place, field: &Node<'_, 'a>) -> Result<Said
 }
 
 impl<'a> Known<'a> {
+    /// What is known of no fields.
+    fn none() -> Known<'a>
+        ensures { KnownOf [] result }
+    {
+        Known {
+            issuer: None,
+            subject: None,
+            tag: None,
+            limits: Window {
+                not_before: None,
+                not_after: None,
+            },
+            valid: None,
+        }
+    }
+
     /// Notes the content of one more field, in the place of an earlier content of this kind.
     fn add(&mut self, said: Said<'a>)
         ensures { self.new ≡ gather self.old said.entry }
@@ -268,6 +284,33 @@ fn new_head<'a>(field: &Node<'_, 'a>, heads: &[Octets]) -> Option<&'a [u8]>
     }
 }
 
+/// Reads the fields of an entry or of a certificate, as `place` says, into `known`, which must know nothing. Whether one of
+/// them is `(propagate)`. Err is the first fault: `Shape` if a head comes twice, or if there is no such field.
+fn read_fields<'a>(
+    alloc: Global,
+    place: Place,
+    members: Members<'_, 'a>,
+    known: &mut Known<'a>,
+) -> Result<bool, CertFaultKind>
+    requires { KnownOf [] known.old }
+    ensures found { IfOk result (λ propagate. (propagate ≡ propagates members.entry) × KnownOf members.entry known.new) }
+    ensures faultless { IfOk result (λ _. fields_fault (fault_in place) members.entry ≡ None) }
+    ensures named { IfErr result (λ kind. kind ≢ CertFaultKind.Memory → fields_fault (fault_in place) members.entry ≡ Some kind) }
+{
+    let mut rest = members;
+    let mut heads = Vec::new(alloc);
+    while let Some((field, others)) = rest.split_first() {
+        let Some(head) = new_head(&field, &heads) else {
+            return Err(CertFaultKind::Shape);
+        };
+        let said = said_by(alloc, place, &field)?;
+        known.add(said);
+        heads.push(Octets::new(head))?;
+        rest = others;
+    }
+    Ok(is_word_among(&heads, b"propagate"))
+}
+
 /// Reads all fields of an entry or of a certificate, as `place` says. Err is the first fault: `Shape` if a head comes
 /// twice, or if there is no such field.
 pub(crate) fn fields_of<'a>(
@@ -280,27 +323,12 @@ pub(crate) fn fields_of<'a>(
     ensures faultless { IfOk result (λ _. fields_fault (fault_in place) members.entry ≡ None) }
     ensures named { IfErr result (λ kind. kind ≢ CertFaultKind.Memory → fields_fault (fault_in place) members.entry ≡ Some kind) }
 {
-    let mut rest = members;
-    let mut heads = Vec::new(alloc);
-    let mut known = Known {
-        issuer: None,
-        subject: None,
-        tag: None,
-        limits: Window {
-            not_before: None,
-            not_after: None,
-        },
-        valid: None,
-    };
-    while let Some((field, others)) = rest.split_first() {
-        let Some(head) = new_head(&field, &heads) else {
-            return Err(CertFaultKind::Shape);
-        };
-        let said = said_by(alloc, place, &field)?;
-        heads.push(Octets::new(head))?;
-        known.add(said);
-        rest = others;
+    let mut known = Known::none();
+    match read_fields(alloc, place, members, &mut known) {
+        Ok(propagate) => Ok(Fields { propagate, known }),
+        Err(kind) => {
+            drop(known);
+            Err(kind)
+        }
     }
-    let propagate = is_word_among(&heads, b"propagate");
-    Ok(Fields { propagate, known })
 }

@@ -10,6 +10,7 @@ mod entry;
 mod fault;
 mod fields;
 mod hash;
+mod items;
 mod key;
 pub mod laws;
 mod limit;

@@ -11,6 +11,7 @@ ghost use Rattle.spki_cert.specs.StructureFaults.{place_fault, waiting, items_fa
 use crate::certificate::SeqItem;
 use crate::certificate_reader::cert_of;
 use crate::fault::{CertFault, CertFaultKind};
+use crate::items::push_read;
 use crate::signature::{do_hash_of, signature_of};
 use crate::value_readers::key_of;
 use sexpr_core::syntax::{Members, Node};
@@ -104,18 +105,7 @@ fn items_of<'a>(alloc: Global, members: Members<'_, 'a>) -> Result<Vec<SeqItem<'
     while let Some((member, others)) = rest.split_first() {
         let item = items.len() + 1;
         check_place(&member, waits, item)?;
-        match item_of(alloc, &member) {
-            Ok(read) => match items.push(read) {
-                Ok(()) => {}
-                Err(_) => {
-                    return Err(CertFault {
-                        item,
-                        kind: CertFaultKind::Memory,
-                    });
-                }
-            },
-            Err(kind) => return Err(CertFault { item, kind }),
-        }
+        push_read(&mut items, item_of(alloc, &member))?;
         waits = waiting(&member, waits, item);
         rest = others;
     }

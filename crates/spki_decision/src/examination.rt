@@ -1,17 +1,20 @@
 //! The examination of a sequence: the tests of its certificates that need no verifier, and the signatures that a verifier is
 //! asked about.
 
-ghost use Rattle.std.specs.Prelude.{◌≡◌, map, IfOk, OnOk, IsSome};
+ghost use Rattle.std.specs.Prelude.{◌≡◌, ◌++◌, ◌∷◌, [], map, IfOk, OnOk, IsSome};
+ghost use Rattle.spki_reduce.specs.declared.tuple.Step.{Step};
+ghost use Rattle.spki_reduce.specs.Reduction.{step_tuple};
 ghost use Rattle.spki_case.specs.Case.{AreSigned, certificates, keys_of};
-ghost use Rattle.spki_decision.specs.Standing.{shown_of, signed_of, asked_in, every};
+ghost use Rattle.spki_decision.specs.Standing.{shown_of, signed_of, asked_in, every, tuple_of, certificate_of};
 ghost use Rattle.spki_decision.specs.Judged.{IsEvidence, IsTested};
 
-use crate::certificates::{ShownCert, certificates_of};
+use crate::certificates::{Certificate, ShownCert, certificates_of};
 use crate::evidence::{Evidence, Stop};
 use crate::named_key::keys_of;
 use crate::shown_keys::ShownKeys;
 use crate::signed::Signed;
 use spki_cert::{Octets, Policy, SeqItem};
+use spki_reduce::Step;
 use std::alloc::{AllocError, Global};
 
 /// A sequence whose certificates passed the tests that need no verifier, up to the first that fails one.
@@ -50,16 +53,32 @@ pub fn examine<'a>(
     ensures evidence { IfOk result (λ e. IsEvidence policy every sequence.now e.evidence) }
 {
     let mut keys = ShownKeys::new(keys_of(alloc, sequence)?);
+    let examined = examine_by(alloc, sequence, policy, &mut keys);
+    drop(keys);
+    examined
+}
+
+/// Like `examine`, with the keys that the sequence shows.
+fn examine_by<'a>(
+    alloc: Global,
+    sequence: &[SeqItem<'a>],
+    policy: Policy,
+    keys: &mut ShownKeys<'a>,
+) -> Result<Examined<'a>, AllocError>
+    requires signed { AreSigned sequence.now }
+    requires keys { keys.old ≡ keys_of sequence.now }
+    ensures asked { IfOk result (λ e.
+        map signed_of e.signed.items ≡ asked_in policy (keys_of sequence.now) (certificates sequence.now)) }
+    ensures evidence { IfOk result (λ e. IsEvidence policy every sequence.now e.evidence) }
+{
     let certificates = certificates_of(alloc, sequence)?;
     let mut steps = Vec::new(alloc);
     let mut signed = Vec::new(alloc);
     for shown in &certificates {
-        match test(alloc, shown, &mut keys, policy)? {
-            Tested::Passes(one) => {
-                steps.push(shown.certificate.step(&one.key)?)?;
-                signed.push(one)?;
-            }
+        match test(alloc, shown, keys, policy)? {
+            Tested::Passes(one) => add_passed(&mut steps, &mut signed, &shown.certificate, one)?,
             Tested::Fails(stop) => {
+                drop(steps);
                 let item = shown.item;
                 let evidence = Evidence::Fails { item, stop };
                 return Ok(Examined { signed, evidence });
@@ -68,6 +87,22 @@ pub fn examine<'a>(
     }
     let evidence = Evidence::Verified(steps);
     Ok(Examined { signed, evidence })
+}
+
+/// Adds the tuple of a certificate whose signature is `one`, and this signature. Err if memory ran out.
+fn add_passed<'a>(
+    steps: &mut Vec<Step<'a>>,
+    signed: &mut Vec<Signed<'a>>,
+    certificate: &Certificate<'_, 'a>,
+    one: Signed<'a>,
+) -> Result<(), AllocError>
+    ensures step { OnOk result ((step : Step) × (steps.new.items ≡ steps.old.items ++ step ∷ [])
+        × (step_tuple step ≡ tuple_of one.entry.key (certificate_of certificate.now))) }
+    ensures signed { OnOk result (signed.new.items ≡ signed.old.items ++ one.entry ∷ []) }
+{
+    steps.push(certificate.step(&one.key)?)?;
+    signed.push(one)?;
+    Ok(())
 }
 
 /// Does the tests of a signed certificate that need no verifier: its issuer's key is shown, its digest right, this key signed.

@@ -73,9 +73,12 @@ impl<'a> FoldSink<'a> for FoldPrinter {
         self.some_done = self.some_done || is_done(&fold);
         if self.is_long {
             prove_line(entry, &fold);
+            drop(fold);
             return Ok(());
         }
-        match append_line(entry, &fold, &mut self.lines, self.room) {
+        let appended = append_line(entry, &fold, &mut self.lines, self.room);
+        drop(fold);
+        match appended {
             Ok(room) => self.room = room,
             Err(GuardFault::TooLarge) => self.is_long = true,
             Err(GuardFault::Memory) => return Err(AllocError),

@@ -104,7 +104,10 @@ pub fn fold_owned<'a>(
 {
     let mut folded = first;
     for (place, step) in steps.iter().enumerate() {
-        work.take(folded.cost_with(step, policy))?;
+        if let Err(fault) = work.take(folded.cost_with(step, policy)) {
+            drop(folded);
+            return Err(fault);
+        }
         match folded.joined(alloc, step, policy, most)? {
             Joined::Done(next) => folded = next,
             Joined::Stopped(cause) => {

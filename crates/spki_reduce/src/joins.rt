@@ -124,19 +124,33 @@ impl<'a> Five<'a> {
         ensures refused { IfErr result (λ fault. fault ≡ ReduceFault.Memory) }
     {
         if !begins(&self.subject, definition, policy) {
+            drop(self);
             return Ok(Joined::Stopped(Cause::NotTheName));
         }
         let Some(window) = self.window.meet(&definition.window) else {
+            drop(self);
             return Ok(Joined::Stopped(Cause::NoValidity));
         };
-        let subject = followed(&definition.subject, self.subject.names)?;
-        Ok(Joined::Done(Five {
-            issuer: self.issuer,
+        let Five {
+            issuer,
             subject,
-            propagate: self.propagate,
-            tag: self.tag,
-            window,
-        }))
+            propagate,
+            tag,
+            ..
+        } = self;
+        match followed(&definition.subject, subject.names) {
+            Ok(subject) => Ok(Joined::Done(Five {
+                issuer,
+                subject,
+                propagate,
+                tag,
+                window,
+            })),
+            Err(_) => {
+                drop((issuer, tag));
+                Err(ReduceFault::Memory)
+            }
+        }
     }
 
     /// The intersection of the windows of this authorization and the next, if they join whatever their tags are. Err is

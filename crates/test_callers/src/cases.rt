@@ -1,4 +1,4 @@
-//! A caller of `spki_guard` that makes a case of its parts.
+//! A caller of `spki_case` that makes a case of its parts.
 
 ghost use Rattle.std.specs.Prelude.{◌≡◌, ◌≢◌, List, Some, IfOk, IfErr};
 ghost use Rattle.spki_cert.specs.declared.certificate.SeqItem.{SeqItem};
@@ -8,8 +8,8 @@ ghost use Rattle.spki_case.specs.View.{model};
 ghost use Rattle.test_callers.specs.Asking.{asked_case};
 
 use sexpr_core::syntax::Node;
+use spki_case::{AcceptedTable, Case};
 use spki_cert::{CertFault, CertFaultKind, Date, Entry, Key, Policy, sequence_of};
-use spki_guard::{AcceptedTable, Case};
 use spki_tag::Ground;
 use std::alloc::Global;
 

@@ -1,12 +1,13 @@
-//! A caller of `spki_guard`, with a verifier of its own.
+//! A caller of `spki_decision`, with a verifier of its own.
 
 ghost use Rattle.std.specs.Prelude.{◌≡◌, ◌↔◌, ℕ, Contains, IsTrue, IfOk, IsErrOf};
 ghost use Rattle.spki_case.specs.View.{model};
 ghost use Rattle.spki_decision.specs.Granted.{Granted, IsTooLarge, IsDecision};
 ghost use Rattle.test_callers.specs.Service.{unrevoked};
 
+use spki_case::{Case, Verifier};
 use spki_cert::Key;
-use spki_guard::{Case, Decision, GuardFault, Verifier, decide};
+use spki_decision::{Decision, GuardFault, decide};
 use std::alloc::{AllocError, Global};
 
 /// Accepts what another verifier accepts, except the signatures of revoked keys.

@@ -1,12 +1,14 @@
-//! Callers of `spki_guard` that hold an access list: one decides two questions, and one may share its guard among threads.
+//! Callers of `spki_service` that hold an access list: one decides two questions, and one may share its guard among threads.
 
 ghost use Rattle.std.specs.Prelude.{◌≡◌, ℕ, List, IfOk};
 ghost use Rattle.spki_service.specs.AccessLists.{HoldsList};
 ghost use Rattle.test_callers.specs.Service.{unrevoked, AnswersQuestion};
 
 use crate::decisions::Unrevoked;
+use spki_case::Verifier;
 use spki_cert::{Key, Policy};
-use spki_guard::{AclFault, AskFault, Decision, Guard, Limits, Question, Verifier};
+use spki_decision::Decision;
+use spki_service::{AclFault, AskFault, Guard, Limits, Question};
 use std::alloc::Global;
 use thiserror::Error;
 

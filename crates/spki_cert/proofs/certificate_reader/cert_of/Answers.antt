@@ -27,7 +27,7 @@ returns-then-propagate-clause-named c = λ _.
     cert-parts c.args.node.now c.in-Some.members c.in_ok-issuer.field-0 true false true c.in-Some.ensures c.in_ok-issuer.ensures.found
     (ap (λ (x : Option (List ℕ)). is_some x) c.in-Some-None.is-0) (ap (λ (x : Option tags.Tag). is_some x) c.in-Some-None.is-1) c.if-propagate.true
 
-pub returns-clause-named : goal.returns-clause-named
-returns-clause-named c = λ _.
+pub returns-in-Some-Some-clause-named : goal.returns-in-Some-Some-clause-named
+returns-in-Some-Some-clause-named c = λ _.
     cert-parts c.args.node.now c.in-Some.members c.in_ok-issuer.field-0 true true c.in_ok-issuer.field-0.propagate c.in-Some.ensures c.in_ok-issuer.ensures.found
     (ap (λ (x : Option (List ℕ)). is_some x) c.in-Some-Some.is-0) (ap (λ (x : Option tags.Tag). is_some x) c.in-Some-Some.is-1) refl

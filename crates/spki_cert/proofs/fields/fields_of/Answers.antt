@@ -1,48 +1,5 @@
-use Rattle.std.proofs.Common.{◌≡◌, ◌∷◌, ◌++◌, [], ℕ, List, sym, ap, subst, ◌∙◌, rules}
-use Rattle.spki_cert.specs.declared.fields.Known.{Known}
-use Rattle.spki_cert.specs.Inner.Gathering.{AreRead, IsNew, gather, fault_in}
-use Rattle.spki_cert.proofs.Looking.{carried, split, moved}
-use Rattle.spki_cert.proofs.FieldLaws.{read-none, read-more}
-use Rattle.spki_cert.specs.declared.fault.CertFaultKind.TheVariants.{Shape}
-use Rattle.spki_cert.proofs.FieldFaultLaws.{left-all, left-fault, left-next, left-none, field-new, field-not_new, field-is_new}
 use Rattle.spki_cert.proofs.FieldFaultNone.{fields-read}
 use Rattle.spki_cert.proofs.fields.fields_of.Goals as goal
 
-pub loop-field-preserved : goal.loop-field-preserved
-loop-field-preserved c =
-    let i = c.loop-field.invariant in
-    let e : c.args.members ≡ i.0 ++ c.in-Some.field ∷ c.in-Some.others = split c.args.members i.0 c.loop-field.rest c.in-Some.others c.in-Some.field i.1 c.in-Some.ensures in
-    let new : IsNew c.in-Some.field c.loop-field.heads.items c.in-Some-new_head.head.now =
-    subst (λ (hs : List (List ℕ)). IsNew c.in-Some.field hs c.in-Some-new_head.head.now) c.deref.ensures.value c.in-Some-new_head.ensures in
-    let more = read-more i.0 c.loop-field.heads.items c.loop-field.known c.in-Some.field c.in-Some-new_head.head.now c.in_ok-said.said
-    i.2 new c.in_ok-said.ensures.says in (
-      i.0 ++ c.in-Some.field ∷ [],
-      moved c.args.members i.0 c.in-Some.others c.in-Some.field e,
-      subst (λ (k : Known). AreRead (i.0 ++ c.in-Some.field ∷ []) c.push.new.self.items k) (sym c.add.ensures)
-          (subst (λ (hs : List (List ℕ)). AreRead (i.0 ++ c.in-Some.field ∷ []) hs (gather c.loop-field.known c.in_ok-said.said))
-          (sym (c.in_ok-push.ensures.items ∙ ap (λ (h : List ℕ). c.loop-field.heads.items ++ h ∷ []) c.new.ensures)) more),
-      left-next (fault_in c.args.place) c.args.members i.0 c.loop-field.rest c.in-Some.others c.in-Some.field i.3 c.in-Some.ensures
-          (field-new (fault_in c.args.place) i.0 c.in-Some.field _
-          (field-is_new i.0 c.loop-field.heads.items c.loop-field.known c.in-Some.field c.in-Some-new_head.head.now i.2 new) c.in_ok-said.ensures.faultless),
-    )
-
-pub loop-field-init : goal.loop-field-init
-loop-field-init c = search (rules, read-none, left-all)
-
-pub returns-in_default-new_head-clause-named : goal.returns-in_default-new_head-clause-named
-returns-in_default-new_head-clause-named c =
-    let i = c.loop-field.invariant in
-    let none : (head : List ℕ) → IsNew c.in-Some.field c.loop-field.heads.items head → ⊥ =
-    subst (λ (hs : List (List ℕ)). (head : List ℕ) → IsNew c.in-Some.field hs head → ⊥) c.deref.ensures.value c.in_default-new_head.ensures in
-    λ _.
-    left-fault (fault_in c.args.place) c.args.members i.0 c.loop-field.rest c.in-Some.others c.in-Some.field Shape i.3 c.in-Some.ensures
-    (field-not_new c.args.place i.0 c.loop-field.heads.items c.loop-field.known c.in-Some.field i.2 none)
-
-pub returns-in_err-said-clause-named : goal.returns-in_err-said-clause-named
-returns-in_err-said-clause-named c = search (rules, carried, left-fault, field-new, field-is_new)
-
-pub returns-clause-faultless : goal.returns-clause-faultless
-returns-clause-faultless c = search (rules, left-none)
-
-pub returns-clause-are_fields : goal.returns-clause-are_fields
-returns-clause-are_fields c = fields-read c.args.place c.args.members (returns-clause-faultless c)
+pub returns-in-Ok-clause-are_fields : goal.returns-in-Ok-clause-are_fields
+returns-in-Ok-clause-are_fields c = fields-read c.args.place c.args.members c.in-Ok.ensures.faultless

@@ -1,13 +1,15 @@
 use Rattle.std.proofs.Common.{[], ◌∷◌, None, append_assoc, append-nil, length-append, rules}
+use Rattle.spki_cert.specs.Structures.{ItemOf}
 use Rattle.spki_cert.specs.StructureFaults.{items_fault}
 use Rattle.spki_cert.proofs.SequenceFaultNone.{item-none, items-read}
 use Rattle.spki_cert.proofs.sequence.items_of.Goals as goal
 
 pub loop-member-preserved : goal.loop-member-preserved
 loop-member-preserved c =
-    let fine = (item-none c.in-Some.member).1 (c.in-Ok.read, c.in-Ok.ensures.found) in (
-      λ is zip.
-          rw (c.in-Ok-push.ensures.items, append_assoc) (c.loop-member.invariant.0 (c.in-Ok.read ∷ is) (rw c.in-Some.ensures (c.in-Ok.ensures.found, zip))),
+    let (read, is_read, pushed) = c.in_ok-push_read.ensures.pushed in
+    let found : ItemOf c.in-Some.member read = rw is_read at c.item_of.ensures.found in
+    let fine = (item-none c.in-Some.member).1 (read, found) in (
+      λ is zip. rw (pushed, append_assoc) (c.loop-member.invariant.0 (read ∷ is) (rw c.in-Some.ensures (found, zip))),
       search (rules, length-append),
     )
 

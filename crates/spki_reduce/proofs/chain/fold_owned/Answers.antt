@@ -16,12 +16,12 @@ same_fault (Err y) inner fault h k = let same : y ≡ fault = cc in sym h ∙ sa
 
 pub returns-in_err-next-clause-too_large : goal.returns-in_err-next-clause-too_large
 returns-in_err-next-clause-too_large c e =
-    let same = same_fault c.from_residual-in_err-next.result c.in_err-next.field-0.0 TooLarge c.from_residual-in_err-next.ensures.1 e in
+    let same = same_fault c.from_residual.result c.in_err-next.field-0.0 TooLarge c.from_residual.ensures.1 e in
     inl (too_large_here c.args.steps.now c.loop-place.place (omega arith) c.index-steps-place.is c.loop-place.invariant.folds
     c.loop-place.invariant.value c.args.most (c.in_err-next.ensures.too_large (ap Err same)))
 
-pub returns-in_err-take-clause-too_large : goal.returns-in_err-take-clause-too_large
-returns-in_err-take-clause-too_large c e =
+pub returns-in-Err-clause-too_large : goal.returns-in-Err-clause-too_large
+returns-in-Err-clause-too_large c e =
     let so_far = c.loop-place.invariant.worked in
     let place : c.loop-place.place < length c.args.steps.now = omega arith in
     inr (record {
@@ -30,7 +30,7 @@ returns-in_err-take-clause-too_large c e =
       work = so_far.0 + c.cost_with.result;
       is = work_here c.args.steps.now c.loop-place.place place c.index-steps-place.is c.loop-place.invariant.folds
           c.loop-place.invariant.value so_far.0 c.cost_with.result so_far.1 c.cost_with.ensures;
-      over = over _ _ so_far.0 c.cost_with.result so_far.2 c.in_err-take.ensures.over;
+      over = over _ _ so_far.0 c.cost_with.result so_far.2 c.in-Err.ensures.over;
     })
 
 pub returns-in-Stopped-clause-fold : goal.returns-in-Stopped-clause-fold
@@ -63,7 +63,7 @@ returns-in-Stopped-clause-worked c =
       work_stopped c.args.policy (five (five_tuple c.args.first)) (tuples_of c.args.steps.now) (steps_tagged c.args.steps.now)
           (c.loop-place.place + 1) c.in-Stopped.cause (returns-in-Stopped-clause-fold c) (so_far.0 + c.cost_with.result)
           (omega (arith, place, length-map c.args.steps.now step_tuple)) here,
-      taken _ _ _ so_far.0 c.cost_with.result so_far.2 c.in_ok-take.ensures.taken,
+      taken _ _ _ so_far.0 c.cost_with.result so_far.2 c.in_default.ensures.taken,
     )
 
 pub loop-place-preserved : goal.loop-place-preserved
@@ -81,7 +81,7 @@ loop-place-preserved c =
         so_far.0 + c.cost_with.result,
         work_here c.args.steps.now c.loop-place.place (omega arith) c.index-steps-place.is c.loop-place.invariant.folds
             c.loop-place.invariant.value so_far.0 c.cost_with.result so_far.1 c.cost_with.ensures,
-        taken _ _ _ so_far.0 c.cost_with.result so_far.2 c.in_ok-take.ensures.taken,
+        taken _ _ _ so_far.0 c.cost_with.result so_far.2 c.in_default.ensures.taken,
       );
       issuer = same_issuer c.args.policy c.loop-place.folded c.in-Done.next (step_tuple c.index-steps-place.result) made.0
           ∙ c.loop-place.invariant.issuer;

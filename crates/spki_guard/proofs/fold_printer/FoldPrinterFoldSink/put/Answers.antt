@@ -1,7 +1,7 @@
 use Rattle.std.proofs.Common.{◌≡◌, ◌||◌, refl, rules}
 use Rattle.spki_guard.specs.Lines.{is_done}
 use Rattle.spki_guard.proofs.ReportLines.{printed, longer, still_long}
-use Rattle.spki_guard.proofs.fold_printer.FoldPrinterFoldSink.put.Goals.{then-self, else-self, in-Ok, in-Err-TooLarge}
+use Rattle.spki_guard.proofs.fold_printer.FoldPrinterFoldSink.put.Goals.{then-self, else-self}
 use Rattle.spki_guard.proofs.fold_printer.FoldPrinterFoldSink.put.Goals as goal
 
 pub returns-then-self-2 : goal.returns-then-self-2
@@ -12,16 +12,17 @@ returns-then-self-2 c start folds taken numbered unused =
     still_long start.room folds c.args.fold c.args.entry numbered c.args.self.now _ (taken unused) line is refl done c.if-self-2.true
     c.if-self-2.true
 
-pub returns : goal.returns
-returns c start folds taken numbered unused =
+pub returns-in-Ok : goal.returns-in-Ok
+returns-in-Ok c start folds taken numbered unused =
     let done : c.if-self.self ≡ (c.args.self.now.some_done || is_done c.args.fold) =
     elim c.if-self.branch [ then-self w ↦ search rules | else-self w ↦ search rules ] in
-    elim c.match-append_line.branch [
-      | in-Ok w ↦
-          let (line, is, text, sum) = rw w.in-Ok.is at c.append_line.ensures.line in
-          rw w.self-is (printed start.room folds c.args.fold c.args.entry numbered c.args.self.now _ (taken unused) line is refl done c.if-self-2.false
-          c.if-self-2.false text sum)
-      | in-Err-TooLarge w ↦
-          let (line, is, less) = c.append_line.ensures.large (search rules) in
-          rw w.self-is (longer start.room folds c.args.fold c.args.entry numbered c.args.self.now _ (taken unused) line is refl done c.if-self-2.false refl less)
-    ]
+    let (line, is, text, sum) = rw c.in-Ok.is at c.append_line-appended.ensures.line in
+    printed start.room folds c.args.fold c.args.entry numbered c.args.self.now _ (taken unused) line is refl done c.if-self-2.false
+    c.if-self-2.false text sum
+
+pub returns-in-Err-TooLarge : goal.returns-in-Err-TooLarge
+returns-in-Err-TooLarge c start folds taken numbered unused =
+    let done : c.if-self.self ≡ (c.args.self.now.some_done || is_done c.args.fold) =
+    elim c.if-self.branch [ then-self w ↦ search rules | else-self w ↦ search rules ] in
+    let (line, is, less) = c.append_line-appended.ensures.large (search rules) in
+    longer start.room folds c.args.fold c.args.entry numbered c.args.self.now _ (taken unused) line is refl done c.if-self-2.false refl less

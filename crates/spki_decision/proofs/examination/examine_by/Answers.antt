@@ -6,7 +6,7 @@ use Rattle.spki_decision.specs.Standing.{FailsBy, asked_of, every, shown_of, sig
 use Rattle.spki_decision.specs.Judged.{IsTested, PassesAs}
 use Rattle.spki_decision.proofs.Asked.{stands_asked, not_asked, asked_more, asked_whole}
 use Rattle.spki_decision.proofs.Standing.{signed_here, failing_here, standing_more, rest_of}
-use Rattle.spki_decision.proofs.examination.examine.Goals as goal
+use Rattle.spki_decision.proofs.examination.examine_by.Goals as goal
 
 pub test-requires : goal.test-requires
 test-requires c = search (rules, signed_here)
@@ -39,7 +39,7 @@ loop-shown-preserved c =
     let tested : PassesAs policy c.loop-shown.keys (shown_of one) (signed_of signed) = rw c.in-Passes.is at c.in_ok-one.ensures.tested in
     let passes : PassesAs policy (keys_of items) (shown_of one) (signed_of signed) = rw keys at tested in
     let grown = standing_more items kept same i c.loop-shown-test.true one c.shown-item.is policy every c.loop-shown.steps.items
-    c.in_ok-step-in-Passes.field-0 signed.key c.loop-shown.invariant.standing passes.stands c.in_ok-step-in-Passes.ensures in
+    c.in_ok-add_passed-in-Passes.ensures.step.0 signed.key c.loop-shown.invariant.standing passes.stands c.in_ok-add_passed-in-Passes.ensures.step.2 in
     let rest = rest_of shown_of kept i c.loop-shown-test.true one c.shown-item.is in
     let asked : asked_of policy (keys_of items) (shown_of one) ≡ Some (signed_of signed) =
     stands_asked policy (keys_of items) every (shown_of one) signed.key passes.stands ∙ ap Some (sym passes.signed_is) in

@@ -3,7 +3,7 @@ use Rattle.std.specs.List.{AllZip}
 use Rattle.spki_reduce.specs.Reduction.{step_tuple}
 use Rattle.spki_case.specs.Case.{keys_of}
 use Rattle.spki_decision.specs.Standing.{StandsAs, asked_in, every, shown_of, signed_of}
-use Rattle.spki_decision.proofs.examination.examine.Given as goal
+use Rattle.spki_decision.proofs.examination.examine_by.Given as goal
 
 abbrev pub invariant-loop-shown : goal.invariant-loop-shown
 invariant-loop-shown l = record {
