@@ -113,7 +113,6 @@ pub(crate) fn put_folds<'a, S: FoldSink<'a>>(
 ///
 /// `TooLarge` if such a product is over the case's `most_nodes`, or all together are more than `work` allows. `Memory` if memory ran
 /// out.
-#[tactic(auto, using(crate::proofs::EntryChains::stops_within, crate::proofs::EntryChains::stops_at_item))]
 pub fn entry_fold<'a>(
     alloc: Global,
     case: &Case<'a>,

@@ -1,5 +1,4 @@
 //! The intersection of tags (RFC 2693, section 6.3.1).
-#![tactic(auto, using(crate::proofs::MeetSteps::meet_steps))]
 
 ghost use Rattle.std.specs.Prelude.{◌≡◌, ◌+◌, ◌*◌, ◌<◌, ◌≤◌, ◌↔◌, ◌++◌, ◌&&◌, [], max, true, false, IfOk, OnOk, IsErrOf, MatchOption, All, length};
 ghost use Rattle.std.specs.Arc.{arc_slice_items};

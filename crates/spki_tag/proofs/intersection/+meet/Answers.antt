@@ -5,7 +5,7 @@ use Rattle.spki_tag.specs.Tag.{Tag, tags, nodes, nodes_all}
 use Rattle.spki_tag.specs.Meet.{meet, each_meet, pairs, row, may_share, places_where, tags_at}
 use Rattle.spki_tag.proofs.Places.{places_where-within, row_at_places}
 use Rattle.spki_tag.proofs.Members.{nodes_le-of_read}
-use Rattle.spki_tag.proofs.MeetSteps.{tags-members, members_meet, pairs-step, each_meet-last}
+use Rattle.spki_tag.proofs.MeetSteps.{tags-members, members_meet, pairs-step, each_meet-last, meet_steps}
 use Rattle.spki_tag.proofs.intersection.+meet.Goals as goal
 
 pub meet_members-push_row-requires : goal.meet_members-push_row-requires
@@ -55,3 +55,21 @@ meet_each-returns t c =
     (c.in_ok-push_copies-2.ensures
     ∙ (λ i. c.in_ok-push_copies.ensures i ++ take_all (length others - n) (drop n others) (omega (arith, length-drop n others)) i)
     ∙ ap (λ (ts : List Tag). met ++ ts ++ drop n others) (take_all (length ones - n) (drop n ones) (omega (arith, length-drop n ones))))
+
+pub meet_each-meet_tags-requires : goal.meet_each-meet_tags-requires
+meet_each-meet_tags-requires t c = grind (arith, meet_steps)
+
+pub meet_each-returns-then-is_nothing : goal.meet_each-returns-then-is_nothing
+meet_each-returns-then-is_nothing t c = search (rules, meet_steps)
+
+pub meet_each-loop-i-preserved : goal.meet_each-loop-i-preserved
+meet_each-loop-i-preserved t c = search (rules, meet_steps)
+
+pub meet_single-meet_lists-requires : goal.meet_single-meet_lists-requires
+meet_single-meet_lists-requires t c = grind (arith, meet_steps)
+
+pub meet_tags-returns-then-has_set : goal.meet_tags-returns-then-has_set
+meet_tags-returns-then-has_set t c = search (rules, meet_steps)
+
+pub push_row-meet_tags-requires : goal.push_row-meet_tags-requires
+push_row-meet_tags-requires t c = grind (arith, meet_steps)

@@ -1,0 +1,59 @@
+#!/usr/bin/env python3
+"""Proves a crate from nothing by one process, over the libraries that `rt ci` has left, and prints the seconds that the proof of each function
+takes, the longest first. Of these it names the seconds for the function's states and for its goals.
+
+The toolchain writes a file for each part of a proof once it is done. So a part takes the time from the file before it to its own. The states
+of a function are in `Lts`: they grow with what it owns at each place where it may return. Its goals are in `Proof`. What is in files of
+`proofs/` that are no function's is one row, `chapters`. Measure on a quiet machine.
+
+Usage: bench/proofs.py CRATE [ROWS]
+"""
+import os
+import re
+import sys
+import tempfile
+from collections import Counter
+
+ROOT = os.path.realpath(os.path.join(os.path.dirname(__file__), ".."))
+sys.path.append(os.path.join(ROOT, "tests"))
+from support import toolchain  # noqa: E402
+
+PART = re.compile(r"Rattle-\w+-proofs\.(?:(?P<function>.*)\.)?(?P<part>[^.]+)")
+
+
+def parts_in(folder):
+    """The parts of proofs that a check has written, in order: the function, its part, and the seconds that this took."""
+    files = sorted((os.stat(os.path.join(at, name)).st_mtime, name) for at, _, names in os.walk(folder) for name in names)
+    for (before, _), (time, name) in zip(files, files[1:]):
+        part = PART.fullmatch(name.removesuffix(".oantt").removesuffix(".decls"))
+        if part:
+            yield part["function"] or "chapters", part["part"].partition("-")[0], time - before
+
+
+def main():
+    if len(sys.argv) < 2:
+        sys.exit(__doc__)
+    name, rows = sys.argv[1], int(sys.argv[2]) if len(sys.argv) > 2 else 20
+    rt = toolchain()
+    crates = {it.name: it for it in rt.rtlib.crates_below(ROOT)}
+    if name not in crates:
+        sys.exit(f"there is no crate {name}")
+    rt.rtlib.guarded()
+    with tempfile.TemporaryDirectory() as room:
+        ran = rt.checked(crates[name], {}, ["--jobs", "1"], room)
+        if ran.returncode:
+            sys.exit(ran.stdout)
+        parts = list(parts_in(room))
+    every, states, goals = Counter(), Counter(), Counter()
+    for function, part, seconds in parts:
+        every[function] += seconds
+        states[function] += seconds if part == "Lts" else 0
+        goals[function] += seconds if part == "Proof" else 0
+    print(f"{'seconds':>8} {'states':>8} {'goals':>8}")
+    for function, seconds in every.most_common(rows):
+        print(f"{seconds:8.1f} {states[function]:8.1f} {goals[function]:8.1f}  {function}")
+    print(f"{every.total():8.1f} {states.total():8.1f} {goals.total():8.1f}  all")
+
+
+if __name__ == "__main__":
+    main()
