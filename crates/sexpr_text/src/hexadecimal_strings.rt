@@ -21,7 +21,6 @@ struct Digits {
 /// Reads the hexadecimal string whose opening `#` is at `at`. Digits may be of either case. Whitespace is allowed
 /// anywhere in it. Err is `Short` if the text ends before the closing `#`, `Bad` at the first other octet, or at the
 /// closing `#` for an odd number of digits, or `Memory`.
-#[tactic(auto, using(crate::proofs::Marked::hexadecimal_read, crate::proofs::RefusedParts::body_refused, crate::proofs::RefusedParts::mark_refused))]
 pub(crate) fn read_hexadecimal(
     alloc: Global,
     text: &[u8],

@@ -210,7 +210,6 @@ fn read_hexadecimal_digit(text: &[u8], at: usize) -> Result<u8, FormFault>
 
 /// Reads the two hexadecimal digits of an escape, from the offset `at` after its `x` on. The digits may be of either
 /// case. Err is `Bad` at the first other octet, or `Short` if the text ends before both.
-#[tactic(auto, using(crate::proofs::StringLaws::hexadecimal_escape, crate::proofs::RefusedParts::low_refused, crate::proofs::StringEnds::low_end))]
 fn read_hexadecimal_escape(text: &[u8], at: usize) -> Result<Escape, FormFault>
     requires { at ≤ length text.now }
     ensures read { IfOk result (λ read. ReadsEscape (92 ∷ 120 ∷ []) text.now at read.octet read.end) }
@@ -245,7 +244,6 @@ fn read_octal_digit(text: &[u8], at: usize) -> Result<u8, FormFault>
 
 /// Reads the three octal digits of an escape, from the offset `at` on. `first` is the value of the first, at most 3.
 /// Err is `Bad` at the first other octet, or `Short` if the text ends before all three.
-#[tactic(auto, using(crate::proofs::StringLaws::octal_escape, crate::proofs::RefusedParts::third_refused, crate::proofs::StringEnds::third_end))]
 fn read_octal_escape(text: &[u8], at: usize, first: u8) -> Result<Escape, FormFault>
     requires begins { StandsAt text.now at (48 + first) }
     requires low { first < 4 }

@@ -41,7 +41,6 @@ struct Count {
 /// Reads the string without a display hint at the offset `at`, which may be the end of the text: a token, a string in
 /// verbatim form, or one between marks with or without a length in front. The text has at most `MOST_OCTETS` octets.
 /// Err is the first fault, `Short` or `Bad`, or `Memory`.
-#[tactic(auto, using(crate::proofs::CountedLaws::marked_string, crate::proofs::RefusedParts::uncounted_missed))]
 pub(crate) fn read_string<'t>(
     alloc: Global,
     text: &'t [u8],

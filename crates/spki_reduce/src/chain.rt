@@ -183,7 +183,11 @@ impl<'a> Five<'a> {
         ensures within_limit { IfOk result (λ joined. ¬ TooLargeFor most policy (five_tuple self.entry) (step_tuple step.now)) }
     {
         match step {
-            Step::Auth(next) => self.then_within(alloc, next, policy, most),
+            Step::Auth(next) => {
+                let joined = self.then_within(alloc, next, policy, most);
+                drop(self);
+                joined
+            }
             Step::Name(definition) => self.into_resolve(definition, policy),
         }
     }

@@ -211,15 +211,22 @@ fn narrowed<'a>(
         (λ cause. (cause ≡ Cause.NoTag) × (tag ≡ set none))) }
 {
     if tag.is_nothing() {
+        drop((issuer, tag));
         return Ok(Joined::Stopped(Cause::NoTag));
     }
-    Ok(Joined::Done(Five {
-        issuer,
-        subject: next.subject.clone()?,
-        propagate: next.propagate,
-        tag,
-        window,
-    }))
+    match next.subject.clone() {
+        Ok(subject) => Ok(Joined::Done(Five {
+            issuer,
+            subject,
+            propagate: next.propagate,
+            tag,
+            window,
+        })),
+        Err(error) => {
+            drop((issuer, tag));
+            Err(error)
+        }
+    }
 }
 
 impl<'a> Four<'a> {

@@ -1,8 +1,9 @@
-use Rattle.std.proofs.Common.{sym, arith}
-use Rattle.sexpr_text.proofs.CountedLaws.{nothing_stands, uncounted_stands}
+use Rattle.std.proofs.Common.{sym, arith, rules}
+use Rattle.sexpr_text.proofs.CountedLaws.{nothing_stands, uncounted_stands, marked_string}
 use Rattle.sexpr_text.proofs.StringEnds.{nothing_left}
 use Rattle.sexpr_text.proofs.MarkedEnds.{none_string, uncounted_end}
 use Rattle.sexpr_core.proofs.Errors.{err_kept}
+use Rattle.sexpr_text.proofs.RefusedParts.{uncounted_missed}
 use Rattle.sexpr_text.proofs.strings.read_string.Goals as goal
 
 pub returns-in_default-clause-only : goal.returns-in_default-clause-only
@@ -20,3 +21,9 @@ pub returns-in_err-read-clause-begun : goal.returns-in_err-read-clause-begun
 returns-in_err-read-clause-begun c =
     err_kept _ _ _ c.from_residual.ensures.1
     (uncounted_end _ _ _ _ c.in-Some.ensures (λ d. omega (arith, c.if-is_ascii_digit.ensures.cases)) c.in_err-read.ensures.begun)
+
+pub returns-clause-read : goal.returns-clause-read
+returns-clause-read c = search (rules, marked_string)
+
+pub returns-in_err-read-clause-refused : goal.returns-in_err-read-clause-refused
+returns-in_err-read-clause-refused c = search (rules, uncounted_missed)
