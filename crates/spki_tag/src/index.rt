@@ -29,7 +29,7 @@ impl Tag {
 }
 
 /// Which requests a tag can contain, by its kind and its string.
-#[derive(Clone, Copy, Debug)]
+#[derive(Clone, Copy)]
 enum Kind<'a> {
     /// Any: a set or `(*)`.
     Any,

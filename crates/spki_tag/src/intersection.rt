@@ -99,6 +99,7 @@ fn meet_each(alloc: Global, ones: &[Tag], others: &[Tag]) -> Result<Option<Vec<T
     for i in 0..common {
         let member = meet_tags(alloc, &ones[i], &others[i])?;
         if member.is_nothing() {
+            drop((member, met));
             return Ok(None);
         }
         met.push(member)?;
@@ -120,8 +121,11 @@ fn meet_members(alloc: Global, ones: &[Tag], others: &[Tag]) -> Result<Tag, Allo
     let mut met = Vec::new(alloc);
     for one in ones {
         let places = index.places(alloc, one)?;
-        push_row(alloc, &mut met, one, others, &places)?;
+        let pushed = push_row(alloc, &mut met, one, others, &places);
+        drop(places);
+        pushed?;
     }
+    drop(index);
     Ok(Tag::gathered(met))
 }
 

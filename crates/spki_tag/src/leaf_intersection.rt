@@ -115,7 +115,9 @@ impl Leaf {
                 Leaf::Range(ordering, low, up) => {
                     let from = prefix.lower_limit()?;
                     let below = prefix.upper_limit()?;
-                    meet_ranges(RangeOrdering::Alpha, &from, &below, *ordering, low, up)
+                    let met = meet_ranges(RangeOrdering::Alpha, &from, &below, *ordering, low, up);
+                    drop((from, below));
+                    met
                 }
             },
             Leaf::Range(ordering, low, up) => match other {
@@ -124,7 +126,9 @@ impl Leaf {
                 Leaf::Prefix(prefix) => {
                     let from = prefix.lower_limit()?;
                     let below = prefix.upper_limit()?;
-                    meet_ranges(*ordering, low, up, RangeOrdering::Alpha, &from, &below)
+                    let met = meet_ranges(*ordering, low, up, RangeOrdering::Alpha, &from, &below);
+                    drop((from, below));
+                    met
                 }
                 Leaf::Range(second, second_low, second_up) => {
                     meet_ranges(*ordering, low, up, *second, second_low, second_up)

@@ -1,5 +1,5 @@
 //! Reads tags.
-#![tactic(auto, using(crate::proofs::Named::tags_read, crate::proofs::TagReading::members_read, crate::proofs::Faultless::tag_refused))]
+#![tactic(auto)]
 
 ghost use Rattle.std.specs.Prelude.{◌≡◌, ◌+◌, ◌≤◌, ◌<◌, ◌∷◌, List, Some, None, IfOk, IfErr, IfSome, IsSome, IsOkUnless, codes};
 ghost use Rattle.sexpr_core.specs.Value.{Value, plain, group, values, node};
@@ -24,6 +24,7 @@ const MOST_READ: usize = 1024;
 
 /// The octets of the first member of a list. Err is `ListHead` if the member is a list, and `Hint` if it has a display
 /// hint.
+#[tactic(auto, using(crate::proofs::Named::tags_read))]
 pub(crate) fn head_of<'a>(first: &Node<'_, 'a>) -> Result<&'a [u8], TagFault>
     ensures string { IfOk result (λ head. first.now ≡ plain head.now) }
     ensures named { IfErr result (λ fault. (vs : List Value)
@@ -38,6 +39,7 @@ pub(crate) fn head_of<'a>(first: &Node<'_, 'a>) -> Result<&'a [u8], TagFault>
 
 /// Reads a prefix from the members after `*` and `prefix`. Err is `UnknownStar` if they are not exactly one string,
 /// `Hint` if that has a display hint, or `Memory`.
+#[tactic(auto, using(crate::proofs::Named::tags_read))]
 fn read_prefix(alloc: Global, further: Members<'_, '_>) -> Result<Leaf, TagFault>
     ensures read { IfOk result (λ leaf. tag_value (leaf_tag leaf) ≡ starred (codes "prefix") (values further.entry)) }
     ensures named { IfErr result (λ fault. IsNamed fault (prefix_fault further.entry)) }
@@ -213,6 +215,7 @@ impl Tag {
     /// of a tag. `RangeOrdering`: a range without an ordering, or of another one than `alpha`, `time` and `date`.
     /// `RangeLimit`: limits that are not at most one lower limit and then at most one upper limit; their strings are
     /// not checked against the ordering. `Memory`: memory ran out.
+    #[tactic(auto, using(crate::proofs::Named::tags_read, crate::proofs::TagReading::members_read, crate::proofs::Faultless::tag_refused))]
     pub fn of(alloc: Global, value: &Node<'_, '_>) -> Result<Tag, TagFault>
         ensures read { IfOk result (λ tag. ReadsAs value.now tag) }
         ensures only { (t : Tag) → IsTag t → nodes t ≤ most_read → tag_value t ≡ value.now

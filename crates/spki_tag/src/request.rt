@@ -1,5 +1,5 @@
 //! Requests and their reader.
-#![tactic(auto, using(crate::proofs::RequestReading::requests_read))]
+#![tactic(auto)]
 
 ghost use Rattle.std.specs.Prelude.{◌≡◌, ◌∷◌, None, IfOk, IfErr, IfSome, IsSome};
 ghost use Rattle.sexpr_core.specs.Value.{plain, group, node};

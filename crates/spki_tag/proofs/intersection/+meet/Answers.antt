@@ -8,8 +8,8 @@ use Rattle.spki_tag.proofs.Members.{nodes_le-of_read}
 use Rattle.spki_tag.proofs.MeetSteps.{tags-members, members_meet, pairs-step, each_meet-last, meet_steps}
 use Rattle.spki_tag.proofs.intersection.+meet.Goals as goal
 
-pub meet_members-push_row-requires : goal.meet_members-push_row-requires
-meet_members-push_row-requires t c =
+pub meet_members-push_row-pushed-requires : goal.meet_members-push_row-pushed-requires
+meet_members-push_row-pushed-requires t c =
     let others = tags c.args.others.now in
     let less : nodes c.one-item.result ≤ nodes_all (tags c.args.ones.now) =
     nodes_le-of_read c.args.ones.now c.loop-one.one-index c.one-item.result c.loop-one-test.true c.one-item.is in (
@@ -32,9 +32,9 @@ meet_members-loop-one-preserved t c =
     c.in_ok-places.ensures ∙ ap (places_where (may_share one) 1) c.in_ok-index.ensures in
     let same : row (meet one) (tags (tags_at others places)) ≡ row (meet one) (tags others) =
     ap (λ (ps : List ℕ). row (meet one) (tags (tags_at others ps))) found ∙ sym (row_at_places one others) in
-    let pushed : c.push_row.new.met.items ≡ c.loop-one.met.items ++ row (meet one) (tags (tags_at others places)) =
-    rw c.deref.ensures.value at c.in_ok-push_row.ensures in
-    pairs-step c.args.ones.now others c.loop-one.met.items c.push_row.new.met.items
+    let pushed : c.push_row-pushed.new.met.items ≡ c.loop-one.met.items ++ row (meet one) (tags (tags_at others places)) =
+    rw c.deref.ensures.value at c.in_ok-pushed.ensures in
+    pairs-step c.args.ones.now others c.loop-one.met.items c.push_row-pushed.new.met.items
     (pairs (tags c.args.ones.now) (tags others)) (row (meet one) (tags (tags_at others places)))
     c.loop-one.one-index one c.loop-one-test.true c.loop-one.invariant c.one-item.is pushed same
 

@@ -1,5 +1,5 @@
-use Rattle.std.proofs.Common.{arith}
-use Rattle.spki_tag.proofs.RequestReading.{so_far_weight, so_far_push, list_is_request, so_far-named}
+use Rattle.std.proofs.Common.{rules, arith}
+use Rattle.spki_tag.proofs.RequestReading.{requests_read, so_far_weight, so_far_push, list_is_request, so_far-named}
 use Rattle.spki_tag.proofs.Named.{passed}
 use Rattle.spki_tag.proofs.request.+read_request.Goals as goal
 
@@ -16,3 +16,27 @@ read_headed-returns-clause-read t c = rw (c.list.ensures, c.in_ok-octets.ensures
 pub read_request_members-returns-in_err-read_request-clause-named : goal.read_request_members-returns-in_err-read_request-clause-named
 read_request_members-returns-in_err-read_request-clause-named t c =
     passed _ _ _ c.from_residual.ensures.1 (so_far-named _ _ _ _ _ _ c.loop-first.invariant c.in-Some.ensures c.in_err-read_request.ensures.named)
+
+pub read_headed-returns-in_err-members-clause-named : goal.read_headed-returns-in_err-members-clause-named
+read_headed-returns-in_err-members-clause-named t c = search (rules, requests_read)
+
+pub read_headed-returns-in_err-octets-clause-named : goal.read_headed-returns-in_err-octets-clause-named
+read_headed-returns-in_err-octets-clause-named t c = search (rules, requests_read)
+
+pub read_request-returns-in_err-from_slice-in-String-None-default-clause-named : goal.read_request-returns-in_err-from_slice-in-String-None-default-clause-named
+read_request-returns-in_err-from_slice-in-String-None-default-clause-named t c = search (rules, requests_read)
+
+pub read_request-returns-in-String-Some-default-clause-named : goal.read_request-returns-in-String-Some-default-clause-named
+read_request-returns-in-String-Some-default-clause-named t c = search (rules, requests_read)
+
+pub read_request_list-returns-in_err-head-in-Some-clause-named : goal.read_request_list-returns-in_err-head-in-Some-clause-named
+read_request_list-returns-in_err-head-in-Some-clause-named t c = search (rules, requests_read)
+
+pub read_request_list-returns-in-None-clause-named : goal.read_request_list-returns-in-None-clause-named
+read_request_list-returns-in-None-clause-named t c = search (rules, requests_read)
+
+pub read_request_list-returns-then-eq-clause-named : goal.read_request_list-returns-then-eq-clause-named
+read_request_list-returns-then-eq-clause-named t c = search (rules, requests_read)
+
+pub read_request_members-returns-in_err-push-clause-named : goal.read_request_members-returns-in_err-push-clause-named
+read_request_members-returns-in_err-push-clause-named t c = search (rules, requests_read)
