@@ -205,7 +205,6 @@ fn check_body(octets: &[u8], at: usize) -> Result<(), FormFault>
 /// ends before the closing brace. At the closing brace TooDeep: the octets open more than `MOST_LISTS` lists at once;
 /// or Bad: the body is no base64 of a canonical form. Trailing: an octet after the braces is not whitespace. Memory:
 /// memory ran out.
-#[tactic(auto, using(std::proofs::lemmas::Result::err_from_is_err_and, crate::proofs::BraceLaws::braced_limits))]
 pub fn unwrap_braces(alloc: Global, text: &[u8]) -> Result<Sexp, FormFault>
     ensures read { IfOk result (λ tree. IsBracedWithin text.now (sexp_value tree)) }
     ensures only { (v : Value) → IsBracedWithin text.now v → IsOkUnless result FormFault.Memory }

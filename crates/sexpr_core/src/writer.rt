@@ -47,7 +47,6 @@ fn append_length(octets: usize, out: &mut Vec<u8>) -> Result<(), AllocError>
 
 /// Appends a string's verbatim form (RFC 9804, section 4.1) to the output: its length in decimal, a colon, its octets. If
 /// memory runs out, a part of it may have been appended. The output before it does not change.
-#[tactic(auto, using(crate::proofs::TreeLaws::verbatim_written, crate::proofs::TreeLaws::one_written))]
 pub fn append_verbatim(octets: &[u8], out: &mut Vec<u8>) -> Result<(), AllocError>
     ensures written { OnOk result (out.new.items ≡ out.old.items ++ verbatim octets.now) }
     ensures kept { take (length out.old.items) out.new.items ≡ out.old.items }

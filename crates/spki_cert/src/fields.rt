@@ -21,7 +21,7 @@ use spki_tag::{Tag, TagFault};
 use std::alloc::Global;
 
 /// Whether the fields are those of an entry or of a certificate.
-#[derive(Clone, Copy, Debug)]
+#[derive(Clone, Copy)]
 pub(crate) enum Place {
     Entry,
     Certificate,

@@ -13,7 +13,7 @@ use spki_tag::Tag;
 const MOST_NODES: usize = 1_000_000;
 
 /// The numbers of nodes of the certificates' tags.
-#[derive(Clone, Copy, Debug)]
+#[derive(Clone, Copy)]
 pub(crate) struct Sizes {
     /// The product of the numbers, if it is at most 1,000,000.
     pub(crate) product: Option<usize>,
@@ -22,7 +22,7 @@ pub(crate) struct Sizes {
 }
 
 /// The numbers of nodes of tags that have no set.
-#[derive(Clone, Copy, Debug)]
+#[derive(Clone, Copy)]
 pub(crate) struct PlainNodes {
     /// Of all tags together.
     pub(crate) all: usize,
