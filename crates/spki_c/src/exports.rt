@@ -42,12 +42,8 @@ pub extern "C" fn spki_c_answer(
         None => misused(needed),
         Some(command) => {
             let answer = answer_text(alloc, command, text.octets());
-            hand_over(
-                &answer,
-                status_number(command, answer.verdict),
-                buffer,
-                needed,
-            )
+            let status = status_number(command, answer.verdict);
+            hand_over(answer, status, buffer, needed)
         }
     }
 }
@@ -75,12 +71,8 @@ pub extern "C" fn spki_c_check_accepted(
         return misused(needed);
     }
     let answer = check_accepted(alloc, text.octets(), rows.octets());
-    hand_over(
-        &answer,
-        status_number(Command::Check, answer.verdict),
-        buffer,
-        needed,
-    )
+    let status = status_number(Command::Check, answer.verdict);
+    hand_over(answer, status, buffer, needed)
 }
 
 /// Finds a string inside a value in canonical form. The path leads to it: each number is that of the list member to

@@ -59,7 +59,7 @@ pub extern "C" fn spki_c_guard_open(
             *needed = 0;
             DONE
         }
-        Err(fault) => hand_over(&refused_list(alloc, fault), REFUSED, buffer, needed),
+        Err(fault) => hand_over(refused_list(alloc, fault), REFUSED, buffer, needed),
     }
 }
 

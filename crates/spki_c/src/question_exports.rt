@@ -63,20 +63,22 @@ pub extern "C" fn spki_c_guard_ask(
     };
     let Ok(words) = words_of(alloc, words) else {
         return hand_over(
-            &refused_list(alloc, AclFault::Memory),
+            refused_list(alloc, AclFault::Memory),
             REFUSED,
             buffer,
             needed,
         );
     };
     let question = parts.question(words.as_slice(), seconds);
-    match open_boxed(alloc, guard, &question) {
+    let opened = open_boxed(alloc, guard, &question);
+    drop(words);
+    match opened {
         Ok(opened) => {
             handle.hold(BoxPointer::of(opened));
             *needed = 0;
             DONE
         }
-        Err(answer) => hand_over(&answer, REFUSED, buffer, needed),
+        Err(answer) => hand_over(answer, REFUSED, buffer, needed),
     }
 }
 
@@ -158,14 +160,19 @@ pub extern "C" fn spki_c_asked_answer(
     };
     let Ok(marks) = marks_of(alloc, verified.octets()) else {
         return hand_over(
-            &refused_list(alloc, AclFault::Memory),
+            refused_list(alloc, AclFault::Memory),
             REFUSED,
             buffer,
             needed,
         );
     };
-    match answer_opened(alloc, query, opened, marks.as_slice()) {
-        Some(answer) => hand_over(&answer, query_status(query, answer.verdict), buffer, needed),
+    let answered = answer_opened(alloc, query, opened, marks.as_slice());
+    drop(marks);
+    match answered {
+        Some(answer) => {
+            let status = query_status(query, answer.verdict);
+            hand_over(answer, status, buffer, needed)
+        }
         None => misused(needed),
     }
 }

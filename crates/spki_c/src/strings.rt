@@ -7,7 +7,7 @@ ghost use Rattle.spki_c.specs.Strings.{parts, octets_of, octets_at, StandsIn, Is
 use sexpr_core::syntax::{Node, NodeKind};
 
 /// A place in a text.
-#[derive(Clone, Copy, Debug, PartialEq, Eq)]
+#[derive(Clone, Copy)]
 pub(crate) struct Place {
     /// The offset of its first octet, from 0.
     pub(crate) at: usize,

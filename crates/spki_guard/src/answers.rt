@@ -186,7 +186,11 @@ pub fn answer_text(alloc: Global, command: Command, text: &[u8]) -> Answer
     ensures too_long { 1048576 < length text.now → RefusesAsLong result.verdict (written_by result) }
 {
     match read_source(alloc, command, text) {
-        Ok(source) => answer_source(alloc, command, &source),
+        Ok(source) => {
+            let answer = answer_source(alloc, command, &source);
+            drop(source);
+            answer
+        }
         Err(refusal) => refuse(alloc, refusal),
     }
 }

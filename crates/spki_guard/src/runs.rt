@@ -110,7 +110,11 @@ fn send_text<W: Write>(
     ensures { Sends W.contents (IsAnswer command text.now) writer.old writer.new result }
 {
     match read_source(alloc, command, text) {
-        Ok(source) => send_source(alloc, command, &source, writer),
+        Ok(source) => {
+            let status = send_source(alloc, command, &source, writer);
+            drop(source);
+            status
+        }
         Err(refusal) => send(writer, &refuse(alloc, refusal)),
     }
 }
@@ -128,7 +132,11 @@ fn send_source<W: Write>(
         → Sends W.contents (IsAnswer command text) writer.old writer.new result }
 {
     match reply_to(alloc, command, source) {
-        Ok(reply) => send_reply(writer, &reply),
+        Ok(reply) => {
+            let status = send_reply(writer, &reply);
+            drop(reply);
+            status
+        }
         Err(refusal) => send(writer, &refuse(alloc, refusal)),
     }
 }

@@ -65,8 +65,9 @@ fn decide_by_rows(alloc: Global, case: &Case, rows: &[u8]) -> Result<Answer, Ref
 {
     let octets = canonical_rows(alloc, rows)?;
     let accepted = AcceptedTable::read(alloc, &octets)?;
-    let decision = decide(alloc, case, &accepted)?;
-    Ok(decision_line(alloc, decision)?)
+    let decided = decide(alloc, case, &accepted);
+    drop(accepted);
+    Ok(decision_line(alloc, decided?)?)
 }
 
 /// Returns the canonical form of `rows`, a text in any form. Err if it has no value within the limits, or memory ran

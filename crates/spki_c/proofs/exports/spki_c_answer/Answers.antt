@@ -20,5 +20,5 @@ returns-in-Some-clause-answered c asked e lent =
       written_by answer,
       subst (λ (asked : Command). AnswersText asked c.args.text.octets answer.verdict (written_by answer)) same
           (subst (λ (text : List ℕ). AnswersText c.in-Some.command text answer.verdict (written_by answer)) whole answers),
-      of_status (c.status_number.ensures ∙ ap (λ (k : Command). status_of k answer.verdict) same) c.hand_over.ensures,
+      of_status (c.status_number-status.ensures ∙ ap (λ (k : Command). status_of k answer.verdict) same) c.hand_over.ensures,
     )

@@ -23,11 +23,11 @@ returns-in_default-words_of-clause-asked c g held lent clear =
       }),
     )
 
-pub returns-in-Ok-open_boxed-clause-asked : goal.returns-in-Ok-open_boxed-clause-asked
-returns-in-Ok-open_boxed-clause-asked c g held lent clear =
+pub returns-in-Ok-opened-clause-asked : goal.returns-in-Ok-opened-clause-asked
+returns-in-Ok-opened-clause-asked c g held lent clear =
     let parts = c.is_ambiguous.ensures.same ∙ c.are_lent.ensures.same.0 in
     let words = ap (map (λ w. w.now)) c.as_slice.ensures.value ∙ c.in-Ok.ensures ∙ ap (map (λ (t : Text). t.octets)) c.are_lent.ensures.same.1 in
-    let q = c.question.result in let opened = c.in-Ok-open_boxed.ensures.opened in
+    let q = c.question.result in let opened = c.in-Ok-opened.ensures.opened in
     let same : c.in-Some.guard.now ≡ g = search rules in (
       q,
       subst (λ (p : Parts). IsQuestionBy p (map (λ (t : Text). t.octets) c.args.words.now) c.args.seconds.now q) parts
@@ -42,8 +42,8 @@ returns-in-Ok-open_boxed-clause-asked c g held lent clear =
       }),
     )
 
-pub returns-clause-asked : goal.returns-clause-asked
-returns-clause-asked c g held lent clear =
+pub returns-in-Err-clause-asked : goal.returns-in-Err-clause-asked
+returns-in-Err-clause-asked c g held lent clear =
     let parts = c.is_ambiguous.ensures.same ∙ c.are_lent.ensures.same.0 in
     let words = ap (map (λ w. w.now)) c.as_slice.ensures.value ∙ c.in-Ok.ensures ∙ ap (map (λ (t : Text). t.octets)) c.are_lent.ensures.same.1 in
     let q = c.question.result in let answer = c.in-Err.answer in
