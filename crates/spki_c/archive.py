@@ -5,7 +5,7 @@ binutils.
 Both have the exports of src/, the toolchain's calls of `malloc`, `realloc` and `free`, and spki.c, which passes on from the
 calls of spki.h to the exports. They are linked into one object whose only global symbols are the calls that spki.h declares: so the
 library links beside any other, also beside another one of the toolchain, and a program links with nothing else. In the shared library
-these symbols have a version, such as SPKI_0.1, so that a program does not run with a library of another interface.
+these symbols have a version, such as SPKI_0.2, so that a program does not run with a library of another interface.
 
 `rt ci` leaves the libraries below in a form that `rt lib` does not accept, so that it would prove all of them again. Right behind it,
 --over-gate builds over that form. --again links anew over the proved code of the last run, where only spki.c or spki.h has changed.

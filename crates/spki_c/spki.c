@@ -3,8 +3,6 @@
  * here: a null pointer is misuse, or is replaced by the address of a value that is not used. */
 #include "spki.h"
 
-#include <stdbool.h>
-
 struct handle { /* a pointer to a guard or to a question, or null */
     void *at;
 };
@@ -24,13 +22,16 @@ struct texts { /* the texts of a signature, and whether its value is one string 
 uint32_t spki_c_answer(uint32_t command, struct spki_text text, ANSWER);
 uint32_t spki_c_check_accepted(struct spki_text text, struct spki_text rows, ANSWER);
 uint32_t spki_c_guard_open(struct spki_text list, uint32_t policy, const struct spki_limits *limits, size_t count, struct handle *guard, ANSWER);
-void spki_c_close(struct handle value);
+void spki_c_close(bool is_question, struct handle value, struct handle *back);
 size_t spki_c_guard_entries(struct handle *guard);
 uint32_t spki_c_guard_ask(struct handle *guard, struct parts *parts, struct spki_text *words, size_t word_count, const int64_t *seconds,
                           size_t count, struct handle *asked, ANSWER);
 size_t spki_c_asked_count(struct handle *asked);
 uint32_t spki_c_asked_signature(struct handle *asked, size_t place, struct texts *texts);
-uint32_t spki_c_asked_answer(uint32_t wish, struct handle *asked, struct spki_text verified, ANSWER);
+uint32_t spki_c_asked_mark(struct handle asked, size_t place, struct handle *back);
+bool spki_c_asked_granted(struct handle *asked);
+bool spki_c_asked_possible(struct handle *asked);
+uint32_t spki_c_asked_answer(uint32_t wish, struct handle *asked, ANSWER);
 uint32_t spki_c_string(struct spki_text text, const size_t *path, size_t depth, size_t *at, size_t *length);
 
 /* Whether a pointer to `count` values of `size` octets is misuse: null with a count, or more than memory can have. */
@@ -39,22 +40,26 @@ static bool is_misuse(const void *at, size_t count, size_t size)
     return count > PTRDIFF_MAX / size || (!at && count);
 }
 
-/* Sets `**needed` to 0, and replaces null pointers. Returns whether an answer can be written to the buffer. */
+/* Sets `**needed` to 0, and replaces null pointers. Returns whether an answer can be written to the buffer, and empties its line. */
 static bool begins(void **buffer, size_t length, size_t **needed, size_t *unasked)
 {
     static unsigned char no_buffer;
     bool is_buffer = !is_misuse(*buffer, length, 1);
+    if (is_buffer && length)
+        *(unsigned char *)*buffer = 0;
     *buffer = *buffer ? *buffer : &no_buffer;
     *needed = *needed ? *needed : unasked;
     **needed = 0;
     return is_buffer;
 }
 
+/* A handle as a call takes it that borrows what it has. */
+#define LENT(value) (&(struct handle){(void *)(value)})
+
 enum spki_status spki_answer(enum spki_command command, const void *text, size_t text_length, ANSWER)
 {
     size_t unasked;
-    bool is_fit = begins(&buffer, buffer_length, &needed, &unasked);
-    return is_fit ? spki_c_answer(command, (struct spki_text){text, text_length}, TO) : SPKI_MISUSED;
+    return begins(&buffer, buffer_length, &needed, &unasked) ? spki_c_answer(command, (struct spki_text){text, text_length}, TO) : SPKI_MISUSED;
 }
 
 enum spki_status spki_check_accepted(const void *text, size_t text_length, const void *rows, size_t rows_length, ANSWER)
@@ -82,12 +87,12 @@ enum spki_status spki_guard_open(const void *list, size_t list_length, enum spki
 void spki_guard_close(spki_guard *guard)
 {
     if (guard)
-        spki_c_close((struct handle){guard});
+        spki_c_close(false, (struct handle){guard}, &(struct handle){0});
 }
 
 size_t spki_guard_entries(const spki_guard *guard)
 {
-    return guard ? spki_c_guard_entries(&(struct handle){(void *)guard}) : 0;
+    return guard ? spki_c_guard_entries(LENT(guard)) : 0;
 }
 
 enum spki_status spki_guard_ask(const spki_guard *guard, const struct spki_question *question, spki_asked **asked, ANSWER)
@@ -101,7 +106,7 @@ enum spki_status spki_guard_ask(const spki_guard *guard, const struct spki_quest
     enum spki_status status = SPKI_MISUSED;
     if (is_fit) {
         struct parts parts = {question->sequence, question->key, question->request, question->moment, question->words};
-        status = spki_c_guard_ask(&(struct handle){(void *)guard}, &parts, question->words ? (struct spki_text *)question->words : &no_words,
+        status = spki_c_guard_ask(LENT(guard), &parts, question->words ? (struct spki_text *)question->words : &no_words,
                                   question->word_count, question->seconds ? question->seconds : &no_seconds, question->seconds ? 1 : 0, &handle, TO);
     }
     if (asked)
@@ -112,12 +117,12 @@ enum spki_status spki_guard_ask(const spki_guard *guard, const struct spki_quest
 void spki_asked_close(spki_asked *asked)
 {
     if (asked)
-        spki_c_close((struct handle){asked});
+        spki_c_close(true, (struct handle){asked}, &(struct handle){0});
 }
 
 size_t spki_asked_count(const spki_asked *asked)
 {
-    return asked ? spki_c_asked_count(&(struct handle){(void *)asked}) : 0;
+    return asked ? spki_c_asked_count(LENT(asked)) : 0;
 }
 
 enum spki_status spki_asked_signature(const spki_asked *asked, size_t place, struct spki_signed *signature)
@@ -126,7 +131,7 @@ enum spki_status spki_asked_signature(const spki_asked *asked, size_t place, str
     struct texts texts = {{empty, empty, empty, empty}, false};
     enum spki_status status = SPKI_MISUSED;
     if (asked && signature)
-        status = spki_c_asked_signature(&(struct handle){(void *)asked}, place, &texts);
+        status = spki_c_asked_signature(LENT(asked), place, &texts);
     if (signature)
         *signature = status == SPKI_DONE ? texts.signature : (struct spki_signed){0};
     if (status == SPKI_DONE && !texts.is_string)
@@ -134,27 +139,31 @@ enum spki_status spki_asked_signature(const spki_asked *asked, size_t place, str
     return status;
 }
 
-static enum spki_status answered(uint32_t wish, const spki_asked *asked, const unsigned char *verified, size_t count, ANSWER)
+enum spki_status spki_asked_mark(spki_asked *asked, size_t place)
 {
-    size_t unasked;
-    bool is_fit = begins(&buffer, buffer_length, &needed, &unasked) && asked;
-    return is_fit ? spki_c_asked_answer(wish, &(struct handle){(void *)asked}, (struct spki_text){verified, count}, TO) : SPKI_MISUSED;
+    /* (what is passed to the call comes back at the same address: it is boxed there, and not moved) */
+    return asked ? spki_c_asked_mark((struct handle){asked}, place, &(struct handle){0}) : SPKI_MISUSED;
 }
 
-enum spki_status spki_asked_decide(const spki_asked *asked, const unsigned char *verified, size_t count, ANSWER)
+bool spki_asked_granted(const spki_asked *asked)
 {
-    return answered(SPKI_CHECK, asked, verified, count, TO);
+    return asked && spki_c_asked_granted(LENT(asked));
 }
 
-enum spki_status spki_asked_explain(const spki_asked *asked, const unsigned char *verified, size_t count, ANSWER)
+bool spki_asked_possible(const spki_asked *asked)
 {
-    return answered(SPKI_EXPLAIN, asked, verified, count, TO);
+    return asked && spki_c_asked_possible(LENT(asked));
 }
 
-enum spki_status spki_asked_reduce(const spki_asked *asked, const unsigned char *verified, size_t count, ANSWER)
-{
-    return answered(SPKI_REDUCE, asked, verified, count, TO);
-}
+#define ANSWERS(call, wish) \
+    enum spki_status call(const spki_asked *asked, ANSWER) \
+    { \
+        size_t unasked; \
+        return begins(&buffer, buffer_length, &needed, &unasked) && asked ? spki_c_asked_answer(wish, LENT(asked), TO) : SPKI_MISUSED; \
+    }
+ANSWERS(spki_asked_decide, SPKI_CHECK)
+ANSWERS(spki_asked_explain, SPKI_EXPLAIN)
+ANSWERS(spki_asked_reduce, SPKI_REDUCE)
 
 enum spki_status spki_string(const void *text, size_t text_length, const size_t *path, size_t depth, const void **octets, size_t *length)
 {

@@ -2,14 +2,14 @@
  *
  * There are two ways to ask. A service holds a guard: spki_guard_open reads its access list once, and spki_guard_ask opens each
  * question. A question has its parts apart, so no octets of one part can become another part. spki_answer and spki_check_accepted read
- * a whole case as one text, which the caller puts together. Several threads may call at the same time, also with one guard or with one
- * opened question.
+ * a whole case as one text, which the caller puts together. Several threads may call at the same time, also with one guard, or with one
+ * opened question that none of them marks.
  *
  *     spki_guard *guard;
  *     spki_asked *asked;
  *     struct spki_question question = {.size = sizeof question};
  *     struct spki_signed signature;
- *     unsigned char verified[16] = {0}, line[64];
+ *     unsigned char line[64];
  *     size_t place;
  *     if (spki_guard_open(list, list_length, SPKI_STRICT, NULL, &guard, line, sizeof line, NULL) != SPKI_DONE) ...
  *     question.sequence = ...                    from the client
@@ -18,19 +18,20 @@
  *     question.seconds = ...                     now
  *     if (spki_guard_ask(guard, &question, &asked, line, sizeof line, NULL) != SPKI_DONE) ...
  *     for (place = 0; spki_asked_signature(asked, place, &signature) == SPKI_DONE; place++)
- *         verified[place] = is_signed(&signature) ? 1 : 0;
- *     if (spki_asked_decide(asked, verified, place, line, sizeof line, NULL) == SPKI_YES) ...
+ *         if (is_signed(&signature))
+ *             spki_asked_mark(asked, place);
+ *     if (spki_asked_granted(asked)) ...                                  the only test of a yes
  *     spki_asked_close(asked);
  *
- * A call returns one answer: the octets that the program `spki` writes for the case, and a status. For a case as one text:
+ * The other calls return one answer: the octets that the program `spki` writes for the case, and a status. For a case as one text:
  *
  *     unsigned char line[64];
  *     size_t length;
  *     enum spki_status status = spki_check_accepted(text, text_length, rows, rows_length, line, sizeof line, &length);
  *     if (status == SPKI_YES) ...
  *
- * Only SPKI_YES is a yes, and only a decision returns it: SPKI_CHECK, spki_check_accepted and spki_asked_decide. Treat every other
- * status as a no.
+ * Only SPKI_YES is a yes, and only a decision returns it: SPKI_CHECK, spki_check_accepted and spki_asked_decide. SPKI_NO is 1: compare a
+ * status with SPKI_YES, and never test it as a truth value. Treat every other status as a no.
  *
  * How to write a case, if no guard is used. The library cannot see which part of a text came from whom, so the caller must:
  *
@@ -54,7 +55,8 @@
  * - A buffer, `needed`, `guard`, `asked` and `signature` overlap neither each other nor a text.
  * - A guard and an opened question are closed once, when no call uses them. Their pointers are only passed on: do not read or write
  *   through them. A guard may be closed before the questions that were opened with it. The pointer of a question in place of that of a
- *   guard, or the reverse, is seen: the call is SPKI_MISUSED, and a count is 0.
+ *   guard, or the reverse, is seen: the call is SPKI_MISUSED, a count is 0, a truth value false, and a close has no effect.
+ * - While spki_asked_mark runs, no other call uses the question.
  * - A guard and an opened question are passed to another thread by a lock, by the start or end of a thread, or by a sequentially
  *   consistent atomic.
  * - `malloc`, `realloc` and `free` of the program are those of one allocator. They align a block to each power of two up to 16 that
@@ -66,14 +68,24 @@
 #ifndef SPKI_H
 #define SPKI_H
 
+#include <stdbool.h>
 #include <stddef.h>
 #include <stdint.h>
 
 /* The version of this header and of the library that it was installed with. */
 #define SPKI_VERSION_MAJOR 0
-#define SPKI_VERSION_MINOR 1
+#define SPKI_VERSION_MINOR 2
 #define SPKI_VERSION_PATCH 0
-#define SPKI_VERSION "0.1.0"
+#define SPKI_VERSION "0.2.0"
+
+/* Marks a call whose result must be looked at. */
+#if defined __cplusplus
+#define SPKI_RESULT [[nodiscard]]
+#elif defined __GNUC__
+#define SPKI_RESULT __attribute__((warn_unused_result))
+#else
+#define SPKI_RESULT
+#endif
 
 #ifdef __cplusplus
 extern "C" {
@@ -94,7 +106,7 @@ enum spki_command {
 enum spki_status {
     SPKI_NO = 1,        /* a decision: the request is not granted */
     SPKI_REFUSED = 2,   /* the answer is a line that begins with `refused`: the text is no input, or memory ran out */
-    SPKI_TOO_SMALL = 4, /* the buffer is too small: nothing is written to it, and `*needed` is the length of the answer */
+    SPKI_TOO_SMALL = 4, /* the buffer is too small: its first octet is 0, and `*needed` is the length of the answer */
     SPKI_MISUSED = 5,   /* no such command, a null pointer with a length, or another misuse: there is no answer, and `*needed` is 0 */
     SPKI_DONE = 6,      /* no decision: the call is done. It does not say whether the request is granted */
     SPKI_NONE = 7,      /* spki_string: the value has no string there. spki_asked_signature: there is no signature at this place */
@@ -102,14 +114,15 @@ enum spki_status {
     SPKI_YES = 9        /* a decision: the request is granted. Only decisions return it */
 };
 
-/* Runs a command on a text. The answer is written to the front of the buffer, and the rest of the buffer is unchanged. `*needed`
- * is the length of the answer. A text of more than 1,048,576 octets is `refused form TooLong`.
+/* Runs a command on a text. The answer is written to the front of the buffer, and the rest of the buffer is unchanged. If no answer is
+ * written, the first octet of the buffer is 0, so no line of an earlier call is left there. `*needed` is the length of the answer. A text of
+ * more than 1,048,576 octets is `refused form TooLong`.
  *
  * SPKI_CHECK returns SPKI_YES or SPKI_NO. Every other command returns SPKI_DONE, also SPKI_EXPLAIN and SPKI_REDUCE if no entry grants
  * the request.
  *
  * In a case the rows of `(accepted ..)` say which signatures the caller has verified. spki_check_accepted takes them separately. */
-enum spki_status spki_answer(enum spki_command command, const void *text, size_t text_length, void *buffer, size_t buffer_length,
+SPKI_RESULT enum spki_status spki_answer(enum spki_command command, const void *text, size_t text_length, void *buffer, size_t buffer_length,
                              size_t *needed);
 
 /* Decides a case by rows in a separate text: `rows` is `(accepted ROW ..)`, and each row says that the caller has verified a
@@ -118,7 +131,7 @@ enum spki_status spki_answer(enum spki_command command, const void *text, size_t
  *
  * The answer is that of SPKI_CHECK, and a refusal of `rows` begins with `refused rows`. The case is read first: if it is refused, the
  * answer says so, whatever `rows` is. The buffer and `needed` are as above. */
-enum spki_status spki_check_accepted(const void *text, size_t text_length, const void *rows, size_t rows_length, void *buffer,
+SPKI_RESULT enum spki_status spki_check_accepted(const void *text, size_t text_length, const void *rows, size_t rows_length, void *buffer,
                                      size_t buffer_length, size_t *needed);
 
 /* ---- guards */
@@ -173,11 +186,11 @@ typedef struct spki_guard spki_guard;
  * null. SPKI_REFUSED: a line is in the buffer that begins with `refused form` or `refused acl`, or is `refused Memory`.
  * SPKI_TOO_SMALL: the line does not fit the buffer. SPKI_MISUSED: `guard` is null, there is no such policy, the limits have another size,
  * or one of them is over the highest. */
-enum spki_status spki_guard_open(const void *list, size_t list_length, enum spki_policy policy, const struct spki_limits *limits,
+SPKI_RESULT enum spki_status spki_guard_open(const void *list, size_t list_length, enum spki_policy policy, const struct spki_limits *limits,
                                  spki_guard **guard, void *buffer, size_t buffer_length, size_t *needed);
 
 /* Frees a guard, once the questions that were opened with it are closed too. The caller does not use the pointer again. A null pointer
- * has no effect. */
+ * has no effect, nor has that of a question. */
 void spki_guard_close(spki_guard *guard);
 
 /* The number of entries of the access list; 0 if the pointer is null. */
@@ -216,7 +229,7 @@ struct spki_signed {
  * `refused question TooLong`, `refused question TooManyCertificates`, `refused question TooManyWords` and `refused Memory`.
  * SPKI_TOO_SMALL: the line does not fit the buffer. SPKI_MISUSED: a pointer is null, the question has another size, or it has a request
  * both as a text and as strings, or a moment both as a text and in seconds. */
-enum spki_status spki_guard_ask(const spki_guard *guard, const struct spki_question *question, spki_asked **asked, void *buffer,
+SPKI_RESULT enum spki_status spki_guard_ask(const spki_guard *guard, const struct spki_question *question, spki_asked **asked, void *buffer,
                                 size_t buffer_length, size_t *needed);
 
 /* The number of signatures that are to be verified; 0 if the pointer is null. No other signature of the question matters. */
@@ -226,29 +239,38 @@ size_t spki_asked_count(const spki_asked *asked);
  *
  * SPKI_DONE: it is set. With every other status all of it is null and 0. SPKI_NONE: the question has no more signatures than `place`.
  * SPKI_NO_MEMORY: an allocation failed. SPKI_MISUSED: a pointer is null. */
-enum spki_status spki_asked_signature(const spki_asked *asked, size_t place, struct spki_signed *signature);
+SPKI_RESULT enum spki_status spki_asked_signature(const spki_asked *asked, size_t place, struct spki_signed *signature);
 
-/* Decides a question, if exactly those signatures are valid at whose places `verified` is 1. Every other number says that a signature
- * is not valid. `count` must be the count of spki_asked_count, otherwise the call is SPKI_MISUSED. A question may be decided any number
- * of times.
+/* Says that the signature at this place, from 0, is valid. Nothing is valid that is not marked. A mark is for its place alone, also if the
+ * same signature is there twice, and it cannot be taken back.
+ *
+ * SPKI_DONE: the place is marked. SPKI_MISUSED: the question has no signature at this place, or the pointer is null or that of a guard.
+ * Nothing is marked then, so the result may be ignored. */
+enum spki_status spki_asked_mark(spki_asked *asked, size_t place);
+
+/* Whether the request is granted, if exactly the marked signatures are valid. True is the only yes. False if the pointer is null. Nothing is
+ * allocated. A question may be decided any number of times.
  *
  * The time does not grow with the entries for other keys. It is in proportion to the octets of the question and of the entries for the
- * key of the first certificate's issuer, or for the client's key if no certificate is shown.
- *
- * Returns SPKI_YES with `yes entry N`, or SPKI_NO with `no`, as SPKI_CHECK does for the case of these parts and the guard's list, if that
- * case is not `refused TooLarge`. SPKI_REFUSED: the line is `refused Memory`. */
-enum spki_status spki_asked_decide(const spki_asked *asked, const unsigned char *verified, size_t count, void *buffer,
-                                   size_t buffer_length, size_t *needed);
+ * key of the first certificate's issuer, or for the client's key if no certificate is shown. */
+SPKI_RESULT bool spki_asked_granted(const spki_asked *asked);
+
+/* Whether the request would be granted if all signatures were valid. If it is false, no marks make it a yes, and no signature has to be
+ * verified. True grants nothing. False if the pointer is null. */
+SPKI_RESULT bool spki_asked_possible(const spki_asked *asked);
+
+/* Decides a question as spki_asked_granted does, and writes the line. Returns SPKI_YES with `yes entry N`, or SPKI_NO with `no`, as
+ * SPKI_CHECK does for the case of these parts and the guard's list, if that case is not `refused TooLarge`. SPKI_REFUSED: the line is
+ * `refused Memory`. */
+SPKI_RESULT enum spki_status spki_asked_decide(const spki_asked *asked, void *buffer, size_t buffer_length, size_t *needed);
 
 /* Like spki_asked_decide, but write the lines of SPKI_EXPLAIN or SPKI_REDUCE, and return SPKI_DONE in place of yes and no. The line
  * `refused TooLarge` says that the guard's limit of nodes, of work or of the answer is exceeded. The time grows with the number of all
  * entries. */
-enum spki_status spki_asked_explain(const spki_asked *asked, const unsigned char *verified, size_t count, void *buffer,
-                                    size_t buffer_length, size_t *needed);
-enum spki_status spki_asked_reduce(const spki_asked *asked, const unsigned char *verified, size_t count, void *buffer,
-                                   size_t buffer_length, size_t *needed);
+SPKI_RESULT enum spki_status spki_asked_explain(const spki_asked *asked, void *buffer, size_t buffer_length, size_t *needed);
+SPKI_RESULT enum spki_status spki_asked_reduce(const spki_asked *asked, void *buffer, size_t buffer_length, size_t *needed);
 
-/* Frees a question. A null pointer has no effect. */
+/* Frees a question. A null pointer has no effect, nor has that of a guard. */
 void spki_asked_close(spki_asked *asked);
 
 /* ---- strings */
@@ -260,12 +282,12 @@ void spki_asked_close(spki_asked *asked);
  * SPKI_DONE: `*octets` and `*length` are set. With every other status they are null and 0. SPKI_NONE: no string is there.
  * SPKI_REFUSED: the text is no value in canonical form of at most 1,048,576 octets and 64 open lists. SPKI_NO_MEMORY: an allocation
  * failed, so it is not known whether there is a string. */
-enum spki_status spki_string(const void *text, size_t text_length, const size_t *path, size_t depth, const void **octets,
+SPKI_RESULT enum spki_status spki_string(const void *text, size_t text_length, const size_t *path, size_t depth, const void **octets,
                              size_t *length);
 
 /* ---- version */
 
-/* The version of the library, such as "0.1.0". The text lasts as long as the program. A program built with this header runs with each
+/* The version of the library, such as "0.2.0". The text lasts as long as the program. A program built with this header runs with each
  * library whose first two numbers are SPKI_VERSION_MAJOR and SPKI_VERSION_MINOR. */
 const char *spki_version(void);
 

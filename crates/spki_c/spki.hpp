@@ -72,14 +72,14 @@ private:
 };
 
 /* A decision. It is true only where the request is granted, and only an `if` or `!` reads it so. */
-class decision {
+class [[nodiscard]] decision {
 public:
-    explicit operator bool() const noexcept { return status == SPKI_YES; }
+    explicit operator bool() const noexcept { return granted; }
 
 private:
     friend class asked;
-    explicit decision(spki_status status) noexcept : status(status) {}
-    spki_status status;
+    explicit decision(bool granted) noexcept : granted(granted) {}
+    bool granted;
 };
 
 /* Throws `refused` with the line, or std::logic_error, unless a call has one of these statuses. */
@@ -92,7 +92,7 @@ inline spki_status expect(spki_status met, const char *line, std::size_t length,
     return met;
 }
 
-/* A question that was read, which is decided by marks of its signatures, any number of times. */
+/* A question that was read, with a mark for each signature that is found valid. */
 class asked {
 public:
     explicit asked(spki_asked *handle) noexcept : handle(handle) {}
@@ -107,33 +107,31 @@ public:
         return found;
     }
 
-    /* 1 for each signature that is valid up to the first that is not, 0 for this one and all after it. */
-    template <typename Verify> std::vector<unsigned char> marks(Verify &&verify) const
+    /* Says that the signature at a place is valid. Throws std::logic_error if there is none. */
+    void mark(std::size_t place) { expect(spki_asked_mark(handle.get(), place), "", 0, SPKI_DONE, SPKI_DONE); }
+
+    /* Whether the request would be granted if all signatures were valid. If not, none has to be verified. True grants nothing. */
+    bool possible() const noexcept { return spki_asked_possible(handle.get()); }
+
+    /* Marks each signature that is valid, up to the first that is not. */
+    template <typename Verify> void verify(Verify &&verify)
     {
-        std::vector<unsigned char> marks(size());
-        for (std::size_t place = 0; place < marks.size(); place++) {
+        for (std::size_t place = 0; place < size(); place++) {
             const spki_signed it = signature(place);
             const auto answer = verify(view_of(it.key), view_of(it.message), view_of(it.value));
             static_assert(std::is_same_v<decltype(answer), const bool>, "a verifier returns a bool: an int such as -1 is no answer");
             if (!answer)
                 break;
-            marks[place] = 1;
+            mark(place);
         }
-        return marks;
     }
 
-    /* Whether the request is granted, if exactly the signatures are valid whose marks are 1. */
-    decision decide(const std::vector<unsigned char> &marks) const
-    {
-        char line[128];
-        std::size_t length;
-        spki_status status = spki_asked_decide(handle.get(), marks.data(), marks.size(), line, sizeof line, &length);
-        return decision(expect(status, line, length, SPKI_YES, SPKI_NO));
-    }
+    /* Whether the request is granted, if exactly the marked signatures are valid. */
+    decision decide() const noexcept { return decision(spki_asked_granted(handle.get())); }
 
     /* The lines that say of each entry why it grants the request or does not, and which right remains of it. */
-    std::string explain(const std::vector<unsigned char> &marks) const { return lines(spki_asked_explain, marks); }
-    std::string reduce(const std::vector<unsigned char> &marks) const { return lines(spki_asked_reduce, marks); }
+    std::string explain() const { return lines(spki_asked_explain); }
+    std::string reduce() const { return lines(spki_asked_reduce); }
 
 private:
     struct close {
@@ -141,12 +139,12 @@ private:
     };
     std::unique_ptr<spki_asked, close> handle;
 
-    template <typename Call> std::string lines(Call call, const std::vector<unsigned char> &marks) const
+    template <typename Call> std::string lines(Call call) const
     {
         std::string lines(4096, '\0');
         std::size_t length = 0;
         spki_status status;
-        while ((status = call(handle.get(), marks.data(), marks.size(), &lines[0], lines.size(), &length)) == SPKI_TOO_SMALL)
+        while ((status = call(handle.get(), &lines[0], lines.size(), &length)) == SPKI_TOO_SMALL)
             lines.resize(length);
         expect(status, lines.data(), length, SPKI_DONE, SPKI_DONE);
         lines.resize(length);
@@ -184,8 +182,10 @@ public:
 
     template <typename Verify> decision decide(const question &question, Verify &&verify) const
     {
-        const spki::asked asked = ask(question);
-        return asked.decide(asked.marks(verify));
+        spki::asked asked = ask(question);
+        if (asked.possible())
+            asked.verify(verify);
+        return asked.decide();
     }
 
 private:

@@ -44,16 +44,6 @@ module _ (w v : Query) (n : ℕ) (e : n ≡ query_number w) (f : n ≡ query_num
         handed = subst (λ (s : ℕ). IsHanded old new needed status s output) (number ∙ ap (λ u. status_for u verdict) same) handed;
       }
 
-refused_status : (w : Query) → status_for w Refused ≡ 2
-refused_status Decide = refl
-refused_status w = refl
-
-pub no_memory : (w : Query) (guard : Held) (q : Question) (marks : List Bool) (output old new : List ℕ) (needed status : ℕ)
-    → (output ≡ refused_memory) ⊎ (output ≡ refused_memory) → IsHanded old new needed status 2 output
-    → IsAnswered w guard q marks old new needed status
-no_memory w guard q marks output old new needed status (inl line) handed = search (rules, refused_status)
-no_memory w guard q marks output old new needed status (inr line) handed = search (rules, refused_status)
-
 -- ---- the parts of a question are those of a question, also where there is no memory for its strings
 
 lent : {X : Type 0} → X → Bor X

@@ -1,11 +1,11 @@
 -- Questions of a C program: the texts that it lends, what it receives, and the signatures that it reads.
-use Rattle.std.specs.Prelude.{◌≡◌, List, length, All, ◌≢◌, ◌⊎◌, ◌==◌, ℕ, ℤ, [], ◌∷◌, map, Bool, true, false, Option, Some, None}
+use Rattle.std.specs.Prelude.{◌≡◌, List, length, All, ◌≢◌, ◌⊎◌, ℕ, ℤ, [], ◌∷◌, map, Bool, true, false, Option, Some, None}
 use Rattle.spki_c.specs.declared.content.Content.{Content}
 use Rattle.spki_c.specs.declared.content.Content.TheVariants as contents
 use Rattle.spki_c.specs.declared.text.Text.{Text}
 use Rattle.spki_c.specs.declared.parts.Parts.{Parts}
 use Rattle.spki_service.specs.AccessLists.{Held}
-use Rattle.spki_service.specs.GuardQuestions.{IsOpened}
+use Rattle.spki_service.specs.GuardQuestions.{IsOpened, NoneMarked}
 use Rattle.spki_service.specs.declared.opened.Opened.{Opened}
 use Rattle.spki_service.specs.declared.question.Question.{Question}
 use Rattle.spki_service.specs.declared.question.RequestInput.{RequestInput}
@@ -31,12 +31,6 @@ IsLent t = length t.octets ≡ t.count
 abbrev pub AreLent : Parts → List Text → Type 0
 AreLent parts words =
     IsLent parts.sequence × IsLent parts.key × IsLent parts.request × IsLent parts.moment × All IsLent words
-
--- ---- what a C program receives from the questions that it opens
-
--- the marks of octets: 1 is true, and every other number is false
-abbrev pub marks_from : List ℕ → List Bool
-marks_from octets = map (λ n. n == 1) octets
 
 -- ---- the question of parts
 
@@ -78,6 +72,7 @@ pub record IsHeldQuestion (guard : Held) (q : Question) (held : Option Content) 
   pub question : Opened
   pub held_is : held ≡ Some (contents.Question question)
   pub opened : IsOpened guard q question
+  pub unmarked : NoneMarked question.marks.items
   pub unchanged : new ≡ old
   pub needed_is : needed ≡ 0
   pub status_is : status ≡ 6

@@ -9,9 +9,9 @@ use Rattle.spki_service.specs.declared.question.Question.{Question}
 use Rattle.spki_guard.specs.declared.answers.Verdict.{Verdict}
 use Rattle.spki_guard.specs.declared.question_answers.Query.{Query}
 use Rattle.spki_guard.specs.declared.question_answers.Query.TheVariants.{Decide, Explain, Reduce}
-use Rattle.spki_guard.specs.HeldQuestions.{IsAnswerHeld, HasOtherCount, refused_list}
+use Rattle.spki_guard.specs.HeldQuestions.{IsAnswerHeld, refused_list}
 use Rattle.spki_guard.specs.Lines.{refused_memory}
-use Rattle.spki_c.specs.Results.{IsHanded, IsMisuse, decided, written}
+use Rattle.spki_c.specs.Results.{IsHanded, decided, written}
 use Rattle.spki_c.specs.declared.content.Content.{Content}
 use Rattle.spki_c.specs.declared.content.Content.TheVariants as contents
 use Rattle.spki_c.specs.declared.limits.LimitParts.{LimitParts}
@@ -103,12 +103,3 @@ pub record IsAnswered (query : Query) (guard : Held) (q : Question) (marks : Lis
   pub output : List ℕ
   pub answer : IsAnswerHeld query guard q marks verdict output
   pub handed : IsHanded old new needed status (status_for query verdict) output
-
--- The question has more or fewer signatures than there are marks.
-pub record IsMiscounted (guard : Held) (q : Question) (marks : List Bool) (old new : List ℕ) (needed status : ℕ) : Type 0 where
-  pub other : HasOtherCount guard q marks
-  pub misuse : IsMisuse old new needed status
-
-abbrev pub IsAsked : Query → Held → Question → List Bool → List ℕ → List ℕ → ℕ → ℕ → Type 0
-IsAsked query guard q marks old new needed status =
-    IsAnswered query guard q marks old new needed status ⊎ IsMiscounted guard q marks old new needed status

@@ -3,3 +3,4 @@ pub mod Guards
 pub mod Results
 pub mod Pointers
 pub mod Strings
+pub mod Contents

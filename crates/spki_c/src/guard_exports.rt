@@ -1,5 +1,7 @@
 //! The exported functions for guards that a caller holds.
-ghost use Rattle.std.specs.Prelude.{◌≡◌, ◌≢◌, ◌⊎◌, None, IsSome, length};
+ghost use Rattle.std.specs.Prelude.{◌≡◌, ◌≢◌, ◌⊎◌, None, Some, IsSome, length};
+ghost use Rattle.spki_c.specs.declared.content.Content.{Content};
+ghost use Rattle.spki_c.specs.Contents.{IsClosed};
 ghost use Rattle.spki_cert.specs.declared.principal.Policy.{Policy};
 ghost use Rattle.spki_service.specs.AccessLists.{Held};
 ghost use Rattle.spki_c.specs.Guards.{policy_number, numbers_in, AreAllowed, IsOpened, IsUnopened};
@@ -63,12 +65,20 @@ pub extern "C" fn spki_c_guard_open(
     }
 }
 
-/// Frees the guard or the question of a handle, which must have one.
+/// Frees the question of a handle if `is_question` is true, and otherwise its guard. What is of the other kind is not freed, but returned by
+/// `back`. That handle must have nothing before.
 #[unsafe(no_mangle)]
-pub extern "C" fn spki_c_close(alloc: Global, handle: Handle)
+pub extern "C" fn spki_c_close(alloc: Global, is_question: bool, handle: Handle, back: &mut Handle)
     requires held { IsSome handle.held }
+    requires empty { back.old.held ≡ None }
+    ensures { (c : Content) → handle.held ≡ Some c → IsClosed is_question c back.new.held }
 {
-    drop(handle.take(alloc).into_box());
+    let content = handle.take(alloc).into_box();
+    if content.is_question() == is_question {
+        drop(content);
+    } else {
+        back.hold(BoxPointer::of(content));
+    }
 }
 
 /// The number of entries of the guard's access list. 0 for a question.

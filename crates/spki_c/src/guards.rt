@@ -21,7 +21,7 @@ pub(crate) fn read_guard(
 {
     let guard = Guard::read(alloc, list, policy, limits)?;
     match SharedGuard::new(alloc, guard) {
-        Ok(guard) => boxed(alloc, Content::Guard(guard)),
+        Ok(guard) => Ok(boxed(alloc, Content::Guard(guard))?),
         Err(_) => Err(AclFault::Memory),
     }
 }

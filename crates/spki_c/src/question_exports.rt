@@ -1,13 +1,16 @@
 //! The exported functions for opened questions that a caller holds.
-ghost use Rattle.std.specs.Prelude.{◌≡◌, ◌≢◌, ◌⊎◌, None, Some, IsSome, length, slice_get};
+ghost use Rattle.std.specs.Prelude.{◌≡◌, ◌≢◌, ◌⊎◌, None, Some, IsSome, false, length, slice_get};
 ghost use Rattle.spki_decision.specs.Standing.{Signed};
 ghost use Rattle.spki_service.specs.AccessLists.{Held};
 ghost use Rattle.spki_service.specs.declared.question.Question.{Question};
 ghost use Rattle.spki_service.specs.declared.opened.Opened.{Opened};
 ghost use Rattle.spki_service.specs.GuardQuestions.{IsOpened};
 ghost use Rattle.spki_guard.specs.declared.question_answers.Query.{Query};
-ghost use Rattle.spki_c.specs.Asking.{IsAmbiguous, IsQuestionOf, IsHeldQuestion, IsUnheld, marks_from, IsLent, AreLent, IsSignature};
-ghost use Rattle.spki_c.specs.Guards.{query_number, IsAsked};
+ghost use Rattle.spki_c.specs.Asking.{IsAmbiguous, IsQuestionOf, IsHeldQuestion, IsUnheld, AreLent, IsSignature};
+ghost use Rattle.spki_c.specs.declared.content.Content.{Content};
+ghost use Rattle.spki_c.specs.Contents.{HandsBack};
+ghost use Rattle.spki_c.specs.Guards.{query_number, IsAnswered};
+ghost use Rattle.spki_guard.specs.HeldQuestions.{GrantsHeld, MayGrant};
 ghost use Rattle.spki_c.specs.Results.{IsMisuse};
 
 use crate::box_pointer::BoxPointer;
@@ -18,10 +21,9 @@ use crate::lent_texts::words_of;
 use crate::numbers::{DONE, MISUSED, NO_MEMORY, NONE, REFUSED, query_of, query_status};
 use crate::opening::open_boxed;
 use crate::parts::Parts;
-use crate::questions::marks_of;
 use crate::signatures::{SignatureTexts, texts_of};
 use crate::text::Text;
-use spki_guard::{AclFault, answer_opened, refused_list};
+use spki_guard::{AskFault, answer_opened, is_granted, is_possible, refused_question};
 use std::alloc::Global;
 
 /// Reads a question for a guard, and keeps what it needs of it on the heap. The caller holds the question by the
@@ -63,7 +65,7 @@ pub extern "C" fn spki_c_guard_ask(
     };
     let Ok(words) = words_of(alloc, words) else {
         return hand_over(
-            refused_list(alloc, AclFault::Memory),
+            refused_question(alloc, AskFault::Memory),
             REFUSED,
             buffer,
             needed,
@@ -126,53 +128,80 @@ pub extern "C" fn spki_c_asked_signature<'a>(
     }
 }
 
-/// Answers an opened question, if exactly those signatures are valid at whose places `verified` is 1. Writes the answer
-/// to the front of the buffer. The numbers of the queries are those of `query_of`.
+/// Says that the signature at this place, from 0, is valid. The question of `asked` is passed to the call, which returns it by `back`. That
+/// handle must have nothing before.
+///
+/// Returns 6 if the place is marked. Otherwise what was passed is returned unchanged, with 5: there is no signature at this place, or
+/// `asked` has a guard.
+#[unsafe(no_mangle)]
+pub extern "C" fn spki_c_asked_mark(
+    alloc: Global,
+    asked: Handle,
+    place: usize,
+    back: &mut Handle,
+) -> u32
+    requires held { IsSome asked.held }
+    requires empty { back.old.held ≡ None }
+    ensures { (c : Content) → asked.held ≡ Some c → HandsBack c place back.new.held result }
+{
+    let mut content = asked.take(alloc).into_box();
+    let is_marked = content.mark(place);
+    back.hold(BoxPointer::of(content));
+    if is_marked { DONE } else { MISUSED }
+}
+
+/// Whether the question is granted, if exactly the marked signatures are valid. False for a guard.
+#[unsafe(no_mangle)]
+pub extern "C" fn spki_c_asked_granted(lent: &mut Lent) -> bool
+    ensures granted { (o : Opened) (q : Question) → lent.old.content ≡ Content.Question o → IsOpened o.guard q o
+        → GrantsHeld o.guard q o.marks.items result }
+    ensures other { ((o : Opened) → lent.old.content ≢ Content.Question o) → result ≡ false }
+{
+    match lent.content().question() {
+        Some(opened) => is_granted(opened),
+        None => false,
+    }
+}
+
+/// Whether the question is granted if all of its signatures are valid. False for a guard. If it is false, no signature has to be verified.
+#[unsafe(no_mangle)]
+pub extern "C" fn spki_c_asked_possible(lent: &mut Lent) -> bool
+    ensures possible { (o : Opened) (q : Question) → lent.old.content ≡ Content.Question o → IsOpened o.guard q o
+        → MayGrant o.guard q result }
+    ensures other { ((o : Opened) → lent.old.content ≢ Content.Question o) → result ≡ false }
+{
+    match lent.content().question() {
+        Some(opened) => is_possible(opened),
+        None => false,
+    }
+}
+
+/// Answers an opened question, if exactly the marked signatures are valid. Writes the answer to the front of the buffer. The numbers of
+/// the queries are those of `query_of`.
 ///
 /// A decision returns 9 for yes and 1 for no. An explanation or a reduction returns 6. All return 2 for a refusal, also
-/// if memory ran out, and 4 if the buffer is too small. All return 5 if there are more or fewer marks than signatures,
-/// if no query has this number, if `lent` is no question, or if the marks are not lent whole (`Text::is_lent`). `needed`
+/// if memory ran out, and 4 if the buffer is too small. All return 5 if no query has this number, or if `lent` is no question. `needed`
 /// is the length of the answer, and 0 with status 5. With 4 and 5 the buffer is unchanged.
 #[unsafe(no_mangle)]
 pub extern "C" fn spki_c_asked_answer(
     alloc: Global,
     query: u32,
     lent: &mut Lent,
-    mut verified: Text,
     buffer: &mut [u8],
     needed: &mut usize,
 ) -> u32
     ensures answered { (o : Opened) (w : Query) (q : Question) → lent.old.content ≡ Content.Question o → query ≡ query_number w
-        → IsOpened o.guard q o → IsLent verified
-        → IsAsked w o.guard q (marks_from verified.octets) buffer.old buffer.new needed.new result }
+        → IsOpened o.guard q o → IsAnswered w o.guard q o.marks.items buffer.old buffer.new needed.new result }
     ensures misused { ((w : Query) → query ≢ query_number w) → IsMisuse buffer.old buffer.new needed.new result }
-    ensures unlent { ¬ IsLent verified → IsMisuse buffer.old buffer.new needed.new result }
     ensures other { ((o : Opened) → lent.old.content ≢ Content.Question o) → IsMisuse buffer.old buffer.new needed.new result }
 {
-    if !verified.is_lent() {
-        return misused(needed);
-    }
     let Some(query) = query_of(query) else {
         return misused(needed);
     };
     let Some(opened) = lent.content().question() else {
         return misused(needed);
     };
-    let Ok(marks) = marks_of(alloc, verified.octets()) else {
-        return hand_over(
-            refused_list(alloc, AclFault::Memory),
-            REFUSED,
-            buffer,
-            needed,
-        );
-    };
-    let answered = answer_opened(alloc, query, opened, marks.as_slice());
-    drop(marks);
-    match answered {
-        Some(answer) => {
-            let status = query_status(query, answer.verdict);
-            hand_over(answer, status, buffer, needed)
-        }
-        None => misused(needed),
-    }
+    let answer = answer_opened(alloc, query, opened);
+    let status = query_status(query, answer.verdict);
+    hand_over(answer, status, buffer, needed)
 }

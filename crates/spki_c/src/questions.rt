@@ -1,12 +1,11 @@
-//! Questions from the parts that C passes, and marks from octets.
-ghost use Rattle.std.specs.Prelude.{◌≡◌, ◌↔◌, IsTrue, IfOk, map};
-ghost use Rattle.spki_c.specs.Asking.{IsAmbiguous, IsQuestionBy, IsRequestBy, IsMomentBy, marks_from, IsLent, AreLent};
+//! Questions from the parts that C passes.
+ghost use Rattle.std.specs.Prelude.{◌≡◌, ◌↔◌, IsTrue, map};
+ghost use Rattle.spki_c.specs.Asking.{IsAmbiguous, IsQuestionBy, IsRequestBy, IsMomentBy, IsLent, AreLent};
 
 use crate::lent_texts::are_lent;
 use crate::parts::Parts;
 use crate::text::Text;
 use spki_guard::{Moment, Question, RequestInput};
-use std::alloc::{AllocError, Global};
 
 impl Parts {
     /// Whether all texts of a question are lent whole: its parts, and `words`, the strings of its request.
@@ -67,15 +66,4 @@ fn moment_of<'a>(text: &'a [u8], seconds: &[i64]) -> Moment<'a>
         [] => Moment::Text(text),
         [first, ..] => Moment::Seconds(*first),
     }
-}
-
-/// Returns a mark for each octet: true for 1, and false for every other octet. Err if memory ran out.
-pub(crate) fn marks_of(alloc: Global, octets: &[u8]) -> Result<Vec<bool>, AllocError>
-    ensures { IfOk result (λ marks. marks.items ≡ marks_from octets.now) }
-{
-    let mut marks = Vec::new(alloc);
-    for octet in octets {
-        marks.push(*octet == 1)?;
-    }
-    Ok(marks)
 }

@@ -10,14 +10,15 @@ use Rattle.spki_cert.specs.Readings.{HashOf}
 use Rattle.spki_cert.specs.Fields.{behind_head}
 use Rattle.spki_cert.specs.FieldFaults.{key_fault, date_fault}
 use Rattle.spki_cert.specs.declared.fault.CertFault.{CertFault}
+use Rattle.spki_cert.specs.declared.fault.CertFaultKind.{CertFaultKind}
 use Rattle.spki_cert.proofs.SequenceFaultLaws.{IsTriple, triple-read, triple-form}
 use Rattle.spki_case.specs.Case.{begins_sha256, sha256_fault, row_fault, rows_fault, Row, Case, RowOf, Parts, acl_value, sequence_value, case_value, CaseOf, IsOuter}
 use Rattle.std.specs.List.{AllZip}
 use Rattle.spki_tag.proofs.Faultless.{request_none_exactly}
-use Rattle.spki_cert.specs.StructureFaults.{acl_fault, sequence_fault}
+use Rattle.spki_cert.specs.StructureFaults.{acl_fault, sequence_fault, IsRefusedAt}
 use Rattle.spki_cert.proofs.Looking.{Reads, none-found, unless-none, behind-group}
 use Rattle.spki_cert.proofs.SubjectFaultNone.{key-none, hash-none, date-none}
-use Rattle.spki_cert.proofs.EntryFaultNone.{each-none, acl-none}
+use Rattle.spki_cert.proofs.EntryFaultNone.{each-none, each-first, acl-none}
 use Rattle.spki_cert.proofs.SequenceFaultNone.{sequence-none}
 use Rattle.spki_case.proofs.OneCase.{parts-one}
 use Rattle.spki_cert.specs.declared.fault.CertFaultKind.TheVariants as kinds
@@ -74,6 +75,17 @@ rows-none vs = each-none row_fault RowOf row-none 1 vs
 
 pub rows-refused : (vs : List Value) (fault : CertFault) → rows_fault vs ≡ Some fault → (rows : List Row) → ¬ AllZip RowOf vs rows
 rows-refused vs fault e rows read = absurd (let f = sym ((rows-none vs).1 (rows, read)) ∙ e in cc)
+
+row-refused : (v : Value) (kind : CertFaultKind) → row_fault v ≡ Some kind → (row : Row) → RowOf v row → ⊥
+row-refused v kind e row read = absurd (let f = sym ((row-none v).1 (row, read)) ∙ e in cc)
+
+-- the fault of rows is that of the first that cannot be read
+pub rows-first : (vs : List Value) (fault : CertFault) → rows_fault vs ≡ Some fault
+    → (v : Value) × IsRefusedAt RowOf vs fault.item v × (row_fault v ≡ Some fault.kind)
+unfolding rows_fault
+rows-first vs fault e =
+    let first = each-first row_fault RowOf row-none fault 1 vs e in
+    search (rules, row-refused)
 
 -- ---- the parts of a case
 

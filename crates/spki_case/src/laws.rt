@@ -1,12 +1,13 @@
 //! Laws of cases and accepted lists.
 //! Each function is a law: it does nothing, and its contract is the fact.
 
-ghost use Rattle.std.specs.Prelude.{◌≡◌, ◌↔◌, ℕ, List, None};
+ghost use Rattle.std.specs.Prelude.{◌≡◌, ◌↔◌, ℕ, List, Some, None};
 ghost use Rattle.std.specs.List.{AllZip};
 ghost use Rattle.sexpr_core.specs.Value.{HasOctets, Value};
 ghost use Rattle.spki_tag.specs.Faults.{request_fault};
 ghost use Rattle.spki_cert.specs.FieldFaults.{key_fault, date_fault};
-ghost use Rattle.spki_cert.specs.StructureFaults.{acl_fault, sequence_fault};
+ghost use Rattle.spki_cert.specs.StructureFaults.{acl_fault, sequence_fault, IsRefusedAt};
+ghost use Rattle.spki_cert.specs.declared.fault.CertFault.{CertFault};
 ghost use Rattle.spki_case.specs.Case.{Case, Row, Parts, acl_value, sequence_value, case_value, CaseOf, ValueRefused, IsCaseText, TextRefused, RowOf, row_fault, rows_fault};
 ghost use Rattle.spki_case.specs.RowsForm.{NoRows, IsRowsText, RowsTextRefused};
 ghost use Rattle.spki_case.specs.declared.cases.CaseFault.{CaseFault};
@@ -49,4 +50,11 @@ pub fn no_case_fault()
         → ((acl_fault (acl_value p) ≡ None) × (rows_fault p.rows ≡ None) × (sequence_fault (sequence_value p) ≡ None)
         × (key_fault p.key ≡ None) × (request_fault p.request ≡ None) × (date_fault p.at ≡ None))
         ↔ ((c : Case) × CaseOf (case_value p) c) }
+{}
+
+/// If the rows of an accepted list have a fault, it has the number of the first row that cannot be read, from 1, and the fault
+/// of that row. All rows before it can be read.
+pub fn refused_row()
+    ensures { (vs : List Value) (fault : CertFault) → rows_fault vs ≡ Some fault
+        → (v : Value) × IsRefusedAt RowOf vs fault.item v × (row_fault v ≡ Some fault.kind) }
 {}

@@ -170,7 +170,7 @@ begins-well : (vs : List Value) → acl_version_fault vs ≡ None → BeginsWell
 begins-well [] e = tt
 begins-well (v ∷ vs) e = λ h. is-group (codes "version") v h ∙ ap (λ (ws : List Value). group (plain (codes "version") ∷ ws)) (versions-read (behind_head v) (rw h at e))
 
-version-well : (vs : List Value) → BeginsWell vs → acl_version_fault vs ≡ None
+pub version-well : (vs : List Value) → BeginsWell vs → acl_version_fault vs ≡ None
 version-well [] well = refl
 version-well (v ∷ vs) well = by (is_headed (codes "version") v) refl
   where
@@ -178,7 +178,7 @@ version-well (v ∷ vs) well = by (is_headed (codes "version") v) refl
     by true e = ap (λ (w : Value). sole_fault Shape version_fault (behind_head w)) (well e) ∙ version-faultless (plain (codes "0") ∷ []) refl
     by false e = refl
 
-outer-read : (v : Value) → outer_fault v ≡ None → (v ≡ group (plain (codes "acl") ∷ behind_head v)) × BeginsWell (behind_head v)
+pub outer-read : (v : Value) → outer_fault v ≡ None → (v ≡ group (plain (codes "acl") ∷ behind_head v)) × BeginsWell (behind_head v)
 unfolding outer_fault
 outer-read v e = search (rules, none-found, is-group, unless-none, begins-well)
 

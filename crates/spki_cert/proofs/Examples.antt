@@ -1,5 +1,5 @@
 -- Worked examples: what the definitions say of values that are written out.
-use Rattle.std.proofs.Common.{◌≡◌, ℕ, true, false, List, [], ◌∷◌, Some, None, inl, inr, refl, arith}
+use Rattle.std.proofs.Common.{◌≡◌, ℕ, ◌+◌, true, false, List, [], ◌∷◌, ◌++◌, length, Some, None, inl, inr, refl, ap, ◌∙◌, arith}
 use Rattle.std.specs.Prelude.{codes}
 use Rattle.sexpr_core.specs.Value.{Value, plain, group, verbatim, decimal}
 use Rattle.spki_tag.specs.Tag as tags
@@ -13,8 +13,11 @@ use Rattle.spki_cert.specs.declared.window.Window.{Window}
 use Rattle.spki_cert.specs.Naming.{names}
 use Rattle.spki_cert.specs.Time.{within, meet_of}
 use Rattle.spki_cert.specs.Readings.{KeyOf, DateOf}
-use Rattle.spki_cert.specs.Fields.{NameOf, WindowOf, IsAbsent, IsOnce, directly, in_valid, tag}
+use Rattle.spki_cert.specs.Fields.{is_headed, NameOf, WindowOf, IsAbsent, IsOnce, directly, in_valid, tag}
 use Rattle.spki_cert.specs.Structures.{EntryOf, AreInPlace, waits_after}
+use Rattle.spki_cert.specs.RefusedWholes.{HasWrongItem, HasStraySignature}
+use Rattle.spki_cert.specs.declared.certificate.SeqItem.TheVariants as items
+use Rattle.spki_cert.specs.declared.fault.CertFaultKind.TheVariants.{StraySignature}
 use Rattle.spki_cert.proofs.FieldLaws.{once-push}
 
 -- (public-key (test a))
@@ -191,3 +194,32 @@ key_between places = elim places.1.0 [ inl e ↦ absurd (cc) | inr e ↦ absurd 
 -- nor does a second signature behind the first
 second_signature : AreInPlace false (a_cert ∷ a_signature ∷ a_signature ∷ []) → ⊥
 second_signature places = absurd (let e = places.1.1.0 in cc)
+
+-- a signature behind a key belongs to no certificate
+stray_signature : HasWrongItem (group (plain (codes "sequence") ∷ ka ∷ a_signature ∷ [])) (record { item = 2; kind = StraySignature })
+stray_signature = record {
+  values = ka ∷ a_signature ∷ [];
+  written = refl;
+  wrong = inr (inl (record {
+    kind = refl;
+    front = ka ∷ [];
+    stray = a_signature;
+    behind = [];
+    begins = record { parts = refl; items = items.Key ka_octets ∷ []; readings = (ka_is_key, tt); in_place = (refl, tt) };
+    place = refl;
+    signed = refl;
+    is_signature = refl;
+  }));
+}
+
+-- and its number is no other one
+stray_at : (front : List Value) (stray : Value) (behind : List Value) → ka ∷ a_signature ∷ [] ≡ front ++ stray ∷ behind → 1 ≡ length front + 1
+    → is_headed (codes "signature") stray ≡ true → ⊥
+stray_at [] stray behind e place is =
+    let same : ka ≡ stray = cc in
+    let headed : false ≡ true = ap (is_headed (codes "signature")) same ∙ is in
+    absurd (cc)
+stray_at (x ∷ front) stray behind e place is = absurd (omega (arith, place))
+
+no_stray_key : HasStraySignature (ka ∷ a_signature ∷ []) (record { item = 1; kind = StraySignature }) → ⊥
+no_stray_key h = stray_at h.front h.stray h.behind h.begins.parts h.place h.is_signature

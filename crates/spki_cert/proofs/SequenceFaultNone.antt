@@ -237,13 +237,13 @@ item-none v = (item-read v, λ some. item-faultless v some.0 some.1)
 
 -- ---- items in their places
 
-place-read : (waits : Option ℕ) (n : ℕ) (v : Value) → place_fault waits n v ≡ None → IsInPlace (is_some waits) v
+pub place-read : (waits : Option ℕ) (n : ℕ) (v : Value) → place_fault waits n v ≡ None → IsInPlace (is_some waits) v
 place-read waits n v e = search rules
 
 place-found : (waits : Option ℕ) (n : ℕ) (v : Value) → IsInPlace (is_some waits) v → place_fault waits n v ≡ None
 place-found waits n v place = search rules
 
-waits-same : (v : Value) (waits : Option ℕ) (n : ℕ) → is_some (waiting v waits n) ≡ waits_behind (is_some waits) v
+pub waits-same : (v : Value) (waits : Option ℕ) (n : ℕ) → is_some (waiting v waits n) ≡ waits_behind (is_some waits) v
 waits-same v waits n = search rules
 
 abbrev SomeItems : Bool → List Value → Type 0

@@ -4,5 +4,6 @@ pub mod Readings
 pub mod Fields
 pub mod FieldFaults
 pub mod StructureFaults
+pub mod RefusedWholes
 pub mod Structures
 pub mod Inner

@@ -2,7 +2,9 @@
 //! Each function is a law: it does nothing, and its contract is the fact.
 #![tactic(auto, using(crate::proofs::LawRules::laws))]
 
-ghost use Rattle.std.specs.Prelude.{◌≡◌, ◌↔◌, ◌⊎◌, ℕ, List, Option, Some, None};
+ghost use Rattle.std.specs.Prelude.{◌≡◌, ◌↔◌, ◌⊎◌, ◌<◌, ℕ, false, codes, List, Option, Some, None};
+ghost use Rattle.spki_cert.specs.declared.fault.CertFaultKind.TheVariants.{Shape};
+ghost use Rattle.spki_cert.specs.Fields.{is_headed};
 ghost use Rattle.sexpr_core.specs.Value.{Value};
 ghost use Rattle.spki_cert.specs.declared.hash.HashAlg.{HashAlg};
 ghost use Rattle.spki_cert.specs.declared.fault.CertFault.{CertFault};
@@ -17,6 +19,7 @@ ghost use Rattle.spki_cert.specs.Readings.{KeyOf, HashOf, DateOf};
 ghost use Rattle.spki_cert.specs.Fields.{PrincipalOf, WhoOf, SubjectOf, IssuerOf, AreFields, IsLimitField, IsField, IsCertField};
 ghost use Rattle.spki_cert.specs.FieldFaults.{key_fault, hash_fault, date_fault, principal_fault, subject_fault, entry_subject_fault, issuer_fault, fields_fault, limit_fault, entry_field_fault, cert_field_fault};
 ghost use Rattle.spki_cert.specs.StructureFaults.{entry_fault, entries_fault, acl_fault, IsRefusedAt, signature_fault, do_fault, cert_fault, item_fault, sequence_fault};
+ghost use Rattle.spki_cert.specs.RefusedWholes.{HasRefusedEntry, IsNoListOfEntries, HasWrongItem};
 ghost use Rattle.spki_cert.specs.Structures.{EntryOf, AclOf, AuthCertOf, NameCertOf, SignatureOf, DoHashOf, ItemOf, SeqOf};
 
 /// A value has at most one reading as a key.
@@ -92,4 +95,23 @@ pub fn no_sequence_fault()
 pub fn refused_entry()
     ensures { (vs : List Value) (fault : CertFault) → entries_fault vs ≡ Some fault
         → (v : Value) × IsRefusedAt EntryOf vs fault.item v × (entry_fault v ≡ Some fault.kind) }
+{}
+
+/// If a value has a fault as an access list, its item says what is wrong. With an item above 0 the value is an access list up to
+/// the entry with this number, the first that cannot be read, and the fault is that of this entry. With item 0 it has not the head
+/// `acl`, or another version than 0.
+#[tactic(auto, using(crate::proofs::RefusedWholes::wholes))]
+pub fn refused_list()
+    ensures entry { (v : Value) (fault : CertFault) → acl_fault v ≡ Some fault → 0 < fault.item → HasRefusedEntry v fault }
+    ensures outer { (v : Value) (fault : CertFault) → acl_fault v ≡ Some fault → fault.item ≡ 0 → IsNoListOfEntries v fault }
+{}
+
+/// If a value has a fault as a sequence, its item says what is wrong. With an item above 0 the value is a sequence up to the item
+/// with this number. That is no item, and the fault is its own; or it is a signature without a certificate, or a certificate
+/// without its signature. With item 0 the value has not the head `sequence`.
+#[tactic(auto, using(crate::proofs::RefusedWholes::wholes))]
+pub fn refused_sequence()
+    ensures item { (v : Value) (fault : CertFault) → sequence_fault v ≡ Some fault → 0 < fault.item → HasWrongItem v fault }
+    ensures outer { (v : Value) (fault : CertFault) → sequence_fault v ≡ Some fault → fault.item ≡ 0
+        → (is_headed (codes "sequence") v ≡ false) × (fault.kind ≡ Shape) }
 {}

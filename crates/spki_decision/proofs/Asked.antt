@@ -148,6 +148,13 @@ no_by c verified place s (Err TooLarge) stands refused d =
     absurd (refused (accepted_at c.policy (keys_of c.items) verified (certificates c.items) d.tuples place s d.shown stands))
 no_by c verified place s (Err Memory) stands refused d = absurd d
 
+-- nor is any entry granted then
+pub none_by : (c : Case) (verified : Verified) (place : ℕ) (s : Signed) (d : Decision) → slice_get (asked c) place ≡ Some s
+    → ¬ IsAccepted verified s → IsDecision c verified d → d ≡ No
+none_by c verified place s (Yes n) stands refused d =
+    absurd (refused (accepted_at c.policy (keys_of c.items) verified (certificates c.items) d.granted.tuples place s d.granted.shown stands))
+none_by c verified place s No stands refused d = refl
+
 shown_with : (c : Case) (one other : Verified) → AgreeOn one other (asked c) → (ts : List Tuple) → AreShown c.policy one c.items ts
     → AreShown c.policy other c.items ts
 shown_with c one other agree ts shown = all_shown c.policy (keys_of c.items) one other (certificates c.items) ts agree shown

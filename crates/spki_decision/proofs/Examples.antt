@@ -2,7 +2,7 @@
 use Rattle.std.proofs.Common.{◌≡◌, ℕ, List, [], ◌∷◌, Bool, true, false, None, IsTrue, arith, Some, find, slice_get, refl, codes, rules}
 use Rattle.std.proofs.lemmas.Slice.Eq.{bytes_eq-Decides}
 use Rattle.spki_tag.specs.Request.{Request, string}
-use Rattle.spki_tag.specs.Tag.{star}
+use Rattle.spki_tag.specs.Tag.{star, set, none}
 use Rattle.spki_cert.specs.declared.hash.HashAlg.TheVariants.{Sha1, Sha256}
 use Rattle.spki_cert.specs.declared.principal.Policy.TheVariants.{Open, Strict}
 use Rattle.spki_cert.specs.declared.principal.Principal.{Principal}
@@ -11,12 +11,14 @@ use Rattle.spki_cert.specs.declared.entry.Entry.{Entry}
 use Rattle.spki_cert.specs.declared.certificate.AuthCert.{AuthCert}
 use Rattle.spki_cert.specs.declared.certificate.Signature as signature
 use Rattle.spki_cert.specs.declared.certificate.SeqItem.{SeqItem}
-use Rattle.spki_cert.specs.declared.certificate.SeqItem.TheVariants.{Auth, DoHash, Signature}
+use Rattle.spki_cert.specs.declared.certificate.SeqItem.TheVariants.{Auth, DoHash, Key, Signature}
 use Rattle.spki_cert.specs.Naming.{digest_of, is_digest, names}
 use Rattle.spki_reduce.specs.Reduction.{FiveTuple, Tuple, five, entry_tuple, auth_tuple, Joins, delegated as delegated_to}
 use Rattle.spki_case.specs.Case.{Case, Verified, auth, certificates}
 use Rattle.spki_decision.specs.Standing.{AreShown, issuer_key}
 use Rattle.spki_decision.specs.Granted.{Granted}
+use Rattle.spki_decision.specs.Audited.{IsSignedByIssuer, IsHeldByAll, IsNarrowerEntry}
+use Rattle.spki_decision.proofs.Audited.{signed_by_issuer}
 use Rattle.spki_decision.proofs.KeptEntries.{granted_alone, alone_granted, from_left_granted, granted_from_left}
 
 abbrev ka : List ℕ
@@ -167,3 +169,49 @@ module _ (verified : Verified) where
         → AreShown Open verified (Auth certificate ∷ Signature (misdigested other) ∷ []) tuples → ⊥
     undigested other differs [] h = absurd h
     undigested other differs (t ∷ ts) h = search (rules, same_digest, bytes_eq-Decides)
+
+    -- ---- the links of a chain
+
+    -- the certificate's own signature
+    own_signature : IsSignedByIssuer (delegated kb) verified 1 (auth certificate) (Signature signed ∷ [])
+    own_signature = signed_by_issuer (delegated kb) verified 1 0 (auth certificate) delegation refl
+
+    -- a signature behind a key is not that of the certificate before the key
+    not_own : (k : List ℕ) → IsSignedByIssuer (delegated kb) verified 1 (auth certificate) (Key k ∷ Signature signed ∷ []) → ⊥
+    not_own k h = let none_there : None ≡ Some h.signature = h.follows in cc
+
+    -- an entry that may not be delegated has nothing for the certificate's subject
+    not_held : IsHeldByAll (case_of (entry_for ka false ∷ []) (Auth certificate ∷ Signature signed ∷ []) kb) (entry_for ka false) → ⊥
+    not_held h = let may : false ≡ true = h.entry_delegates 0 certificate refl in cc
+
+  -- ---- narrower entries
+
+  less_delegation : (k : List ℕ) → IsNarrowerEntry (entry_for k false) (entry_for k true)
+  less_delegation k = record {
+    issuer = refl;
+    principal = refl;
+    names = refl;
+    delegation = λ h. refl;
+    requests = λ request is h. h;
+    moments = λ moment is h. h;
+  }
+
+  more_delegation : (k : List ℕ) → IsNarrowerEntry (entry_for k true) (entry_for k false) → ⊥
+  more_delegation k n = let may : false ≡ true = n.delegation refl in cc
+
+  -- with the tag (* set), which contains no request
+  abbrev empty_for : List ℕ → Entry
+  empty_for k = record (entry_for k false) { tag = set none }
+
+  smaller_tag : (k : List ℕ) → IsNarrowerEntry (empty_for k) (entry_for k false)
+  smaller_tag k = record {
+    issuer = refl;
+    principal = refl;
+    names = refl;
+    delegation = λ h. h;
+    requests = λ request is h. refl;
+    moments = λ moment is h. h;
+  }
+
+  larger_tag : (k : List ℕ) → IsNarrowerEntry (entry_for k false) (empty_for k) → ⊥
+  larger_tag k n = let contained : false ≡ true = n.requests ftp (search rules) refl in cc

@@ -1,19 +1,24 @@
 -- What a grant is in the bracketing from the left, and in a part of an access list from which only entries are
 -- missing that are left out.
-use Rattle.std.proofs.Common.{◌≡◌, ℕ, suc, List, [], Some, slice_get, refl, rules, ◌∷◌, sym, subst, zero, ◌+◌, ◌<◌, ◌≤◌, map, ap, ◌∙◌, arith, inl, inr}
+use Rattle.std.proofs.Common.{◌≡◌, ℕ, suc, List, [], Result, Ok, Err, take, Some, slice_get, refl, rules, ◌∷◌, sym, subst, zero, ◌+◌, ◌<◌, ◌≤◌, map, ap, ◌∙◌, arith, inl, inr}
 use Rattle.spki_cert.specs.declared.entry.Entry.{Entry}
-use Rattle.spki_reduce.specs.Reduction.{Tuple, five, entry_tuple, from_left, Grants, Supports, Issuer, FiveTuple, four, Joins}
+use Rattle.spki_reduce.specs.Reduction.{Tuple, five, entry_tuple, from_left, Grants, Supports, Issuer, Issues, FiveTuple, four, Joins, Derives}
+use Rattle.spki_reduce.specs.Joining.{TooLargeFor}
+use Rattle.spki_reduce.specs.Chain.{TooLargeAt}
 use Rattle.spki_reduce.proofs.Derivations.{supported, from_left-leaves}
 use Rattle.spki_case.specs.Case.{Case, Verified}
 use Rattle.spki_decision.specs.Standing.{AreShown}
-use Rattle.spki_decision.specs.Granted.{Granted, Supported, IsDecision}
+use Rattle.spki_decision.specs.Granted.{Granted, Supported, IsDecision, IsTooLarge, SmallUpTo}
+use Rattle.spki_decision.specs.Answered.{IsDecided}
 use Rattle.spki_decision.proofs.Standing.{one_list, granted}
 use Rattle.spki_decision.proofs.Memberships.{five_same, first_step}
 use Rattle.spki_cert.specs.declared.principal.Policy.{Policy}
-use Rattle.spki_decision.specs.Requirements.{key_of, first_key, IsOf, IsLeftOut, IsKept, AreKept, second, kept_case, IsRenumbered}
-use Rattle.std.proofs.lemmas.Option.{none-some, same_Some, slice_get-map}
+use Rattle.spki_decision.specs.Requirements.{key_of, first_key, IsOf, IsLeftOut, IsKept, AreKept, second, kept_case, IsRenumbered, IsSameAnswer}
+use Rattle.std.proofs.lemmas.Option.{none-some, same_Some, slice_get-map, slice_get_within}
 use Rattle.spki_decision.specs.declared.decision.Decision.{Decision}
 use Rattle.spki_decision.specs.declared.decision.Decision.TheVariants.{Yes, No}
+use Rattle.spki_decision.specs.declared.fault.GuardFault.{GuardFault}
+use Rattle.spki_decision.specs.declared.fault.GuardFault.TheVariants.{TooLarge, Memory}
 
 -- ---- what a grant is in the bracketing from the left, and without certificates
 
@@ -59,12 +64,44 @@ supported_named c (t ∷ others) e s =
     let begun = first_step c.policy (entry_tuple e) t others (five from.root) from.derived in
     joined c.policy c.key e t others begun.0 begun.1
 
+-- nor is one left out whose chain is too large at a step: its principal names the key of the first step, which joins
+module _ (most : ℕ) (policy : Policy) (asker : List ℕ) (e : Entry) where
+  issuing : (root right : FiveTuple) (others : List Tuple) → Issues policy root right → root ≡ entry_tuple e
+      → IsOf policy e (first_key asker (five right ∷ others))
+  issuing root right others issues is =
+      let own = subst (λ (t : FiveTuple). Issues policy t right) is issues in
+      subst (λ (issuer : Issuer). IsOf policy e (key_of issuer)) (sym own.issued) own.is_for.named
+
+  large_first : (t : Tuple) (others : List Tuple) (root : FiveTuple) → root ≡ entry_tuple e → TooLargeFor most policy root t
+      → IsOf policy e (first_key asker (t ∷ others))
+  large_first (five right) others root is large = issuing root right others large.0.issues is
+  large_first (four right) others root is large = absurd large
+
+  large_from : (t tuple : Tuple) (others : List Tuple) (place : ℕ) (root : FiveTuple) → slice_get (t ∷ others) place ≡ Some tuple
+      → Derives policy (from_left (five (entry_tuple e)) (take place (t ∷ others))) (five root) → TooLargeFor most policy root tuple
+      → IsOf policy e (first_key asker (t ∷ others))
+  large_from t tuple others zero root stands derived large =
+      large_first t others root (five_same root (entry_tuple e) derived)
+      (subst (λ (u : Tuple). TooLargeFor most policy root u) (sym (same_Some t tuple stands)) large)
+  large_from t tuple others (suc place) root stands derived large =
+      let begun = first_step policy (entry_tuple e) t (take place others) (five root) derived in
+      joined policy asker e t others begun.0 begun.1
+
+  pub large_named : (tuples : List Tuple) → TooLargeAt most policy (five (entry_tuple e)) tuples → IsOf policy e (first_key asker tuples)
+  large_named [] large = absurd (none-some large.tuple large.stands)
+  large_named (t ∷ others) large = large_from t large.tuple others large.place large.root large.stands large.before.derived large.too_large
+
 -- ---- the decision of a part of an access list is that of the list, if only entries are missing that are left out
 
 -- ---- places
 
 second_at : (ks : List (ℕ × Entry)) (p n : ℕ) (e : Entry) → slice_get ks p ≡ Some (n, e) → slice_get (map second ks) p ≡ Some e
 second_at ks p n e stands = rw (slice_get-map, stands)
+
+from_second : (ks : List (ℕ × Entry)) (p : ℕ) (e : Entry) → slice_get (map second ks) p ≡ Some e → (n : ℕ) × (slice_get ks p ≡ Some (n, e))
+from_second [] p e stands = absurd (none-some e stands)
+from_second (k ∷ ks) zero e stands = (k.0, ap (λ (f : Entry). Some (k.0, f)) (same_Some k.1 e stands))
+from_second (k ∷ ks) (suc p) e stands = from_second ks p e stands
 
 module _ (Out : Entry → Type 0) where
   -- the number of what is kept is that of its place in the list
@@ -151,3 +188,57 @@ module _ (c : Case) (verified : Verified) (kept : List (ℕ × Entry)) (are_kept
   renumbered (Yes m) No d r = absurd r
   renumbered No (Yes n) d r = absurd r
   renumbered No No d r = λ n g. let p = granted_kept n g in d (suc p.0) p.2
+
+  -- ---- refusals
+
+  abbrev IsLarge : List Tuple → Entry → Type 0
+  IsLarge tuples e = TooLargeAt c.most_nodes c.policy (five (entry_tuple e)) tuples
+
+  -- an entry whose chain is too large is kept
+  large_kept : (tuples : List Tuple) → AreShown c.policy verified c.items tuples → (place : ℕ) (e : Entry) → slice_get c.entries place ≡ Some e
+      → IsLarge tuples e → (p : ℕ) × (slice_get kept p ≡ Some (1 + place, e))
+  large_kept tuples shown place e stands large =
+      found (IsLeftOut c tuples) 1 c.entries kept place e (are_kept tuples shown) stands
+      (λ out. out (large_named c.most_nodes c.policy c.key e tuples large))
+
+  small : (x y : Decision) (tuples : List Tuple) → AreShown c.policy verified c.items tuples → IsRenumbered kept x y
+      → SmallUpTo (kept_case c kept) tuples x → SmallUpTo c tuples y
+  small (Yes m) (Yes n) tuples shown r few = λ k e below stands large.
+      let p = large_kept tuples shown k e stands large in
+      let before = earlier tuples shown r.0 p.0 n (1 + k) r.1 e r.3 p.1 (omega (arith, below)) in
+      few p.0 e (omega (arith, before, r.2)) (second_at kept p.0 (1 + k) e p.1) large
+  small (Yes m) No tuples shown r few = absurd r
+  small No (Yes n) tuples shown r few = absurd r
+  small No No tuples shown r few = λ k e below stands large.
+      let p = large_kept tuples shown k e stands large in
+      let there = second_at kept p.0 (1 + k) e p.1 in
+      few p.0 e (slice_get_within (map second kept) p.0 e there) there large
+
+  too_large : IsTooLarge (kept_case c kept) verified → IsTooLarge c verified
+  too_large h =
+      let here = from_second kept h.place h.entry h.stands in
+      let at = listed (IsLeftOut c h.tuples) 1 c.entries kept h.place here.0 h.entry (are_kept h.tuples h.shown) here.1 in
+      record {
+        place = at.0;
+        entry = h.entry;
+        stands = at.2;
+        none_granted = λ n below g.
+            let p = granted_kept n g in
+            let before = earlier h.tuples h.shown h.place p.0 here.0 n h.entry g.entry here.1 p.1 (omega (arith, below, at.1)) in
+            let other : ¬ (p.0 ≡ h.place) = λ same.
+            let both = same_Some (n, g.entry) (here.0, h.entry) (sym p.1 ∙ ap (λ (q : ℕ). slice_get kept q) same ∙ here.1) in
+            absurd (omega (arith, below, at.1, ap (λ (j : ℕ × Entry). j.0) both)) in
+            h.none_granted (suc p.0) (omega (arith, before, other)) p.2;
+        tuples = h.tuples;
+        shown = h.shown;
+        at = h.at;
+        large = h.large;
+      }
+
+  pub answered : (x y : Result Decision GuardFault) → IsDecided (kept_case c kept) verified x → IsSameAnswer kept x y → IsDecided c verified y
+  answered (Ok x) (Ok y) d r = (renumbered x y d.0 r, λ tuples shown. small x y tuples shown r (d.1 tuples shown))
+  answered (Err TooLarge) (Err TooLarge) d r = too_large d
+  answered (Err TooLarge) (Err Memory) d r = absurd (cc)
+  answered (Err Memory) y d r = absurd d
+  answered (Ok x) (Err fault) d r = absurd r
+  answered (Err fault) (Ok y) d r = absurd r

@@ -6,3 +6,5 @@ pub mod Explanations
 pub mod OneDecision
 pub mod Examples
 pub mod Memberships
+pub mod Audited
+pub mod Monotony

@@ -117,6 +117,11 @@ abbrev pub IsDecision : Case → Verified → Decision → Type 0
 IsDecision c verified (Yes n) = IsFirstGranted n c verified
 IsDecision c verified No = IsNoneGranted c verified
 
+-- a decision is yes
+abbrev pub IsYes : Decision → Type 0
+IsYes (Yes n) = Unit {0}
+IsYes No = ⊥
+
 -- No refusal was skipped. If every certificate stands, no entry up to the one that is named has a chain that is too large
 -- at a step. If every certificate stands and none is named, no entry at all has one.
 abbrev pub IsUnrefused : Case → Verified → Decision → Type 0

@@ -6,6 +6,8 @@ use Rattle.spki_cert.specs.declared.certificate.SeqItem.{SeqItem}
 use Rattle.spki_reduce.specs.Reduction.{step_tuple}
 use Rattle.spki_decision.specs.declared.evidence.Evidence.{Evidence}
 use Rattle.spki_decision.specs.declared.evidence.Evidence.TheVariants as evidence
+use Rattle.spki_decision.specs.declared.examination.Unverified.{Unverified}
+use Rattle.spki_decision.specs.declared.examination.Unverified.TheVariants as unverified
 use Rattle.spki_case.specs.Case.{Verified, Certificate, auth, name, Shown, octets_of, signature_in}
 use Rattle.spki_decision.specs.Standing.{AreShown, FailsAt, signed_of, Signed, every, Stands, FailsBy}
 use Rattle.spki_cert.specs.declared.certificate.SeqItem.TheVariants.{DoHash, Auth, Name, Signature}
@@ -28,6 +30,11 @@ use Rattle.spki_case.specs.Lookups.{at_digest}
 abbrev pub IsEvidence : Policy → Verified → List SeqItem → Evidence → Type 0
 IsEvidence policy verified items (evidence.Verified steps) = AreShown policy verified items (map step_tuple steps.items)
 IsEvidence policy verified items (evidence.Fails item stop) = FailsAt policy verified items item stop
+
+-- the same of certificates whose signatures are not verified: as if a verifier accepted all of these
+abbrev pub IsUnverified : Policy → List SeqItem → Unverified → Type 0
+IsUnverified policy items (unverified.Passes steps) = AreShown policy every items (map step_tuple steps.items)
+IsUnverified policy items (unverified.Fails item stop) = FailsAt policy every items item stop
 
 -- ---- the results of the steps of `judge`
 

@@ -5,3 +5,4 @@ pub mod Granted
 pub mod Answered
 pub mod Requirements
 pub mod Explained
+pub mod Audited

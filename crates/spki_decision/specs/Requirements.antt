@@ -1,6 +1,6 @@
 -- What the certificates of a case require of an entry: the key that its principal names, its subject, tag and window,
 -- and the numbers of nodes for which no step is too large (RFC 2693, sections 6.3 and 6.4).
-use Rattle.std.specs.Prelude.{◌≡◌, ℕ, suc, ◌⊎◌, List, [], ◌∷◌, Option, Some, None, IsTrue, slice_get, map, ◌↔◌, true, Bool, ◌≤◌, false, IfSome, All}
+use Rattle.std.specs.Prelude.{◌≡◌, ℕ, suc, ◌⊎◌, List, [], ◌∷◌, Option, Some, None, IsTrue, slice_get, map, ◌↔◌, true, Bool, ◌≤◌, false, IfSome, All, Result, Ok, Err}
 use Rattle.spki_cert.specs.declared.principal.Policy.{Policy}
 use Rattle.spki_cert.specs.declared.entry.Entry.{Entry}
 use Rattle.spki_cert.specs.Naming.{names}
@@ -8,6 +8,7 @@ use Rattle.spki_reduce.specs.Reduction.{Issuer, own, key, Tuple, five, four, Fiv
 use Rattle.spki_case.specs.Case.{Case, Verified}
 use Rattle.spki_decision.specs.Standing.{AreShown, with_entries}
 use Rattle.spki_decision.specs.declared.decision.Decision.{Decision}
+use Rattle.spki_decision.specs.declared.fault.GuardFault.{GuardFault}
 use Rattle.spki_decision.specs.declared.decision.Decision.TheVariants.{Yes, No}
 use Rattle.spki_cert.specs.declared.principal.Principal.{Principal}
 use Rattle.spki_cert.specs.Time.{within}
@@ -72,6 +73,13 @@ IsRenumbered kept (Yes m) (Yes n) = (place : ℕ) × (e : Entry) × (m ≡ suc p
 IsRenumbered kept (Yes m) No = ⊥
 IsRenumbered kept No (Yes n) = ⊥
 IsRenumbered kept No No = Unit {0}
+
+-- The same answer: the same decision with its number replaced, or the same refusal.
+abbrev pub IsSameAnswer : List (ℕ × Entry) → Result Decision GuardFault → Result Decision GuardFault → Type 0
+IsSameAnswer kept (Ok x) (Ok y) = IsRenumbered kept x y
+IsSameAnswer kept (Ok x) (Err fault) = ⊥
+IsSameAnswer kept (Err fault) (Ok y) = ⊥
+IsSameAnswer kept (Err fault) (Err other) = fault ≡ other
 
 -- ---- which entries grant a request
 

@@ -1,10 +1,10 @@
 //! Deciding a case (RFC 2693, section 6).
 
-ghost use Rattle.std.specs.Prelude.{IfOk, IsErrOf};
+ghost use Rattle.std.specs.Prelude.{◌↔◌, IfOk, IsErrOf, IsTrue};
 ghost use Rattle.spki_case.specs.View.{model};
 ghost use Rattle.spki_reduce.specs.Reduction.{five, entry_tuple};
 ghost use Rattle.spki_reduce.specs.Chain.{tuples_of, TooLargeAt};
-ghost use Rattle.spki_decision.specs.Granted.{Names, HasLarge, SmallUpTo, IsTooLarge, IsDecision, IsUnrefused};
+ghost use Rattle.spki_decision.specs.Granted.{IsYes, Names, HasLarge, SmallUpTo, IsTooLarge, IsDecision, IsUnrefused};
 ghost use Rattle.spki_decision.specs.Requirements.{AreSizes};
 
 use crate::entry_chain::fold_entry;
@@ -24,6 +24,18 @@ pub enum Decision {
     Yes(usize),
     /// No entry does.
     No,
+}
+
+impl Decision {
+    /// Whether it is yes.
+    pub fn is_yes(self) -> bool
+        ensures { IsTrue result ↔ IsYes self }
+    {
+        match self {
+            Decision::Yes(_) => true,
+            Decision::No => false,
+        }
+    }
 }
 
 /// Decides a case (RFC 2693, section 6). The answer is yes exactly if every certificate of its sequence stands, and an

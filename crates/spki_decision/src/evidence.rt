@@ -57,7 +57,7 @@ pub fn judge<'a, V: Verifier>(
 {
     let examined = examine(alloc, sequence, policy)?;
     match first_refused(alloc, &examined.signed, verifier)? {
-        None => Ok(examined.evidence),
+        None => Ok(examined.unverified.verified()),
         Some(place) => Ok(Evidence::Fails {
             item: examined.signed[place].item,
             stop: Stop::NotAccepted,

@@ -1,12 +1,14 @@
 //! The examination of a sequence: the tests of its certificates that need no verifier, and the signatures that a verifier is
 //! asked about.
 
-ghost use Rattle.std.specs.Prelude.{◌≡◌, ◌++◌, ◌∷◌, [], map, IfOk, OnOk, IsSome};
+ghost use Rattle.std.specs.Prelude.{◌≡◌, ◌++◌, ◌∷◌, [], List, map, IfOk, OnOk, IsSome};
+ghost use Rattle.spki_cert.specs.declared.principal.Policy.{Policy};
+ghost use Rattle.spki_cert.specs.declared.certificate.SeqItem.{SeqItem};
 ghost use Rattle.spki_reduce.specs.declared.tuple.Step.{Step};
 ghost use Rattle.spki_reduce.specs.Reduction.{step_tuple};
 ghost use Rattle.spki_case.specs.Case.{AreSigned, certificates, keys_of};
 ghost use Rattle.spki_decision.specs.Standing.{shown_of, signed_of, asked_in, every, tuple_of, certificate_of};
-ghost use Rattle.spki_decision.specs.Judged.{IsEvidence, IsTested};
+ghost use Rattle.spki_decision.specs.Judged.{IsEvidence, IsUnverified, IsTested};
 
 use crate::certificates::{Certificate, ShownCert, certificates_of};
 use crate::evidence::{Evidence, Stop};
@@ -22,8 +24,35 @@ use std::alloc::{AllocError, Global};
 pub struct Examined<'a> {
     /// The signatures of those that pass, in order: what a verifier is asked about.
     pub signed: Vec<Signed<'a>>,
-    /// The evidence if the verifier accepts all of them.
-    pub evidence: Evidence<'a>,
+    /// What the certificates say if all these signatures are valid.
+    pub unverified: Unverified<'a>,
+}
+
+/// What the certificates of a sequence say, as long as no signature is verified.
+#[derive(Drop)]
+pub enum Unverified<'a> {
+    /// Each certificate passes the tests that need no verifier. These are their tuples, in order.
+    Passes(Vec<Step<'a>>),
+    /// The first that fails one of these tests.
+    Fails {
+        /// The number of its item, from 1.
+        item: usize,
+        /// The first test that it does not pass.
+        stop: Stop,
+    },
+}
+
+impl<'a> Unverified<'a> {
+    /// The evidence, once every signature of `Examined::signed` is found to be valid.
+    pub(crate) fn verified(self) -> Evidence<'a>
+        ensures { (policy : Policy) (items : List SeqItem) → IsUnverified policy items self.entry
+            → IsEvidence policy every items result }
+    {
+        match self {
+            Unverified::Passes(steps) => Evidence::Verified(steps),
+            Unverified::Fails { item, stop } => Evidence::Fails { item, stop },
+        }
+    }
 }
 
 /// The result of the first three of the four tests of one certificate.
@@ -36,8 +65,8 @@ pub(crate) enum Tested<'a> {
 }
 
 /// Does the first three tests of each certificate, in order, up to the first that fails (RFC 2693, section 6). These
-/// tests of `Stop` need no verifier. Returns the signatures of the certificates that pass, and the evidence if a
-/// verifier accepts all of them. Each certificate of the sequence must be followed by its signature.
+/// tests of `Stop` need no verifier. Returns the signatures of the certificates that pass, and what the certificates say if
+/// all of these are valid. Each certificate of the sequence must be followed by its signature.
 ///
 /// # Errors
 ///
@@ -50,7 +79,7 @@ pub fn examine<'a>(
     requires { AreSigned sequence.now }
     ensures asked { IfOk result (λ e.
         map signed_of e.signed.items ≡ asked_in policy (keys_of sequence.now) (certificates sequence.now)) }
-    ensures evidence { IfOk result (λ e. IsEvidence policy every sequence.now e.evidence) }
+    ensures unverified { IfOk result (λ e. IsUnverified policy sequence.now e.unverified) }
 {
     let mut keys = ShownKeys::new(keys_of(alloc, sequence)?);
     let examined = examine_by(alloc, sequence, policy, &mut keys);
@@ -69,7 +98,7 @@ fn examine_by<'a>(
     requires keys { keys.old ≡ keys_of sequence.now }
     ensures asked { IfOk result (λ e.
         map signed_of e.signed.items ≡ asked_in policy (keys_of sequence.now) (certificates sequence.now)) }
-    ensures evidence { IfOk result (λ e. IsEvidence policy every sequence.now e.evidence) }
+    ensures unverified { IfOk result (λ e. IsUnverified policy sequence.now e.unverified) }
 {
     let certificates = certificates_of(alloc, sequence)?;
     let mut steps = Vec::new(alloc);
@@ -80,13 +109,13 @@ fn examine_by<'a>(
             Tested::Fails(stop) => {
                 drop(steps);
                 let item = shown.item;
-                let evidence = Evidence::Fails { item, stop };
-                return Ok(Examined { signed, evidence });
+                let unverified = Unverified::Fails { item, stop };
+                return Ok(Examined { signed, unverified });
             }
         }
     }
-    let evidence = Evidence::Verified(steps);
-    Ok(Examined { signed, evidence })
+    let unverified = Unverified::Passes(steps);
+    Ok(Examined { signed, unverified })
 }
 
 /// Adds the tuple of a certificate whose signature is `one`, and this signature. Err if memory ran out.

@@ -1,10 +1,10 @@
 //! Laws of grants, decisions and explanations.
 //! Each function is a law: it does nothing, and its contract is the fact.
 
-ghost use Rattle.std.specs.Prelude.{◌≡◌, ◌⊎◌, ℕ, List, Result, Ok, Err, Some, slice_get};
-ghost use Rattle.spki_case.specs.Case.{Case, accepted_by, IsCaseText};
+ghost use Rattle.std.specs.Prelude.{◌≡◌, ◌≢◌, ◌⊎◌, ℕ, suc, ◌<◌, ◌≤◌, ◌++◌, length, true, List, Result, Ok, Err, Some, slice_get, drop};
+ghost use Rattle.spki_case.specs.Case.{Case, Certificate, accepted_by, IsCaseText};
 ghost use Rattle.spki_decision.specs.declared.decision.Decision.{Decision};
-ghost use Rattle.spki_decision.specs.declared.decision.Decision.TheVariants.{No};
+ghost use Rattle.spki_decision.specs.declared.decision.Decision.TheVariants.{Yes, No};
 ghost use Rattle.spki_decision.specs.declared.fault.GuardFault.{GuardFault};
 ghost use Rattle.spki_decision.specs.declared.explanation.Explanation.{Explanation};
 ghost use Rattle.spki_decision.specs.declared.reduction.Reduction.{Reduction};
@@ -12,9 +12,15 @@ ghost use Rattle.spki_decision.specs.Granted.{Granted, IsTooLarge, strict, opene
 ghost use Rattle.spki_decision.specs.Explained.{IsExplanation, IsSameExplanation, Agrees};
 ghost use Rattle.spki_decision.specs.Answered.{IsDecided, IsExplained, IsReduced, AreSame};
 ghost use Rattle.spki_cert.specs.declared.entry.Entry.{Entry};
-ghost use Rattle.spki_reduce.specs.Reduction.{Tuple};
-ghost use Rattle.spki_decision.specs.Standing.{Signed, asked, IsAccepted, AgreeOn};
-ghost use Rattle.spki_decision.specs.Requirements.{IsLeftOut, IsKept, kept_case, IsRenumbered};
+ghost use Rattle.spki_cert.specs.Time.{within};
+ghost use Rattle.spki_tag.specs.Tag.{is_date};
+ghost use Rattle.spki_tag.specs.Request.{IsRequest};
+ghost use Rattle.spki_reduce.specs.Chain.{all_windows, TooLargeAt};
+ghost use Rattle.spki_reduce.specs.Reduction.{Tuple, five, entry_tuple, within_each};
+ghost use Rattle.std.specs.List.{AllZip};
+ghost use Rattle.spki_decision.specs.Standing.{Signed, asked, IsAccepted, AgreeOn, with_entries};
+ghost use Rattle.spki_decision.specs.Audited.{item_of, IsSignedByIssuer, IsHeldThroughout, IsHeldByAll, HaveIssuers, AreAmong, IsNarrower, IsNarrowerEntry, IsNarrowerCase, at_moment, AreTimely};
+ghost use Rattle.spki_decision.specs.Requirements.{IsLeftOut, IsKept, kept_case, IsRenumbered, IsSameAnswer};
 
 use spki_case::Verifier;
 
@@ -87,27 +93,36 @@ pub fn no_refusal<V: Verifier>()
 {}
 
 /// An entry whose subject's principal does not name the key of the first issuer, or the client's key if no certificate
-/// is shown, never grants the request.
+/// is shown, never grants the request. Its chain is never too large.
 pub fn left_out()
-    ensures { (c : Case) (tuples : List Tuple) (e : Entry) → IsLeftOut c tuples e → ¬ Supported c tuples e }
+    ensures grants { (c : Case) (tuples : List Tuple) (e : Entry) → IsLeftOut c tuples e → ¬ Supported c tuples e }
+    ensures small { (c : Case) (tuples : List Tuple) (e : Entry) → IsLeftOut c tuples e
+        → ¬ TooLargeAt c.most_nodes c.policy (five (entry_tuple e)) tuples }
 {}
 
 /// If some entries of `left_out` are removed from an access list, and the others keep their numbers, the decision stays
-/// the same. So entries may be stored in any way and found by the principal of their subject.
-#[tactic(auto, using(crate::proofs::KeptEntries::renumbered))]
+/// the same. So does the answer of `decide`: the decision or the refusal `TooLarge`. So entries may be stored in any way and
+/// found by the principal of their subject.
+#[tactic(auto, using(crate::proofs::KeptEntries::renumbered, crate::proofs::KeptEntries::answered))]
 pub fn decided_by_kept<V: Verifier>()
-    ensures { (verifier : V) (c : Case) (kept : List (ℕ × Entry)) (x y : Decision)
+    ensures decision { (verifier : V) (c : Case) (kept : List (ℕ × Entry)) (x y : Decision)
         → IsKept c (V.accepted verifier) kept → IsDecision (kept_case c kept) (V.accepted verifier) x
         → IsRenumbered kept x y → IsDecision c (V.accepted verifier) y }
+    ensures answer { (verifier : V) (c : Case) (kept : List (ℕ × Entry)) (x y : Result Decision GuardFault)
+        → IsKept c (V.accepted verifier) kept → IsDecided (kept_case c kept) (V.accepted verifier) x
+        → IsSameAnswer kept x y → IsDecided c (V.accepted verifier) y }
 {}
 
 /// Two verifiers that agree on the signatures that they are asked about give the same answers, whatever else they accept.
 /// The decision is no if one of these signatures is not accepted.
-#[tactic(auto, using(crate::proofs::Asked::decided_by, crate::proofs::Asked::decision_by, crate::proofs::Asked::explained_by, crate::proofs::Asked::reduced_by, crate::proofs::Asked::no_by))]
+#[tactic(auto, using(crate::proofs::Asked::decided_by, crate::proofs::Asked::decision_by, crate::proofs::Asked::explained_by, crate::proofs::Asked::reduced_by, crate::proofs::Asked::no_by, crate::proofs::Asked::none_by))]
 pub fn asks_whole<V: Verifier>()
     ensures refused { (verifier : V) (c : Case) (place : ℕ) (s : Signed) (x : Result Decision GuardFault)
         → slice_get (asked c) place ≡ Some s → ¬ IsAccepted (V.accepted verifier) s → IsDecided c (V.accepted verifier) x
         → x ≡ Ok No }
+    ensures no { (verifier : V) (c : Case) (place : ℕ) (s : Signed) (d : Decision)
+        → slice_get (asked c) place ≡ Some s → ¬ IsAccepted (V.accepted verifier) s → IsDecision c (V.accepted verifier) d
+        → d ≡ No }
     ensures decision { (one other : V) (c : Case) (x : Result Decision GuardFault)
         → AgreeOn (V.accepted one) (V.accepted other) (asked c) → IsDecided c (V.accepted one) x → IsDecided c (V.accepted other) x }
     ensures members { (one other : V) (c : Case) (d : Decision)
@@ -116,4 +131,77 @@ pub fn asks_whole<V: Verifier>()
         → AgreeOn (V.accepted one) (V.accepted other) (asked c) → IsExplained c (V.accepted one) x → IsExplained c (V.accepted other) x }
     ensures reduction { (one other : V) (c : Case) (x : Result Reduction GuardFault)
         → AgreeOn (V.accepted one) (V.accepted other) (asked c) → IsReduced c (V.accepted one) x → IsReduced c (V.accepted other) x }
+{}
+
+/// For every verifier: if an entry is granted, each certificate of the sequence is followed by its own signature. The digest in it is
+/// that of the certificate. Its signer names the key of the certificate's issuer, and the verifier accepts it for this key. It is
+/// listed among the signatures that a verifier is asked about, in the order of the certificates.
+pub fn own_signatures<V: Verifier>()
+    ensures { (verifier : V) (c : Case) (n place : ℕ) (certificate : Certificate) → Granted n c (V.accepted verifier)
+        → slice_get c.items place ≡ Some (item_of certificate)
+        → IsSignedByIssuer c (V.accepted verifier) (suc place) certificate (drop (suc place) c.items) }
+{}
+
+/// No key in a chain gives what it does not have. If an entry and tuples support the request, all of them contain the request
+/// and the moment, and all of them but the last authorization may be delegated. Both also hold for a granted entry and the
+/// certificates of the sequence. The key that issued an authorization is supported itself, by the entry and the tuples before it.
+pub fn no_amplification<V: Verifier>()
+    ensures chain { (c : Case) (tuples : List Tuple) (e : Entry) → Supported c tuples e → IsHeldThroughout c tuples e }
+    ensures issuers { (c : Case) (tuples : List Tuple) (e : Entry) → Supported c tuples e → HaveIssuers c tuples e }
+    ensures granted { (verifier : V) (c : Case) (n place : ℕ) (e : Entry) → Granted n c (V.accepted verifier)
+        → n ≡ suc place → slice_get c.entries place ≡ Some e → IsHeldByAll c e }
+{}
+
+/// Entries that are appended to an access list change no yes, no number and no refusal. A no may become a yes, with the number of an
+/// appended entry.
+pub fn more_entries<V: Verifier>()
+    ensures answer { (verifier : V) (c : Case) (more : List Entry) (x : Result Decision GuardFault)
+        → IsDecided c (V.accepted verifier) x → x ≢ Ok No → IsDecided (with_entries c (c.entries ++ more)) (V.accepted verifier) x }
+    ensures yes { (verifier : V) (c : Case) (more : List Entry) (n : ℕ)
+        → IsDecision c (V.accepted verifier) (Yes n) → IsDecision (with_entries c (c.entries ++ more)) (V.accepted verifier) (Yes n) }
+    ensures no { (verifier : V) (c : Case) (more : List Entry) (n : ℕ) → IsDecision c (V.accepted verifier) No
+        → IsDecision (with_entries c (c.entries ++ more)) (V.accepted verifier) (Yes n) → length c.entries < n }
+{}
+
+/// If no entry of an access list is granted, none is granted of a list that has only entries of it, such as the list with an entry
+/// removed. No chain of these is too large if none is of the whole list.
+pub fn fewer_entries<V: Verifier>()
+    ensures no { (verifier : V) (c : Case) (some : List Entry) → AreAmong some c.entries → IsDecision c (V.accepted verifier) No
+        → IsDecision (with_entries c some) (V.accepted verifier) No }
+    ensures answer { (verifier : V) (c : Case) (some : List Entry) → AreAmong some c.entries → IsDecided c (V.accepted verifier) (Ok No)
+        → IsDecided (with_entries c some) (V.accepted verifier) (Ok No) }
+{}
+
+/// What narrower tuples support, wider ones support. In a case a smaller tag or a shorter window, of an entry or of a certificate that
+/// stands, grants no other entry, and turns no no into a yes. So does an entry or a certificate that may no longer be delegated. A case
+/// with narrower entries is a narrower case.
+pub fn narrower<V: Verifier>()
+    ensures chain { (c : Case) (narrow wide : List Tuple) (e f : Entry) → IsRequest c.request → is_date c.moment ≡ true
+        → IsNarrowerEntry e f → AllZip IsNarrower narrow wide → Supported c narrow e → Supported c wide f }
+    ensures granted { (verifier : V) (narrow wide : Case) (n : ℕ) → IsNarrowerCase (V.accepted verifier) narrow wide
+        → IsRequest wide.request → is_date wide.moment ≡ true
+        → Granted n narrow (V.accepted verifier) → Granted n wide (V.accepted verifier) }
+    ensures no { (verifier : V) (narrow wide : Case) → IsNarrowerCase (V.accepted verifier) narrow wide
+        → IsRequest wide.request → is_date wide.moment ≡ true
+        → IsDecision wide (V.accepted verifier) No → IsDecision narrow (V.accepted verifier) No }
+    ensures entries { (verifier : V) (c : Case) (narrow : List Entry) → AllZip IsNarrowerEntry narrow c.entries
+        → IsNarrowerCase (V.accepted verifier) (with_entries c narrow) c }
+{}
+
+/// An entry that is granted is granted at each other moment within its window and those of all certificates. The decision is a yes
+/// then, and is not refused if it was not before. Its number is at most that of the entry: an earlier one may be granted then.
+pub fn other_moment<V: Verifier>()
+    ensures chain { (c : Case) (moment : List ℕ) (tuples : List Tuple) (e : Entry) → Supported c tuples e
+        → within moment e.window ≡ true → within_each moment (all_windows tuples) ≡ true → Supported (at_moment c moment) tuples e }
+    ensures granted { (verifier : V) (c : Case) (moment : List ℕ) (n place : ℕ) (e : Entry) → n ≡ suc place
+        → slice_get c.entries place ≡ Some e → within moment e.window ≡ true → AreTimely moment c.items
+        → Granted n c (V.accepted verifier) → Granted n (at_moment c moment) (V.accepted verifier) }
+    ensures yes { (verifier : V) (c : Case) (moment : List ℕ) (n place : ℕ) (e : Entry) (d : Decision) → n ≡ suc place
+        → slice_get c.entries place ≡ Some e → within moment e.window ≡ true → AreTimely moment c.items
+        → Granted n c (V.accepted verifier) → IsDecision (at_moment c moment) (V.accepted verifier) d
+        → (m : ℕ) × (d ≡ Yes m) × (m ≤ n) }
+    ensures answer { (verifier : V) (c : Case) (moment : List ℕ) (n place : ℕ) (e : Entry) (x : Result Decision GuardFault)
+        → n ≡ suc place → slice_get c.entries place ≡ Some e → within moment e.window ≡ true → AreTimely moment c.items
+        → IsDecided c (V.accepted verifier) (Ok (Yes n)) → IsDecided (at_moment c moment) (V.accepted verifier) x
+        → (m : ℕ) × (x ≡ Ok (Yes m)) × (m ≤ n) }
 {}

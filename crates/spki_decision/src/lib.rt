@@ -22,7 +22,7 @@ mod sizes;
 pub use certificates::{Certificate, ShownCert, certificates_of};
 pub use decision::{Decision, decide};
 pub use evidence::{Evidence, Stop, first_refused, judge};
-pub use examination::{Examined, examine};
+pub use examination::{Examined, Unverified, examine};
 pub use explanation::{Explanation, Reason, ReasonSink, explain};
 pub use fault::GuardFault;
 pub use fold_sink::FoldSink;

@@ -1,10 +1,13 @@
 -- Answers to a question that is asked of a guard: those of its case. There is one, unless memory ran out.
-use Rattle.std.proofs.Common.{◌≡◌, ◌≢◌, ◌⊎◌, ◌<◌, ◌≤◌, ℕ, List, Bool, Option, Some, None, IfSome, length, inl, inr, refl, ap, ◌∙◌, subst, arith, rules, Ok, sym}
-use Rattle.spki_case.specs.Case.{Case, Verified}
+use Rattle.std.proofs.Common.{◌≡◌, ◌≢◌, ◌⊎◌, ◌↔◌, ◌<◌, ◌≤◌, ℕ, List, [], Bool, IsTrue, Option, Some, None, length, inl, inr, refl, ap, ◌∙◌, subst, arith, rules, Ok, Err, sym}
+use Rattle.spki_case.specs.Case.{Case}
 use Rattle.spki_decision.specs.declared.decision.Decision.{Decision}
-use Rattle.spki_decision.specs.Standing.{asked, with_entries}
+use Rattle.spki_decision.specs.Standing.{every, with_entries}
+use Rattle.spki_decision.specs.declared.explanation.Explanation.{Explanation}
+use Rattle.spki_decision.specs.Explained.{IsSameExplanation}
+use Rattle.spki_decision.specs.declared.fault.GuardFault.TheVariants.{TooLarge}
 use Rattle.spki_service.specs.AccessLists.{Held, AreEntries}
-use Rattle.spki_service.specs.GuardQuestions.{AskedOf, Decides, IsReadFrom, IsOpened, AreReduced}
+use Rattle.spki_service.specs.GuardQuestions.{AskedOf, Decides, DecidesMarked, ExplainsMarked, ReducesMarked, AreReducedMarked, IsReadFrom, IsOpened, AreReduced}
 use Rattle.spki_service.specs.Questions.{certificates_in, HasFewStrings, IsRefused, IsAskedCase, asked_octets}
 use Rattle.spki_service.specs.declared.opened.Opened.{Opened}
 use Rattle.spki_service.specs.declared.question.Question.{Question}
@@ -16,12 +19,14 @@ use Rattle.spki_guard.specs.declared.answers.Verdict.TheVariants.{Refused}
 use Rattle.spki_guard.specs.declared.question_answers.Query.{Query}
 use Rattle.spki_guard.specs.declared.question_answers.Query.TheVariants.{Decide, Explain, Reduce}
 use Rattle.spki_guard.specs.TextAnswers.{written_by, IsLineOf, RefusesForMemory}
-use Rattle.spki_guard.specs.HeldQuestions.{ReadsQuestion, AnswersAsked, IsUnreadQuestion, IsAnswerHeld, HasOtherCount, marked, refused_question, IsUnreadFor, WritesAsked, IsTooLargeFor, AnswersHeld, beside}
-use Rattle.spki_guard.specs.Lines.{refused_memory, ReportsReduced}
+use Rattle.spki_guard.specs.HeldQuestions.{ReadsQuestion, AnswersAsked, IsUnreadQuestion, IsAnswerHeld, GrantsHeld, MayGrant, refused_question, IsUnreadFor, WritesAsked, IsTooLargeFor, AnswersHeld, beside}
+use Rattle.spki_guard.specs.Lines.{refused_memory, ReportsReduced, IsExplanationReport}
 use Rattle.spki_cert.specs.declared.entry.Entry.{Entry}
 use Rattle.spki_decision.specs.declared.reduction.EntryFold.{EntryFold}
-use Rattle.spki_decision.specs.Granted.{SomeTooLarge}
-use Rattle.spki_decision.proofs.OneDecision.{decision_one, explained_one, explained_small, folds_small, one_answer}
+use Rattle.spki_decision.specs.Granted.{SomeTooLarge, IsYes}
+use Rattle.spki_decision.proofs.OneDecision.{explained_one, explained_small, folds_small, one_answer}
+use Rattle.spki_service.proofs.MarkedPlaces.{by_both}
+use Rattle.spki_service.proofs.AnswerLaws.{decided_marked_one, marked_one}
 use Rattle.spki_decision.proofs.Explanations.{one_failure}
 use Rattle.spki_service.specs.declared.failure.Failure.{Failure}
 use Rattle.spki_service.proofs.OneAsking.{case-one, unrefused-one, refusal-one}
@@ -41,22 +46,18 @@ pub opened_reads : (held : Held) (q : Question) (o : Opened) (a : AskedOf) → I
     → ReadsQuestion held q a.case
 opened_reads held q o a opened read = search (rules, reads)
 
-pub answered : (query : Query) (held : Held) (q : Question) (marks : List Bool) (a : AskedOf) (answer : Option Answer) → ReadsQuestion held q a.case
-    → a.texts ≡ held.texts → a.answer ≡ held.answer
-    → IfSome answer (λ x. AnswersAsked query a (marked a.case marks) x.verdict (written_by x) ⊎ RefusesForMemory x.verdict (written_by x))
-    → IfSome answer (λ _. length marks ≡ length (asked a.case))
-    → IfSome answer (λ x. IsAnswerHeld query held q marks x.verdict (written_by x))
-answered query held q marks a None read texts most h counted = tt
-answered query held q marks a (Some x) read texts most (inl h) counted =
+pub answered : (query : Query) (held : Held) (q : Question) (marks : List Bool) (a : AskedOf) (x : Answer) → ReadsQuestion held q a.case
+    → a.texts ≡ held.texts → a.answer ≡ held.answer → a.marks ≡ marks
+    → AnswersAsked query a x.verdict (written_by x) ⊎ RefusesForMemory x.verdict (written_by x)
+    → IsAnswerHeld query held q marks x.verdict (written_by x)
+answered query held q marks a x read texts most same (inl h) =
+    let beside_is : a ≡ beside held a.case marks = λ i. record { texts = texts i; case = a.case; answer = most i; marks = same i } in
     inl (record {
       case_read = a.case;
       read = read;
-      counted = counted;
-      answer = subst (λ n. AnswersAsked query (record { texts = held.texts; case = a.case; answer = n }) (marked a.case marks) x.verdict (written_by x))
-          most (subst (λ ts. AnswersAsked query (record { texts = ts; case = a.case; answer = a.answer }) (marked a.case marks) x.verdict
-          (written_by x)) texts h);
+      answer = subst (λ (b : AskedOf). AnswersAsked query b x.verdict (written_by x)) beside_is h;
     })
-answered query held q marks a (Some x) read texts most (inr h) counted = inr (inr h)
+answered query held q marks a x read texts most same (inr h) = inr (inr h)
 
 -- a question that isn't read, and the line that says why
 pub unread : (held : Held) (q : Question) (fault : AskFault) (verdict : Verdict) (output : List ℕ) → ¬ (held.octets < asked_octets q)
@@ -82,17 +83,35 @@ unread held q (faults.Moment kind) verdict output within is other refused (inl l
 
 -- ---- a question that was opened
 
-module _ (q : Question) (o : Opened) (marks : List Bool) (opened : IsOpened o.guard q o) where
-  pub opened_decided : (a : AskedOf) (d : Decision) (verdict : Verdict) (output : List ℕ) → IsReadFrom o.guard o.texts a
-      → o.signed.items ≡ asked a.case → Decides (marked a.case marks) a d → length marks ≡ length o.signed.items → IsLineOf d verdict output
-      → IsAnswerHeld Decide o.guard q marks verdict output
-  opened_decided a d verdict output read signed decides counted line =
-      inl (record {
-        case_read = a.case;
-        read = opened_reads o.guard q o a opened read;
-        counted = counted ∙ ap length signed;
-        answer = inl (d, subst (λ ts. Decides (marked a.case marks) (record { texts = ts; case = a.case; answer = o.guard.answer }) d) read.entries decides, line);
-      })
+module _ (q : Question) (o : Opened) (opened : IsOpened o.guard q o) (a : AskedOf) (read : IsReadFrom o.guard o.texts a) where
+  is_beside : (marks : List Bool) → a.marks ≡ marks → a ≡ beside o.guard a.case marks
+  is_beside marks same = λ i. record { texts = read.entries i; case = a.case; answer = read.answer i; marks = same i }
+
+  module _ (same : a.marks ≡ o.marks.items) (d : Decision) (decides : DecidesMarked a d) where
+    there : DecidesMarked (beside o.guard a.case o.marks.items) d
+    there = subst (λ (b : AskedOf). DecidesMarked b d) (is_beside o.marks.items same) decides
+
+    pub opened_decided : (verdict : Verdict) (output : List ℕ) → IsLineOf d verdict output → IsAnswerHeld Decide o.guard q o.marks.items verdict output
+    opened_decided verdict output line =
+        inl (record { case_read = a.case; read = opened_reads o.guard q o a opened read; answer = inl (d, there, line) })
+
+    pub opened_granted : (said : Bool) → IsTrue said ↔ IsYes d → GrantsHeld o.guard q o.marks.items said
+    opened_granted said is = record {
+      case_read = a.case;
+      read = opened_reads o.guard q o a opened read;
+      granted = record { decision = d; decides = there; answer = is };
+    }
+
+  pub opened_possible : (d : Decision) (said : Bool) → Decides every a d → IsTrue said ↔ IsYes d → MayGrant o.guard q said
+  opened_possible d said decides is = record {
+    case_read = a.case;
+    read = opened_reads o.guard q o a opened read;
+    possible = record {
+      decision = d;
+      decides = subst (λ ts. Decides every (record { texts = ts; case = a.case; answer = o.guard.answer; marks = [] }) d) read.entries decides;
+      answer = is;
+    };
+  }
 
 -- ---- a question that is asked of a guard has one answer, unless memory ran out
 
@@ -123,62 +142,67 @@ module _ (held : Held) (q : Question) where
   unread_one x y output line (inl m) (inl n) found known =
       (m.verdict_is ∙ sym n.verdict_is, m.line ∙ ap refused_question (faults_one m.fault n.fault m.refused n.refused) ∙ sym n.line)
 
-  -- ---- as many marks
-
-  pub counted_or_not : (query : Query) (marks : List Bool) (verdict : Verdict) (output : List ℕ) → HasOtherCount held q marks
-      → IsAnswerHeld query held q marks verdict output → RefusesForMemory verdict output
-  counted_or_not query marks verdict output m (inl n) =
-      absurd (m.other (n.counted ∙ ap (λ c. length (asked c)) (case_one n.case_read m.case_read n.read m.read)))
-  counted_or_not query marks verdict output m (inr (inl n)) = absurd (read_or_not m.case_read n.fault m.read n.refused)
-  counted_or_not query marks verdict output m (inr (inr n)) = n
-
 -- ---- what is answered
 
-module _ (a : AskedOf) (es : List Entry) (are : AreEntries a.texts es) (verified : Verified) where
+module _ (a : AskedOf) (es : List Entry) (are : AreEntries a.texts es) where
   abbrev whole : Case
   whole = with_entries a.case es
 
-  reduced_one : (f g : Option Failure) (xs ys : List EntryFold) → AreReduced a verified f xs → AreReduced a verified g ys
-      → (f ≡ g) × (xs ≡ ys)
-  reduced_one (Some f) (Some g) xs ys (none, m) (empty, n) =
-      let same = one_failure whole.policy verified whole.items f.item g.item f.stop g.stop (m es are).fails (n es are).fails in
+  whole_one : (f g : Option Failure) (xs ys : List EntryFold) → AreReduced a every f xs → AreReduced a every g ys → (f ≡ g) × (xs ≡ ys)
+  whole_one (Some f) (Some g) xs ys (none, m) (empty, n) =
+      let same = one_failure whole.policy every whole.items f.item g.item f.stop g.stop (m es are).fails (n es are).fails in
       (λ i. Some (record { item = same.0 i; stop = same.1 i }), none ∙ sym empty)
-  reduced_one (Some f) None xs ys (none, m) (n, dated, end) = absurd ((m es are).none_shown (n es are).tuples (n es are).shown)
-  reduced_one None (Some g) xs ys (m, dated, end) (empty, n) = absurd ((n es are).none_shown (m es are).tuples (m es are).shown)
-  reduced_one None None xs ys (m, dated, end) (n, also, ends) = (refl, one_answer whole verified xs ys dated also (m es are) (n es are))
+  whole_one (Some f) None xs ys (none, m) (n, dated, end) = absurd ((m es are).none_shown (n es are).tuples (n es are).shown)
+  whole_one None (Some g) xs ys (m, dated, end) (empty, n) = absurd ((n es are).none_shown (m es are).tuples (m es are).shown)
+  whole_one None None xs ys (m, dated, end) (n, also, ends) = (refl, one_answer whole every xs ys dated also (m es are) (n es are))
 
-  reduced_small : (f : Option Failure) (xs : List EntryFold) → AreReduced a verified f xs → SomeTooLarge whole verified → ⊥
-  reduced_small (Some f) xs (none, m) some = (m es are).none_shown some.tuples some.shown
-  reduced_small None xs (m, dated, end) some = folds_small whole verified xs (m es are) some
+  reduced_one : (f g : Option Failure) (xs ys : List EntryFold) → AreReducedMarked a f xs → AreReducedMarked a g ys → (f ≡ g) × (xs ≡ ys)
+  reduced_one f g xs ys =
+      by_both a _ _ _ _ (λ m n. whole_one f g xs ys m n) (λ one m n. (m.0 ∙ sym n.0, m.1 ∙ sym n.1))
 
-  reduced_line : (f g : Option Failure) (xs ys : List EntryFold) (x y : Verdict) (output line : List ℕ) → AreReduced a verified f xs
-      → AreReduced a verified g ys → ReportsReduced f xs x output → ReportsReduced g ys y line → Same x y output line
+  whole_small : (f : Option Failure) (xs : List EntryFold) → AreReduced a every f xs → SomeTooLarge whole every → ⊥
+  whole_small (Some f) xs (none, m) some = (m es are).none_shown some.tuples some.shown
+  whole_small None xs (m, dated, end) some = folds_small whole every xs (m es are) some
+
+  reduced_small : (f : Option Failure) (xs : List EntryFold) → AreReducedMarked a f xs → ReducesMarked a (Err TooLarge) → ⊥
+  reduced_small f xs = by_both a _ _ _ _ (λ m n. whole_small f xs m (n es are)) (λ one m n. n)
+
+  reduced_line : (f g : Option Failure) (xs ys : List EntryFold) (x y : Verdict) (output line : List ℕ) → AreReducedMarked a f xs
+      → AreReducedMarked a g ys → ReportsReduced f xs x output → ReportsReduced g ys y line → Same x y output line
   reduced_line f g xs ys x y output line m n is other =
       let (failures, folds) = reduced_one f g xs ys m n in reported_line g ys x y output line (rw (failures, folds) at is) other
 
-  writes_one : (query : Query) (x y : Verdict) (output line : List ℕ) → WritesAsked query a verified x output
-      → WritesAsked query a verified y line → Same x y output line
-  writes_one Decide x y output line (d, at, is) (e, also, other) = search (rules, decision_one, whole, decision_line)
-  writes_one Explain x y output line (d, at, is, short) (e, also, other, within) =
-      explanation_line d e x y output line (explained_one whole verified (Ok d) (Ok e) (at es are) (also es are)) is other
+  explained_same : (d e : Explanation) → ExplainsMarked a (Ok d) → ExplainsMarked a (Ok e) → IsSameExplanation d e
+  explained_same d e = marked_one _ _ explained_one _ (λ s. (refl, refl)) a es are (Ok d) (Ok e) (λ f. cc) (λ f. cc)
+
+  explained_line : (d e : Explanation) (x y : Verdict) (output line : List ℕ) → ExplainsMarked a (Ok d) → ExplainsMarked a (Ok e)
+      → IsExplanationReport d x output → IsExplanationReport e y line → Same x y output line
+  explained_line d e x y output line at also is other = explanation_line d e x y output line (explained_same d e at also) is other
+
+  writes_one : (query : Query) (x y : Verdict) (output line : List ℕ) → WritesAsked query a x output
+      → WritesAsked query a y line → Same x y output line
+  writes_one Decide x y output line (d, at, is) (e, also, other) =
+      let same : d ≡ e = decided_marked_one a es d e are at also in
+      decision_line e x y output line (subst (λ (b : Decision). IsLineOf b x output) same is) other
+  writes_one Explain x y output line (d, at, is, short) (e, also, other, within) = explained_line d e x y output line at also is other
   writes_one Reduce x y output line (f, xs, m, is, short) (g, ys, n, other, within) = reduced_line f g xs ys x y output line m n is other
 
-  writes_or_not : (query : Query) (x : Verdict) (output : List ℕ) → WritesAsked query a verified x output → ¬ IsTooLargeFor query a verified
+  writes_or_not : (query : Query) (x : Verdict) (output : List ℕ) → WritesAsked query a x output → ¬ IsTooLargeFor query a
   writes_or_not Decide x output w large = large
-  writes_or_not Explain x output (d, at, is, short) (inl large) = explained_small whole verified d (at es are) (large es are)
+  writes_or_not Explain x output (d, at, is, short) (inl large) =
+      by_both a _ _ _ _ (λ m n. explained_small whole every d (m es are) (n es are)) (λ one m n. n) at large
   writes_or_not Explain x output (d, at, is, short) (inr l) =
-      let same = explanation_line d l.explanation x l.verdict output l.lines
-      (explained_one whole verified (Ok d) (Ok l.explanation) (at es are) (l.is es are)) is l.report in
+      let same = explained_line d l.explanation x l.verdict output l.lines at l.is is l.report in
       let long = l.long in
       omega (arith, short, long, ap length same.1)
-  writes_or_not Reduce x output (f, xs, m, is, short) (inl large) = reduced_small f xs m (large es are)
+  writes_or_not Reduce x output (f, xs, m, is, short) (inl large) = reduced_small f xs m large
   writes_or_not Reduce x output (f, xs, m, is, short) (inr l) =
       let same = reduced_line f l.failure xs l.folds x l.verdict output l.lines m l.are is l.report in
       let long = l.long in
       omega (arith, short, long, ap length same.1)
 
-  answers_one : (query : Query) (x y : Verdict) (output line : List ℕ) → AnswersAsked query a verified x output
-      → AnswersAsked query a verified y line → Same x y output line
+  answers_one : (query : Query) (x y : Verdict) (output line : List ℕ) → AnswersAsked query a x output
+      → AnswersAsked query a y line → Same x y output line
   answers_one query x y output line (inl m) (inl n) = writes_one query x y output line m n
   answers_one query x y output line (inl m) (inr n) = absurd (writes_or_not query x output m n.large)
   answers_one query x y output line (inr m) (inl n) = absurd (writes_or_not query y line n m.large)
@@ -189,8 +213,8 @@ module _ (query : Query) (held : Held) (q : Question) (marks : List Bool) (es : 
       → AnswersHeld query held q marks y line → Same x y output line
   held_one x y output line are m n =
       let same : m.case_read ≡ n.case_read = case_one held q m.case_read n.case_read m.read n.read in
-      let there = subst (λ (c : Case). AnswersAsked query (beside held c) (marked c marks) x output) same m.answer in
-      answers_one (beside held n.case_read) es are (marked n.case_read marks) query x y output line there n.answer
+      let there = subst (λ (c : Case). AnswersAsked query (beside held c marks) x output) same m.answer in
+      answers_one (beside held n.case_read marks) es are query x y output line there n.answer
 
   pub answer_one : (x y : Verdict) (output line : List ℕ) → AreEntries held.texts es → IsAnswerHeld query held q marks x output
       → IsAnswerHeld query held q marks y line → ¬ RefusesForMemory x output → ¬ RefusesForMemory y line

@@ -1,6 +1,6 @@
 -- Questions that are asked of a guard: their answers, where a service marks the signatures that it has verified, and
 -- the lines of their refusals (RFC 2693, section 6).
-use Rattle.std.specs.Prelude.{ℕ, List, codes, ◌≡◌, ◌≢◌, ◌⊎◌, ◌<◌, ◌≤◌, length, Bool, Option, Some, Ok, Err}
+use Rattle.std.specs.Prelude.{ℕ, List, [], codes, ◌≡◌, ◌⊎◌, ◌<◌, ◌≤◌, length, Bool, Option, Some, Ok, Err}
 use Rattle.spki_service.specs.declared.list_fault.AclFault.{AclFault}
 use Rattle.spki_service.specs.declared.list_fault.AclFault.TheVariants as lists
 use Rattle.spki_service.specs.declared.question.Part.{Part}
@@ -8,15 +8,13 @@ use Rattle.spki_service.specs.declared.question.Part.TheVariants as parts
 use Rattle.spki_service.specs.declared.question.AskFault.{AskFault}
 use Rattle.spki_service.specs.declared.question.AskFault.TheVariants as faults
 use Rattle.spki_guard.specs.Lines.{refused_part, refused_text, refused_form, refused_in, refused_memory, tag_kind, kind_name, refused_large, IsExplanationReport, ReportsReduced}
-use Rattle.spki_case.specs.Case.{Case, Verified}
+use Rattle.spki_case.specs.Case.{Case}
 use Rattle.spki_decision.specs.declared.decision.Decision.{Decision}
 use Rattle.spki_decision.specs.declared.explanation.Explanation.{Explanation}
 use Rattle.spki_decision.specs.declared.reduction.EntryFold.{EntryFold}
 use Rattle.spki_decision.specs.declared.fault.GuardFault.TheVariants.{TooLarge}
-use Rattle.spki_decision.specs.Answered.{IsExplained, IsReduced}
-use Rattle.spki_decision.specs.Standing.{asked}
 use Rattle.spki_service.specs.declared.failure.Failure.{Failure}
-use Rattle.spki_service.specs.GuardQuestions.{AreReduced, AskedOf, OfCase, Decides, MarksAccept}
+use Rattle.spki_service.specs.GuardQuestions.{AskedOf, DecidesMarked, ExplainsMarked, ReducesMarked, AreReducedMarked, IsGranted, IsPossible}
 use Rattle.spki_service.specs.AccessLists.{Held}
 use Rattle.spki_service.specs.Questions.{certificates_in, HasFewStrings, IsRefused, IsAskedCase, asked_octets}
 use Rattle.spki_service.specs.declared.question.Question.{Question}
@@ -73,70 +71,62 @@ pub record ReadsQuestion (held : Held) (q : Question) (c : Case) : Type 0 where
   pub few : certificates_in c.items ≤ held.certificates
   pub few_strings : HasFewStrings held.words q
 
--- the case beside the guard's entries and its limit of the octets of an answer
-abbrev pub beside : Held → Case → AskedOf
-beside held c = record { texts = held.texts; case = c; answer = held.answer }
+-- the case beside the guard's entries and its limit of the octets of an answer, with these marks
+abbrev pub beside : Held → Case → List Bool → AskedOf
+beside held c marks = record { texts = held.texts; case = c; answer = held.answer; marks = marks }
 
 -- ---- what is written of it
 
--- These are the line or lines of what is answered of the case with the guard's entries, where these signatures are accepted. Those of
--- an explanation or a reduction are within the guard's limit. The windows that a reduction writes begin and end at dates.
-abbrev pub WritesAsked : Query → AskedOf → Verified → Verdict → List ℕ → Type 0
-WritesAsked Decide a verified verdict output =
-    (d : Decision) × Decides verified a d × IsLineOf d verdict output
-WritesAsked Explain a verified verdict output =
-    (e : Explanation) × OfCase a (λ c. IsExplained c verified (Ok e)) × IsExplanationReport e verdict output
-    × (length output ≤ a.answer)
-WritesAsked Reduce a verified verdict output =
-    (failure : Option Failure) × (folds : List EntryFold) × AreReduced a verified failure folds
+-- These are the line or lines of what is answered of the case with the guard's entries, by the marks. Those of an explanation or a
+-- reduction are within the guard's limit. The windows that a reduction writes begin and end at dates.
+abbrev pub WritesAsked : Query → AskedOf → Verdict → List ℕ → Type 0
+WritesAsked Decide a verdict output = (d : Decision) × DecidesMarked a d × IsLineOf d verdict output
+WritesAsked Explain a verdict output =
+    (e : Explanation) × ExplainsMarked a (Ok e) × IsExplanationReport e verdict output × (length output ≤ a.answer)
+WritesAsked Reduce a verdict output =
+    (failure : Option Failure) × (folds : List EntryFold) × AreReducedMarked a failure folds
     × ReportsReduced failure folds verdict output × (length output ≤ a.answer)
 
 -- The lines of what is answered have more octets than the guard's limit.
-pub record ExplainsLong (a : AskedOf) (verified : Verified) : Type 0 where
+pub record ExplainsLong (a : AskedOf) : Type 0 where
   pub explanation : Explanation
-  pub is : OfCase a (λ c. IsExplained c verified (Ok explanation))
+  pub is : ExplainsMarked a (Ok explanation)
   pub verdict : Verdict
   pub lines : List ℕ
   pub report : IsExplanationReport explanation verdict lines
   pub long : a.answer < length lines
 
-pub record ReducesLong (a : AskedOf) (verified : Verified) : Type 0 where
+pub record ReducesLong (a : AskedOf) : Type 0 where
   pub failure : Option Failure
   pub folds : List EntryFold
-  pub are : AreReduced a verified failure folds
+  pub are : AreReducedMarked a failure folds
   pub verdict : Verdict
   pub lines : List ℕ
   pub report : ReportsReduced failure folds verdict lines
   pub long : a.answer < length lines
 
 -- Tags are too large for an answer, or its lines are; for a decision none are.
-abbrev pub IsTooLargeFor : Query → AskedOf → Verified → Type 0
-IsTooLargeFor Decide a verified = ⊥
-IsTooLargeFor Explain a verified = OfCase a (λ c. IsExplained c verified (Err TooLarge)) ⊎ ExplainsLong a verified
-IsTooLargeFor Reduce a verified = OfCase a (λ c. IsReduced c verified (Err TooLarge)) ⊎ ReducesLong a verified
+abbrev pub IsTooLargeFor : Query → AskedOf → Type 0
+IsTooLargeFor Decide a = ⊥
+IsTooLargeFor Explain a = ExplainsMarked a (Err TooLarge) ⊎ ExplainsLong a
+IsTooLargeFor Reduce a = ReducesMarked a (Err TooLarge) ⊎ ReducesLong a
 
 -- ---- answers
 
--- what the marks accept of a case's signatures
-abbrev pub marked : Case → List Bool → Verified
-marked c marks = MarksAccept (asked c) marks
-
 -- Tags or lines are too large for an answer, and the line says so.
-pub record SaysTooLarge (query : Query) (a : AskedOf) (verified : Verified) (verdict : Verdict) (output : List ℕ) : Type 0 where
-  pub large : IsTooLargeFor query a verified
+pub record SaysTooLarge (query : Query) (a : AskedOf) (verdict : Verdict) (output : List ℕ) : Type 0 where
+  pub large : IsTooLargeFor query a
   pub verdict_is : verdict ≡ Refused
   pub line : output ≡ refused_large
 
-abbrev pub AnswersAsked : Query → AskedOf → Verified → Verdict → List ℕ → Type 0
-AnswersAsked query a verified verdict output =
-    WritesAsked query a verified verdict output ⊎ SaysTooLarge query a verified verdict output
+abbrev pub AnswersAsked : Query → AskedOf → Verdict → List ℕ → Type 0
+AnswersAsked query a verdict output = WritesAsked query a verdict output ⊎ SaysTooLarge query a verdict output
 
--- The question is read and has as many signatures as there are marks, and this is the answer of its case.
+-- The question is read, and this is the answer of its case by the marks.
 pub record AnswersHeld (query : Query) (held : Held) (q : Question) (marks : List Bool) (verdict : Verdict) (output : List ℕ) : Type 0 where
   pub case_read : Case
   pub read : ReadsQuestion held q case_read
-  pub counted : length marks ≡ length (asked case_read)
-  pub answer : AnswersAsked query (beside held case_read) (marked case_read marks) verdict output
+  pub answer : AnswersAsked query (beside held case_read marks) verdict output
 
 -- why a question is refused: its parts together have too many octets; or they do not, and a part has no reading, or there are too many
 -- certificates or strings
@@ -159,8 +149,16 @@ abbrev pub IsAnswerHeld : Query → Held → Question → List Bool → Verdict 
 IsAnswerHeld query held q marks verdict output =
     AnswersHeld query held q marks verdict output ⊎ IsUnreadQuestion held q verdict output
 
--- The question is read, and has another number of signatures than there are marks.
-pub record HasOtherCount (held : Held) (q : Question) (marks : List Bool) : Type 0 where
+-- ---- whether a question is granted
+
+-- The question is read, and this is whether it is granted by the marks.
+pub record GrantsHeld (held : Held) (q : Question) (marks : List Bool) (yes : Bool) : Type 0 where
   pub case_read : Case
   pub read : ReadsQuestion held q case_read
-  pub other : length marks ≢ length (asked case_read)
+  pub granted : IsGranted (beside held case_read marks) yes
+
+-- The question is read, and this is whether it is granted if all listed signatures are valid.
+pub record MayGrant (held : Held) (q : Question) (yes : Bool) : Type 0 where
+  pub case_read : Case
+  pub read : ReadsQuestion held q case_read
+  pub possible : IsPossible (beside held case_read []) yes

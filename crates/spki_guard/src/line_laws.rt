@@ -12,7 +12,7 @@ ghost use Rattle.spki_guard.specs.declared.answers.Verdict.{Verdict};
 ghost use Rattle.spki_guard.specs.declared.question_answers.Query.{Query};
 ghost use Rattle.spki_guard.specs.declared.intersection.IntersectFault.TheVariants as intersect;
 ghost use Rattle.spki_guard.specs.TextAnswers.{AnswersRead, RefusesAnswer, RefusesForMemory};
-ghost use Rattle.spki_guard.specs.HeldQuestions.{IsAnswerHeld, HasOtherCount, IsUnreadQuestion};
+ghost use Rattle.spki_guard.specs.HeldQuestions.{IsAnswerHeld, IsUnreadQuestion};
 ghost use Rattle.spki_words.specs.declared.commands.Command.{Command};
 
 /// A text has one answer of a command, unless memory ran out. It has at most one output and verdict and no refusal, or one refusal,
@@ -37,15 +37,12 @@ pub fn one_too_large()
         → RefusesAnswer command text refusal → refusal ≢ refusals.Memory → refusal ≡ refusals.Intersect intersect.TooLarge }
 {}
 
-/// A question that is asked of a guard has one answer, unless memory ran out: one output and verdict, or none. So
-/// `answer_question` returns one result for the same marks. It is required that the guard's texts are those of entries,
-/// which holds for every guard.
+/// A question that is asked of a guard has one answer by the same marks, unless memory ran out: one output and verdict. So
+/// `answer_opened` returns one answer. It is required that the guard's texts are those of entries, which holds for every guard.
 pub fn one_answer_held()
-    ensures same { (query : Query) (held : Held) (q : Question) (marks : List Bool) (es : List Entry) (x y : Verdict) (output line : List ℕ)
+    ensures { (query : Query) (held : Held) (q : Question) (marks : List Bool) (es : List Entry) (x y : Verdict) (output line : List ℕ)
         → AreEntries held.texts es → IsAnswerHeld query held q marks x output → IsAnswerHeld query held q marks y line
         → ¬ RefusesForMemory x output → ¬ RefusesForMemory y line → (x ≡ y) × (output ≡ line) }
-    ensures counted { (query : Query) (held : Held) (q : Question) (marks : List Bool) (x : Verdict) (output : List ℕ)
-        → HasOtherCount held q marks → IsAnswerHeld query held q marks x output → RefusesForMemory x output }
 {}
 
 /// A question that is refused has one refusal, unless memory ran out. So `open_question` refuses it in one line.

@@ -1,8 +1,7 @@
 //! The answers to questions that are asked of a guard, as lines.
-ghost use Rattle.std.specs.Prelude.{◌≡◌, ◌≢◌, ◌⊎◌, length, IfOk, IfSome, IsNone, IsErrOf};
-ghost use Rattle.spki_decision.specs.Standing.{asked};
+ghost use Rattle.std.specs.Prelude.{◌≡◌, ◌⊎◌, IfOk, IsErrOf};
 ghost use Rattle.spki_guard.specs.TextAnswers.{written_by, RefusesForMemory};
-ghost use Rattle.spki_guard.specs.HeldQuestions.{IsAnswerHeld, HasOtherCount, AnswersAsked, WritesAsked, IsTooLargeFor, marked, refused_list, refused_question};
+ghost use Rattle.spki_guard.specs.HeldQuestions.{AnswersAsked, WritesAsked, IsTooLargeFor, refused_list, refused_question};
 ghost use Rattle.spki_guard.specs.Lines.{refused_memory};
 
 use crate::answers::{Answer, Output, Refusal, Verdict, decision_line, out_of_memory, refuse};
@@ -10,7 +9,7 @@ use crate::fold_printer::FoldPrinter;
 use crate::guard_refusals::{push_refused_list, push_refused_question};
 use crate::replies::{Reply, reply_of_explanation, whole_within};
 use spki_decision::GuardFault;
-use spki_service::{AclFault, AskFault, Asked, Failure, Guard, Question};
+use spki_service::{AclFault, AskFault, Asked, Failure};
 use std::alloc::{AllocError, Global};
 
 /// What a question is asked for.
@@ -22,42 +21,6 @@ pub enum Query {
     Explain,
     /// What each entry and the certificates become.
     Reduce,
-}
-
-/// Answers a question that is asked of a guard (RFC 2693, section 6). The lines are those that `run` writes for the case of the
-/// guard's list and the question's parts. Exactly the signatures that `Asked::signed` lists at the places of true marks are
-/// accepted.
-///
-/// A question that is not read is refused. The line is `refused question TooLong` exactly if its parts together have
-/// more octets than the guard's limit. Otherwise the line names the first part that has no reading, and its fault, such
-/// as `refused sequence Bad 5`; the word for the moment is `at`. If all parts have a reading, it is `refused question
-/// TooManyCertificates` or then `refused question TooManyWords` if they exceed the guard's limits. `refused TooLarge`
-/// is an answer of `Explain` and `Reduce` alone: an intersection exceeds the guard's limit of nodes, all intersections
-/// together its limit of work, or the lines its limit of octets. If memory ran out, the line is `refused Memory`.
-///
-/// The result is `None` if the question is read and does not have as many signatures as there are marks.
-pub fn answer_question(
-    alloc: Global,
-    query: Query,
-    guard: &Guard,
-    question: &Question<'_>,
-    marks: &[bool],
-) -> Option<Answer>
-    ensures answer { IfSome result (λ a. IsAnswerHeld query guard.now question.now marks.now a.verdict (written_by a)) }
-    ensures none { IsNone result → HasOtherCount guard.now question.now marks.now }
-{
-    let texts = match guard.texts(alloc, question) {
-        Ok(texts) => texts,
-        Err(fault) => return Some(refuse_question(alloc, fault)),
-    };
-    match guard.ask(alloc, &texts) {
-        Ok(asked) => {
-            let answer = answer_asked(alloc, query, &asked, marks);
-            drop(asked);
-            answer
-        }
-        Err(fault) => Some(refuse_question(alloc, fault)),
-    }
 }
 
 /// Returns the refusal of an access list that `Guard::read` does not read: `refused form KIND` of its text, or `refused acl N
@@ -72,61 +35,45 @@ pub fn refused_list(alloc: Global, fault: AclFault) -> Answer
     }
 }
 
-/// The answer to a question that was read: the lines of `query`, `refused TooLarge` or `refused Memory`. A signature is
-/// accepted if the mark at its place is true. None if there are not as many marks as `Asked::signed` lists signatures.
-pub(crate) fn answer_asked(
-    alloc: Global,
-    query: Query,
-    read: &Asked,
-    marks: &[bool],
-) -> Option<Answer>
-    ensures answer { IfSome result (λ a. AnswersAsked query read.now (marked read.now.case marks.now) a.verdict (written_by a)
-        ⊎ RefusesForMemory a.verdict (written_by a)) }
-    ensures counted { IfSome result (λ _. length marks.now ≡ length (asked read.now.case)) }
-    ensures none { IsNone result → length marks.now ≢ length (asked read.now.case) }
+/// The answer to a question that was read: the lines of `query`, `refused TooLarge` or `refused Memory`. Exactly the marked signatures are
+/// valid.
+pub(crate) fn answer_asked(alloc: Global, query: Query, read: &Asked) -> Answer
+    ensures { AnswersAsked query read.now result.verdict (written_by result) ⊎ RefusesForMemory result.verdict (written_by result) }
 {
-    if marks.len() != read.signed().len() {
-        return None;
-    }
-    match answer_query(alloc, query, read, marks) {
-        Ok(answer) => Some(answer),
-        Err(fault) => Some(refuse(alloc, Refusal::Decision(fault))),
+    match answer_query(alloc, query, read) {
+        Ok(answer) => answer,
+        Err(fault) => refuse(alloc, Refusal::Decision(fault)),
     }
 }
 
-/// The lines of `query` for a question that was read, with as many marks as signatures. Err is `TooLarge` if an
-/// intersection, all of them or the lines exceed the guard's limits, which a decision never does, or `Memory`.
-fn answer_query(
-    alloc: Global,
-    query: Query,
-    read: &Asked,
-    marks: &[bool],
-) -> Result<Answer, GuardFault>
-    ensures written { IfOk result (λ a. WritesAsked query read.now (marked read.now.case marks.now) a.verdict (written_by a)) }
-    ensures large { IsErrOf result GuardFault.TooLarge → IsTooLargeFor query read.now (marked read.now.case marks.now) }
+/// The lines of `query` for a question that was read. Err is `TooLarge` if an intersection, all of them or the lines exceed the guard's
+/// limits, which a decision never does, or `Memory`.
+fn answer_query(alloc: Global, query: Query, read: &Asked) -> Result<Answer, GuardFault>
+    ensures written { IfOk result (λ a. WritesAsked query read.now a.verdict (written_by a)) }
+    ensures large { IsErrOf result GuardFault.TooLarge → IsTooLargeFor query read.now }
 {
     match query {
-        Query::Decide => Ok(decided(alloc, read, marks)?),
-        Query::Explain => explained(alloc, read, marks),
-        Query::Reduce => reduced(alloc, read, marks),
+        Query::Decide => Ok(decided(alloc, read)?),
+        Query::Explain => explained(alloc, read),
+        Query::Reduce => reduced(alloc, read),
     }
 }
 
 /// The line of the decision: `yes entry N` or `no`. Err if memory ran out.
-fn decided(alloc: Global, read: &Asked, marks: &[bool]) -> Result<Answer, AllocError>
-    ensures { IfOk result (λ a. WritesAsked Query.Decide read.now (marked read.now.case marks.now) a.verdict (written_by a)) }
+fn decided(alloc: Global, read: &Asked) -> Result<Answer, AllocError>
+    ensures { IfOk result (λ a. WritesAsked Query.Decide read.now a.verdict (written_by a)) }
 {
-    let decision = read.decide_by(alloc, marks)?;
+    let decision = read.decide_by(alloc)?;
     decision_line(alloc, decision)
 }
 
 /// The lines of the explanation. Err is `TooLarge` if they, an intersection or all of them together exceed the guard's
 /// limits, or `Memory`.
-fn explained(alloc: Global, read: &Asked, marks: &[bool]) -> Result<Answer, GuardFault>
-    ensures written { IfOk result (λ a. WritesAsked Query.Explain read.now (marked read.now.case marks.now) a.verdict (written_by a)) }
-    ensures large { IsErrOf result GuardFault.TooLarge → IsTooLargeFor Query.Explain read.now (marked read.now.case marks.now) }
+fn explained(alloc: Global, read: &Asked) -> Result<Answer, GuardFault>
+    ensures written { IfOk result (λ a. WritesAsked Query.Explain read.now a.verdict (written_by a)) }
+    ensures large { IsErrOf result GuardFault.TooLarge → IsTooLargeFor Query.Explain read.now }
 {
-    let explanation = read.explain_by(alloc, marks)?;
+    let explanation = read.explain_by(alloc)?;
     whole_within(
         alloc,
         &reply_of_explanation(explanation),
@@ -136,21 +83,21 @@ fn explained(alloc: Global, read: &Asked, marks: &[bool]) -> Result<Answer, Guar
 
 /// The lines of the reduction. Err is `TooLarge` if they, an intersection or all of them together exceed the guard's
 /// limits, or `Memory`.
-fn reduced(alloc: Global, read: &Asked, marks: &[bool]) -> Result<Answer, GuardFault>
-    ensures written { IfOk result (λ a. WritesAsked Query.Reduce read.now (marked read.now.case marks.now) a.verdict (written_by a)) }
-    ensures large { IsErrOf result GuardFault.TooLarge → IsTooLargeFor Query.Reduce read.now (marked read.now.case marks.now) }
+fn reduced(alloc: Global, read: &Asked) -> Result<Answer, GuardFault>
+    ensures written { IfOk result (λ a. WritesAsked Query.Reduce read.now a.verdict (written_by a)) }
+    ensures large { IsErrOf result GuardFault.TooLarge → IsTooLargeFor Query.Reduce read.now }
 {
     let most = read.most_answer();
     let mut printer = FoldPrinter::new(alloc, most);
-    match read.reduce_into(alloc, marks, &mut printer)? {
+    match read.reduce_into(alloc, &mut printer)? {
         Some(Failure { item, stop }) => whole_within(alloc, &Reply::Item { item, stop }, most),
         None => printer.end(alloc, most),
     }
 }
 
-/// The answer to a question that is refused: the line of the fault. If memory runs out for the line, it is `refused
-/// Memory`.
-pub(crate) fn refuse_question(alloc: Global, fault: AskFault) -> Answer
+/// Returns the refusal of a question that is not read: the line of the fault, as `open_question` writes it. If memory ran out, also for the
+/// line, it is `refused Memory`.
+pub fn refused_question(alloc: Global, fault: AskFault) -> Answer
     ensures verdict { result.verdict ≡ Verdict.Refused }
     ensures line { (written_by result ≡ refused_question fault) ⊎ (written_by result ≡ refused_memory) }
 {

@@ -1,16 +1,16 @@
 -- The answers to a question that was read: by a verifier, by its marks, and from the texts of the guard's entries.
-use Rattle.std.proofs.Common.{◌≡◌, ℕ, ◌<◌, List, Some, true, Bool, map, length, get_or, slice_get, sym, ap, ◌∙◌, ◌↔◌, suc, [], ◌∷◌, refl, rules, ◌≢◌, Result, Err, Option, None, subst, Ok, IfOk, ◌⊎◌, ◌+◌, ◌++◌}
-use Rattle.std.proofs.lemmas.Option.{slice_get-get_or}
+use Rattle.std.proofs.Common.{◌≡◌, ℕ, ◌<◌, List, Some, map, length, get_or, slice_get, sym, ap, ◌∙◌, [], ◌∷◌, refl, ◌≢◌, Result, Err, Option, None, subst, Ok, IfOk, ◌⊎◌, inl, inr, ◌+◌, ◌++◌}
 use Rattle.spki_decision.specs.declared.signed.Signed as examined
 use Rattle.spki_decision.specs.Standing.{signed_of, Signed, IsAccepted, asked, AgreeOn, with_entries, FailsAt, AreShown, every, RefusedAt}
-use Rattle.spki_decision.proofs.Standing.{at_place, below, decided, none_shown, one_list}
-use Rattle.spki_service.specs.GuardQuestions.{MarksAccept, AskedOf, Decides, MarksTell, Answers, OfCase, AreReduced}
+use Rattle.spki_decision.proofs.Standing.{decided, none_shown, one_list}
+use Rattle.spki_decision.proofs.OneDecision.{decision_one}
+use Rattle.spki_service.specs.GuardQuestions.{AskedOf, Decides, AllMarked, DecidesMarked, AnswersMarked, AreReducedMarked, MarksTell, Answers, OfCase, AreReduced}
 use Rattle.spki_case.specs.Case.{Verified, Case}
 use Rattle.spki_decision.specs.declared.decision.Decision.{Decision}
 use Rattle.spki_decision.proofs.Asked.{decision_by, not_accepted, agrees, refused_item, explained_by, reduced_by, failure_by, folds_by, some_large_by}
 use Rattle.spki_cert.specs.declared.entry.Entry.{Entry}
 use Rattle.spki_decision.specs.declared.fault.GuardFault.{GuardFault}
-use Rattle.spki_decision.specs.declared.fault.GuardFault.TheVariants.{Memory}
+use Rattle.spki_decision.specs.declared.fault.GuardFault.TheVariants.{TooLarge, Memory}
 use Rattle.spki_service.specs.AccessLists.{AreEntries, DecidesPartly, IsEntryText}
 use Rattle.std.proofs.lemmas.Result.{IfOk-weaker}
 use Rattle.std.specs.declared.alloc.AllocError.{AllocError}
@@ -32,46 +32,23 @@ use Rattle.spki_decision.proofs.EntryChains.{failure, FoldedTo, one_folded, too_
 use Rattle.spki_service.specs.declared.failure.Failure.{Failure}
 use Rattle.spki_reduce.specs.Chain.{TooLargeAt, IsWork, Takes, IsOverworked}
 use Rattle.spki_service.proofs.SelectedEntries.{entry_there, as_many}
+use Rattle.spki_service.proofs.MarkedPlaces.{all_at, refused_place, by_both}
 
--- ---- a true mark is for the signature at its place
+-- ---- the decision by marks
 
-pub marked_at : (signed : List Signed) (marks : List Bool) (place : ℕ) (one : Signed) → place < length signed → one ≡ get_or signed place one
-    → slice_get marks place ≡ Some true → IsAccepted (MarksAccept signed marks) one
-marked_at signed marks place one within here mark = (place, one.item, mark, slice_get-get_or signed place one within ∙ ap Some (sym here))
-
-pub marked_here : (signed : List examined.Signed) (marks : List Bool) (place : ℕ) (one : examined.Signed) → place < length signed
-    → one ≡ get_or signed place one → slice_get marks place ≡ Some true → IsAccepted (MarksAccept (map signed_of signed) marks) (signed_of one)
-marked_here signed marks place one within here mark =
-    marked_at (map signed_of signed) marks place (signed_of one) (below signed_of signed place within one here)
-    (sym (at_place signed_of signed place within one here)) mark
-
--- ---- marks that tell what a verifier accepts give its answers
-
-agree_at : (one other : Verified) (signed : List Signed)
-    → ((place : ℕ) (s : Signed) → slice_get signed place ≡ Some s
-    → (IsAccepted one s → IsAccepted other s) × (IsAccepted other s → IsAccepted one s))
-    → AgreeOn one other signed
-agree_at one other [] h = tt
-agree_at one other (s ∷ signed) h = (h 0 s refl, agree_at one other signed (λ place r stands. h (suc place) r stands))
-
-module _ (verified : Verified) (marks : List Bool) (a : AskedOf) (tell : MarksTell verified (asked a.case) marks) where
-  to_marks : (place : ℕ) (s : Signed) → slice_get (asked a.case) place ≡ Some s → IsAccepted verified s
-      → IsAccepted (MarksAccept (asked a.case) marks) s
-  to_marks place s stands accepted = (place, s.item, (tell place s stands).1 accepted, stands)
-
-  from_marks : (s : Signed) → IsAccepted (MarksAccept (asked a.case) marks) s → IsAccepted verified s
-  from_marks s m = (tell m.0 (record { item = m.1; key = s.key; message = s.message; value = s.value }) m.3).0 m.2
-
-  pub decided_alike : (d : Decision) → Decides (MarksAccept (asked a.case) marks) a d ↔ Decides verified a d
-  decided_alike d =
-      let marked = MarksAccept (asked a.case) marks in
-      let one = agree_at marked verified (asked a.case) (λ place s stands. (from_marks s, to_marks place s stands)) in
-      let other = agree_at verified marked (asked a.case) (λ place s stands. (to_marks place s stands, from_marks s)) in (
-        λ h es are. decision_by (with_entries a.case es) marked verified one d (h es are),
-        λ h es are. decision_by (with_entries a.case es) verified marked other d (h es are),
-      )
+pub decided_marked_one : (a : AskedOf) (es : List Entry) (x y : Decision) → AreEntries a.texts es → DecidesMarked a x → DecidesMarked a y → x ≡ y
+decided_marked_one a es x y are =
+    by_both a _ _ _ _ (λ h k. decision_one (with_entries a.case es) every x y (h es are) (k es are)) (λ one e f. e ∙ sym f)
 
 -- ---- a question that was read has one answer
+
+-- an answer of a verifier that accepts all is that by the marks, if each place has one
+pub marked_whole : {A : Type 0} (Answered : Case → Verified → Result A GuardFault → Type 0) (stopped : Signed → A) (a : AskedOf)
+    (x : Result A GuardFault) → AllMarked (asked a.case) a.marks → Answers (λ c answer. Answered c every answer) a x
+    → AnswersMarked Answered stopped a x
+marked_whole Answered stopped a (Ok x) all h = inl (all, h)
+marked_whole Answered stopped a (Err TooLarge) all h = inl (all, h)
+marked_whole Answered stopped a (Err Memory) all h = tt
 
 -- what is answered of one case, of a question's case with the guard's entries
 module _ {A : Type 0} (Answered : Case → Verified → Result A GuardFault → Type 0)
@@ -87,6 +64,23 @@ module _ {A : Type 0} (Answered : Case → Verified → Result A GuardFault → 
       → Answers (λ c answer. Answered c verified answer) a y → IsSame x y
   answer_one verified a es x y are found known h k =
       one (with_entries a.case es) verified x y (of_case verified a es x are found h) (of_case verified a es y are known k)
+
+  module _ (stopped : Signed → A) (same : (s : Signed) → IsSame (Ok (stopped s)) (Ok (stopped s))) (a : AskedOf) (es : List Entry)
+      (are : AreEntries a.texts es) where
+    pub marked_one : (x y : Result A GuardFault) → x ≢ Err Memory → y ≢ Err Memory → AnswersMarked Answered stopped a x
+        → AnswersMarked Answered stopped a y → IsSame x y
+    marked_one (Err Memory) y found known h k = absurd (found refl)
+    marked_one (Ok x) (Err Memory) found known h k = absurd (known refl)
+    marked_one (Err TooLarge) (Err Memory) found known h k = absurd (known refl)
+    marked_one (Ok x) (Ok y) found known h k =
+        by_both a _ _ _ _ (λ m n. one (with_entries a.case es) every (Ok x) (Ok y) (m es are) (n es are))
+        (λ s e f. subst (λ u. IsSame (Ok u) (Ok y)) (sym e) (subst (λ u. IsSame (Ok (stopped s)) (Ok u)) (sym f) (same s))) h k
+    marked_one (Ok x) (Err TooLarge) found known h k =
+        by_both a _ _ _ _ (λ m n. one (with_entries a.case es) every (Ok x) (Err TooLarge) (m es are) (n es are)) (λ s e f. absurd f) h k
+    marked_one (Err TooLarge) (Ok y) found known h k =
+        by_both a _ _ _ _ (λ m n. one (with_entries a.case es) every (Err TooLarge) (Ok y) (m es are) (n es are)) (λ s e f. absurd e) h k
+    marked_one (Err TooLarge) (Err TooLarge) found known h k =
+        by_both a _ _ _ _ (λ m n. one (with_entries a.case es) every (Err TooLarge) (Err TooLarge) (m es are) (n es are)) (λ s e f. absurd e) h k
 
 -- ---- what a verifier's answers make of a question that was examined
 
@@ -152,6 +146,26 @@ module _ (a : AskedOf) (verified : Verified) where
 
     pub folds_none : (item : ℕ) → item ≡ r.refused.item → AreReduced a verified (Some (record { item = item; stop = NotAccepted })) []
     folds_none item same = folds_failed item NotAccepted (fails item same)
+
+-- ---- marks that tell what a verifier accepts
+
+module _ (verified : Verified) (a : AskedOf) (tell : MarksTell verified (asked a.case) a.marks) where
+  pub decided_told : (d : Decision) → DecidesMarked a d → Decides verified a d
+  decided_told d (inl (all, h)) =
+      let accepted = all_at (IsAccepted verified) (asked a.case) (λ place s stands. (tell place s stands).0 (all place s stands)) in
+      λ es are. decision_by (with_entries a.case es) every verified (agrees verified (asked a.case) accepted) d (h es are)
+  decided_told d (inr (one, u, none)) =
+      let refused = refused_place verified (asked a.case) u.place one u.stands (λ other s below there. (tell other s there).0 (u.before other below))
+      (λ accepted. u.not_marked ((tell u.place one u.stands).1 accepted)) in
+      subst (Decides verified a) (sym none) (decided_none a verified u.place refused)
+
+-- ---- what entries become, by marks
+
+pub folded_marked : (a : AskedOf) → AllMarked (asked a.case) a.marks → (takes : List EntryFold → Type 0) (r : Result (Option Failure) GuardFault)
+    → IfOk r (λ failure. (folds : List EntryFold) × takes folds × AreReduced a every failure folds)
+    → IfOk r (λ failure. (folds : List EntryFold) × takes folds × AreReducedMarked a failure folds)
+folded_marked a all takes (Ok failure) (folds, taken, h) = (folds, taken, inl (all, h))
+folded_marked a all takes (Err fault) h = tt
 
 -- ---- the same question, as its fields are
 

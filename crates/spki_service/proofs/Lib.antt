@@ -7,3 +7,5 @@ pub mod AnswerLaws
 pub mod ListReading
 pub mod DateLaws
 pub mod OneAsking
+pub mod MarkedPlaces
+pub mod ReplayedCases

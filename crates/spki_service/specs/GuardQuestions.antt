@@ -26,11 +26,18 @@ use Rattle.spki_case.specs.Case.{Case, Verified}
 use Rattle.spki_decision.specs.declared.fault.GuardFault.{GuardFault}
 use Rattle.spki_decision.specs.declared.fault.GuardFault.TheVariants.{TooLarge, Memory}
 use Rattle.spki_decision.specs.declared.decision.Decision.{Decision}
-use Rattle.spki_decision.specs.Granted.{IsDecision, AreFoldsOf, IsDated, EndsAtDate, IsFailure, AreFolds}
+use Rattle.spki_decision.specs.declared.decision.Decision.TheVariants.{No}
+use Rattle.spki_decision.specs.declared.evidence.Stop.TheVariants.{NotAccepted}
+use Rattle.spki_decision.specs.declared.explanation.Explanation.{Explanation}
+use Rattle.spki_decision.specs.declared.explanation.Explanation.TheVariants as explanations
+use Rattle.spki_decision.specs.declared.reduction.Reduction.{Reduction}
+use Rattle.spki_decision.specs.declared.reduction.Reduction.TheVariants as reductions
+use Rattle.spki_decision.specs.Answered.{IsExplained, IsReduced}
+use Rattle.spki_decision.specs.Granted.{IsDecision, IsYes, AreFoldsOf, IsDated, EndsAtDate, IsFailure, AreFolds}
 use Rattle.spki_decision.specs.Standing.{with_entries, Signed, IsAccepted, asked, every}
 use Rattle.spki_service.specs.AccessLists.{AreEntries, Held}
 use Rattle.spki_service.specs.declared.opened.Opened.{Opened}
-use Rattle.std.proofs.Common.{◌≡◌, ℕ, List, [], Option, Some, None, ◌⊎◌, ◌↔◌, true, slice_get, Result, Ok, Err, Bool, ◌≤◌, ◌<◌}
+use Rattle.std.proofs.Common.{◌≡◌, ℕ, List, [], Option, Some, None, ◌⊎◌, ◌↔◌, true, slice_get, Result, Ok, Err, Bool, ◌≤◌, ◌<◌, length, IsTrue}
 use Rattle.std.specs.List.{AllByRecursion}
 use Rattle.spki_reduce.specs.Reduction.{Tuple}
 use Rattle.spki_decision.specs.declared.reduction.EntryFold.{EntryFold}
@@ -156,11 +163,12 @@ pub record AreCopies (texts copies : Texts) : Type 0 where
 -- parts (RFC 2693, section 6).
 
 -- A question that was read. It has the canonical texts of the guard's entries, the case of the question's parts, which has no entries
--- of its own, and the guard's limit of the octets of an answer.
+-- of its own, the guard's limit of the octets of an answer, and its marks.
 pub record AskedOf : Type 0 where
   pub texts : List (List ℕ)
   pub case : Case
   pub answer : ℕ
+  pub marks : List Bool
 
 -- a statement is true of the question's case with the guard's entries
 abbrev pub OfCase : AskedOf → (Case → Type 0) → Type 0
@@ -176,16 +184,80 @@ Answers IsAnswer a (Ok answer) = OfCase a (λ c. IsAnswer c (Ok answer))
 Answers IsAnswer a (Err TooLarge) = OfCase a (λ c. IsAnswer c (Err TooLarge))
 Answers IsAnswer a (Err Memory) = Unit {0}
 
--- What marks accept: the signatures that are listed at a place with a true mark.
-abbrev pub MarksAccept : List Signed → List Bool → Verified
-MarksAccept signed marks key message value =
-    (place : ℕ) × (item : ℕ) × (slice_get marks place ≡ Some true)
-    × (slice_get signed place ≡ Some (record { item = item; key = key; message = message; value = value }))
+-- ---- marks
 
--- Marks tell what a verifier accepts: the mark at the place of a signature is true exactly if the verifier accepts the signature.
+-- the place has a mark: a service says that the signature that is listed there is valid
+abbrev pub IsMarked : List Bool → ℕ → Type 0
+IsMarked marks place = slice_get marks place ≡ Some true
+
+-- no place has a mark
+abbrev pub NoneMarked : List Bool → Type 0
+NoneMarked marks = (place : ℕ) → ¬ IsMarked marks place
+
+-- This place has a mark, and every other place that has one before.
+pub record IsMarkedToo (old : List Bool) (place : ℕ) (new : List Bool) : Type 0 where
+  pub only : (other : ℕ) → IsMarked new other ↔ ((other ≡ place) ⊎ IsMarked old other)
+  pub counted : length new ≡ length old
+
+-- the first place below a number that has no mark, if there is one
+abbrev pub IsFirstUnmarked : ℕ → List Bool → Option ℕ → Type 0
+IsFirstUnmarked count marks None = (place : ℕ) → place < count → IsMarked marks place
+IsFirstUnmarked count marks (Some place) =
+    (place < count) × ¬ IsMarked marks place × ((other : ℕ) → other < place → IsMarked marks other)
+
+-- Each listed signature has a mark at its place. A signature that is listed twice has two places.
+abbrev pub AllMarked : List Signed → List Bool → Type 0
+AllMarked signed marks = (place : ℕ) (s : Signed) → slice_get signed place ≡ Some s → IsMarked marks place
+
+-- This is the first listed signature without a mark at its place.
+pub record IsUnmarked (signed : List Signed) (marks : List Bool) (one : Signed) : Type 0 where
+  pub place : ℕ
+  pub stands : slice_get signed place ≡ Some one
+  pub not_marked : ¬ IsMarked marks place
+  pub before : (other : ℕ) → other < place → IsMarked marks other
+
+-- What a question says by its marks. If each listed signature has a mark at its place, this is what it says if all are valid. Otherwise
+-- the first one without a mark stops it.
+abbrev pub ByMarks : AskedOf → (whole : Type 0) → (stopped : Signed → Type 0) → Type 0
+ByMarks a whole stopped =
+    (AllMarked (asked a.case) a.marks × whole)
+    ⊎ ((one : Signed) × IsUnmarked (asked a.case) a.marks one × stopped one)
+
+-- the decision by the marks: no, unless each listed signature has a mark at its place
+abbrev pub DecidesMarked : AskedOf → Decision → Type 0
+DecidesMarked a d = ByMarks a (Decides every a d) (λ one. d ≡ No)
+
+-- Whether the question is granted if all listed signatures are valid.
+pub record IsPossible (a : AskedOf) (yes : Bool) : Type 0 where
+  pub decision : Decision
+  pub decides : Decides every a decision
+  pub answer : IsTrue yes ↔ IsYes decision
+
+-- Whether the question is granted by the marks.
+pub record IsGranted (a : AskedOf) (yes : Bool) : Type 0 where
+  pub decision : Decision
+  pub decides : DecidesMarked a decision
+  pub answer : IsTrue yes ↔ IsYes decision
+
+-- An answer by the marks. If each listed signature has a mark, it is that of a verifier that accepts all. Otherwise it is `stopped` of the
+-- first one without a mark. Nothing is claimed if memory ran out.
+abbrev pub AnswersMarked : {A : Type 0} → (Case → Verified → Result A GuardFault → Type 0) → (Signed → A) → AskedOf → Result A GuardFault → Type 0
+AnswersMarked IsAnswer stopped a (Ok answer) = ByMarks a (OfCase a (λ c. IsAnswer c every (Ok answer))) (λ one. answer ≡ stopped one)
+AnswersMarked IsAnswer stopped a (Err TooLarge) = ByMarks a (OfCase a (λ c. IsAnswer c every (Err TooLarge))) (λ one. ⊥)
+AnswersMarked IsAnswer stopped a (Err Memory) = Unit {0}
+
+-- the explanation by the marks: the certificate of the first listed signature without a mark fails
+abbrev pub ExplainsMarked : AskedOf → Result Explanation GuardFault → Type 0
+ExplainsMarked = AnswersMarked IsExplained (λ one. explanations.Evidence one.item NotAccepted)
+
+-- the same of a reduction
+abbrev pub ReducesMarked : AskedOf → Result Reduction GuardFault → Type 0
+ReducesMarked = AnswersMarked IsReduced (λ one. reductions.Evidence one.item NotAccepted)
+
+-- Marks tell what a verifier accepts: the place of a signature has a mark exactly if the verifier accepts the signature.
 abbrev pub MarksTell : Verified → List Signed → List Bool → Type 0
 MarksTell verified signed marks =
-    (place : ℕ) (s : Signed) → slice_get signed place ≡ Some s → (slice_get marks place ≡ Some true) ↔ IsAccepted verified s
+    (place : ℕ) (s : Signed) → slice_get signed place ≡ Some s → IsMarked marks place ↔ IsAccepted verified s
 
 -- ---- what a question that was read keeps of its texts
 
@@ -210,24 +282,18 @@ pub record IsKeptOf (held : Held) (texts : Texts) (signed : List Signed) (d : De
 -- ---- questions that own what they need
 
 -- The question is opened for the guard: its texts are kept, and together they have no more octets than the guard's limit. So are the
--- signatures that a verifier is asked about, and the decision if it accepts all of them.
+-- signatures that a verifier is asked about, each with room for its mark, and the decision if all of them are valid.
 pub record IsOpened (held : Held) (q : Question) (o : Opened) : Type 0 where
   pub guard_is : o.guard ≡ held
   pub texts : IsTextsOf q o.texts
   pub short : asked_octets q ≤ held.octets
-  pub kept : IsKeptOf o.guard o.texts o.signed.items o.decision
+  pub kept : IsKeptOf o.guard o.texts o.signed.items o.if_valid
+  pub counted : length o.marks.items ≡ length o.signed.items
 
--- ---- marks for the same signature
-
--- two signatures are the same question to a verifier: by the same key, over the same message, with the same value
-abbrev pub AskSame : Signed → Signed → Type 0
-AskSame one other = (one.key ≡ other.key) × (one.message ≡ other.message) × (one.value ≡ other.value)
-
--- no place before `bound` has a true mark for the same signature
-abbrev pub NoneMarked : List Signed → List Bool → Signed → ℕ → Type 0
-NoneMarked signed marks one bound =
-    (place : ℕ) (other : Signed) → place < bound → slice_get marks place ≡ Some true → slice_get signed place ≡ Some other
-    → ¬ AskSame other one
+-- The same question, with a mark at one more place.
+pub record HasMark (old : Opened) (place : ℕ) (new : Opened) : Type 0 where
+  pub marks : IsMarkedToo old.marks.items place new.marks.items
+  pub others : new ≡ record old { marks = new.marks }
 
 -- ---- what the entries of canonical texts become, each with all certificates (RFC 2693, section 6.3)
 
@@ -244,3 +310,9 @@ abbrev pub AreReduced : AskedOf → Verified → Option Failure → List EntryFo
 AreReduced a verified (Some failure) folds = (folds ≡ []) × OfCase a (λ c. IsFailure c verified failure.item failure.stop)
 AreReduced a verified None folds =
     OfCase a (λ c. AreFolds c verified folds) × AllByRecursion IsDated folds × AllByRecursion EndsAtDate folds
+
+-- the same by the marks
+abbrev pub AreReducedMarked : AskedOf → Option Failure → List EntryFold → Type 0
+AreReducedMarked a failure folds =
+    ByMarks a (AreReduced a every failure folds)
+    (λ one. (failure ≡ Some (record { item = one.item; stop = NotAccepted })) × (folds ≡ []))

@@ -3,3 +3,4 @@ pub mod AccessLists
 pub mod Questions
 pub mod GuardQuestions
 pub mod TextLists
+pub mod Replayed

@@ -9,17 +9,16 @@ ghost use Rattle.spki_decision.specs.declared.reduction.EntryFold.{EntryFold};
 ghost use Rattle.spki_decision.specs.Granted.{EndAtDates, SomeTooLarge};
 ghost use Rattle.spki_decision.specs.Requirements.{first_key};
 ghost use Rattle.spki_service.specs.AccessLists.{AreEntries, DecidesPartly};
-ghost use Rattle.spki_service.specs.GuardQuestions.{Answers, OfCase, Decides, MarksAccept, AreReduced};
+ghost use Rattle.spki_service.specs.GuardQuestions.{Answers, OfCase, Decides, AreReduced, ByMarks, IsPossible, DecidesMarked, ExplainsMarked, ReducesMarked, AreReducedMarked};
 
 use crate::asked::Asked;
 use crate::failure::Failure;
 use crate::granted_entry::first_granted;
-use crate::marks::first_unmarked;
 use crate::text_folds::fold_texts;
 use spki_case::Verifier;
 use spki_cert::Key;
 use spki_decision::{
-    Decision, Evidence, Explanation, FoldSink, GuardFault, ReasonSink, Reduction, Signed, Stop,
+    Decision, Explanation, FoldSink, GuardFault, ReasonSink, Reduction, Signed, Stop, Unverified,
     first_refused,
 };
 use spki_reduce::{Issuer, Step};
@@ -56,20 +55,31 @@ impl<'a> Asked<'a> {
         }
     }
 
-    /// Decides the question, if exactly the signatures are accepted that `signed` lists at the places where `verified`
-    /// is true. A true mark also accepts the same key, message and value at any other place. Missing marks count as
-    /// false, and marks past the last signature are ignored.
+    /// Decides the question, if exactly the marked signatures are valid. So the answer is no unless each signature that `signed` lists
+    /// has a mark at its place.
     ///
     /// # Errors
     ///
-    /// Those of `decide`.
-    pub fn decide_by(&self, alloc: Global, verified: &[bool]) -> Result<Decision, AllocError>
-        ensures { IfOk result (Decides (MarksAccept (asked self.now.case) verified.now) self.now) }
+    /// `AllocError` if memory ran out.
+    pub fn decide_by(&self, alloc: Global) -> Result<Decision, AllocError>
+        ensures { IfOk result (DecidesMarked self.now) }
     {
-        match first_unmarked(&self.examined.signed, verified) {
+        match self.unmarked() {
             None => self.decided(alloc),
             Some(_) => Ok(Decision::No),
         }
+    }
+
+    /// Whether the question is granted if all listed signatures are valid. If it is not, no marks make it a yes, and no signature has to
+    /// be verified. True grants nothing.
+    ///
+    /// # Errors
+    ///
+    /// `AllocError` if memory ran out.
+    pub fn is_possible(&self, alloc: Global) -> Result<bool, AllocError>
+        ensures { IfOk result (IsPossible self.now) }
+    {
+        Ok(self.decided(alloc)?.is_yes())
     }
 
     /// The decision if the verifier accepts every signature. `No` if a certificate fails another test. Err if memory
@@ -77,9 +87,9 @@ impl<'a> Asked<'a> {
     pub(crate) fn decided(&self, alloc: Global) -> Result<Decision, AllocError>
         ensures { IfOk result (Decides every self.now) }
     {
-        match &self.examined.evidence {
-            Evidence::Fails { .. } => Ok(Decision::No),
-            Evidence::Verified(steps) => self.granted(alloc, steps),
+        match &self.examined.unverified {
+            Unverified::Fails { .. } => Ok(Decision::No),
+            Unverified::Passes(steps) => self.granted(alloc, steps),
         }
     }
 
@@ -119,20 +129,18 @@ impl<'a> Asked<'a> {
         }
     }
 
-    /// Explains the question, if exactly the signatures are accepted that `signed` lists at the places where `verified`
-    /// is true. A true mark also accepts the same key, message and value at any other place. Missing marks count as
-    /// false, and marks past the last signature are ignored.
+    /// Explains the question, if exactly the marked signatures are valid.
     ///
     /// # Errors
     ///
     /// Those of `explain`.
-    pub fn explain_by(&self, alloc: Global, verified: &[bool]) -> Result<Explanation, GuardFault>
-        ensures { Answers (λ c answer. IsExplained c (MarksAccept (asked self.now.case) verified.now) answer) self.now result }
+    pub fn explain_by(&self, alloc: Global) -> Result<Explanation, GuardFault>
+        ensures { ExplainsMarked self.now result }
     {
-        match first_unmarked(&self.examined.signed, verified) {
+        match self.unmarked() {
             None => self.explained(alloc),
-            Some(place) => Ok(Explanation::Evidence {
-                item: self.examined.signed[place].item,
+            Some(one) => Ok(Explanation::Evidence {
+                item: one.item,
                 stop: Stop::NotAccepted,
             }),
         }
@@ -163,21 +171,19 @@ impl<'a> Asked<'a> {
         }
     }
 
-    /// Reduces the question, if exactly the signatures are accepted that `signed` lists at the places where `verified`
-    /// is true. A true mark also accepts the same key, message and value at any other place. Missing marks count as
-    /// false, and marks past the last signature are ignored.
+    /// Reduces the question, if exactly the marked signatures are valid.
     ///
     /// # Errors
     ///
     /// Those of `explain`.
-    pub fn reduce_by(&self, alloc: Global, verified: &[bool]) -> Result<Reduction<'a>, GuardFault>
-        ensures reduced { Answers (λ c answer. IsReduced c (MarksAccept (asked self.now.case) verified.now) answer) self.now result }
+    pub fn reduce_by(&self, alloc: Global) -> Result<Reduction<'a>, GuardFault>
+        ensures reduced { ReducesMarked self.now result }
         ensures end { IfOk result EndAtDates }
     {
-        match first_unmarked(&self.examined.signed, verified) {
+        match self.unmarked() {
             None => self.reduced(alloc),
-            Some(place) => Ok(Reduction::Evidence {
-                item: self.examined.signed[place].item,
+            Some(one) => Ok(Reduction::Evidence {
+                item: one.item,
                 stop: Stop::NotAccepted,
             }),
         }
@@ -193,18 +199,17 @@ impl<'a> Asked<'a> {
     pub fn reduce_into<S: FoldSink<'a>>(
         &self,
         alloc: Global,
-        verified: &[bool],
         sink: &mut S,
     ) -> Result<Option<Failure>, GuardFault>
         ensures folds { IfOk result (λ failure. (folds : List EntryFold) × S.takes sink.old folds sink.new
-            × AreReduced self.now (MarksAccept (asked self.now.case) verified.now) failure folds) }
+            × AreReducedMarked self.now failure folds) }
         ensures too_large { IsErrOf result GuardFault.TooLarge →
-            OfCase self.now (λ c. SomeTooLarge c (MarksAccept (asked self.now.case) verified.now)) }
+            ByMarks self.now (OfCase self.now (λ c. SomeTooLarge c every)) (λ one. ⊥) }
     {
-        match first_unmarked(&self.examined.signed, verified) {
+        match self.unmarked() {
             None => self.put_folds(alloc, sink),
-            Some(place) => Ok(Some(Failure {
-                item: self.examined.signed[place].item,
+            Some(one) => Ok(Some(Failure {
+                item: one.item,
                 stop: Stop::NotAccepted,
             })),
         }
@@ -249,12 +254,12 @@ impl<'a> Asked<'a> {
             × AreReduced self.now every failure folds) }
         ensures too_large { IsErrOf result GuardFault.TooLarge → OfCase self.now (λ c. SomeTooLarge c every) }
     {
-        match &self.examined.evidence {
-            Evidence::Fails { item, stop } => Ok(Some(Failure {
+        match &self.examined.unverified {
+            Unverified::Fails { item, stop } => Ok(Some(Failure {
                 item: *item,
                 stop: *stop,
             })),
-            Evidence::Verified(steps) => {
+            Unverified::Passes(steps) => {
                 let guard = self.guard;
                 fold_texts(alloc, &guard.texts, &self.case, steps, sink)?;
                 Ok(None)

@@ -6,7 +6,8 @@ ghost use Rattle.spki_cert.specs.declared.entry.Entry.{Entry};
 ghost use Rattle.spki_case.specs.Case.{IsOuter};
 ghost use Rattle.spki_service.specs.AccessLists.{AreEntries, HasLimits, HoldsList, HoldsValue, numbers_from, IsNoAccessList, IsNoAcl, ListRefused, is_of};
 ghost use Rattle.spki_service.specs.Questions.{certificates_in, HasFewStrings, IsRefused, IsAskedCase, asked_octets};
-ghost use Rattle.spki_service.specs.GuardQuestions.{IsTextsOf};
+ghost use Rattle.spki_service.specs.GuardQuestions.{IsTextsOf, NoneMarked};
+ghost use Rattle.spki_decision.specs.Standing.{asked};
 ghost use Rattle.spki_service.specs.declared.question.Question.{Question};
 
 use crate::asked::Asked;
@@ -15,6 +16,7 @@ use crate::entry_texts::entry_texts;
 use crate::index::EntryIndex;
 use crate::limits::Limits;
 use crate::list_fault::AclFault;
+use crate::marks::no_marks;
 use crate::parts::case_of;
 use crate::question::{AskFault, Question};
 use crate::text_list::TextList;
@@ -118,7 +120,7 @@ impl Guard {
     }
 
     /// Reads the parts of a question, each by itself, in the order sequence, key, request, moment, and examines the
-    /// certificates.
+    /// certificates. No signature is marked.
     ///
     /// # Errors
     ///
@@ -141,6 +143,8 @@ impl Guard {
             → IsRefused self.entry.now.certificates self.entry.now.words q fault) }
         ensures few { IfOk result (λ a. certificates_in a.case.items ≤ self.entry.now.certificates) }
         ensures short { (q : Question) → IsTextsOf q texts.entry.now → IfOk result (λ _. HasFewStrings self.entry.now.words q) }
+        ensures unmarked { IfOk result (λ a. NoneMarked a.marks) }
+        ensures counted { IfOk result (λ a. length a.marks ≡ length (asked a.case)) }
     {
         if self.limits.octets < texts.octets {
             return Err(AskFault::TooLong);
@@ -149,10 +153,12 @@ impl Guard {
         let case = case_of(alloc, texts, self.policy, self.limits, algorithms)?;
         check_counts(alloc, &case, texts, self.limits)?;
         let examined = examine(alloc, &case.sequence, case.policy)?;
+        let marks = no_marks(alloc, examined.signed.len())?;
         Ok(Asked {
             guard: self,
             case,
             examined,
+            marks,
         })
     }
 

@@ -1,20 +1,23 @@
 //! Laws of access lists, questions, answers and dates.
 //! Each function is a law: it does nothing, and its contract is the fact.
 
-ghost use Rattle.std.specs.Prelude.{◌≡◌, ◌≢◌, ◌↔◌, ℤ, ℕ, List, Bool, Result, Err};
+ghost use Rattle.std.specs.Prelude.{◌≡◌, ◌≢◌, ℤ, ℕ, List, false, Result, Ok, Err};
 ghost use Rattle.spki_cert.specs.declared.entry.Entry.{Entry};
-ghost use Rattle.spki_case.specs.Case.{Case};
+ghost use Rattle.spki_case.specs.Case.{Case, accepted_by};
 ghost use Rattle.spki_decision.specs.declared.decision.Decision.{Decision};
 ghost use Rattle.spki_decision.specs.declared.explanation.Explanation.{Explanation};
 ghost use Rattle.spki_decision.specs.declared.reduction.Reduction.{Reduction};
 ghost use Rattle.spki_decision.specs.declared.fault.GuardFault.{GuardFault};
 ghost use Rattle.spki_decision.specs.declared.fault.GuardFault.TheVariants.{Memory};
-ghost use Rattle.spki_decision.specs.Answered.{IsExplained, IsReduced, AreSame};
+ghost use Rattle.spki_decision.specs.Answered.{IsDecided, IsExplained, IsReduced, AreSame};
 ghost use Rattle.spki_decision.specs.Standing.{Signed, asked};
 ghost use Rattle.spki_decision.specs.Explained.{IsSameExplanation};
 ghost use Rattle.spki_decision.specs.Granted.{IsSameReduction};
-ghost use Rattle.spki_service.specs.GuardQuestions.{AskedOf, Answers, Decides, MarksAccept, MarksTell};
-ghost use Rattle.spki_service.specs.AccessLists.{AreEntries, HoldsList, IsNoAccessList};
+ghost use Rattle.spki_service.specs.GuardQuestions.{AskedOf, Answers, Decides, DecidesMarked, ExplainsMarked, ReducesMarked, AllMarked, IsUnmarked, IsPossible, MarksTell, HasMark, IsOpened};
+ghost use Rattle.spki_service.specs.Replayed.{IsCaseOfParts, AreRowsOf, AreMarkedAlike};
+ghost use Rattle.spki_service.specs.declared.opened.Opened.{Opened};
+ghost use Rattle.spki_decision.specs.declared.decision.Decision.TheVariants.{Yes, No};
+ghost use Rattle.spki_service.specs.AccessLists.{Held, AreEntries, HoldsList, IsNoAccessList};
 ghost use Rattle.spki_service.specs.Questions.{IsDateAt, IsAtNoDate, IsAskedCase, IsNotAsked};
 ghost use Rattle.spki_service.specs.declared.question.Question.{Question};
 ghost use Rattle.spki_service.specs.declared.question.AskFault.{AskFault};
@@ -61,24 +64,46 @@ pub fn one_answer<V: Verifier>()
         → Answers (λ c answer. IsReduced c (V.accepted verifier) answer) a y → AreSame IsSameReduction x y }
 {}
 
-/// By the same marks, a question that was read has at most one answer of `Asked::decide_by`, of `explain_by` and of `reduce_by`,
+/// A question that was read has at most one answer of `Asked::decide_by`, of `explain_by` and of `reduce_by` by its marks,
 /// unless memory ran out. The guard's texts must be those of some entries, as they are in every guard.
 pub fn one_marked_answer()
-    ensures decision { (signed : List Signed) (marks : List Bool) (a : AskedOf) (es : List Entry) (x y : Decision)
-        → AreEntries a.texts es → Decides (MarksAccept signed marks) a x → Decides (MarksAccept signed marks) a y → x ≡ y }
-    ensures explanation { (signed : List Signed) (marks : List Bool) (a : AskedOf) (es : List Entry) (x y : Result Explanation GuardFault)
-        → AreEntries a.texts es → x ≢ Err Memory → y ≢ Err Memory
-        → Answers (λ c answer. IsExplained c (MarksAccept signed marks) answer) a x
-        → Answers (λ c answer. IsExplained c (MarksAccept signed marks) answer) a y → AreSame IsSameExplanation x y }
-    ensures reduction { (signed : List Signed) (marks : List Bool) (a : AskedOf) (es : List Entry) (x y : Result Reduction GuardFault)
-        → AreEntries a.texts es → x ≢ Err Memory → y ≢ Err Memory
-        → Answers (λ c answer. IsReduced c (MarksAccept signed marks) answer) a x
-        → Answers (λ c answer. IsReduced c (MarksAccept signed marks) answer) a y → AreSame IsSameReduction x y }
+    ensures decision { (a : AskedOf) (es : List Entry) (x y : Decision) → AreEntries a.texts es → DecidesMarked a x → DecidesMarked a y
+        → x ≡ y }
+    ensures explanation { (a : AskedOf) (es : List Entry) (x y : Result Explanation GuardFault) → AreEntries a.texts es
+        → x ≢ Err Memory → y ≢ Err Memory → ExplainsMarked a x → ExplainsMarked a y → AreSame IsSameExplanation x y }
+    ensures reduction { (a : AskedOf) (es : List Entry) (x y : Result Reduction GuardFault) → AreEntries a.texts es
+        → x ≢ Err Memory → y ≢ Err Memory → ReducesMarked a x → ReducesMarked a y → AreSame IsSameReduction x y }
 {}
 
-/// If the mark of each listed signature is true exactly if a verifier accepts the signature, `Asked::decide_by` these marks decides as
-/// `Asked::decide` by the verifier.
+/// If the places with a mark are those of the signatures that a verifier accepts, `Asked::decide_by` decides as `Asked::decide` by the
+/// verifier.
 pub fn marked_as_verified<V: Verifier>()
-    ensures { (verifier : V) (marks : List Bool) (a : AskedOf) (d : Decision) → MarksTell (V.accepted verifier) (asked a.case) marks
-        → Decides (MarksAccept (asked a.case) marks) a d ↔ Decides (V.accepted verifier) a d }
+    ensures { (verifier : V) (a : AskedOf) (d : Decision) → MarksTell (V.accepted verifier) (asked a.case) a.marks
+        → DecidesMarked a d → Decides (V.accepted verifier) a d }
+{}
+
+/// A yes by marks means that the signature of each certificate that is listed has a mark at its place. So without one of them the answer is
+/// no.
+pub fn own_marks()
+    ensures yes { (a : AskedOf) (n : ℕ) → DecidesMarked a (Yes n) → AllMarked (asked a.case) a.marks }
+    ensures no { (a : AskedOf) (d : Decision) (one : Signed) → IsUnmarked (asked a.case) a.marks one → DecidesMarked a d → d ≡ No }
+{}
+
+/// If not even all listed signatures together make a question a yes, no marks do.
+pub fn possible()
+    ensures { (a : AskedOf) (es : List Entry) (n : ℕ) → AreEntries a.texts es → IsPossible a false → ¬ DecidesMarked a (Yes n) }
+{}
+
+/// A guard's decision by marks is that of `check`. An auditor composes the case of the guard's entries and policy and the question's parts,
+/// with rows for exactly the marked signatures. If signatures of equal key, digest and value are marked alike, and the case is not refused,
+/// `check` answers the same.
+pub fn as_check()
+    ensures { (a : AskedOf) (es : List Entry) (c : Case) (x y : Decision) → AreEntries a.texts es → IsCaseOfParts a es c
+        → AreRowsOf c.rows (asked a.case) a.marks → AreMarkedAlike (asked a.case) a.marks
+        → DecidesMarked a x → IsDecided c (accepted_by c) (Ok y) → x ≡ y }
+{}
+
+/// What is marked stays the question that was opened.
+pub fn marked_stays()
+    ensures { (held : Held) (q : Question) (old new : Opened) (place : ℕ) → HasMark old place new → IsOpened held q old → IsOpened held q new }
 {}

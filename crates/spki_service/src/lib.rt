@@ -17,7 +17,6 @@ mod marks;
 mod measure;
 mod opened;
 mod openings;
-mod owned_marks;
 mod owned_signed;
 mod owned_texts;
 mod parts;

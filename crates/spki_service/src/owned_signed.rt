@@ -1,8 +1,7 @@
 //! Signatures that a verifier is asked about, with texts of their own.
 
-ghost use Rattle.std.specs.Prelude.{◌≡◌, ◌↔◌, ◌≤◌, map, length, IsTrue, IfOk, IfErr};
+ghost use Rattle.std.specs.Prelude.{◌≡◌, ◌≤◌, map, length, IfOk, IfErr};
 ghost use Rattle.spki_decision.specs.Standing.{signed_of};
-ghost use Rattle.spki_service.specs.GuardQuestions.{AskSame};
 
 use spki_cert::Key;
 use spki_decision::Signed;
@@ -53,16 +52,6 @@ impl OwnedSigned {
         ensures { result.now ≡ self.now.value }
     {
         self.value.as_slice()
-    }
-
-    /// Whether two signatures are by the same key, over the same message, with the same value. So a verifier's answer
-    /// to one is its answer to the other.
-    pub(crate) fn asks_same(&self, other: &OwnedSigned) -> bool
-        ensures { IsTrue result ↔ AskSame self.now other.now }
-    {
-        self.value() == other.value()
-            && self.message() == other.message()
-            && self.key() == other.key()
     }
 }
 

@@ -7,8 +7,8 @@ use crate::texts::{at, behind, number, word_of};
 use crate::verifier::RowVerifier;
 use spki_cert::Policy;
 use spki_decision::{GuardFault, Reduction};
-use spki_service::{Asked, Guard, Limits, Moment, Question, RequestInput, Texts};
-use std::alloc::{AllocError, Global};
+use spki_service::{AskFault, Asked, Guard, Limits, Moment, Question, RequestInput, Texts};
+use std::alloc::Global;
 
 /// The answer of the call with this name, of this module or of those behind it. None if there is no such call.
 pub(crate) fn call(alloc: Global, name: &str, texts: &[Vec<u8>]) -> Option<Reply> {
@@ -23,7 +23,8 @@ pub(crate) fn call(alloc: Global, name: &str, texts: &[Vec<u8>]) -> Option<Reply
         | "Asked::explain_by"
         | "Asked::reduce"
         | "Asked::reduce_by"
-        | "Asked::reduce_into" => { Some(call_on(alloc, guard(alloc, texts), name, texts)) }
+        | "Asked::reduce_into"
+        | "Asked::is_possible" => { Some(call_on(alloc, guard(alloc, texts), name, texts)) }
         _ => opened::call(alloc, name, texts),
     }
 }
@@ -124,15 +125,6 @@ fn seconds(text: &[u8]) -> i64 {
     word_of(text).parse().unwrap_or(0)
 }
 
-/// Which signatures are verified: those whose octet is 1.
-pub fn marks(alloc: Global, text: &[u8]) -> Result<Vec<bool>, AllocError> {
-    let mut marks = Vec::new(alloc);
-    for octet in text {
-        marks.push(*octet == b'1')?;
-    }
-    Ok(marks)
-}
-
 /// What is answered to a question of a guard, by a verifier or by marks.
 fn ask(alloc: Global, name: &str, guard: &Guard, question: &Question, by: &[Vec<u8>]) -> Reply {
     let texts = guard.texts(alloc, question)?;
@@ -142,10 +134,27 @@ fn ask(alloc: Global, name: &str, guard: &Guard, question: &Question, by: &[Vec<
 fn of_texts(alloc: Global, name: &str, guard: &Guard, texts: Texts, by: &[Vec<u8>]) -> Reply {
     let reply = match name {
         "Guard::texts" => word(alloc, "read"),
-        _ => call_on(alloc, guard.ask(alloc, &texts), name, by),
+        _ => call_on(alloc, marked(alloc, guard, &texts, at(by, 0)), name, by),
     };
     drop(texts);
     reply
+}
+
+/// A question that was read, with the marks of a text: at the places of the octet 1. Places that the question does not have are passed
+/// over.
+fn marked<'a>(
+    alloc: Global,
+    guard: &'a Guard,
+    texts: &'a Texts,
+    marks: &[u8],
+) -> Result<Asked<'a>, AskFault> {
+    let mut asked = guard.ask(alloc, texts)?;
+    for (place, octet) in marks.iter().enumerate() {
+        if *octet == b'1' {
+            asked.mark(place);
+        }
+    }
+    Ok(asked)
 }
 
 impl Called for Asked<'_> {
@@ -154,7 +163,7 @@ impl Called for Asked<'_> {
             "Asked::decide" | "Asked::explain" | "Asked::reduce" => {
                 with_verifier(alloc, name, self, at(texts, 0))
             }
-            _ => with_marks(alloc, name, self, at(texts, 0)),
+            _ => with_marks(alloc, name, self),
         }
     }
 }
@@ -174,24 +183,20 @@ fn by_verifier(alloc: Global, name: &str, asked: &Asked, verifier: &RowVerifier)
     }
 }
 
-fn with_marks(alloc: Global, name: &str, asked: &Asked, text: &[u8]) -> Reply {
-    let marks = marks(alloc, text)?;
+fn with_marks(alloc: Global, name: &str, asked: &Asked) -> Reply {
     match name {
-        "Asked::decide_by" => answer(alloc, asked.decide_by(alloc, &marks)),
-        "Asked::explain_by" => answer(alloc, asked.explain_by(alloc, &marks)),
-        "Asked::reduce_by" => answer(alloc, asked.reduce_by(alloc, &marks)),
-        _ => answer(alloc, reduction(alloc, asked, &marks)),
+        "Asked::decide_by" => answer(alloc, asked.decide_by(alloc)),
+        "Asked::is_possible" => answer(alloc, asked.is_possible(alloc)),
+        "Asked::explain_by" => answer(alloc, asked.explain_by(alloc)),
+        "Asked::reduce_by" => answer(alloc, asked.reduce_by(alloc)),
+        _ => answer(alloc, reduction(alloc, asked)),
     }
 }
 
 /// The reduction that is put into a vector.
-fn reduction<'a>(
-    alloc: Global,
-    asked: &Asked<'a>,
-    marks: &[bool],
-) -> Result<Reduction<'a>, GuardFault> {
+fn reduction<'a>(alloc: Global, asked: &Asked<'a>) -> Result<Reduction<'a>, GuardFault> {
     let mut folds = Vec::new(alloc);
-    match asked.reduce_into(alloc, marks, &mut folds)? {
+    match asked.reduce_into(alloc, &mut folds)? {
         Some(failure) => Ok(Reduction::Evidence {
             item: failure.item,
             stop: failure.stop,

@@ -1,8 +1,8 @@
-//! The calls for questions that are opened. Their texts are those of `answer_question`, and of one question.
+//! The calls for questions that are opened. Their texts are those of a guard, of one question, and its marks.
 
 use crate::answers::{Called, Reply, answer, call_on, word};
 use crate::failure::Failure;
-use crate::guards::{guard, marks, question};
+use crate::guards::{guard, question};
 use crate::texts::{at, behind};
 use spki_service::{Opened, SharedGuard};
 use std::alloc::Global;
@@ -10,7 +10,7 @@ use std::alloc::Global;
 /// The answer of the call with this name. None if there is no such call.
 pub(crate) fn call(alloc: Global, name: &str, texts: &[Vec<u8>]) -> Option<Reply> {
     match name {
-        "Opened::signed" | "Opened::decide_by" => {
+        "Opened::signed" | "Opened::decide_by" | "Opened::is_possible" => {
             Some(call_on(alloc, opened(alloc, texts), name, texts))
         }
         _ => None,
@@ -27,14 +27,28 @@ fn opened(alloc: Global, texts: &[Vec<u8>]) -> Result<Opened, Failure> {
     let shared = shared(alloc, texts)?;
     let opened = Opened::open(alloc, &shared, &question(behind(texts, 4)));
     drop(shared);
-    opened.map_err(Failure::Ask)
+    let mut opened = opened?;
+    mark_all(&mut opened, at(texts, 8));
+    Ok(opened)
+}
+
+/// Marks the places of the octet 1. Returns whether the question has all of them.
+pub fn mark_all(opened: &mut Opened, marks: &[u8]) -> bool {
+    let mut has_all = true;
+    for (place, octet) in marks.iter().enumerate() {
+        if *octet == b'1' && !opened.mark(place) {
+            has_all = false;
+        }
+    }
+    has_all
 }
 
 impl Called for Opened {
-    fn call(&self, alloc: Global, name: &str, texts: &[Vec<u8>]) -> Reply {
+    fn call(&self, alloc: Global, name: &str, _texts: &[Vec<u8>]) -> Reply {
         match name {
             "Opened::signed" => signed(alloc, self),
-            _ => decide(alloc, self, at(texts, 8)),
+            "Opened::is_possible" => answer(alloc, self.is_possible()),
+            _ => decide(alloc, self),
         }
     }
 }
@@ -52,10 +66,9 @@ fn signed(alloc: Global, opened: &Opened) -> Reply {
 }
 
 /// The decision by marks, which is asked for twice.
-fn decide(alloc: Global, opened: &Opened, text: &[u8]) -> Reply {
-    let marks = marks(alloc, text)?;
-    let decision = opened.decide_by(&marks);
-    if opened.decide_by(&marks) != decision {
+fn decide(alloc: Global, opened: &Opened) -> Reply {
+    let decision = opened.decide_by();
+    if opened.decide_by() != decision {
         return word(alloc, "two decisions");
     }
     answer(alloc, decision)

@@ -2,14 +2,14 @@
 
 use crate::streams;
 use spki_guard::{
-    Answer, Guard, IntersectFault, Opened, Query, Verdict, answer_opened, answer_question,
-    check_accepted, intersect, open_question,
+    Answer, IntersectFault, Opened, Query, SharedGuard, Verdict, answer_opened, check_accepted,
+    intersect, is_granted, is_possible, open_question,
 };
 use std::alloc::Global;
 use test_calls::answers::{Reply, answer, joined, refused, shown, word};
 use test_calls::failure::Failure;
-use test_calls::guards::{guard, marks, question};
-use test_calls::opened::shared;
+use test_calls::guards::{guard, question};
+use test_calls::opened::{mark_all, shared};
 use test_calls::texts::{at, behind, word_of};
 
 /// The answer of the call with this name, of this module or of those behind it. None if there is no such call.
@@ -19,8 +19,7 @@ pub(crate) fn call(alloc: Global, name: &str, texts: &[Vec<u8>]) -> Option<Reply
         "intersect" => Some(intersection(alloc, one)),
         "check_accepted" => Some(line(alloc, check_accepted(alloc, one, other))),
         "refused_list" => Some(refused_list(alloc, texts)),
-        "answer_question" => Some(answer_all(alloc, texts)),
-        "answer_opened" => Some(answer_marked(alloc, texts)),
+        "answer_opened" => Some(answer_all(alloc, texts)),
         _ => streams::call(alloc, name, texts),
     }
 }
@@ -48,14 +47,6 @@ fn verdict_and_line(alloc: Global, answer: &Answer) -> Reply {
     joined(alloc, &[&verdict, b" ", answer.octets()])
 }
 
-/// The same of an answer by marks. None if there are not as many marks as signatures.
-fn line_by_marks(alloc: Global, answer: Option<Answer>) -> Reply {
-    match answer {
-        Some(answer) => line(alloc, answer),
-        None => word(alloc, "other marks"),
-    }
-}
-
 /// The line of a refused list.
 fn refused_list(alloc: Global, texts: &[Vec<u8>]) -> Reply {
     match guard(alloc, texts) {
@@ -77,16 +68,16 @@ fn query_of(text: &[u8]) -> Query {
     }
 }
 
-/// What the guard of the first four texts answers to several questions. The fifth text says what is asked for. Each question has four
-/// texts and its marks.
+/// What the guard of the first four texts answers to several questions, each of which is opened and marked. The fifth text says what is asked
+/// for. Each question has four texts and its marks.
 fn answer_all(alloc: Global, texts: &[Vec<u8>]) -> Reply {
-    let guard = guard(alloc, texts)?;
-    let reply = answers_to(alloc, &guard, query_of(at(texts, 4)), behind(texts, 5));
-    drop(guard);
+    let shared = shared(alloc, texts)?;
+    let reply = answers_to(alloc, &shared, query_of(at(texts, 4)), behind(texts, 5));
+    drop(shared);
     reply
 }
 
-fn answers_to(alloc: Global, guard: &Guard, query: Query, texts: &[Vec<u8>]) -> Reply {
+fn answers_to(alloc: Global, guard: &SharedGuard, query: Query, texts: &[Vec<u8>]) -> Reply {
     let mut out = Vec::new(alloc);
     for asked in texts.chunks(5) {
         out.extend_from_slice(&answer_to(alloc, guard, query, asked)?)?;
@@ -94,26 +85,27 @@ fn answers_to(alloc: Global, guard: &Guard, query: Query, texts: &[Vec<u8>]) -> 
     Ok(out)
 }
 
-fn answer_to(alloc: Global, guard: &Guard, query: Query, texts: &[Vec<u8>]) -> Reply {
-    let marks = marks(alloc, at(texts, 4))?;
-    let answer = answer_question(alloc, query, guard, &question(texts), &marks);
-    line_by_marks(alloc, answer)
-}
-
-/// The line by marks of a question that is opened. The fifth text says what is asked for.
-fn answer_marked(alloc: Global, texts: &[Vec<u8>]) -> Reply {
-    let marks = marks(alloc, at(texts, 9))?;
-    let shared = shared(alloc, texts)?;
-    let opened = open_question(alloc, &shared, &question(behind(texts, 5)));
-    drop(shared);
-    match opened {
+fn answer_to(alloc: Global, guard: &SharedGuard, query: Query, texts: &[Vec<u8>]) -> Reply {
+    match open_question(alloc, guard, &question(texts)) {
         Err(refusal) => line(alloc, refusal),
-        Ok(opened) => answer_of(alloc, query_of(at(texts, 4)), opened, &marks),
+        Ok(opened) => answer_of(alloc, query, opened, at(texts, 4)),
     }
 }
 
-fn answer_of(alloc: Global, query: Query, opened: Opened, marks: &[bool]) -> Reply {
-    let answer = answer_opened(alloc, query, &opened, marks);
+/// The line by marks. `other marks` if the question does not have a place that is marked, `other answers` if a call says another decision.
+fn answer_of(alloc: Global, query: Query, mut opened: Opened, marks: &[u8]) -> Reply {
+    if !mark_all(&mut opened, marks) {
+        drop(opened);
+        return word(alloc, "other marks");
+    }
+    let answer = answer_opened(alloc, query, &opened);
+    let is_same = is_granted(&opened)
+        == (query == Query::Decide && answer.verdict == Verdict::Done);
+    let is_fit = is_possible(&opened) || !is_granted(&opened);
     drop(opened);
-    line_by_marks(alloc, answer)
+    if query == Query::Decide && !(is_same && is_fit) {
+        drop(answer);
+        return word(alloc, "other answers");
+    }
+    line(alloc, answer)
 }

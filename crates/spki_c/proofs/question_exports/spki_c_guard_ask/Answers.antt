@@ -16,9 +16,9 @@ returns-in_default-words_of-clause-asked c g held lent clear =
       is_question_by c.args.parts.now words c.args.seconds.now,
       inr (record {
         kept = refl;
-        verdict = c.refused_list.result.verdict;
-        output = written_by c.refused_list.result;
-        unread = inr (record { verdict_is = c.refused_list.ensures.verdict; line = one_line c.refused_list.ensures.line });
+        verdict = c.refused_question.result.verdict;
+        output = written_by c.refused_question.result;
+        unread = inr (record { verdict_is = c.refused_question.ensures.verdict; line = one_line c.refused_question.ensures.line });
         handed = c.hand_over.ensures;
       }),
     )
@@ -36,6 +36,7 @@ returns-in-Ok-opened-clause-asked c g held lent clear =
         question = opened.0;
         held_is = c.hold.ensures ∙ ap Some (c.of.ensures ∙ opened.1);
         opened = subst (λ (h : Held). IsOpened h q opened.0) same opened.2;
+        unmarked = opened.3;
         unchanged = refl;
         needed_is = refl;
         status_is = refl;

@@ -1,7 +1,7 @@
-use Rattle.std.proofs.Common.{ℕ, Some, map, ap, sym, ◌∙◌, subst}
+use Rattle.std.proofs.Common.{ℕ, Some, map, ap, sym, ◌∙◌, subst, rules}
 use Rattle.spki_decision.specs.declared.evidence.Stop.TheVariants.{NotAccepted}
 use Rattle.spki_decision.specs.Standing.{FailsAt, signed_of, IsFirstRefused, RefusedAt}
-use Rattle.spki_decision.proofs.Asked.{not_accepted, refused_item}
+use Rattle.spki_decision.proofs.Asked.{all_accepted, not_accepted, refused_item}
 use Rattle.spki_decision.proofs.evidence.judge.Goals as goal
 
 pub returns : goal.returns
@@ -17,3 +17,8 @@ returns g c =
     let fails = not_accepted policy verified items (map signed_of c.in_ok-examined.examined.signed.items) c.in-Some.place
     c.in_ok-examined.ensures.asked refused in
     subst (λ (n : ℕ). FailsAt policy verified items n NotAccepted) (sym same) fails
+
+pub returns-in-None : goal.returns-in-None
+returns-in-None g c =
+    let whole = c.verified.ensures c.args.policy c.args.sequence.now c.in_ok-examined.ensures.unverified in
+    search (rules, all_accepted)

@@ -14,8 +14,8 @@ test-requires c = search (rules, signed_here)
 pub returns-in-Fails-clause-asked : goal.returns-in-Fails-clause-asked
 returns-in-Fails-clause-asked c = search (rules, rest_of, asked_whole, not_asked)
 
-pub returns-in-Fails-clause-evidence : goal.returns-in-Fails-clause-evidence
-returns-in-Fails-clause-evidence c =
+pub returns-in-Fails-clause-unverified : goal.returns-in-Fails-clause-unverified
+returns-in-Fails-clause-unverified c =
     let items = c.args.sequence.now in
     let kept = c.deref-shown-items.result.now in
     let same : map shown_of kept ≡ certificates items = ap (map shown_of) c.deref-shown-items.ensures.value ∙ c.in_ok-certificates.ensures in

@@ -1,6 +1,7 @@
-use Rattle.std.proofs.Common.{rules}
 use Rattle.spki_guard.proofs.HeldAnswers.{opened_decided}
 use Rattle.spki_guard.proofs.opened_answers.decide_opened.Goals as goal
 
-pub returns-in-Ok-clause-answer : goal.returns-in-Ok-clause-answer
-returns-in-Ok-clause-answer c q opened = search (rules, opened_decided)
+pub returns-in-Ok : goal.returns-in-Ok
+returns-in-Ok c q opened =
+    let (a, read, signed, same, decides) = c.decide_by.ensures opened.kept in
+    opened_decided q c.args.opened.now opened a read same c.decide_by.result decides _ _ c.in-Ok.ensures

@@ -1,21 +1,21 @@
-use Rattle.std.proofs.Common.{None, Ok, ◌∙◌, subst, List}
-use Rattle.spki_decision.specs.Standing.{Signed, asked, IsFirstRefused, RefusedAt}
-use Rattle.spki_service.specs.GuardQuestions.{MarksAccept}
-use Rattle.spki_service.proofs.AnswerLaws.{decided_all, decided_none}
+use Rattle.std.proofs.Common.{inl, inr, refl, subst, ap, ◌∙◌, length, List, Bool, Some, None}
+use Rattle.spki_service.specs.GuardQuestions.{IsFirstUnmarked}
+use Rattle.spki_service.proofs.MarkedPlaces.{all_below, unmarked_there, read_marked}
 use Rattle.spki_service.proofs.opened.Opened.decide_by.Goals as goal
 
 pub returns-in-None : goal.returns-in-None
 returns-in-None c kept =
-    let marks = c.args.verified.now in
-    let first : IsFirstRefused (MarksAccept c.as_slice.result.now marks) c.as_slice.result.now None = rw c.in-None.is at c.first_unmarked.ensures in
-    let same = c.as_slice.ensures.value ∙ kept.signed_are in
-    let accepted = subst (λ (xs : List Signed). IsFirstRefused (MarksAccept xs marks) xs None) same first in
-    (kept.read, kept.is, kept.signed_are, decided_all kept.read (MarksAccept (asked kept.read.case) marks) accepted (Ok c.args.self.now.decision) kept.decision_is)
+    let o = c.args.self.now in
+    let first = rw c.in-None.is at c.first_unmarked.ensures in
+    let here = subst (λ (ms : List Bool). IsFirstUnmarked (length c.signed.result.now) ms None) c.deref.ensures.value first in
+    let counted = ap length (c.signed.ensures ∙ kept.signed_are) in
+    (record kept.read { marks = o.marks.items }, read_marked _ _ kept.read o.marks.items kept.is, kept.signed_are, refl, inl (all_below _ o.marks.items _ counted here, kept.decision_is))
 
 pub returns-in-Some : goal.returns-in-Some
 returns-in-Some c kept =
-    let marks = c.args.verified.now in
-    let first : RefusedAt (MarksAccept c.as_slice.result.now marks) c.as_slice.result.now c.in-Some.field-0 = rw c.in-Some.is at c.first_unmarked.ensures in
-    let same = c.as_slice.ensures.value ∙ kept.signed_are in
-    let there = subst (λ (xs : List Signed). RefusedAt (MarksAccept xs marks) xs c.in-Some.field-0) same first in
-    (kept.read, kept.is, kept.signed_are, decided_none kept.read (MarksAccept (asked kept.read.case) marks) c.in-Some.field-0 there)
+    let o = c.args.self.now in
+    let first = rw c.in-Some.is at c.first_unmarked.ensures in
+    let here = subst (λ (ms : List Bool). IsFirstUnmarked (length c.signed.result.now) ms (Some c.in-Some.field-0)) c.deref.ensures.value first in
+    let counted = ap length (c.signed.ensures ∙ kept.signed_are) in
+    let (one, u) = unmarked_there _ o.marks.items _ counted c.in-Some.field-0 here in
+    (record kept.read { marks = o.marks.items }, read_marked _ _ kept.read o.marks.items kept.is, kept.signed_are, refl, inr (one, u, refl))

@@ -1,4 +1,4 @@
-use Rattle.std.proofs.Common.{◌<◌, ◌≤◌, subst, sym, arith}
+use Rattle.std.proofs.Common.{◌<◌, ◌≤◌, subst, sym, arith, ap, ◌∙◌, length}
 use Rattle.spki_service.specs.AccessLists.{Held}
 use Rattle.spki_service.specs.GuardQuestions.{IsKeptOf}
 use Rattle.spki_service.specs.Questions.{asked_octets}
@@ -16,7 +16,8 @@ returns-clause-opened c =
       texts = texts_copied texts copies are q c.in_ok-texts.ensures.texts;
       short = subst (λ (h : Held). asked_octets q ≤ h.octets) c.guard.ensures (omega (arith, fits));
       kept =
-          subst (λ (h : Held). IsKeptOf h copies kept.signed.items kept.decision) (sym same)
-          (kept_of_copies texts copies are held kept.signed.items kept.decision
-          (subst (λ (h : Held). IsKeptOf h texts kept.signed.items kept.decision) c.guard-2.ensures c.in_ok-signed.ensures.kept));
+          subst (λ (h : Held). IsKeptOf h copies kept.signed.items kept.if_valid) (sym same)
+          (kept_of_copies texts copies are held kept.signed.items kept.if_valid
+          (subst (λ (h : Held). IsKeptOf h texts kept.signed.items kept.if_valid) c.guard-2.ensures c.in_ok-signed.ensures.kept));
+      counted = c.in_ok-marks.ensures.counted ∙ ap length c.as_slice.ensures.value;
     }

@@ -1,0 +1,108 @@
+-- Marks by which a service says which of the listed signatures are valid: what they say, and the first place without one.
+use Rattle.std.proofs.Common.{◌≡◌, ℕ, ◌<◌, List, Bool, Some, None, length, slice_get, sym, ap, ◌∙◌, zero, suc, [], ◌∷◌, refl, arith, subst, inl, inr, map, option_map}
+use Rattle.std.proofs.lemmas.Option.{slice_get_within, slice_get-get_or, slice_get-map}
+use Rattle.std.specs.List.{AllByRecursion}
+use Rattle.spki_case.specs.Case.{Verified}
+use Rattle.spki_decision.specs.Standing.{Signed, IsAccepted, asked, RefusedAt, signed_of}
+use Rattle.spki_decision.specs.declared.signed.Signed as examined
+use Rattle.spki_service.specs.AccessLists.{Held}
+use Rattle.spki_service.specs.declared.texts.Texts.{Texts}
+use Rattle.spki_service.specs.GuardQuestions.{AskedOf, IsFirstUnmarked, AllMarked, IsUnmarked, ByMarks, IsReadFrom}
+
+-- ---- signatures and their places
+
+-- a statement that is true of each place is true of all
+pub all_at : (P : Signed → Type 0) (signed : List Signed) → ((place : ℕ) (s : Signed) → slice_get signed place ≡ Some s → P s)
+    → AllByRecursion P signed
+all_at P [] h = tt
+all_at P (s ∷ signed) h = (h 0 s refl, all_at P signed (λ place r stands. h (suc place) r stands))
+
+-- the first signature that is not accepted, by its place
+pub refused_place : (verified : Verified) (signed : List Signed) (place : ℕ) (one : Signed) → slice_get signed place ≡ Some one
+    → ((other : ℕ) (s : Signed) → other < place → slice_get signed other ≡ Some s → IsAccepted verified s) → ¬ IsAccepted verified one
+    → RefusedAt verified signed place
+refused_place verified [] place one stands before not = absurd cc
+refused_place verified (s ∷ signed) zero one stands before not =
+    let same : s ≡ one = cc in
+    record {
+      before = [];
+      refused = one;
+      after = signed;
+      parts = ap (λ x. x ∷ signed) same;
+      place_is = refl;
+      accepted = tt;
+      not_accepted = not;
+    }
+refused_place verified (s ∷ signed) (suc place) one stands before not =
+    let r = refused_place verified signed place one stands
+    (λ other t below there. before (suc other) t (let b : other < place = below in omega arith) there) not in
+    record {
+      before = s ∷ r.before;
+      refused = r.refused;
+      after = r.after;
+      parts = ap (λ xs. s ∷ xs) r.parts;
+      place_is = ap suc r.place_is;
+      accepted = (before 0 s (omega arith) refl, r.accepted);
+      not_accepted = r.not_accepted;
+    }
+
+-- ---- what marks say
+
+module _ (signed : List Signed) (marks : List Bool) where
+  never_both : (one : Signed) → AllMarked signed marks → IsUnmarked signed marks one → ⊥
+  never_both one all u = u.not_marked (all u.place one u.stands)
+
+  unmarked_one : (one other : Signed) → IsUnmarked signed marks one → IsUnmarked signed marks other → one ≡ other
+  unmarked_one one other u v =
+      let not_before : ¬ (u.place < v.place) = λ b. u.not_marked (v.before u.place b) in
+      let not_behind : ¬ (v.place < u.place) = λ b. v.not_marked (u.before v.place b) in
+      let same : u.place ≡ v.place = omega (arith, not_before, not_behind) in
+      let there : Some one ≡ Some other = sym u.stands ∙ ap (slice_get signed) same ∙ v.stands in cc
+
+-- two statements by the same marks are of the same kind
+pub by_both : {R : Type 0} (a : AskedOf) (W V : Type 0) (S T : Signed → Type 0) → (W → V → R) → ((one : Signed) → S one → T one → R)
+    → ByMarks a W S → ByMarks a V T → R
+by_both a W V S T whole stopped (inl (all, w)) (inl (also, v)) = whole w v
+by_both a W V S T whole stopped (inl (all, w)) (inr (one, u, t)) = absurd (never_both (asked a.case) a.marks one all u)
+by_both a W V S T whole stopped (inr (one, u, s)) (inl (all, v)) = absurd (never_both (asked a.case) a.marks one all u)
+by_both a W V S T whole stopped (inr (one, u, s)) (inr (other, v, t)) =
+    stopped one s (subst T (sym (unmarked_one (asked a.case) a.marks one other u v)) t)
+
+-- ---- the first place without a mark
+
+module _ (signed : List Signed) (marks : List Bool) (count : ℕ) (counted : count ≡ length signed) where
+  pub all_below : IsFirstUnmarked count marks None → AllMarked signed marks
+  all_below h place s stands = h place (subst (λ n. place < n) (sym counted) (slice_get_within signed place s stands))
+
+  pub unmarked_at : (place : ℕ) (one : Signed) → IsFirstUnmarked count marks (Some place) → slice_get signed place ≡ Some one
+      → IsUnmarked signed marks one
+  unmarked_at place one h stands = record { place = place; stands = stands; not_marked = h.1; before = h.2 }
+
+  blank : Signed
+  blank = record { item = 0; key = []; message = []; value = [] }
+
+  pub unmarked_there : (place : ℕ) → IsFirstUnmarked count marks (Some place) → (one : Signed) × IsUnmarked signed marks one
+  unmarked_there place h =
+      let stands = slice_get-get_or signed place blank (subst (λ n. place < n) counted h.0) in
+      (_, unmarked_at place _ h stands)
+
+-- ---- as the code lists signatures
+
+pub listed_at : (kept : List examined.Signed) (place : ℕ) (one : examined.Signed) → slice_get kept place ≡ Some one
+    → slice_get (map signed_of kept) place ≡ Some (signed_of one)
+listed_at kept place one stands = slice_get-map signed_of kept place ∙ ap (option_map signed_of) stands
+
+-- ---- a question with other marks
+
+pub read_marked : (held : Held) (texts : Texts) (a : AskedOf) (marks : List Bool) → IsReadFrom held texts a
+    → IsReadFrom held texts (record a { marks = marks })
+read_marked held texts a marks r = record {
+  entries = r.entries;
+  is = r.is;
+  policy = r.policy;
+  nodes = r.nodes;
+  work = r.work;
+  answer = r.answer;
+  few = r.few;
+  short = r.short;
+}
