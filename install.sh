@@ -4,6 +4,7 @@
 # the path and a C compiler, unless PROGRAM and LIBRARY are given. If the loader looks into the folder of the libraries, it is told of them by
 # ldconfig, which only root may run; otherwise the last line says what to do.
 # --uninstall removes the files that this version installs, and leaves the folders.
+# LIBDIR is the folder of the libraries below the prefix, if it is not `lib`, such as lib/x86_64-linux-gnu.
 # Usage: ./install.sh [PREFIX [PROGRAM [LIBRARY]]]        the default prefix is /usr/local; libspki_c.so is beside the LIBRARY
 #        ./install.sh --uninstall [PREFIX]
 set -euo pipefail
@@ -18,32 +19,34 @@ library=${3:+$(realpath "$3")}
 cd "$(dirname "$0")"
 version=$(< VERSION)
 soname=libspki_c.so.${version%.*}
+libraries=${LIBDIR:-lib}
 
-cmake=lib/cmake/spki
+cmake=$libraries/cmake/spki
 # The modules of spki-cert, and those that it shares with services in Python.
-modules=(cert/spki_cert_tool/{*.py,py.typed} bindings/python/spki{,_verify}/{*.py,py.typed})
+modules=(apps/spki-cert/spki_cert_tool/{*.py,py.typed} bindings/python/spki{,_verify}/{*.py,py.typed})
 
 # The place of a module under the prefix.
 place_of() {
-    local path=${1#cert/}
+    local path=${1#apps/spki-cert/}
     echo "share/spki-cert/${path#bindings/python/}"
 }
 
 # Tells the loader of the libraries, or says how a program finds the shared one.
 tell_loader() {
     local path=$PATH:/sbin:/usr/sbin
-    if ! PATH=$path ldconfig -v -N -X 2> /dev/null | grep -q "^$prefix/lib:"; then
-        echo "the loader does not look into $prefix/lib: name the folder in /etc/ld.so.conf.d/ or in LD_LIBRARY_PATH, or link with libspki_c.a"
+    if ! PATH=$path ldconfig -v -N -X 2> /dev/null | grep -q "^$prefix/$libraries:"; then
+        echo "the loader does not look into $prefix/$libraries: name the folder in /etc/ld.so.conf.d/ or in LD_LIBRARY_PATH, or link with libspki_c.a"
     elif [[ $EUID == 0 ]]; then
         PATH=$path ldconfig
-        echo "the loader knows $prefix/lib/$soname"
+        echo "the loader knows $prefix/$libraries/$soname"
     else
-        echo "the loader does not know $prefix/lib/$soname yet: run ldconfig as root"
+        echo "the loader does not know $prefix/$libraries/$soname yet: run ldconfig as root"
     fi
 }
 
 if [[ $uninstalls ]]; then
-    places=(bin/spki lib/libspki_c.a "lib/$soname" lib/libspki_c.so lib/pkgconfig/spki.pc "$cmake"/spki-config{,-version}.cmake
+    places=(bin/spki "$libraries/libspki_c.a" "$libraries/$soname" "$libraries/libspki_c.so" "$libraries/pkgconfig/spki.pc"
+        "$cmake"/spki-config{,-version}.cmake
         include/spki.{h,hpp} share/man/man1/spki.1
         bin/spki-cert share/man/man1/spki-cert.1)
     for module in "${modules[@]}"; do
@@ -75,13 +78,13 @@ if [[ -z $library ]]; then
     library=crates/spki_c/out/libspki_c.a
 fi
 placed 755 "$program" bin/spki
-placed 644 "$library" lib/libspki_c.a
-placed 644 "${library%.a}.so" "lib/$soname"
-ln -sfn "$soname" "$prefix/lib/libspki_c.so"
-echo "installed $prefix/lib/libspki_c.so"
+placed 644 "$library" "$libraries/libspki_c.a"
+placed 644 "${library%.a}.so" "$libraries/$soname"
+ln -sfn "$soname" "$prefix/$libraries/libspki_c.so"
+echo "installed $prefix/$libraries/libspki_c.so"
 placed 644 <(cat << END
 prefix=$prefix
-libdir=\${prefix}/lib
+libdir=\${prefix}/$libraries
 includedir=\${prefix}/include
 
 Name: spki
@@ -90,18 +93,20 @@ Version: $version
 Libs: -L\${libdir} -lspki_c
 Cflags: -I\${includedir}
 END
-) lib/pkgconfig/spki.pc
+) "$libraries/pkgconfig/spki.pc"
 placed 644 crates/spki_c/spki.h include/spki.h
 placed 644 crates/spki_c/spki.hpp include/spki.hpp
 placed 644 <(cat << END
 # The targets spki::spki, the shared library, and spki::static, the static one.
-get_filename_component(spki_prefix "\${CMAKE_CURRENT_LIST_DIR}/../../.." ABSOLUTE)
+# (/lib may be a link to /usr/lib, so the links are followed first)
+get_filename_component(spki_here "\${CMAKE_CURRENT_LIST_DIR}" REALPATH)
+get_filename_component(spki_prefix "\${spki_here}/$(sed 's#[^/]*#..#g' <<< "$cmake")" ABSOLUTE)
 if(NOT TARGET spki::spki)
   add_library(spki::spki SHARED IMPORTED)
-  set_target_properties(spki::spki PROPERTIES IMPORTED_LOCATION "\${spki_prefix}/lib/$soname" IMPORTED_SONAME "$soname"
+  set_target_properties(spki::spki PROPERTIES IMPORTED_LOCATION "\${spki_prefix}/$libraries/$soname" IMPORTED_SONAME "$soname"
                         INTERFACE_INCLUDE_DIRECTORIES "\${spki_prefix}/include")
   add_library(spki::static STATIC IMPORTED)
-  set_target_properties(spki::static PROPERTIES IMPORTED_LOCATION "\${spki_prefix}/lib/libspki_c.a"
+  set_target_properties(spki::static PROPERTIES IMPORTED_LOCATION "\${spki_prefix}/$libraries/libspki_c.a"
                         INTERFACE_INCLUDE_DIRECTORIES "\${spki_prefix}/include")
 endif()
 END
@@ -119,7 +124,7 @@ END
 ) "$cmake/spki-config-version.cmake"
 placed 644 docs/spki.1 share/man/man1/spki.1
 placed 644 docs/spki-cert.1 share/man/man1/spki-cert.1
-placed 755 cert/spki-cert bin/spki-cert
+placed 755 apps/spki-cert/spki-cert bin/spki-cert
 for module in "${modules[@]}"; do
     placed 644 "$module" "$(place_of "$module")"
 done

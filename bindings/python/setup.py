@@ -1,12 +1,22 @@
-"""Puts the library into the wheel, so that nothing else is to be installed: the file that SPKI_LIBRARY names, else the one that
+"""Puts the library into the wheel, so that nothing else is to be installed: the file that SPKI_LIBRARY names by its whole path, else the one that
 crates/spki_c/archive.py has built, else the installed one. With SPKI_LIBRARY=none the wheel has none, and the loader finds one at run time.
+
+An sdist has no library. The wheel of an sdist takes one as any other does.
 """
 import os
 import subprocess
 
 from setuptools import Distribution, setup
 from setuptools.command.build_py import build_py
-from wheel.bdist_wheel import bdist_wheel  # type: ignore[import]
+
+try:
+    from setuptools.command.bdist_wheel import bdist_wheel  # type: ignore[import]
+except ImportError:
+    try:
+        from wheel.bdist_wheel import bdist_wheel  # type: ignore[import]
+    except ImportError:
+        # (an sdist needs neither)
+        bdist_wheel = object
 
 HERE = os.path.dirname(os.path.abspath(__file__))
 BUILT = os.path.join(HERE, "..", "..", "crates", "spki_c", "out", "libspki_c.so")
@@ -24,10 +34,12 @@ def installed():
 def library():
     """The path of the library that goes into the wheel."""
     named = os.environ.get("SPKI_LIBRARY")
+    if named and not os.path.isabs(named):
+        raise SystemExit(f"SPKI_LIBRARY must be a whole path, and is {named}: pip builds in another folder")
     for path in [named] if named else [BUILT, installed()]:
         if os.path.isfile(path):
             return path
-    raise SystemExit(f"{named or 'libspki_c.so'} is not there: build it by crates/spki_c/archive.py, or name the file in SPKI_LIBRARY")
+    raise SystemExit(f"{named or 'libspki_c.so'} is not there: build it by crates/spki_c/archive.py, install it, or name the file in SPKI_LIBRARY")
 
 
 class BuildWithLibrary(build_py):
@@ -53,4 +65,7 @@ class WheelOfPlatform(bdist_wheel):
         return "py3", "none", super().get_tag()[2]
 
 
-setup(distclass=OfPlatform, cmdclass={"build_py": BuildWithLibrary, "bdist_wheel": WheelOfPlatform})
+commands = {"build_py": BuildWithLibrary}
+if bdist_wheel is not object:
+    commands["bdist_wheel"] = WheelOfPlatform
+setup(distclass=OfPlatform, cmdclass=commands)

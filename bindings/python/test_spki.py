@@ -4,15 +4,20 @@
 python3 -m unittest
 """
 import asyncio
+import copy
 import ctypes
+import dataclasses
 import hashlib
+import multiprocessing
 import os
+import pickle
 import subprocess
 import sys
 import tempfile
 import threading
 import unittest
 import warnings
+from datetime import datetime, timedelta, timezone
 from unittest import mock
 
 import spki
@@ -22,6 +27,12 @@ LIST = b"(acl (entry (public-key (test a)) (propagate) (tag (*))))"
 PAIR = (b"(cert (issuer (public-key (test a))) (subject (public-key (test b))) (tag (*)))"
         b" (signature (hash sha256 #d71ecfb335b8e4b04cb035426566a94e817a12cfcfa4dbf5b704b6cd670c7ad2#) (public-key (test a)) sig)")
 SHOWN = b"(sequence " + PAIR + b")"
+# By which a lets itself do everything: such a certificate may stand in front of another one, also twice.
+OWN = (b"(cert (issuer (public-key (test a))) (subject (public-key (test a))) (propagate) (tag (*)))"
+       b" (signature (hash sha256 #b26a73c3cdcb26bbb71fa21531b5b6a1745fc316ddfcf53862a174f5dccebfb6#) (public-key (test a)) sig)")
+# A certificate for c in the name of a, whose signature is not valid.
+FORGED = (b"(sequence (cert (issuer (public-key (test a))) (subject (public-key (test c))) (tag (*)))"
+          b" (signature (hash sha256 #b0c7e53153c3b09dad60263b3b4738aa1ae756cc4642305bcf4fdc4114ff0d5d#) (public-key (test a)) forged))")
 KEY = b"(public-key (test b))"
 SIGNED = (b"(10:public-key(4:test1:a))", b"(4:cert(6:issuer(10:public-key(4:test1:a)))(7:subject(10:public-key(4:test1:b)))(3:tag(1:*)))", b"3:sig")
 NOW = 1_704_067_200  # 2024-01-01_00:00:00
@@ -59,7 +70,7 @@ class Verifiers(unittest.TestCase):
 
     def test_answers_true_or_false(self):
         self.assertFalse(self.guard.decide(asked(), wrong))
-        for answer in (None, 1, 0, "yes", object(), [True]):
+        for answer in (None, 1, 0, -255, 0x101, "yes", object(), [True]):
             for ask in (self.guard.decide, self.guard.explain, self.guard.reduce):
                 with self.assertRaises(TypeError):
                     ask(asked(), lambda *signed: answer)
@@ -96,6 +107,16 @@ class Verifiers(unittest.TestCase):
         explanation = guard.explain(question, lambda *signed: calls.append(signed) is None)
         self.assertEqual(calls, [SIGNED] * 40)
         self.assertEqual(list(explanation.reasons()), [spki.Reason(1, 3, "NotIssuer")])
+        calls.clear()
+        self.assertTrue(guard.decide(asked(b"(sequence " + OWN * 39 + PAIR + b")"), lambda *signed: calls.append(signed) is None))
+        self.assertEqual((len(calls), calls[-1]), (40, SIGNED))
+
+    def test_is_not_called_in_vain(self):
+        """No signature is verified for a decision where none could help. An explanation says what is wrong with the certificates."""
+        for guard, question in ((self.guard, asked(b"(sequence " + PAIR * 2 + b")")), (spki.Guard(b"(acl)"), asked(FORGED))):
+            self.assertEqual(guard.decide(question, lambda *signed: 1 / 0), spki.Decision(None))
+            with self.assertRaises(ZeroDivisionError):
+                guard.explain(question, lambda *signed: 1 / 0)
 
     def test_may_ask_the_guard_itself(self):
         def verify(*signed):
@@ -117,16 +138,49 @@ class Opened(unittest.TestCase):
 
     def test_marks(self):
         with self.guard.ask(asked()) as opened:
+            self.assertTrue(opened.is_possible)
+            self.assertEqual(opened.decide(), spki.Decision(None))
+            for place in (1, -1, -255, 0x101, 2 ** 64, -2 ** 64):
+                with self.assertRaises(IndexError):
+                    opened.mark(place)
+            for place in (True, False, None, "0", b"\0", 0.0, [0]):
+                with self.assertRaises(TypeError):
+                    opened.mark(place)
+            self.assertEqual(opened.decide(), spki.Decision(None))
             for _ in range(3):
-                self.assertEqual(opened.decide([True]), spki.Decision(1))
-                self.assertEqual(opened.decide(iter([False])), spki.Decision(None))
-            for marks in ([], [True, True]):
-                with self.assertRaises(ValueError):
-                    opened.decide(marks)
-            for marks in ([1], [None], ["yes"], b"\1", [[True]]):
-                for ask in (opened.decide, opened.explain, opened.reduce):
-                    with self.assertRaises(TypeError):
-                        ask(marks)
+                opened.mark(0)
+                self.assertEqual(opened.decide(), spki.Decision(1))
+            for ask in (opened.decide, opened.explain, opened.reduce):
+                with self.assertRaises(TypeError):
+                    ask([True])
+
+    def test_marks_are_of_one_question(self):
+        """Two clients at once: what is marked for b grants nothing to c."""
+        good, bad = self.guard.ask(asked()), self.guard.ask(asked(FORGED, b"(public-key (test c))"))
+        self.assertTrue(good.is_possible and bad.is_possible)
+        for opened in (good, bad):
+            opened.verify(lambda *signed: signed[2] == b"3:sig")
+        self.assertEqual((good.decide(), bad.decide()), (spki.Decision(1), spki.Decision(None)))
+        again = self.guard.ask(asked())
+        self.assertEqual(again.decide(), spki.Decision(None))
+
+    def test_marks_are_of_one_place(self):
+        """Two equal signatures are two places, and both marks are needed."""
+        for place in (0, 1):
+            opened = self.guard.ask(asked(b"(sequence " + OWN + OWN + b")", b"(public-key (test a))"))
+            self.assertEqual(*opened.signatures())
+            opened.mark(place)
+            self.assertEqual(opened.decide(), spki.Decision(None))
+            opened.mark(1 - place)
+            self.assertEqual(opened.decide(), spki.Decision(1))
+
+    def test_a_verifier_that_fails_marks_nothing(self):
+        with self.guard.ask(asked(b"(sequence " + OWN + OWN + b")", b"(public-key (test a))")) as opened:
+            answers = iter((True,))
+            with self.assertRaises(StopIteration):
+                opened.verify(lambda *signed: next(answers))
+            opened.mark(1)
+            self.assertEqual(opened.decide(), spki.Decision(None))
 
     def test_signatures_are_verified_elsewhere(self):
         async def verify(signature):
@@ -135,7 +189,10 @@ class Opened(unittest.TestCase):
 
         async def decide():
             with self.guard.ask(asked()) as opened:
-                return opened.decide(await asyncio.gather(*map(verify, opened.signatures())))
+                for place, is_valid in enumerate(await asyncio.gather(*map(verify, opened))):
+                    if is_valid:
+                        opened.mark(place)
+                return opened.decide()
 
         self.assertTrue(asyncio.run(decide()))
 
@@ -143,19 +200,113 @@ class Opened(unittest.TestCase):
         opened = self.guard.ask(asked())
         self.guard.close()
         del self.guard
-        self.assertTrue(opened.decide([True]))
+        opened.mark(0)
+        self.assertTrue(opened.decide())
         opened.close()
-        for call in (lambda: opened.decide([True]), opened.signatures, lambda: opened.reduce([True])):
+        for call in (opened.decide, opened.signatures, opened.reduce, lambda: opened.mark(0), lambda: opened.is_possible):
             with self.assertRaises(ValueError):
                 call()
 
     def test_only_a_granted_decision_is_true(self):
         opened = self.guard.ask(asked())
-        for answer in (opened, opened.decide([False]), opened.explain([True]), opened.reduce([True]), self.guard.explain(asked(), right),
+        no = opened.decide()
+        opened.mark(0)
+        for answer in (opened, no, opened.explain(), opened.reduce(), self.guard.explain(asked(), right),
                        self.guard.reduce(asked(), right), self.guard.explain(asked(), wrong)):
             self.assertFalse(answer, answer)
-        self.assertTrue(opened.decide([True]))
-        self.assertEqual(str(opened.reduce([True])), "entry 1 (five (subject (public-key (test b))) (tag (*)))")
+        self.assertTrue(opened.decide())
+        self.assertEqual(str(opened.reduce()), "entry 1 (five (subject (public-key (test b))) (tag (*)))")
+
+    def test_a_decision_that_is_required(self):
+        opened = self.guard.ask(asked())
+        for call in (lambda: self.guard.require(asked(), wrong), opened.require):
+            with self.assertRaises(spki.Denied):
+                call()
+        opened.mark(0)
+        self.assertEqual((self.guard.require(asked(), right), opened.require()), (1, 1))
+        self.assertFalse(spki.Decision(0))
+
+    def test_equal_keys_are_one_object(self):
+        opened, kept = spki.Guard(LIST, limits=HIGHEST).ask(asked(b"(sequence " + PAIR * 40 + b")")), []
+        for listed in (opened.signatures(), list(opened)):
+            self.assertEqual(({id(it.key) for it in listed}, len(listed)), ({id(listed[0].key)}, 40))
+        opened.verify(lambda key, message, value: kept.append(key) is None)
+        self.assertEqual(({id(key) for key in kept}, len(kept)), ({id(kept[0])}, 40))
+
+    def test_signatures_are_listed_one_by_one(self):
+        opened, places = spki.Guard(LIST, limits=HIGHEST).ask(asked(b"(sequence " + PAIR * 40 + b")")), []
+        signature = _library.signature
+        with mock.patch.object(_library, "signature", lambda handle, place, at: places.append(place.value) or signature(handle, place, at)):
+            self.assertEqual((next(iter(opened))[:3], places), (SIGNED, [0]))
+            opened.verify(lambda *signed: len(places) < 4)
+        self.assertEqual(places, [0, 0, 1, 2])
+
+
+class Copies(unittest.TestCase):
+    """A guard and an opened question are of one process, and a question is its parts."""
+
+    def setUp(self):
+        self.guard = spki.Guard(LIST)
+        self.opened = self.guard.ask(asked())
+
+    def test_what_is_open_is_not_copied(self):
+        @dataclasses.dataclass
+        class Service:
+            guard: object
+
+        calls = [copy.copy, copy.deepcopy, *(lambda it, number=number: pickle.dumps(it, number) for number in range(6)),
+                 lambda it: dataclasses.asdict(Service(it)), lambda it: dataclasses.astuple(Service(it)), lambda it: copy.deepcopy([it])]
+        for it in (self.guard, self.opened, self.guard._handle, self.opened._handle):
+            for place, call in enumerate(calls):
+                with self.subTest(f"{type(it).__name__}, call {place}"), self.assertRaisesRegex(TypeError, "read the list and ask again"):
+                    call(it)
+        other = spki.Guard(b"(acl)")
+        self.assertEqual((self.guard.decide(asked(), right), other.decide(asked(), right)), (spki.Decision(1), spki.Decision(None)))
+
+    def test_what_is_open_is_not_sent_to_a_process(self):
+        for it in (self.guard, self.opened):
+            process = multiprocessing.get_context("spawn").Process(target=print, args=(it,))
+            with self.assertRaisesRegex(TypeError, "read the list and ask again"):
+                process.start()
+
+    def test_a_question_is_copied(self):
+        for question in (asked(), asked(text=b"(ftp host)", moment=b'"2024-01-01_00:00:00"'), asked(words=[]), asked(moment=-1)):
+            for made in (copy.copy(question), copy.deepcopy(question), pickle.loads(pickle.dumps(question)), eval(repr(question), vars(spki))):
+                self.assertEqual((made, hash(made), repr(made)), (question, hash(question), repr(question)))
+            self.assertNotEqual(question, asked(key=b"(public-key (test c))"))
+        self.assertTrue(self.guard.decide(copy.deepcopy(asked()), right))
+        self.assertEqual(len({asked(), asked(words=list(WORDS)), asked(moment=NOW + 1)}), 2)
+        self.assertNotEqual(asked(), None)
+
+    def test_names(self):
+        met = [repr(self.guard), repr(self.opened)]
+        self.guard.close()
+        self.opened.close()
+        self.assertEqual(met + [repr(self.guard), repr(self.opened)], [
+            "<spki.Guard of 1 entries, STRICT>", "<spki.Asked of 1 signatures>", "<spki.Guard of 1 entries, STRICT, closed>",
+            "<spki.Asked of 1 signatures, closed>"])
+
+    def test_a_child_uses_what_was_open(self):
+        """A child that was forked answers by its parent's guard and question, frees nothing of them, and opens and frees its own."""
+        child = os.fork()
+        if child == 0:
+            try:
+                closed = []
+                is_right = self.guard.decide(asked(), right) and not self.opened.decide()
+                self.opened.mark(0)
+                is_right = is_right and self.opened.decide()
+                with mock.patch.object(spki._GuardHandle.__del__, "__defaults__", (closed.append,)), \
+                        mock.patch.object(spki._AskedHandle.__del__, "__defaults__", (closed.append,)):
+                    self.guard.close()
+                    self.opened.close()
+                    own = spki.Guard(LIST)
+                    is_right = is_right and not closed and own.decide(asked(), right)
+                    own.close()
+                os._exit(0 if is_right and len(closed) == 1 else 1)
+            finally:
+                os._exit(2)
+        self.assertEqual(os.waitpid(child, 0)[1], 0)
+        self.assertEqual((self.guard.decide(asked(), right), self.opened.decide()), (spki.Decision(1), spki.Decision(None)))
 
 
 class Parts(unittest.TestCase):
@@ -181,8 +332,23 @@ class Parts(unittest.TestCase):
 
     def test_moments(self):
         guard = spki.Guard(b'(acl (entry (public-key (test b)) (tag (*)) (not-before "1970-01-01_00:00:00")))')
-        for moment, is_granted in [(0, True), (-1, False), (b'"1970-01-01_00:00:00"', True), (b'"1969-12-31_23:59:59"', False)]:
+        for moment, is_granted in [(0, True), (253_402_300_799, True), (b'"1970-01-01_00:00:00"', True), (b'"1969-12-31_23:59:59"', False),
+                                   (datetime(1970, 1, 1, tzinfo=timezone.utc), True),
+                                   (datetime(1970, 1, 1, 0, 59, tzinfo=timezone(timedelta(hours=-1))), True)]:
             self.assertEqual(bool(guard.decide(asked(b"(sequence)", moment=moment), right)), is_granted, moment)
+        with self.assertRaises(TypeError):
+            asked(moment=datetime(2024, 1, 1))
+
+    def test_a_clock_that_failed(self):
+        """A right that has ended is not granted by a moment of -1, which a clock gives that failed, or by one past the year 9999."""
+        guard = spki.Guard(b'(acl (entry (public-key (test b)) (tag (*)) (not-after "1999-12-31_23:59:59")))')
+        self.assertTrue(guard.decide(asked(b"(sequence)", moment=0), right))
+        for moment in (-1, -2 ** 31, -62_167_219_200, -2 ** 63, -2 ** 64, 253_402_300_800, 2 ** 63 - 1, 2 ** 63, 2 ** 64, 2 ** 64 + 1,
+                       datetime(1969, 12, 31, 23, 59, 59, 999_999, timezone.utc)):
+            for ask in (guard.decide, guard.explain, guard.reduce):
+                with self.assertRaises(spki.Refused, msg=moment) as met:
+                    ask(asked(b"(sequence)", moment=moment), right)
+                self.assertEqual(met.exception.line, "refused at BadDate")
 
     def test_refusals(self):
         guard = spki.Guard(LIST)
@@ -197,6 +363,7 @@ class Parts(unittest.TestCase):
                 with self.assertRaises(spki.Refused, msg=line) as met:
                     ask(question, right)
                 self.assertEqual((met.exception.line, str(met.exception), met.exception.fault), (line, line, fault))
+                self.assertEqual(met.exception.part, line.split()[1])
 
     def test_other_types_are_no_parts(self):
         for given in ({"sequence": "(sequence)"}, {"key": bytearray(KEY)}, {"words": "ftp"}, {"words": b"ftp"}, {"words": ("ftp",)}, {"words": 7},
@@ -209,8 +376,6 @@ class Parts(unittest.TestCase):
                     call(other)
         with self.assertRaises(TypeError):
             spki.Guard(LIST).decide((SHOWN, KEY, WORDS, NOW), right)
-        with self.assertRaises(OverflowError):
-            asked(moment=2 ** 64)
 
     def test_a_question_keeps_its_octets(self):
         guard = spki.Guard(b"(acl (entry (public-key (test b)) (tag (w w10 w11 w12 w13))))")
@@ -256,7 +421,7 @@ class Guards(unittest.TestCase):
     def test_policies(self):
         digest = hashlib.sha1(spki.canonical(KEY)).hexdigest().encode()
         by_sha1 = b"(acl (entry (hash sha1 #%s#) (tag (*))))" % digest
-        for policy, is_granted in [(spki.Policy.OPEN, True), (spki.Policy.STRICT, False)]:
+        for policy, is_granted in [(spki.Policy.ALLOW_SHA1, True), (spki.Policy.STRICT, False)]:
             self.assertEqual(bool(spki.Guard(by_sha1, policy).decide(asked(b"(sequence)"), right)), is_granted)
         self.assertFalse(spki.Guard(by_sha1).decide(asked(b"(sequence)"), right))
         for other in (0, 1, 2 ** 32, 2 ** 32 + 1, "strict", None, True):
@@ -282,7 +447,7 @@ class Guards(unittest.TestCase):
             self.assertTrue(guard.decide(asked(), right))
             with self.assertRaises(spki.Refused) as met:
                 guard.explain(asked(), right)
-            self.assertEqual(met.exception.line, "refused TooLarge")
+            self.assertEqual((met.exception.line, met.exception.part), ("refused TooLarge", ""))
 
     def test_closing(self):
         with spki.Guard(LIST) as guard:
@@ -290,8 +455,8 @@ class Guards(unittest.TestCase):
             opened = guard.ask(asked())
         opened.close()
         for call in (lambda: guard.decide(asked(), right), lambda: guard.explain(asked(), right), lambda: guard.reduce(asked(), right),
-                     lambda: guard.ask(asked()), lambda: guard.entries, opened.signatures, lambda: opened.marks(right),
-                     lambda: opened.decide([True]), lambda: opened.explain([True]), lambda: opened.reduce([True])):
+                     lambda: guard.ask(asked()), lambda: guard.entries, opened.signatures, lambda: opened.verify(right), lambda: opened.mark(0),
+                     opened.decide, opened.explain, opened.reduce, lambda: opened.is_possible):
             with self.assertRaises(ValueError):
                 call()
         guard.close()
@@ -305,12 +470,13 @@ class Guards(unittest.TestCase):
         """Beside every call a guard and a question may be closed. A call answers as before, or raises ValueError."""
         calls = {"entries": lambda guard, opened: guard.entries == 1, "decide": lambda guard, opened: bool(guard.decide(asked(), right)),
                  "count": lambda guard, opened: len(opened) == 1, "signatures": lambda guard, opened: opened.signatures()[0][:3] == SIGNED,
-                 "marks": lambda guard, opened: opened.marks(right) == [True], "ask": lambda guard, opened: len(guard.ask(asked())) == 1,
-                 "decide by marks": lambda guard, opened: opened.decide([True]) == spki.Decision(1),
+                 "verify": lambda guard, opened: opened.verify(right) is None, "ask": lambda guard, opened: len(guard.ask(asked())) == 1,
+                 "mark": lambda guard, opened: opened.mark(0) is None, "is_possible": lambda guard, opened: opened.is_possible,
+                 "decide by marks": lambda guard, opened: opened.mark(0) is None and opened.decide() == spki.Decision(1),
                  "explain": lambda guard, opened: str(guard.explain(asked(), right)) == "entry 1 grants",
-                 "explain by marks": lambda guard, opened: str(opened.explain([True])) == "entry 1 grants",
+                 "explain by marks": lambda guard, opened: opened.mark(0) is None and str(opened.explain()) == "entry 1 grants",
                  "reduce": lambda guard, opened: str(guard.reduce(asked(), right)).startswith("entry 1 "),
-                 "reduce by marks": lambda guard, opened: str(opened.reduce([True])).startswith("entry 1 ")}
+                 "reduce by marks": lambda guard, opened: opened.mark(0) is None and str(opened.reduce()).startswith("entry 1 ")}
         for name, call in calls.items():
             for _ in range(200):
                 guard = spki.Guard(LIST)
@@ -336,7 +502,7 @@ class Guards(unittest.TestCase):
         opened = guard.ask(asked())
 
         def ask():
-            granted.append(all(guard.decide(asked(), right) and opened.decide([True]) for _ in range(200)))
+            granted.append(all(guard.decide(asked(), right) and opened.mark(0) is None and opened.decide() for _ in range(200)))
 
         threads = [threading.Thread(target=ask) for _ in range(8)]
         for thread in threads:
@@ -397,14 +563,16 @@ class Texts(unittest.TestCase):
         opened = spki.Guard(LIST).ask(asked())
         for status in (0, 3, 5, 7, 10):
             with mock.patch.object(_library, "decide", return_value=status), self.assertRaises(RuntimeError):
-                opened.decide([True])
+                opened.decide()
+            with mock.patch.object(_library, "mark", return_value=status), self.assertRaises(RuntimeError):
+                opened.mark(0)
 
 
 class Libraries(unittest.TestCase):
     def test_another_version_is_refused_by_name(self):
         """A library of another version, and one from before there were versions, is not used."""
         source = 'const char *spki_version(void) { return "%s"; }'
-        for version, is_used in (("0.1.0", True), ("0.1.7", True), ("0.2.0", False), ("1.1.0", False), ("0.10.0", False)):
+        for version, is_used in (("0.2.0", True), ("0.2.7", True), ("0.1.0", False), ("1.2.0", False), ("0.20.0", False)):
             with tempfile.TemporaryDirectory() as room:
                 path = os.path.join(room, "libspki_c.so")
                 words = ["cc", "-shared", "-fPIC", "-x", "c", "-", "-o", path]
@@ -417,7 +585,7 @@ class Libraries(unittest.TestCase):
                     continue
                 with self.assertRaises(ImportError) as met:
                     _library.checked(path)
-                self.assertIn(f"has version {version}, and this module needs 0.1", str(met.exception))
+                self.assertIn(f"has version {version}, and this module needs 0.2", str(met.exception))
         with self.assertRaises(ImportError):
             _library.checked(ctypes.util.find_library("m"))
 

@@ -16,8 +16,7 @@
 #include <string.h>
 #include <time.h>
 
-/* The guard without limits of its own reads no more signatures. */
-enum { MOST_SIGNATURES = 16, MOST_OCTETS = 65536, MOST_WORDS = 16, FIRST_WORD = 4 };
+enum { MOST_OCTETS = 65536, MOST_WORDS = 16, FIRST_WORD = 4 };
 
 /* Whether a request is granted. Each word is one string of it, whatever octets it has. A client who shows more than the limits of the guard
  * allow is denied. THE CLIENT MUST HAVE PROVED THAT IT HOLDS THE KEY: a public key is public. */
@@ -27,14 +26,15 @@ static bool is_granted(const spki_guard *guard, struct spki_text sequence, struc
     const struct spki_question question = {.size = sizeof question, .sequence = sequence, .key = key, .words = words,
                                            .word_count = word_count, .seconds = &now};
     struct spki_signed signature;
-    unsigned char verified[MOST_SIGNATURES] = {0}, line[128];
+    unsigned char line[128];
     spki_asked *asked;
     if (spki_guard_ask(guard, &question, &asked, line, sizeof line, NULL) != SPKI_DONE)
         return false;
-    size_t place = 0;
-    for (; place < MOST_SIGNATURES && spki_asked_signature(asked, place, &signature) == SPKI_DONE; place++)
-        verified[place] = verifies(signature.key, signature.message, signature.value) ? 1 : 0;
-    bool granted = spki_asked_decide(asked, verified, place, line, sizeof line, NULL) == SPKI_YES;
+    const size_t count = spki_asked_possible(asked) ? spki_asked_count(asked) : 0;
+    for (size_t place = 0; place < count && spki_asked_signature(asked, place, &signature) == SPKI_DONE; place++)
+        if (verifies(signature.key, signature.message, signature.value))
+            spki_asked_mark(asked, place);
+    bool granted = spki_asked_granted(asked);
     spki_asked_close(asked);
     return granted;
 }

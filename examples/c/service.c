@@ -142,24 +142,25 @@ static void put(enum spki_status status, const unsigned char *answer, size_t len
         fwrite(answer, 1, length, stdout);
 }
 
-/* Verifies each signature of a question, decides by them, and writes the answer. */
+/* Verifies each signature of a question, also where none could help, since a denial is explained. Decides, and writes the answer. */
 static void decide(const struct service *service, const struct spki_question *question)
 {
     struct spki_signed signature;
-    unsigned char verified[MOST_CERTIFICATES] = {0}, *answer = service->answer;
-    size_t place = 0, room = service->answer_room, length;
+    unsigned char *answer = service->answer;
+    size_t room = service->answer_room, length;
     spki_asked *asked;
     enum spki_status status = spki_guard_ask(service->guard, question, &asked, answer, room, &length);
     if (status != SPKI_DONE) {
         put(status, answer, length);
         return;
     }
-    for (; place < MOST_CERTIFICATES && spki_asked_signature(asked, place, &signature) == SPKI_DONE; place++)
-        verified[place] = verifies(signature.key, signature.message, signature.value) ? 1 : 0;
-    status = spki_asked_decide(asked, verified, place, answer, room, &length);
+    for (size_t place = 0; spki_asked_signature(asked, place, &signature) == SPKI_DONE; place++)
+        if (verifies(signature.key, signature.message, signature.value))
+            spki_asked_mark(asked, place);
+    status = spki_asked_decide(asked, answer, room, &length);
     put(status, answer, length);
     if (status == SPKI_NO) {
-        status = spki_asked_explain(asked, verified, place, answer, room, &length);
+        status = spki_asked_explain(asked, answer, room, &length);
         put(status, answer, length);
     }
     spki_asked_close(asked);

@@ -3,20 +3,22 @@
  *
  *     verified[place] = verifies(signature.key, signature.message, signature.value);
  *
- * Key and value must have exactly these forms: a key in another form is another key. So both files accept the same, and what they hand to
- * their library was compared with a form first. Below `verifies` is what they share. */
+ * Key and value must have exactly these forms: a key in another form is another key. Points and numbers are tested before a library gets them,
+ * as docs/FORMATS.md, "What a verifier tests first", has it: libraries differ in what they take, and some end the process. So both files
+ * accept the same. Below `verifies` is what they share. */
 #ifndef VERIFY_H
 #define VERIFY_H
 
 #include <spki.h>
 #include <stdbool.h>
+#include <string.h>
 
 /* Whether a value is a signature of a message by a key, all in canonical form. Several threads may call at the same time. */
 bool verifies(struct spki_text key, struct spki_text message, struct spki_text value);
 
 /* ---- shared by the verifiers */
 
-enum { VERIFY_HALF = 32, VERIFY_POINT = 65, VERIFY_LEAST_BITS = 2048, VERIFY_MOST_BITS = 16384, VERIFY_MOST_EXPONENT_BITS = 64 };
+enum { VERIFY_HALF = 32, VERIFY_POINT = 65, VERIFY_LEAST_BITS = 2048, VERIFY_MOST_BITS = 4096, VERIFY_MOST_EXPONENT_BITS = 31 };
 /* A canonical text of more octets is no key and no value of a signature. */
 enum { VERIFY_MOST_OCTETS = 4096 };
 
@@ -54,13 +56,29 @@ static inline bool verify_has_form(struct spki_text text, const char *form, stru
     return at && !*form && at == end;
 }
 
-/* A number of a signature without octets 00 in front. */
+/* A number, big-endian, without octets 00 in front. */
 static inline struct spki_text verify_trimmed(struct spki_text number)
 {
     const unsigned char *octets = number.octets;
     for (; number.length && *octets == 0; octets++)
         number.length--;
     return (struct spki_text){octets, number.length};
+}
+
+/* Whether a number is below another, both big-endian. */
+static inline bool verify_is_below(struct spki_text number, struct spki_text limit)
+{
+    number = verify_trimmed(number);
+    limit = verify_trimmed(limit);
+    if (number.length != limit.length || !limit.length)
+        return number.length < limit.length;
+    return memcmp(number.octets, limit.octets, limit.length) < 0;
+}
+
+/* The same for a limit of 32 octets. */
+static inline bool verify_is_below_half(struct spki_text number, const char *limit)
+{
+    return verify_is_below(number, (struct spki_text){limit, VERIFY_HALF});
 }
 
 /* The bits of a number of a key, or 0. It has an octet 00 in front exactly if its first bit is set, and is odd. */
@@ -76,27 +94,74 @@ static inline size_t verify_bits(struct spki_text number)
     return bits;
 }
 
-/* Takes a key and the value of a signature apart. The kind is VERIFY_NONE if they have no form of one kind. */
+/* The octets of half a signature in the reverse order. */
+static inline void verify_reverse(struct spki_text half, unsigned char reversed[VERIFY_HALF])
+{
+    const unsigned char *octets = half.octets;
+    for (size_t i = 0; i < VERIFY_HALF; i++)
+        reversed[i] = octets[VERIFY_HALF - 1 - i];
+}
+
+/* Whether Ed25519 is asked. The point q has no small order and one text: y is at least 2^192, below p - 1, and none of the two of order 8. The
+ * number s is below the order of the group. */
+static inline bool verify_is_ed25519(struct spki_text q, struct spki_text r, struct spki_text s)
+{
+    static const char last[] = "\x7f\xff\xff\xff\xff\xff\xff\xff\xff\xff\xff\xff\xff\xff\xff\xff\xff\xff\xff\xff\xff\xff\xff\xff\xff\xff\xff\xff"
+                               "\xff\xff\xff\xec",
+                      order[] = "\x10\0\0\0\0\0\0\0\0\0\0\0\0\0\0\0\x14\xde\xf9\xde\xa2\xf7\x9c\xd6\x58\x12\x63\x1a\x5c\xf5\xd3\xed",
+                      eighth[] = "\x05\xfc\x53\x6d\x88\x02\x38\xb1\x39\x33\xc6\xd3\x05\xac\xdf\xd5\xf0\x98\xef\xf2\x89\xf4\xc3\x45"
+                                 "\xb0\x27\xb2\xc2\x8f\x95\xe8\x26",
+                      other[] = "\x7a\x03\xac\x92\x77\xfd\xc7\x4e\xc6\xcc\x39\x2c\xfa\x53\x20\x2a\x0f\x67\x10\x0d\x76\x0b\x3c\xba"
+                                "\x4f\xd8\x4d\x3d\x70\x6a\x17\xc7";
+    unsigned char y[VERIFY_HALF], number[VERIFY_HALF];
+    if (q.length != VERIFY_HALF || r.length != VERIFY_HALF || s.length != VERIFY_HALF)
+        return false;
+    verify_reverse(q, y);
+    verify_reverse(s, number);
+    y[0] &= 0x7f;
+    return memcmp(y, (unsigned char[8]){0}, 8) != 0 && verify_is_below_half((struct spki_text){y, VERIFY_HALF}, last)
+           && memcmp(y, eighth, VERIFY_HALF) != 0 && memcmp(y, other, VERIFY_HALF) != 0
+           && verify_is_below_half((struct spki_text){number, VERIFY_HALF}, order);
+}
+
+/* Whether ECDSA is asked. The coordinates are below p, and r and s are from 1 to below the order. A library tests that the point is one. */
+static inline bool verify_is_p256(struct spki_text q, struct spki_text r, struct spki_text s)
+{
+    static const char p[] = "\xff\xff\xff\xff\0\0\0\1\0\0\0\0\0\0\0\0\0\0\0\0\xff\xff\xff\xff\xff\xff\xff\xff\xff\xff\xff\xff",
+                      order[] = "\xff\xff\xff\xff\0\0\0\0\xff\xff\xff\xff\xff\xff\xff\xff\xbc\xe6\xfa\xad\xa7\x17\x9e\x84\xf3\xb9\xca\xc2\xfc"
+                                "\x63\x25\x51";
+    const unsigned char *octets = q.octets;
+    return q.length == VERIFY_POINT && octets[0] == 4 && verify_is_below_half((struct spki_text){octets + 1, VERIFY_HALF}, p)
+           && verify_is_below_half((struct spki_text){octets + 1 + VERIFY_HALF, VERIFY_HALF}, p) && r.length && s.length
+           && verify_is_below_half(r, order) && verify_is_below_half(s, order);
+}
+
+/* Whether RSA is asked. Both numbers of the key are odd and within the limits, and s is from 1 to below the modulus. */
+static inline bool verify_is_rsa(struct spki_text n, struct spki_text e, struct spki_text s)
+{
+    size_t bits = verify_bits(n), exponent = verify_bits(e);
+    return bits >= VERIFY_LEAST_BITS && bits <= VERIFY_MOST_BITS && exponent >= 2 && exponent <= VERIFY_MOST_EXPONENT_BITS && s.length
+           && verify_is_below(s, n);
+}
+
+/* Takes a key and the value of a signature apart, and tests them. The kind is VERIFY_NONE if they are none of one kind. */
 static inline struct verify_parts verify_parts_of(struct spki_text key, struct spki_text value)
 {
     struct verify_parts of = {.kind = VERIFY_NONE};
     struct spki_text *k = of.key, *v = of.value;
     if (verify_has_form(key, "(10:public-key(3:ecc(5:curve7:Ed25519)(5:flags5:eddsa)(1:q%)))", k)
         && verify_has_form(value, "(7:sig-val(5:eddsa(1:r%)(1:s%)))", v)) {
-        if (k[0].length == VERIFY_HALF && v[0].length == VERIFY_HALF && v[1].length == VERIFY_HALF)
+        if (verify_is_ed25519(k[0], v[0], v[1]))
             of.kind = VERIFY_ED25519;
     } else if (verify_has_form(key, "(10:public-key(3:ecc(5:curve10:NIST P-256)(1:q%)))", k)
                && verify_has_form(value, "(7:sig-val(5:ecdsa(1:r%)(1:s%)))", v)) {
         v[0] = verify_trimmed(v[0]);
         v[1] = verify_trimmed(v[1]);
-        if (k[0].length == VERIFY_POINT && *(const unsigned char *)k[0].octets == 4 && v[0].length <= VERIFY_HALF
-            && v[1].length <= VERIFY_HALF)
+        if (verify_is_p256(k[0], v[0], v[1]))
             of.kind = VERIFY_P256;
     } else if (verify_has_form(key, "(10:public-key(3:rsa(1:n%)(1:e%)))", k) && verify_has_form(value, "(7:sig-val(3:rsa(1:s%)))", v)) {
-        size_t bits = verify_bits(k[0]), exponent = verify_bits(k[1]);
         v[0] = verify_trimmed(v[0]);
-        if (bits >= VERIFY_LEAST_BITS && bits <= VERIFY_MOST_BITS && exponent >= 2 && exponent <= VERIFY_MOST_EXPONENT_BITS
-            && v[0].length <= (bits + 7) / 8)
+        if (verify_is_rsa(k[0], k[1], v[0]))
             of.kind = VERIFY_RSA;
     }
     return of;

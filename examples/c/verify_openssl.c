@@ -100,7 +100,7 @@ bool verifies(struct spki_text key, struct spki_text message, struct spki_text v
 {
     unsigned char signature[MOST_SIGNATURE];
     struct verify_parts parts = verify_parts_of(key, value);
-    EVP_PKEY *public = parts.kind == VERIFY_NONE ? NULL : key_of(&parts);
+    EVP_PKEY *public = parts.kind == VERIFY_NONE || message.length == 0 ? NULL : key_of(&parts);
     const EVP_MD *digest = parts.kind == VERIFY_ED25519 ? NULL : EVP_sha256();
     size_t length = public ? signature_of(&parts, (size_t)EVP_PKEY_get_size(public), signature) : 0;
     EVP_MD_CTX *context = EVP_MD_CTX_new();

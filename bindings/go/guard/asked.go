@@ -1,16 +1,46 @@
 package guard
 
 import (
+	"context"
 	"runtime"
 	"sync"
 )
 
-// An Asked is a question that a guard has read. It owns all that it needs, may be answered any number of times, and may be used by several
-// goroutines.
+// An Asked is a question that a guard has read, with the marks of its valid signatures. It owns all that it needs, may be answered any number of
+// times, and may be used by several goroutines. A copy of it is the same question: what closes one closes both.
 type Asked struct {
-	mutex      sync.Mutex
-	handle     opened
-	signatures []Signature
+	held  *heldAsked
+	count int
+}
+
+// A heldAsked is what the copies of an Asked share. It is closed when none is left.
+type heldAsked struct {
+	mutex  sync.Mutex
+	handle opened
+}
+
+// close frees the memory.
+func (h *heldAsked) close() {
+	h.mutex.Lock()
+	defer h.mutex.Unlock()
+	if h.handle != nil {
+		closeAsked(h.handle)
+		h.handle = nil
+		runtime.SetFinalizer(h, nil)
+	}
+}
+
+// lock returns the open handle. If there is no error, the caller unlocks a.held.mutex.
+func (a *Asked) lock() (opened, error) {
+	if a.held == nil {
+		return nil, ErrClosed
+	}
+	a.held.mutex.Lock()
+	if a.held.handle == nil {
+		a.held.mutex.Unlock()
+		return nil, ErrClosed
+	}
+	return a.held.handle, nil
 }
 
 // A Signature is to be verified: whether Value is a signature of Message by Key. The texts are in canonical form.
@@ -18,86 +48,146 @@ type Signature struct {
 	Key, Message, Value []byte
 }
 
-// Signatures returns all signatures that the decision depends on, in order. Their octets belong to the question: do not change them.
-func (a *Asked) Signatures() []Signature {
-	return append([]Signature(nil), a.signatures...)
+// Count returns the number of signatures that the decision depends on.
+func (a *Asked) Count() int {
+	return a.count
 }
 
-// Decide decides, if exactly those signatures are valid whose marks are true. The marks are of Signatures, in its order. Another number of
-// marks is ErrMisused.
-func (a *Asked) Decide(marks []bool) (Decision, error) {
-	a.mutex.Lock()
-	defer a.mutex.Unlock()
-	given, err := a.given(marks)
+// Each calls a function with each of these signatures, in order, until it returns false. A signature is copied when it is its turn, and one
+// whose key is that of the signature before has the same octets for it: do not change them. The error is ErrClosed if the question is closed
+// meanwhile.
+func (a *Asked) Each(use func(place int, signed Signature) bool) error {
+	var signed Signature
+	for place := 0; place < a.count; place++ {
+		next, err := a.signature(place, signed.Key)
+		if err != nil {
+			return err
+		}
+		if !use(place, next) {
+			return nil
+		}
+		signed = next
+	}
+	return nil
+}
+
+// Signatures returns all signatures that Each does, and none after Close.
+func (a *Asked) Signatures() []Signature {
+	listed := make([]Signature, 0, a.count)
+	if a.Each(func(_ int, signed Signature) bool { listed = append(listed, signed); return true }) != nil {
+		return nil
+	}
+	return listed
+}
+
+// signature returns the signature at a place. Its key is the given one if that is equal.
+func (a *Asked) signature(place int, key []byte) (Signature, error) {
+	handle, err := a.lock()
+	if err != nil {
+		return Signature{}, err
+	}
+	defer a.held.mutex.Unlock()
+	return signature(handle, place, key)
+}
+
+// Mark says that the signature at this place, from 0, is valid. A signature that is not marked is not valid. A mark is for its place alone, also
+// if the same signature is there twice, and it cannot be taken back. The error is ErrMisused if there is no such place, and ErrClosed after Close.
+// Nothing is marked then.
+func (a *Asked) Mark(place int) error {
+	handle, err := a.lock()
+	if err != nil {
+		return err
+	}
+	defer a.held.mutex.Unlock()
+	if place < 0 {
+		return ErrMisused
+	}
+	return mark(handle, place)
+}
+
+// Verify marks each signature that is valid, in order, up to the first that is not. To explain a denial, verify also what is not possible.
+func (a *Asked) Verify(verify Verify) error {
+	return a.VerifyContext(context.Background(), func(_ context.Context, key, message, value []byte) (bool, error) {
+		return verify(key, message, value), nil
+	})
+}
+
+// VerifyContext is as Verify, with a verifier that may fail. The context is tested before each signature and after the last. With an error
+// nothing is marked.
+func (a *Asked) VerifyContext(ctx context.Context, verify VerifyContext) error {
+	valid, failed := 0, ctx.Err()
+	err := a.Each(func(place int, signed Signature) bool {
+		isValid := false
+		if failed == nil {
+			isValid, failed = verify(ctx, signed.Key, signed.Message, signed.Value)
+		}
+		if failed == nil {
+			failed = ctx.Err()
+		}
+		if isValid && failed == nil {
+			valid++
+		}
+		return isValid && failed == nil
+	})
+	if failed != nil {
+		return failed
+	}
+	for place := 0; place < valid && err == nil; place++ {
+		err = a.Mark(place)
+	}
+	return err
+}
+
+// Possible says whether the request would be granted if all signatures were valid. If not, no marks make it a yes, and no signature has to be
+// verified. True grants nothing. It is false after Close.
+func (a *Asked) Possible() bool {
+	handle, err := a.lock()
+	if err != nil {
+		return false
+	}
+	defer a.held.mutex.Unlock()
+	return possible(handle)
+}
+
+// Decide decides, if exactly the marked signatures are valid. The error is ErrClosed after Close.
+func (a *Asked) Decide() (Decision, error) {
+	handle, err := a.lock()
 	if err != nil {
 		return Decision{}, err
 	}
-	return decide(a.handle, given)
+	defer a.held.mutex.Unlock()
+	return decide(handle)
 }
 
 // Explain says of each entry why it grants the request or does not, or which certificate stops all of them.
-func (a *Asked) Explain(marks []bool) (Explanation, error) {
-	text, err := a.lines(toExplain, marks)
+func (a *Asked) Explain() (Explanation, error) {
+	text, err := a.lines(toExplain)
 	return Explanation{text}, err
 }
 
 // Reduce writes which right remains of each entry after all certificates.
-func (a *Asked) Reduce(marks []bool) (string, error) {
-	return a.lines(toReduce, marks)
+func (a *Asked) Reduce() (string, error) {
+	return a.lines(toReduce)
 }
 
 // Close frees the memory of the question. Nothing else depends on it. It may be called at any time and more than once.
 func (a *Asked) Close() {
-	a.mutex.Lock()
-	defer a.mutex.Unlock()
-	if a.handle != nil {
-		closeAsked(a.handle)
-		a.handle = nil
-		runtime.SetFinalizer(a, nil)
+	if a.held != nil {
+		a.held.close()
 	}
 }
 
 // lines returns an answer that is no decision.
-func (a *Asked) lines(wish wish, marks []bool) (string, error) {
-	a.mutex.Lock()
-	defer a.mutex.Unlock()
-	given, err := a.given(marks)
+func (a *Asked) lines(wish wish) (string, error) {
+	handle, err := a.lock()
 	if err != nil {
 		return "", err
 	}
-	return lines(a.handle, wish, given)
+	defer a.held.mutex.Unlock()
+	return lines(handle, wish)
 }
 
-// given returns the marks as the library takes them. The mutex is held.
-func (a *Asked) given(marks []bool) ([]byte, error) {
-	if a.handle == nil {
-		return nil, ErrClosed
-	}
-	if len(marks) != len(a.signatures) {
-		return nil, ErrMisused
-	}
-	return octetsOfMarks(marks), nil
-}
-
-// octetsOfMarks returns marks as the library takes them: 1 for a signature that is valid.
-func octetsOfMarks(marks []bool) []byte {
-	given := make([]byte, len(marks))
-	for place, isValid := range marks {
-		if isValid {
-			given[place] = 1
-		}
-	}
-	return given
-}
-
-// marks asks a verifier of each signature, up to the first that is not valid.
-func (a *Asked) marks(verify Verify) []bool {
-	marks := make([]bool, len(a.signatures))
-	for place, signed := range a.signatures {
-		if !verify(signed.Key, signed.Message, signed.Value) {
-			break
-		}
-		marks[place] = true
-	}
-	return marks
+// helps says whether it helps to verify: there is a signature, and the request can be granted.
+func (a *Asked) helps() bool {
+	return a.count > 0 && a.Possible()
 }

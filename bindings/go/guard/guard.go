@@ -27,102 +27,162 @@
 package guard
 
 import (
+	"context"
+	"fmt"
 	"runtime"
 	"sync"
 )
 
 // Version is the version of this module. It uses a library whose first two numbers are the same.
-const Version = "0.1.0"
+const Version = "0.2.0"
 
-// A Guard is an access list that was read once and is asked often, also by several goroutines at the same time.
+// A Guard is an access list that was read once and is asked often, also by several goroutines at the same time. A copy of a Guard is the same
+// guard: what closes one closes both.
 type Guard struct {
+	held *heldGuard
+}
+
+// A heldGuard is what the copies of a Guard share. It is closed when none is left.
+type heldGuard struct {
 	mutex  sync.RWMutex
 	handle handle
+}
+
+// close frees the memory.
+func (h *heldGuard) close() {
+	h.mutex.Lock()
+	defer h.mutex.Unlock()
+	if h.handle != nil {
+		closeGuard(h.handle)
+		h.handle = nil
+		runtime.SetFinalizer(h, nil)
+	}
+}
+
+// lock returns the open handle. If there is no error, the caller unlocks g.held.mutex for reading.
+func (g *Guard) lock() (handle, error) {
+	if g.held == nil {
+		return nil, ErrClosed
+	}
+	g.held.mutex.RLock()
+	if g.held.handle == nil {
+		g.held.mutex.RUnlock()
+		return nil, ErrClosed
+	}
+	return g.held.handle, nil
 }
 
 // A Verify says whether a value is a signature of a message by a key. The texts are in canonical form: the issuer's `(public-key ..)`, the
 // certificate, and the value of `(signature ..)`.
 type Verify func(key, message, value []byte) bool
 
+// A VerifyContext is a Verify that may take time or fail, as one that asks another service. With an error it is not known whether the
+// signature is valid, and nothing is granted.
+type VerifyContext func(ctx context.Context, key, message, value []byte) (bool, error)
+
 // Open reads an access list, `(acl entry ..)`, in any of the three forms of RFC 9804. The error is a *Refusal if the text is no access list,
-// and ErrMisused if a limit is over the highest.
+// and ErrMisused if a limit is over the highest or below zero.
 func Open(list []byte, policy Policy, limits Limits) (*Guard, error) {
-	opened, err := open(list, policy, limits.orUsual())
+	given, err := limits.orUsual()
 	if err != nil {
 		return nil, err
 	}
-	guard := &Guard{handle: opened}
-	runtime.SetFinalizer(guard, (*Guard).Close)
-	return guard, nil
+	opened, err := open(list, policy, given)
+	if err != nil {
+		return nil, err
+	}
+	held := &heldGuard{handle: opened}
+	runtime.SetFinalizer(held, (*heldGuard).close)
+	return &Guard{held}, nil
 }
 
 // Close frees the memory of the guard, once the questions that it was asked are closed too. Nothing else depends on it. It may be called at
 // any time and more than once. A later question is ErrClosed.
 func (g *Guard) Close() {
-	g.mutex.Lock()
-	defer g.mutex.Unlock()
-	if g.handle != nil {
-		closeGuard(g.handle)
-		g.handle = nil
-		runtime.SetFinalizer(g, nil)
+	if g.held != nil {
+		g.held.close()
 	}
 }
 
 // Entries returns the number of entries of the list, or 0 after Close.
 func (g *Guard) Entries() int {
-	g.mutex.RLock()
-	defer g.mutex.RUnlock()
-	if g.handle == nil {
+	handle, err := g.lock()
+	if err != nil {
 		return 0
 	}
-	return entries(g.handle)
+	defer g.held.mutex.RUnlock()
+	return entries(handle)
 }
 
 // Ask reads a question. Nothing of it is used after Ask returns. The error is a *Refusal that names the part if one cannot be read or
 // exceeds a limit, ErrMisused if the request or the time is given in two ways, and ErrClosed after Close.
 func (g *Guard) Ask(question Question) (*Asked, error) {
 	asked, err := g.ask(&question)
-	if err == nil {
-		runtime.SetFinalizer(asked, (*Asked).Close)
-	}
-	return asked, err
-}
-
-// ask is Ask for a caller that closes the question in any case.
-func (g *Guard) ask(question *Question) (*Asked, error) {
-	g.mutex.RLock()
-	defer g.mutex.RUnlock()
-	if g.handle == nil {
-		return nil, ErrClosed
-	}
-	opened, err := ask(g.handle, question)
 	if err != nil {
 		return nil, err
 	}
-	return &Asked{handle: opened, signatures: signatures(opened)}, nil
+	runtime.SetFinalizer(asked.held, (*heldAsked).close)
+	return &asked, nil
 }
 
-// Decide asks a question, verifies its signatures in order, up to the first that is not valid, and decides. The error is that of Ask. With
-// an error the decision is not a yes.
+// ask is Ask for a caller that closes the question in any case.
+func (g *Guard) ask(question *Question) (Asked, error) {
+	handle, err := g.lock()
+	if err != nil {
+		return Asked{}, err
+	}
+	defer g.held.mutex.RUnlock()
+	opened, err := ask(handle, question)
+	if err != nil {
+		return Asked{}, err
+	}
+	return Asked{held: &heldAsked{handle: opened}, count: count(opened)}, nil
+}
+
+// Decide asks a question, verifies its signatures in order, up to the first that is not valid, and decides. Nothing is verified where the
+// request cannot be granted, whatever is valid. The error is that of Ask. With an error the decision is not a yes.
 func (g *Guard) Decide(question Question, verify Verify) (Decision, error) {
 	asked, err := g.ask(&question)
 	if err != nil {
 		return Decision{}, err
 	}
 	defer asked.Close()
-	return asked.Decide(asked.marks(verify))
+	if asked.helps() {
+		err = asked.Verify(verify)
+	}
+	if err != nil {
+		return Decision{}, err
+	}
+	return asked.Decide()
 }
 
-// DecideBy is as Decide, if exactly those signatures are valid whose marks are true. The marks are those of Signatures of a question with the
-// same sequence, which a guard with the same policy was asked: which signatures are listed, and in which order, depends on nothing else.
-// Another number of marks is ErrMisused.
-func (g *Guard) DecideBy(question Question, marks []bool) (Decision, error) {
-	g.mutex.RLock()
-	defer g.mutex.RUnlock()
-	if g.handle == nil {
-		return Decision{}, ErrClosed
+// DecideContext is as Decide, with a verifier that may fail. The context is tested before each signature and before the decision. The error
+// is also that of the verifier or of the context.
+func (g *Guard) DecideContext(ctx context.Context, question Question, verify VerifyContext) (Decision, error) {
+	asked, err := g.ask(&question)
+	if err != nil {
+		return Decision{}, err
 	}
-	return decideBy(g.handle, &question, octetsOfMarks(marks))
+	defer asked.Close()
+	if err = ctx.Err(); err == nil && asked.helps() {
+		err = asked.VerifyContext(ctx, verify)
+	}
+	if err != nil {
+		return Decision{}, fmt.Errorf("a signature could not be verified: %w", err)
+	}
+	return asked.Decide()
+}
+
+// Require is as DecideContext for a caller that tests nothing but the error: nil is a yes, with the number of the entry, and a no is ErrDenied.
+func (g *Guard) Require(ctx context.Context, question Question, verify VerifyContext) (int, error) {
+	decision, err := g.DecideContext(ctx, question, verify)
+	if err == nil && !decision.Granted() {
+		err = ErrDenied
+	}
+	if err != nil {
+		return 0, err
+	}
+	return decision.Entry(), nil
 }
 
 // Explain is as Decide, and says of each entry why it grants the request or does not, or which certificate stops all of them. Its time grows
@@ -133,7 +193,10 @@ func (g *Guard) Explain(question Question, verify Verify) (Explanation, error) {
 		return Explanation{}, err
 	}
 	defer asked.Close()
-	return asked.Explain(asked.marks(verify))
+	if err := asked.Verify(verify); err != nil {
+		return Explanation{}, err
+	}
+	return asked.Explain()
 }
 
 // Reduce is as Explain, and writes which right remains of each entry after all certificates: the lines of the program's command reduce.
@@ -143,5 +206,8 @@ func (g *Guard) Reduce(question Question, verify Verify) (string, error) {
 		return "", err
 	}
 	defer asked.Close()
-	return asked.Reduce(asked.marks(verify))
+	if err := asked.Verify(verify); err != nil {
+		return "", err
+	}
+	return asked.Reduce()
 }

@@ -1,10 +1,14 @@
 package guard_test
 
 import (
+	"context"
 	"crypto/sha1"
+	"crypto/sha256"
 	"errors"
 	"fmt"
+	"math"
 	"reflect"
+	"runtime"
 	"strings"
 	"testing"
 	"time"
@@ -42,6 +46,41 @@ func opened(t testing.TB, list string) *guard.Guard {
 	}
 	t.Cleanup(made.Close)
 	return made
+}
+
+// By own, a lets itself do everything: such a certificate may stand in front of another one, also twice. By forged, c has a certificate in the
+// name of a, whose signature is not valid.
+const (
+	own = `(cert (issuer (public-key (test a))) (subject (public-key (test a))) (propagate) (tag (*)))
+		(signature (hash sha256 #b26a73c3cdcb26bbb71fa21531b5b6a1745fc316ddfcf53862a174f5dccebfb6#) (public-key (test a)) sig)`
+	forged = `(cert (issuer (public-key (test a))) (subject (public-key (test c))) (tag (*)))
+		(signature (hash sha256 #b0c7e53153c3b09dad60263b3b4738aa1ae756cc4642305bcf4fdc4114ff0d5d#) (public-key (test a)) forged)`
+)
+
+// marked returns a question whose signatures at these places are marked.
+func marked(t testing.TB, made *guard.Guard, question guard.Question, places ...int) *guard.Asked {
+	t.Helper()
+	asked, err := made.Ask(question)
+	if err != nil {
+		t.Fatal(err)
+	}
+	t.Cleanup(asked.Close)
+	for _, place := range places {
+		if err := asked.Mark(place); err != nil {
+			t.Fatal(err)
+		}
+	}
+	return asked
+}
+
+// granted says whether a question is granted. It must be decided.
+func granted(t testing.TB, asked *guard.Asked) bool {
+	t.Helper()
+	decision, err := asked.Decide()
+	if err != nil {
+		t.Fatal(err)
+	}
+	return decision.Granted()
 }
 
 func valid(_, _, _ []byte) bool { return true }
@@ -94,68 +133,93 @@ func TestVerifierStopsAtTheFirstWrongOne(t *testing.T) {
 	}
 }
 
-func TestMarksAreOfOneQuestion(t *testing.T) {
-	asked, err := opened(t, list).Ask(shown(2))
-	if err != nil {
-		t.Fatal(err)
-	}
-	defer asked.Close()
-	if listed := asked.Signatures(); len(listed) != 2 || string(listed[1].Message) != signed[1] {
+// TestMarks marks what the question does not have: -255, 0x101 and other numbers that a verifier may have returned. Nothing is marked.
+func TestMarks(t *testing.T) {
+	asked := marked(t, opened(t, list), shown(1))
+	if listed := asked.Signatures(); len(listed) != 1 || string(listed[0].Message) != signed[1] || !asked.Possible() {
 		t.Errorf("%q", listed)
 	}
-	for _, marks := range [][]bool{nil, {true}, {true, true, true}} {
-		if decision, err := asked.Decide(marks); !errors.Is(err, guard.ErrMisused) || decision.Granted() {
-			t.Errorf("%v: %v, %v", marks, decision, err)
+	for _, place := range []int{1, 2, 0x101, -1, -255, math.MaxInt, math.MinInt} {
+		if err := asked.Mark(place); !errors.Is(err, guard.ErrMisused) || granted(t, asked) {
+			t.Errorf("%d: %v", place, err)
 		}
 	}
-	for _, marks := range [][]bool{{false, false}, {true, false}, {false, true}} {
-		if decision, err := asked.Decide(marks); err != nil || decision.Granted() {
-			t.Errorf("%v: %v, %v", marks, decision, err)
+	for turn := 0; turn < 2; turn++ {
+		if err := asked.Mark(0); err != nil || !granted(t, asked) {
+			t.Error(err)
+		}
+	}
+}
+
+// TestMarksAreOfOneQuestion asks for two clients at once. What is marked for b grants nothing to c, who shows a forged certificate.
+func TestMarksAreOfOneQuestion(t *testing.T) {
+	made, question := opened(t, list), shown(0)
+	question.Sequence, question.Key = []byte("(sequence "+forged+")"), []byte("(public-key (test c))")
+	good, bad, again := marked(t, made, shown(1)), marked(t, made, question), marked(t, made, shown(1))
+	for _, asked := range []*guard.Asked{good, bad} {
+		err := asked.Verify(func(_, _, value []byte) bool { return string(value) == "3:sig" })
+		if err != nil || !asked.Possible() {
+			t.Error(err)
+		}
+	}
+	if !granted(t, good) || granted(t, bad) || granted(t, again) {
+		t.Error("a mark counts for another question")
+	}
+	*good, *bad = *bad, *good
+	if granted(t, good) || !granted(t, bad) {
+		t.Error("a mark does not go with its question")
+	}
+}
+
+// TestMarksAreOfOnePlace shows two equal certificates, of which both have to be marked.
+func TestMarksAreOfOnePlace(t *testing.T) {
+	question := shown(0)
+	question.Sequence, question.Key = []byte("(sequence "+own+own+")"), []byte("(public-key (test a))")
+	for place := 0; place < 2; place++ {
+		asked := marked(t, opened(t, list), question, place)
+		if granted(t, asked) || asked.Count() != 2 {
+			t.Errorf("the mark of place %d counts for both", place)
+		}
+		if err := asked.Mark(1 - place); err != nil || !granted(t, asked) {
+			t.Error(err)
 		}
 	}
 }
 
-func TestDecideBy(t *testing.T) {
-	made := opened(t, list)
-	for count, rows := range map[int][][]bool{0: {{}}, 1: {{false}, {true}}, 2: {{false, false}, {true, false}, {false, true}, {true, true}}} {
-		question := shown(count)
-		asked, err := made.Ask(question)
-		if err != nil {
-			t.Fatal(err)
-		}
-		for _, marks := range rows {
-			wanted, err := asked.Decide(marks)
-			if err != nil {
-				t.Fatal(err)
-			}
-			if decision, err := made.DecideBy(question, marks); err != nil || decision != wanted || decision.Granted() != (count == 1 && marks[0]) {
-				t.Errorf("%v: %v, %v, wanted %v", marks, decision, err, wanted)
-			}
-		}
-		asked.Close()
-		for _, marks := range [][]bool{make([]bool, count+1), append(rows[len(rows)-1], true)} {
-			if decision, err := made.DecideBy(question, marks); !errors.Is(err, guard.ErrMisused) || decision.Granted() {
-				t.Errorf("%v: %v, %v", marks, decision, err)
-			}
-		}
+// TestVerifierThatFailsMarksNothing fails behind a valid signature.
+func TestVerifierThatFailsMarksNothing(t *testing.T) {
+	question, fault := shown(0), errors.New("no such key")
+	question.Sequence, question.Key = []byte("(sequence "+own+own+")"), []byte("(public-key (test a))")
+	asked, calls := marked(t, opened(t, list), question), 0
+	err := asked.VerifyContext(context.Background(), func(context.Context, []byte, []byte, []byte) (bool, error) {
+		calls++
+		return true, map[int]error{2: fault}[calls]
+	})
+	if !errors.Is(err, fault) || calls != 2 {
+		t.Errorf("%v, %d calls", err, calls)
 	}
-	for part, question := range map[string]guard.Question{
-		"sequence": {Sequence: []byte("(x)"), Key: shown(0).Key, Words: []string{"x"}, Time: shown(0).Time},
-		"key":      {Sequence: shown(0).Sequence, Words: []string{"x"}, Time: shown(0).Time},
-		"at":       {Sequence: shown(0).Sequence, Key: shown(0).Key, Words: []string{"x"}},
-	} {
-		var refusal *guard.Refusal
-		if decision, err := made.DecideBy(question, nil); !errors.As(err, &refusal) || refusal.Part() != part || decision.Granted() {
-			t.Errorf("%s: %v, %v", part, decision, err)
-		}
-	}
-	many := shown(17)
-	if decision, err := made.DecideBy(many, make([]bool, 17)); !errors.Is(err, guard.ErrTooLong) || decision.Granted() {
-		t.Errorf("%v, %v", decision, err)
+	if err := asked.Mark(1); err != nil || granted(t, asked) {
+		t.Error(err)
 	}
 }
 
-// TestSignaturesAreOfTheSequence asks by other keys, requests, times and lists. The signatures are the same, as DecideBy needs it.
+// TestNothingIsVerifiedInVain asks where no signature could help. An explanation needs to know what is valid.
+func TestNothingIsVerifiedInVain(t *testing.T) {
+	calls := 0
+	counted := func(_, _, _ []byte) bool { calls++; return true }
+	for list, question := range map[string]guard.Question{list: shown(2), "(acl)": shown(1)} {
+		made := opened(t, list)
+		if decision, err := made.Decide(question, counted); err != nil || decision.Granted() || calls != 0 {
+			t.Errorf("%v, %v, %d calls", decision, err, calls)
+		}
+		if _, err := made.Explain(question, counted); err != nil || calls == 0 {
+			t.Errorf("%v, %d calls", err, calls)
+		}
+		calls = 0
+	}
+}
+
+// TestSignaturesAreOfTheSequence asks by other keys, requests, times and lists. The signatures are the same, as a cache of places needs it.
 func TestSignaturesAreOfTheSequence(t *testing.T) {
 	otherDigest := strings.Replace(pair, "#d7", "#d8", 1)
 	for _, text := range []string{pair, pair + pair, pair + otherDigest + pair, "(public-key (test c)) " + pair} {
@@ -187,11 +251,7 @@ func TestSignaturesAreOfTheSequence(t *testing.T) {
 
 func TestQuestionIsCopied(t *testing.T) {
 	question := shown(1)
-	asked, err := opened(t, list).Ask(question)
-	if err != nil {
-		t.Fatal(err)
-	}
-	defer asked.Close()
+	asked := marked(t, opened(t, list), question, 0)
 	for _, text := range [][]byte{question.Sequence, question.Key} {
 		for place := range text {
 			text[place] = 'x'
@@ -199,8 +259,8 @@ func TestQuestionIsCopied(t *testing.T) {
 	}
 	question.Words[0] = ""
 	for turn := 0; turn < 2; turn++ {
-		if decision, err := asked.Decide([]bool{true}); err != nil || !decision.Granted() {
-			t.Errorf("%v, %v", decision, err)
+		if !granted(t, asked) {
+			t.Error("no")
 		}
 	}
 }
@@ -303,11 +363,160 @@ func TestUsualLimits(t *testing.T) {
 	if _, err := guard.Open([]byte(list), guard.Strict, guard.Limits{Octets: 1_048_577}); !errors.Is(err, guard.ErrMisused) {
 		t.Error(err)
 	}
-	if _, err := guard.Open([]byte(list), guard.Strict, guard.Limits{Octets: -1}); !errors.Is(err, guard.ErrMisused) {
-		t.Error(err)
-	}
 	if _, err := guard.Open([]byte(list), guard.Policy(2), guard.Limits{}); !errors.Is(err, guard.ErrMisused) {
 		t.Error(err)
+	}
+}
+
+func TestLimitsBelowZero(t *testing.T) {
+	for _, limits := range []guard.Limits{
+		{Octets: -1}, {Certificates: -1}, {Words: -1}, {Nodes: -1}, {Work: -1}, {Answer: -1}, {Words: math.MinInt}, {Octets: 64, Answer: -64},
+	} {
+		if made, err := guard.Open([]byte(list), guard.Strict, limits); !errors.Is(err, guard.ErrMisused) || made != nil {
+			t.Errorf("%+v: %v", limits, err)
+		}
+	}
+}
+
+// TestAClockThatFailed asks at times that no clock gives. An expired right is not granted.
+func TestAClockThatFailed(t *testing.T) {
+	made := opened(t, `(acl (entry (public-key (test b)) (tag (*)) (not-after "1999-12-31_23:59:59")))`)
+	question := shown(0)
+	question.Time = time.Unix(0, 0)
+	if decision, err := made.Decide(question, valid); err != nil || !decision.Granted() {
+		t.Errorf("%v, %v", decision, err)
+	}
+	for _, seconds := range []int64{-1, -1 << 31, -62_135_596_801, math.MinInt64, 253_402_300_800, math.MaxInt64} {
+		question.Time = time.Unix(seconds, 1)
+		decision, err := made.Decide(question, valid)
+		var refusal *guard.Refusal
+		if !errors.As(err, &refusal) || refusal.Error() != "refused at BadDate" || decision.Granted() {
+			t.Errorf("%d: %v, %v", seconds, decision, err)
+		}
+		if _, err := made.Explain(question, valid); !errors.As(err, &refusal) || refusal.Fault() != "BadDate" {
+			t.Errorf("%d: %v", seconds, err)
+		}
+		if _, err := made.Ask(question); !errors.As(err, &refusal) || refusal.Fault() != "BadDate" {
+			t.Errorf("%d: %v", seconds, err)
+		}
+	}
+	last := opened(t, `(acl (entry (public-key (test b)) (tag (*))))`)
+	question.Time = time.Unix(253_402_300_799, 999_999_999)
+	if decision, err := last.Decide(question, valid); err != nil || !decision.Granted() {
+		t.Errorf("%v, %v", decision, err)
+	}
+}
+
+func TestVerifierThatFails(t *testing.T) {
+	made, away := opened(t, list), errors.New("the key store is away")
+	stopped, stop := context.WithCancel(context.Background())
+	stop()
+	for name, row := range map[string]struct {
+		ctx     context.Context
+		verify  guard.VerifyContext
+		granted bool
+		wanted  error
+	}{
+		"yes":                  {context.Background(), func(context.Context, []byte, []byte, []byte) (bool, error) { return true, nil }, true, nil},
+		"no":                   {context.Background(), func(context.Context, []byte, []byte, []byte) (bool, error) { return false, nil }, false, nil},
+		"an error":             {context.Background(), func(context.Context, []byte, []byte, []byte) (bool, error) { return false, away }, false, away},
+		"yes with an error":    {context.Background(), func(context.Context, []byte, []byte, []byte) (bool, error) { return true, away }, false, away},
+		"a context that ended": {stopped, func(context.Context, []byte, []byte, []byte) (bool, error) { return true, nil }, false, context.Canceled},
+	} {
+		decision, err := made.DecideContext(row.ctx, shown(1), row.verify)
+		if decision.Granted() != row.granted || !errors.Is(err, row.wanted) {
+			t.Errorf("%s: %v, %v", name, decision, err)
+		}
+		if row.wanted == nil && !row.granted {
+			row.wanted = guard.ErrDenied
+		}
+		if entry, err := made.Require(row.ctx, shown(1), row.verify); (entry == 1) != row.granted || !errors.Is(err, row.wanted) {
+			t.Errorf("%s: %d, %v", name, entry, err)
+		}
+	}
+	ends, end := context.WithCancel(context.Background())
+	question, calls := shown(0), 0
+	question.Sequence = []byte("(sequence " + own + own + pair + ")")
+	decision, err := made.DecideContext(ends, question, func(context.Context, []byte, []byte, []byte) (bool, error) {
+		calls++
+		end()
+		return true, nil
+	})
+	if calls != 1 || !errors.Is(err, context.Canceled) || decision.Granted() {
+		t.Errorf("%d calls, %v, %v", calls, decision, err)
+	}
+}
+
+// byLongKey returns a question with so many certificates by one key of so many octets, which their issuers and signatures name by its hash.
+func byLongKey(t testing.TB, times, octets int) guard.Question {
+	t.Helper()
+	key := fmt.Sprintf("(10:public-key(4:test%d:%s))", octets, strings.Repeat("x", octets))
+	hash := fmt.Sprintf("(hash sha256 #%x#)", sha256.Sum256([]byte(key)))
+	certificate, err := guard.Canonical([]byte(fmt.Sprintf("(cert (issuer %s) (subject (public-key (test b))) (tag (*)))", hash)))
+	if err != nil {
+		t.Fatal(err)
+	}
+	signed := fmt.Sprintf("%s (signature (hash sha256 #%x#) %s sig)", certificate, sha256.Sum256(certificate), hash)
+	question := shown(0)
+	question.Sequence = []byte("(sequence " + key + strings.Repeat(signed, times) + ")")
+	return question
+}
+
+// TestSignaturesAreCopiedOneByOne bounds what is allocated: a signature is copied when it is its turn, and the key of many is one object.
+func TestSignaturesAreCopiedOneByOne(t *testing.T) {
+	made, err := guard.Open([]byte(list), guard.Strict, guard.Highest())
+	if err != nil {
+		t.Fatal(err)
+	}
+	defer made.Close()
+	const times, octets = 200, 100_000
+	question := byLongKey(t, times, octets)
+	calls := 0
+	for name, decide := range map[string]func() error{
+		"all valid": func() error {
+			_, err := made.Explain(question, func(_, _, _ []byte) bool { calls++; return true })
+			return err
+		},
+		"all listed": func() error {
+			asked, err := made.Ask(question)
+			if err != nil {
+				return err
+			}
+			defer asked.Close()
+			if listed := asked.Signatures(); len(listed) != times || asked.Count() != times || &listed[0].Key[0] != &listed[times-1].Key[0] {
+				t.Error("another key, or another count")
+			}
+			return nil
+		},
+	} {
+		var before, after runtime.MemStats
+		runtime.ReadMemStats(&before)
+		if err := decide(); err != nil {
+			t.Fatal(name, err)
+		}
+		runtime.ReadMemStats(&after)
+		if allocated := after.TotalAlloc - before.TotalAlloc; allocated > 10*octets {
+			t.Errorf("%s: %d octets are allocated", name, allocated)
+		}
+	}
+	if calls != times {
+		t.Errorf("%d calls", calls)
+	}
+}
+
+func TestEachEndsWithItsQuestion(t *testing.T) {
+	asked, err := opened(t, list).Ask(shown(3))
+	if err != nil {
+		t.Fatal(err)
+	}
+	calls := 0
+	err = asked.Each(func(int, guard.Signature) bool {
+		calls++
+		asked.Close()
+		return true
+	})
+	if calls != 1 || !errors.Is(err, guard.ErrClosed) || asked.Signatures() != nil {
+		t.Errorf("%d calls, %v", calls, err)
 	}
 }
 

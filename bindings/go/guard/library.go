@@ -12,6 +12,7 @@ package guard
 import "C"
 
 import (
+	"bytes"
 	"fmt"
 	"unsafe"
 )
@@ -56,14 +57,6 @@ func octetsOf(text C.struct_spki_text) []byte {
 	return unsafe.Slice((*byte)(text.octets), int(text.length))
 }
 
-// size is a limit as the library takes it. A negative one is the highest number, which no limit on octets or nodes may be.
-func size(limit int) C.size_t {
-	if limit < 0 {
-		return ^C.size_t(0)
-	}
-	return C.size_t(limit)
-}
-
 // policyOf is a policy as the library takes it. One that does not exist is no policy of the library either.
 func policyOf(policy Policy) C.enum_spki_policy {
 	switch policy {
@@ -104,8 +97,8 @@ func open(list []byte, policy Policy, limits Limits) (handle, error) {
 		return nil, fmt.Errorf("libspki_c has the version %s, and this module needs %s", met, Version)
 	}
 	given := C.struct_spki_limits{
-		octets: size(limits.Octets), certificates: size(limits.Certificates), words: size(limits.Words),
-		nodes: size(limits.Nodes), work: size(limits.Work), answer: size(limits.Answer),
+		octets: C.size_t(limits.Octets), certificates: C.size_t(limits.Certificates), words: C.size_t(limits.Words),
+		nodes: C.size_t(limits.Nodes), work: C.size_t(limits.Work), answer: C.size_t(limits.Answer),
 	}
 	var guard handle
 	met, line := answered(roomForLine, func(buffer unsafe.Pointer, room C.size_t, needed *C.size_t) status {
@@ -138,7 +131,7 @@ func partsOf(question *Question) (C.struct_library_question, *C.size_t) {
 		parts.by_words = 1
 	}
 	if !question.Time.IsZero() {
-		parts.by_seconds, parts.seconds = 1, C.int64_t(question.Time.Unix())
+		parts.by_seconds, parts.seconds = 1, C.int64_t(question.seconds())
 	}
 	return parts, (*C.size_t)(unsafe.Pointer(&lengths[0]))
 }
@@ -156,52 +149,53 @@ func ask(guard handle, question *Question) (opened, error) {
 	return asked, nil
 }
 
-// signatures returns what is to be verified, in one piece of Go's memory.
-func signatures(asked opened) []Signature {
-	lent := make([]C.struct_spki_signed, C.spki_asked_count(asked))
-	length := 0
-	for place := range lent {
-		signed := &lent[place]
-		if C.spki_asked_signature(asked, C.size_t(place), signed) != C.SPKI_DONE {
-			return nil
-		}
-		length += int(signed.key.length + signed.message.length + signed.value.length)
-	}
-	memory := make([]byte, 0, length)
-	copied := func(text C.struct_spki_text) []byte {
-		start := len(memory)
-		memory = append(memory, octetsOf(text)...)
-		return memory[start:len(memory):len(memory)]
-	}
-	listed := make([]Signature, len(lent))
-	for place, signed := range lent {
-		listed[place] = Signature{Key: copied(signed.key), Message: copied(signed.message), Value: copied(signed.value)}
-	}
-	return listed
+// count returns the number of signatures of a question.
+func count(asked opened) int {
+	return int(C.spki_asked_count(asked))
 }
 
-// answer returns the status and the lines for these marks, 1 for each signature that is valid.
-func answer(asked opened, wish wish, marks []byte, room int) (status, []byte) {
+// signature returns a copy of what is to be verified at a place. Its key is the given one if that is equal.
+func signature(asked opened, place int, key []byte) (Signature, error) {
+	var signed C.struct_spki_signed
+	switch met := C.spki_asked_signature(asked, C.size_t(place), &signed); met {
+	case C.SPKI_DONE:
+	case C.SPKI_NO_MEMORY:
+		return Signature{}, ErrMemory
+	default:
+		return Signature{}, failed(met, nil)
+	}
+	if lent := octetsOf(signed.key); !bytes.Equal(lent, key) {
+		key = append([]byte(nil), lent...)
+	}
+	message, value := octetsOf(signed.message), octetsOf(signed.value)
+	both, length := make([]byte, len(message)+len(value)), len(message)
+	copy(both[copy(both, message):], value)
+	return Signature{Key: key, Message: both[:length:length], Value: both[length:]}, nil
+}
+
+// mark says that the signature at a place is valid.
+func mark(asked opened, place int) error {
+	if met := C.spki_asked_mark(asked, C.size_t(place)); met != C.SPKI_DONE {
+		return failed(met, nil)
+	}
+	return nil
+}
+
+// possible says whether a question would be granted if all its signatures were valid.
+func possible(asked opened) bool {
+	return bool(C.spki_asked_possible(asked))
+}
+
+// answer returns the status and the lines by the marks of a question.
+func answer(asked opened, wish wish, room int) (status, []byte) {
 	return answered(room, func(buffer unsafe.Pointer, room C.size_t, needed *C.size_t) status {
-		return C.library_answer(asked, wish, text(marks), buffer, room, needed)
+		return C.library_answer(asked, wish, buffer, room, needed)
 	})
 }
 
-// decide returns the decision for these marks.
-func decide(asked opened, marks []byte) (Decision, error) {
-	return decided(answer(asked, toDecide, marks, roomForLine))
-}
-
-// decideBy reads a question, and returns the decision for these marks.
-func decideBy(guard handle, question *Question, marks []byte) (Decision, error) {
-	parts, lengths := partsOf(question)
-	return decided(answered(roomForLine, func(buffer unsafe.Pointer, room C.size_t, needed *C.size_t) status {
-		return C.library_decide(guard, parts, lengths, text(marks), buffer, room, needed)
-	}))
-}
-
-// decided returns the decision that a status and a line say.
-func decided(met status, line []byte) (Decision, error) {
+// decide returns the decision by the marks of a question.
+func decide(asked opened) (Decision, error) {
+	met, line := answer(asked, toDecide, roomForLine)
 	switch met {
 	case C.SPKI_YES:
 		return decisionOf(line)
@@ -212,8 +206,8 @@ func decided(met status, line []byte) (Decision, error) {
 }
 
 // lines returns the lines of an answer that is no decision.
-func lines(asked opened, wish wish, marks []byte) (string, error) {
-	met, written := answer(asked, wish, marks, roomForLines)
+func lines(asked opened, wish wish) (string, error) {
+	met, written := answer(asked, wish, roomForLines)
 	if met != C.SPKI_DONE {
 		return "", failed(met, written)
 	}

@@ -57,25 +57,11 @@ static inline enum spki_status library_ask(const spki_guard *guard, struct libra
     return status;
 }
 
-static inline enum spki_status library_answer(const spki_asked *asked, enum library_wish wish, struct spki_text marks, void *buffer,
-                                              size_t room, size_t *needed)
+static inline enum spki_status library_answer(const spki_asked *asked, enum library_wish wish, void *buffer, size_t room, size_t *needed)
 {
     if (wish == LIBRARY_DECIDE)
-        return spki_asked_decide(asked, marks.octets, marks.length, buffer, room, needed);
+        return spki_asked_decide(asked, buffer, room, needed);
     if (wish == LIBRARY_EXPLAIN)
-        return spki_asked_explain(asked, marks.octets, marks.length, buffer, room, needed);
-    return spki_asked_reduce(asked, marks.octets, marks.length, buffer, room, needed);
-}
-
-/* Reads a question, decides it for these marks, and closes it. */
-static inline enum spki_status library_decide(const spki_guard *guard, struct library_question parts, const size_t *lengths,
-                                              struct spki_text marks, void *buffer, size_t room, size_t *needed)
-{
-    spki_asked *asked = NULL;
-    enum spki_status status = library_ask(guard, parts, lengths, &asked, buffer, room, needed);
-    if (status != SPKI_DONE || !asked)
-        return status;
-    status = spki_asked_decide(asked, marks.octets, marks.length, buffer, room, needed);
-    spki_asked_close(asked);
-    return status;
+        return spki_asked_explain(asked, buffer, room, needed);
+    return spki_asked_reduce(asked, buffer, room, needed);
 }

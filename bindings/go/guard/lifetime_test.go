@@ -11,15 +11,12 @@ import (
 
 func TestClose(t *testing.T) {
 	made := opened(t, list)
-	asked, err := made.Ask(shown(1))
-	if err != nil {
-		t.Fatal(err)
-	}
+	asked := marked(t, made, shown(1))
 	for turn := 0; turn < 2; turn++ {
 		made.Close()
 	}
-	if decision, err := asked.Decide([]bool{true}); err != nil || !decision.Granted() {
-		t.Errorf("a question ends with its guard: %v, %v", decision, err)
+	if err := asked.Mark(0); err != nil || !granted(t, asked) {
+		t.Errorf("a question ends with its guard: %v", err)
 	}
 	for turn := 0; turn < 2; turn++ {
 		asked.Close()
@@ -27,21 +24,73 @@ func TestClose(t *testing.T) {
 	if _, err := made.Ask(shown(1)); !errors.Is(err, guard.ErrClosed) || made.Entries() != 0 {
 		t.Error(err)
 	}
-	if decision, err := asked.Decide([]bool{true}); !errors.Is(err, guard.ErrClosed) || decision.Granted() {
+	if decision, err := asked.Decide(); !errors.Is(err, guard.ErrClosed) || decision.Granted() || asked.Possible() {
 		t.Errorf("%v, %v", decision, err)
 	}
-	if decision, err := made.DecideBy(shown(1), []bool{true}); !errors.Is(err, guard.ErrClosed) || decision.Granted() {
+	if err := asked.Mark(0); !errors.Is(err, guard.ErrClosed) {
+		t.Error(err)
+	}
+	if err := asked.Verify(valid); !errors.Is(err, guard.ErrClosed) {
+		t.Error(err)
+	}
+}
+
+// TestCopies copies a guard and a question by value. A copy is the same guard: nothing is freed while one of them is used.
+func TestCopies(t *testing.T) {
+	copies := func() (guard.Guard, guard.Asked) {
+		made, err := guard.Open([]byte(list), guard.Strict, guard.Limits{})
+		if err != nil {
+			t.Fatal(err)
+		}
+		asked, err := made.Ask(shown(1))
+		if err == nil {
+			err = asked.Mark(0)
+		}
+		if err != nil {
+			t.Fatal(err)
+		}
+		return *made, *asked
+	}
+	for turn := 0; turn < 20; turn++ {
+		made, asked := copies()
+		runtime.GC()
+		runtime.GC()
+		if decision, err := made.Decide(shown(1), valid); err != nil || !decision.Granted() {
+			t.Fatal(decision, err)
+		}
+		if !granted(t, &asked) {
+			t.Fatal("a mark is lost")
+		}
+		other, same := made, asked
+		other.Close()
+		same.Close()
+		if _, err := made.Ask(shown(1)); !errors.Is(err, guard.ErrClosed) {
+			t.Error(err)
+		}
+		if decision, err := asked.Decide(); !errors.Is(err, guard.ErrClosed) || decision.Granted() {
+			t.Errorf("%v, %v", decision, err)
+		}
+		other.Close()
+		same.Close()
+	}
+}
+
+func TestZerosAreClosed(t *testing.T) {
+	var made guard.Guard
+	var asked guard.Asked
+	made.Close()
+	asked.Close()
+	if decision, err := made.Decide(shown(1), valid); !errors.Is(err, guard.ErrClosed) || decision.Granted() || made.Entries() != 0 {
+		t.Errorf("%v, %v", decision, err)
+	}
+	if decision, err := asked.Decide(); !errors.Is(err, guard.ErrClosed) || decision.Granted() || asked.Signatures() != nil && asked.Count() != 0 {
 		t.Errorf("%v, %v", decision, err)
 	}
 }
 
 func TestGoroutines(t *testing.T) {
 	made := opened(t, list)
-	asked, err := made.Ask(shown(1))
-	if err != nil {
-		t.Fatal(err)
-	}
-	defer asked.Close()
+	asked := marked(t, made, shown(1))
 	var all sync.WaitGroup
 	for routine := 0; routine < 8; routine++ {
 		all.Add(1)
@@ -52,10 +101,10 @@ func TestGoroutines(t *testing.T) {
 				if err != nil || decision.Granted() != isValid {
 					t.Errorf("%v, %v", decision, err)
 				}
-				if decision, err := asked.Decide([]bool{isValid}); err != nil || decision.Granted() != isValid {
-					t.Errorf("%v, %v", decision, err)
+				if err := asked.Mark(0); err != nil {
+					t.Error(err)
 				}
-				if decision, err := made.DecideBy(shown(1), []bool{isValid}); err != nil || decision.Granted() != isValid {
+				if decision, err := asked.Decide(); err != nil || !decision.Granted() || !asked.Possible() {
 					t.Errorf("%v, %v", decision, err)
 				}
 			}
@@ -74,9 +123,6 @@ func TestCloseBesideQuestions(t *testing.T) {
 				defer all.Done()
 				for {
 					decision, err := made.Decide(shown(1), valid)
-					if err == nil {
-						decision, err = made.DecideBy(shown(1), []bool{true})
-					}
 					if errors.Is(err, guard.ErrClosed) {
 						return
 					}
@@ -106,8 +152,8 @@ func TestNobodyCloses(t *testing.T) {
 		if turn%20 == 0 {
 			runtime.GC()
 		}
-		if decision, err := asked.Decide([]bool{true}); err != nil || !decision.Granted() {
-			t.Fatal(decision, err)
+		if err := asked.Mark(0); err != nil || !granted(t, asked) {
+			t.Fatal(err)
 		}
 	}
 }

@@ -1,5 +1,7 @@
 package guard
 
+import "fmt"
+
 // A Policy says which hashes name keys. The zero value is Strict.
 type Policy int
 
@@ -10,8 +12,8 @@ const (
 	AllowSHA1 Policy = 1
 )
 
-// Limits bound each question. A limit of zero is the usual one. Nodes, Work and Answer are for Explain and Reduce: what exceeds one of them
-// is ErrTooLarge.
+// Limits bound each question. A limit of zero is the usual one, and one below zero is ErrMisused. Nodes, Work and Answer are for Explain and
+// Reduce: what exceeds one of them is ErrTooLarge.
 type Limits struct {
 	// Octets is the most octets of a question's texts together: usually 65,536, at most 1,048,576.
 	Octets int
@@ -40,15 +42,18 @@ func Highest() Limits {
 	return highest
 }
 
-// orUsual returns the limits with the usual ones in place of zeros.
-func (l Limits) orUsual() Limits {
+// orUsual returns the limits with the usual ones in place of zeros. The error is ErrMisused if one is below zero.
+func (l Limits) orUsual() (Limits, error) {
 	for _, limit := range []struct{ given, usual *int }{
 		{&l.Octets, &usual.Octets}, {&l.Certificates, &usual.Certificates}, {&l.Words, &usual.Words},
 		{&l.Nodes, &usual.Nodes}, {&l.Work, &usual.Work}, {&l.Answer, &usual.Answer},
 	} {
+		if *limit.given < 0 {
+			return Limits{}, fmt.Errorf("%w: a limit is %d", ErrMisused, *limit.given)
+		}
 		if *limit.given == 0 {
 			*limit.given = *limit.usual
 		}
 	}
-	return l
+	return l, nil
 }

@@ -15,10 +15,25 @@ type Question struct {
 	Words []string
 	// Request is the request as a text, if Words is nil.
 	Request []byte
-	// Time is the time of the service's own clock. Parts of a second do not count.
+	// Time is the time of the service's own clock. Parts of a second do not count. One before 1970 or past the year 9999 is refused as
+	// BadDate: it is that of a clock that failed.
 	Time time.Time
 	// Moment is the time as a date, such as "2026-03-01_12:00:00" in quotes, if Time is zero.
 	Moment []byte
+}
+
+// The last second of the year 9999, and seconds that the library refuses as BadDate.
+const (
+	lastSecond = 253_402_300_799
+	noSeconds  = 1 << 62
+)
+
+// seconds returns the time as the library takes it.
+func (q *Question) seconds() int64 {
+	if seconds := q.Time.Unix(); 0 <= seconds && seconds <= lastSecond {
+		return seconds
+	}
+	return noSeconds
 }
 
 // joined returns the strings of the request in one piece, and their lengths, of which there is at least one.

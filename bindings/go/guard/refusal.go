@@ -15,9 +15,11 @@ var (
 	ErrTooLarge = errors.New("refused TooLarge")
 	// ErrMemory is the refusal of a call in which an allocation failed.
 	ErrMemory = errors.New("refused Memory")
-	// ErrMisused is a call that is not answered: no such policy, a limit over the highest, a request or a time given in two ways, another
-	// number of marks than of signatures.
+	// ErrMisused is a call that is not answered: no such policy, a limit over the highest or below zero, a request or a time given in two
+	// ways, another number of marks than of signatures.
 	ErrMisused = errors.New("libspki_c is misused")
+	// ErrDenied is what Require returns for a no.
+	ErrDenied = errors.New("no entry grants the request")
 	// ErrClosed is a call after Close.
 	ErrClosed = errors.New("the guard or the question is closed")
 )

@@ -13,7 +13,8 @@ import (
 )
 
 // The fewest and the most bits of a modulus of RSA, and the most of an exponent, which Go does not take longer. A stranger may send 16
-// certificates with keys of its own, and a signature by a key of 16,384 bits would take 8 times as long as one of 4,096 bits.
+// certificates with keys of its own, and a signature by a key of 16,384 bits would take 8 times as long as one of 4,096 bits. All verifiers of
+// this repository have these limits.
 const (
 	LeastBits        = 2048
 	MostBits         = 4096
@@ -37,7 +38,7 @@ var ErrKey = errors.New("no key of Ed25519, of RSA with at least 2048 bits, or o
 func KeyOf(public crypto.PublicKey) ([]byte, error) {
 	switch public := public.(type) {
 	case ed25519.PublicKey:
-		if len(public) == ed25519.PublicKeySize {
+		if isOfLargeOrder(public) {
 			return written(beforeEd25519, []byte(public), afterKey), nil
 		}
 	case *rsa.PublicKey:
@@ -52,8 +53,12 @@ func KeyOf(public crypto.PublicKey) ([]byte, error) {
 	return nil, fmt.Errorf("%w: %T", ErrKey, public)
 }
 
-// PublicOf returns the ed25519.PublicKey, the *rsa.PublicKey or the *ecdsa.PublicKey of an SPKI key in canonical form.
+// PublicOf returns the ed25519.PublicKey, the *rsa.PublicKey or the *ecdsa.PublicKey of an SPKI key in canonical form. A point of small order
+// is no key.
 func PublicOf(key []byte) (crypto.PublicKey, error) {
+	if len(key) > mostOctets {
+		return nil, ErrKey
+	}
 	public := publicOf(&reader{rest: key})
 	if public == nil {
 		return nil, ErrKey
@@ -70,7 +75,7 @@ func PublicOf(key []byte) (crypto.PublicKey, error) {
 func publicOf(text *reader) crypto.PublicKey {
 	switch {
 	case text.skips(beforeEd25519):
-		if octets, ok := text.string(ed25519.PublicKeySize); ok && len(octets) == ed25519.PublicKeySize && text.ends(afterKey) {
+		if octets, ok := text.string(ed25519.PublicKeySize); ok && isOfLargeOrder(octets) && text.ends(afterKey) {
 			return ed25519.PublicKey(octets)
 		}
 	case text.skips(beforeP256):
@@ -85,6 +90,39 @@ func publicOf(text *reader) crypto.PublicKey {
 		}
 	}
 	return nil
+}
+
+// The coordinate y of points of Ed25519 that are no keys: those from p - 1 on, whose octets are no number below p or those of the point of
+// order 2, and those of order 8. The others of small order are below 2^192, as is none that anybody happens to have.
+var (
+	lastY  = numberOf("7fffffffffffffffffffffffffffffffffffffffffffffffffffffffffffffec")
+	eighth = numberOf("05fc536d880238b13933c6d305acdfd5f098eff289f4c345b027b2c28f95e826")
+	other  = numberOf("7a03ac9277fdc74ec6cc392cfa53202a0f67100d760b3cba4fd84d3d706a17c7")
+)
+
+// numberOf returns the number of hexadecimal digits.
+func numberOf(digits string) *big.Int {
+	number, _ := new(big.Int).SetString(digits, 16)
+	return number
+}
+
+// isOfLargeOrder says whether a point of Ed25519 has no small order and one text only, as far as y says that.
+func isOfLargeOrder(q []byte) bool {
+	if len(q) != ed25519.PublicKeySize {
+		return false
+	}
+	y := littleEndian(q)
+	y.SetBit(y, 8*half-1, 0)
+	return y.BitLen() > 192 && y.Cmp(lastY) < 0 && y.Cmp(eighth) != 0 && y.Cmp(other) != 0
+}
+
+// littleEndian returns the number of octets, of which the first counts least.
+func littleEndian(octets []byte) *big.Int {
+	reversed := make([]byte, len(octets))
+	for place, octet := range octets {
+		reversed[len(octets)-1-place] = octet
+	}
+	return new(big.Int).SetBytes(reversed)
 }
 
 // The octets of a point of P-256: 04 and both coordinates.

@@ -1,9 +1,16 @@
 package verify
 
-import "math/big"
+import (
+	"crypto/elliptic"
+	"crypto/rsa"
+	"math/big"
+)
 
-// The octets of half a signature by Ed25519, of a number of one by ECDSA, and of a coordinate.
+// The octets of half a signature by Ed25519, and of a coordinate.
 const half = 32
+
+// The most octets of a key, and of the value of a signature.
+const mostOctets = 4096
 
 // The texts around the numbers of a signature.
 const (
@@ -14,43 +21,49 @@ const (
 	afterValue  = ")))"
 )
 
+// The order of the group of Ed25519.
+var order = numberOf("1000000000000000000000000000000014def9dea2f79cd65812631a5cf5d3ed")
+
 // ed25519Value returns both halves of a signature by Ed25519.
 func ed25519Value(value []byte) ([]byte, bool) {
-	r, s, ok := pair(&reader{rest: value}, beforeR)
-	if !ok || len(r) != half || len(s) != half {
+	r, s, ok := pair(value, beforeR)
+	if !ok || len(r) != half || len(s) != half || littleEndian(s).Cmp(order) >= 0 {
 		return nil, false
 	}
 	return append(append(make([]byte, 0, 2*half), r...), s...), true
 }
 
-// rsaValue returns the number of a signature by RSA, with as many octets as the modulus.
-func rsaValue(value []byte, size int) ([]byte, bool) {
+// rsaValue returns the number of a signature by RSA, with as many octets as the modulus. Go does not test that it is below the modulus.
+func rsaValue(value []byte, public *rsa.PublicKey) ([]byte, bool) {
 	text := reader{rest: value}
-	if !text.skips(beforeRSA) {
+	if len(value) > mostOctets || !text.skips(beforeRSA) {
 		return nil, false
 	}
-	s, ok := text.string(size)
-	if !ok || !text.ends(afterValue) {
+	octets, ok := text.string(mostOctets)
+	s := new(big.Int).SetBytes(octets)
+	if !ok || !text.ends(afterValue) || s.Sign() <= 0 || s.Cmp(public.N) >= 0 {
 		return nil, false
 	}
-	return append(make([]byte, size-len(s), size), s...), true
+	return s.FillBytes(make([]byte, public.Size())), true
 }
 
 // ecdsaValue returns the numbers of a signature by ECDSA.
 func ecdsaValue(value []byte) (*big.Int, *big.Int, bool) {
-	r, s, ok := pair(&reader{rest: value}, beforeECDSA)
-	return new(big.Int).SetBytes(r), new(big.Int).SetBytes(s), ok
+	first, second, ok := pair(value, beforeECDSA)
+	r, s, order := new(big.Int).SetBytes(first), new(big.Int).SetBytes(second), elliptic.P256().Params().N
+	return r, s, ok && r.Sign() > 0 && s.Sign() > 0 && r.Cmp(order) < 0 && s.Cmp(order) < 0
 }
 
-// pair reads a value of two numbers, of at most 32 octets each.
-func pair(text *reader, before string) ([]byte, []byte, bool) {
-	if !text.skips(before) {
+// pair reads a value of two strings.
+func pair(value []byte, before string) ([]byte, []byte, bool) {
+	text := reader{rest: value}
+	if len(value) > mostOctets || !text.skips(before) {
 		return nil, nil, false
 	}
-	r, ok := text.string(half)
+	r, ok := text.string(mostOctets)
 	if !ok || !text.skips(betweenBoth) {
 		return nil, nil, false
 	}
-	s, ok := text.string(half)
+	s, ok := text.string(mostOctets)
 	return r, s, ok && text.ends(afterValue)
 }

@@ -43,7 +43,7 @@ func pss(key *rsa.PublicKey, digest, value []byte) error {
 // signature says whether a value is a signature of a message by a key.
 func signature(key, message, value []byte, scheme scheme) bool {
 	public, err := PublicOf(key)
-	if err != nil {
+	if err != nil || len(message) == 0 {
 		return false
 	}
 	digest := sha256.Sum256(message)
@@ -52,7 +52,7 @@ func signature(key, message, value []byte, scheme scheme) bool {
 		octets, ok := ed25519Value(value)
 		return ok && ed25519.Verify(public, message, octets)
 	case *rsa.PublicKey:
-		octets, ok := rsaValue(value, public.Size())
+		octets, ok := rsaValue(value, public)
 		return ok && scheme(public, digest[:], octets) == nil
 	case *ecdsa.PublicKey:
 		r, s, ok := ecdsaValue(value)

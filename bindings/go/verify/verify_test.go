@@ -233,8 +233,8 @@ func TestFewerZerosInFront(t *testing.T) {
 		if !Signature(key, message, written(beforeRSA, octets[1:], afterValue)) || Signature(key, message, written(beforeRSA, octets[2:], afterValue)) {
 			t.Error("an octet 00 in front may be left out, and no other")
 		}
-		if Signature(key, message, written(beforeRSA, append([]byte{0}, octets...), afterValue)) {
-			t.Error("a number may have no more octets than the modulus")
+		if !Signature(key, message, written(beforeRSA, append([]byte{0}, octets...), afterValue)) {
+			t.Error("a number may have more octets 00 in front")
 		}
 		return
 	}

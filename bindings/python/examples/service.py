@@ -60,9 +60,9 @@ def answer(guard: spki.Guard, nonce: bytes, sequence: bytes, key: bytes, signatu
         return "refused: the client has not proved that it holds the key"
     try:
         with guard.ask(spki.Question(sequence, key, words=words, moment=int(time.time()))) as asked:
-            marks = asked.marks(spki_verify.verify)
-            decision = asked.decide(marks)
-            return f"yes entry {decision.entry}" if decision else f"no\n{asked.explain(marks)}"
+            asked.verify(spki_verify.verify)
+            decision = asked.decide()
+            return f"yes entry {decision.entry}" if decision else f"no\n{asked.explain()}"
     except spki.Refused as why:
         return why.line
 

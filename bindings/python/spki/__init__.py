@@ -15,9 +15,14 @@ The parts of a question come from different sources, so each is a separate text.
 octets of one part can become another part. The client must have proved that it holds the key. A public key is public: without a proof,
 each client that sends Alice's key would have Alice's rights. The moment is the time of the service's own clock.
 
-Only a `Decision` that grants is true. Several threads may use one guard and one opened question. A thread that calls has 256 KiB of stack
-left: `threading.stack_size` must not be lower. No call is made in a child that a process with several threads forked: start processes by
-`multiprocessing`'s method "spawn" or "forkserver", or fork before the first thread.
+Only a `Decision` that grants is true, and `decide` never returns `None`: do not ask whether its answer is one. `require` raises `Denied` instead.
+Several threads may use one guard and one opened question. A thread that calls has 256 KiB of stack left: `threading.stack_size` must not be
+lower.
+
+A guard and an opened question are of one process. To copy or pickle one is a `TypeError`: pass the same object to threads, and read the list
+again in another process. A child that a process with one thread forked may use what was open then, and frees nothing of it. No call is made in
+a child that a process with several threads forked: start processes by `multiprocessing`'s method "spawn" or "forkserver", or fork before the
+first thread. A `Question` is only its parts, so it may be copied and pickled.
 
 The environment variable SPKI_LIBRARY names the file of `libspki_c.so`, if it is neither in this package nor where the loader looks. The
 library's decisions are proved. The lines of this module are tested and not proved.
@@ -26,19 +31,22 @@ from __future__ import annotations
 
 import ctypes
 import functools
-from collections.abc import Callable, Iterable
+import os
+import threading
+from collections.abc import Callable, Iterator
 from ctypes import addressof, byref, c_char, c_size_t, c_void_p
 from dataclasses import fields
 from types import TracebackType
-from typing import TypeVar, cast
+from typing import NoReturn, TypeVar, cast
 
 from . import _library as of
 from ._library import library
-from ._values import Decision, Explanation, Limits, NoDecision, Policy, Question, Reason, Reduction, Refused, Signature, mark_of, octets_of, whole
+from ._values import (Decision, Denied, Explanation, Limits, NoDecision, Policy, Question, Reason, Reduction, Refused, Signature, answer_of,
+                      octets_of, whole)
 
-__version__ = "0.1.0"
-__all__ = ["Asked", "Decision", "Explanation", "Guard", "Limits", "Policy", "Question", "Reason", "Reduction", "Refused", "Signature", "Verify",
-           "advanced", "canonical", "string_at", "transport"]
+__version__ = "0.2.0"
+__all__ = ["Asked", "Decision", "Denied", "Explanation", "Guard", "Limits", "Policy", "Question", "Reason", "Reduction", "Refused", "Signature",
+           "Verify", "advanced", "canonical", "string_at", "transport"]
 
 # Whether a value is a signature of a message by a key. It answers `True` or `False`, and nothing else.
 Verify = Callable[[bytes, bytes, bytes], bool]
@@ -48,21 +56,42 @@ _Opened = TypeVar("_Opened", bound="_Open")
 _USUAL = 1024
 
 
-class _GuardHandle(c_void_p):
+class _Alone:
+    """What is one object of one process: a copy would free what the original still uses."""
+
+    def __reduce_ex__(self, protocol: object) -> NoReturn:
+        raise TypeError(f"a {type(self).__name__.strip('_')} is not copied or pickled: use the same object in all threads, and read the list and "
+                        "ask again in another process")
+
+
+class _Handle(c_void_p, _Alone):
+    """What the library has opened in this process."""
+
+    def __init__(self, address: int | None = None) -> None:
+        super().__init__(address)
+        self.process = os.getpid()
+
+    def closed(self, close: Callable[[c_void_p], None], process: Callable[[], int] = os.getpid) -> None:
+        """Frees its memory. A child that was forked has a copy of the memory, which ends with it."""
+        if self.process == process():
+            close(self)
+
+
+class _GuardHandle(_Handle):
     """A guard of the library. It is closed when nothing refers to it. A call refers to it, so no call on it can be under way."""
 
     def __del__(self, close: Callable[[c_void_p], None] = library.spki_guard_close) -> None:
-        close(self)
+        self.closed(close)
 
 
-class _AskedHandle(c_void_p):
+class _AskedHandle(_Handle):
     """An opened question of the library, closed likewise."""
 
     def __del__(self, close: Callable[[c_void_p], None] = of.close) -> None:
-        close(self)
+        self.closed(close)
 
 
-class _Open:
+class _Open(_Alone):
     """What is open until it is closed."""
 
     _handle: c_void_p | None
@@ -86,59 +115,101 @@ class _Open:
 
 
 class Asked(_Open, NoDecision):
-    """A question that was read, which is decided by marks of its signatures. It stays open when its guard is closed."""
+    """A question that was read, which is decided by the marks that it carries. It stays open when its guard is closed.
+
+    A signature that is not marked is not valid, and a mark cannot be taken back. Several threads may use a question: each call waits for a
+    mark that is made, and a mark for the calls before it.
+    """
 
     def __init__(self, guard: c_void_p, question: Question) -> None:
         """`Guard.ask` makes it."""
         self._handle = _AskedHandle(_asked(guard, question))
         self._count = of.count(self._handle)
+        self._calls = threading.Lock()
 
     def __len__(self) -> int:
         """The number of its signatures."""
         return self._count
 
+    def __iter__(self) -> Iterator[Signature]:
+        """The signatures one by one, in order. Each is copied when it is reached. Equal keys are one object."""
+        handle, keys = self._held(), dict[bytes, bytes]()
+        for place in range(self._count):
+            yield _signature(handle, place, keys)
+
+    def __repr__(self) -> str:
+        return f"<spki.Asked of {self._count} signatures{', closed' * (self._handle is None)}>"
+
     def signatures(self) -> list[Signature]:
         """The signatures on which the answers depend, in order. A service verifies them as it likes: one by one, together, or elsewhere."""
+        return list(self)
+
+    def mark(self, place: int) -> None:
+        """Says that the signature at this place, from 0, is valid. The mark is for its place alone, also if the same signature is there twice.
+        Raises `IndexError` if there is no such place, and then nothing is marked. `True` is no place, and raises `TypeError`."""
+        handle, at = self._held(), whole(place)
+        if at not in range(self._count):
+            raise IndexError(f"there are {self._count} signatures, and none at the place {at}")
+        with self._calls:
+            _marked(handle, at)
+
+    def verify(self, verify: Verify) -> None:
+        """Marks each signature of which `verify(key, message, value)` answers `True`, in order. It is not called after the first `False`. Raises
+        `TypeError` if it answers anything but `True` or `False`, such as a coroutine. To explain a denial, verify also where the request is not
+        possible."""
         handle = self._held()
-        return [_signature(handle, place) for place in range(self._count)]
+        for place in range(_verified(handle, self._count, verify)):
+            with self._calls:
+                _marked(handle, place)
 
-    def marks(self, verify: Verify) -> list[bool]:
-        """What `verify(key, message, value)` answers for each signature, in order. It is not called after the first `False`, and the marks
-        after this one are `False` too. Raises `TypeError` if it answers anything but `True` or `False`, such as a coroutine."""
-        return list(map(bool, _verified(self._held(), self._count, verify)))
+    @property
+    def is_possible(self) -> bool:
+        """Whether the request would be granted if all signatures were valid. If not, no marks make it a yes, and no signature has to be
+        verified. `True` grants nothing."""
+        handle = self._held()
+        with self._calls:
+            return of.possible(handle)
 
-    def decide(self, marks: Iterable[bool]) -> Decision:
-        """Whether the request is granted, if exactly the signatures are valid whose marks are `True`. There is one mark for each."""
-        return _decided(self._held(), self._octets(marks))
+    def decide(self) -> Decision:
+        """Whether the request is granted, if exactly the marked signatures are valid. It may be asked any number of times."""
+        handle = self._held()
+        with self._calls:
+            return _decided(handle)
 
-    def explain(self, marks: Iterable[bool]) -> Explanation:
+    def require(self) -> int:
+        """The number of the entry that grants the request, by the marks. Raises `Denied` if none does."""
+        return _required(self.decide())
+
+    def explain(self) -> Explanation:
         """Says of each entry why it grants the request or does not. Raises `Refused` if it is too large."""
-        return Explanation(_lines(of.explain, self._held(), self._octets(marks)))
+        return Explanation(self._lines(of.explain))
 
-    def reduce(self, marks: Iterable[bool]) -> Reduction:
+    def reduce(self) -> Reduction:
         """Which right remains of each entry after all certificates. Raises `Refused` if it is too large."""
-        return Reduction(_lines(of.reduce, self._held(), self._octets(marks)))
+        return Reduction(self._lines(of.reduce))
 
-    def _octets(self, marks: Iterable[bool]) -> bytes:
-        """The marks as the library takes them."""
-        verified = bytes(map(mark_of, marks))
-        if len(verified) != self._count:
-            raise ValueError(f"there are {self._count} signatures and {len(verified)} marks")
-        return verified
+    def _lines(self, call: of.Answers) -> str:
+        """The lines of a call that decides nothing."""
+        handle = self._held()
+        with self._calls:
+            status, lines = _answered(call, handle)
+        _expect(status, lines)
+        return lines.decode().rstrip("\n")
 
 
 class Guard(_Open):
     """An access list that is read once and asked often, also by several threads at the same time.
 
     `decide`, `explain` and `reduce` open a question, call `verify(key, message, value)` for each signature that the answer depends on, in
-    order, and answer by the marks. An exception that `verify` raises is passed on, and nothing is granted.
+    order up to the first `False`, and answer. `decide` does not call it where the request cannot be granted, whatever is valid. An exception
+    that `verify` raises is passed on, and nothing is granted.
     """
 
     def __init__(self, access_list: bytes, policy: Policy = Policy.STRICT, limits: Limits = Limits()) -> None:
         """Reads `(acl entry ..)`, in any of the three forms. Raises `Refused` if the text is no access list."""
         if not isinstance(policy, Policy) or not isinstance(limits, Limits):
             raise TypeError("a guard has a `Policy` and `Limits`")
-        text = octets_of(access_list)
+        text, self._policy = octets_of(access_list), policy
         values = of.Limits(ctypes.sizeof(of.Limits), *(getattr(limits, field.name) for field in fields(limits)))
         self._handle = handle = _GuardHandle()
         _expect(*_answered(library.spki_guard_open, text, len(text), policy.value, values, byref(handle)))
@@ -150,28 +221,40 @@ class Guard(_Open):
         self._held()
         return self._entries
 
+    def __repr__(self) -> str:
+        return f"<spki.Guard of {self._entries} entries, {self._policy.name}{', closed' * (self._handle is None)}>"
+
     def ask(self, question: Question) -> Asked:
-        """Opens a question. Raises `Refused` if a part of it cannot be read."""
+        """Opens a question, whose signatures the caller marks. Raises `Refused` if a part of it cannot be read."""
         return Asked(self._held(), question)
 
     def decide(self, question: Question, verify: Verify) -> Decision:
         """Whether the question's request is granted. Raises `Refused` if a part of the question cannot be read."""
-        # (the same as `ask`, `marks` and `decide`, without an object for the question, which no other thread can close)
+        # (the same as `ask`, `is_possible`, `verify` and `decide`, without an object for the question, which no other thread can close or mark)
         handle = c_void_p(_asked(self._held(), question))
         try:
-            return _decided(handle, _verified(handle, of.count(handle), verify))
+            count = of.count(handle)
+            for place in range(_verified(handle, count, verify) if count and of.possible(handle) else 0):
+                _marked(handle, place)
+            return _decided(handle)
         finally:
             of.close(handle)
+
+    def require(self, question: Question, verify: Verify) -> int:
+        """The number of the entry that grants the question's request. Raises `Denied` if none does, and `Refused` as `decide` does."""
+        return _required(self.decide(question, verify))
 
     def explain(self, question: Question, verify: Verify) -> Explanation:
         """Says of each entry why it grants the request or does not. Raises `Refused` as `decide` does."""
         with self.ask(question) as asked:
-            return asked.explain(asked.marks(verify))
+            asked.verify(verify)
+            return asked.explain()
 
     def reduce(self, question: Question, verify: Verify) -> Reduction:
         """Which right remains of each entry after all certificates. Raises `Refused` as `decide` does."""
         with self.ask(question) as asked:
-            return asked.reduce(asked.marks(verify))
+            asked.verify(verify)
+            return asked.reduce()
 
 
 # ---- texts
@@ -282,35 +365,46 @@ def _texts(handle: c_void_p, place: int, room: _Room) -> tuple[int, ...]:
     return of.SIGNED.unpack(room.signed)
 
 
-def _signature(handle: c_void_p, place: int) -> Signature:
-    """A signature of an opened question."""
+def _signature(handle: c_void_p, place: int, keys: dict[bytes, bytes]) -> Signature:
+    """A signature of an opened question. Its key is the one of `keys` that is equal, which gets it otherwise."""
     room = _taken()
     numbers = _texts(handle, place, room)
     _spare.append(room)
     key, message, value, octets = (of.memory[at:at + length] for at, length in zip(numbers[::2], numbers[1::2]))
-    return Signature(key, message, value, octets if numbers[6] else None)
+    return Signature(keys.setdefault(key, key), message, value, octets if numbers[6] else None)
 
 
-def _verified(handle: c_void_p, count: int, verify: Verify) -> bytes:
-    """1 for each signature that is valid up to the first that is not, 0 for this one and all after it."""
-    memory, room = of.memory, _taken()
+def _verified(handle: c_void_p, count: int, verify: Verify) -> int:
+    """How many signatures are valid, up to the first that is not."""
+    memory, room, last = of.memory, _taken(), b""
     try:
         for place in range(count):
-            key, key_length, message, message_length, value, value_length, _, _ = _texts(handle, place, room)
-            answer = verify(memory[key:key + key_length], memory[message:message + message_length], memory[value:value + value_length])
+            at, length, message, message_length, value, value_length, _, _ = _texts(handle, place, room)
+            key = memory[at:at + length]
+            if key != last:
+                # (a verifier that keeps keys keeps one of many equal ones)
+                last = key
+            answer = verify(last, memory[message:message + message_length], memory[value:value + value_length])
             if answer is not True:
-                mark_of(answer)
-                return b"\1" * place + bytes(count - place)
+                answer_of(answer)
+                return place
     finally:
         _spare.append(room)
-    return b"\1" * count
+    return count
 
 
-def _decided(handle: c_void_p, verified: bytes) -> Decision:
-    """The decision by marks."""
+def _marked(handle: c_void_p, place: int) -> None:
+    """Marks the signature at a place."""
+    status = of.mark(handle, _number(place))
+    if status != of.DONE:
+        raise _refused(status, b"")
+
+
+def _decided(handle: c_void_p) -> Decision:
+    """The decision by the marks."""
     # (each line of a decision fits)
     room = _taken()
-    status, line = of.decide(handle, verified, _number(len(verified)), room.at_buffer, room.octets, room.at_needed), room.answer()
+    status, line = of.decide(handle, room.at_buffer, room.octets, room.at_needed), room.answer()
     _spare.append(room)
     if status == of.YES:
         return _granted(line)
@@ -319,17 +413,17 @@ def _decided(handle: c_void_p, verified: bytes) -> Decision:
     raise _refused(status, line)
 
 
+def _required(decision: Decision) -> int:
+    """The entry of a decision that grants."""
+    if not decision or decision.entry is None:
+        raise Denied
+    return decision.entry
+
+
 @functools.lru_cache(1024)
 def _granted(line: bytes) -> Decision:
     """The decision of a line, which does not change."""
     return Decision(int(line[len("yes entry "):]))
-
-
-def _lines(call: of.Answers, handle: c_void_p, verified: bytes) -> str:
-    """The lines of a call that decides nothing."""
-    status, lines = _answered(call, handle, verified, _number(len(verified)))
-    _expect(status, lines)
-    return lines.decode().rstrip("\n")
 
 
 def _expect(status: int, answer: bytes) -> None:

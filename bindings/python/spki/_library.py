@@ -5,13 +5,13 @@ import os
 import struct
 import sys
 from collections.abc import Callable
-from ctypes import POINTER, Structure, c_char_p, c_int, c_int64, c_size_t, c_uint, c_void_p
+from ctypes import POINTER, Structure, c_bool, c_char_p, c_int, c_int64, c_size_t, c_uint, c_void_p
 from typing import Protocol, cast
 
 NO, REFUSED, TOO_SMALL, DONE, NO_MEMORY, YES = 1, 2, 4, 6, 8, 9
 CANONICAL, ADVANCED, TRANSPORT = 0, 1, 2
 # The first two numbers of a library's version that this module can call.
-VERSION = "0.1"
+VERSION = "0.2"
 
 
 class Text(Structure):
@@ -53,10 +53,20 @@ class Memory(Protocol):
 memory = cast(Memory, (ctypes.c_char * sys.maxsize).from_address(0))
 
 
+def of_this_version() -> str | None:
+    """The name of the library of this version, if the loader finds it. Those of other versions may be installed beside it."""
+    name = f"libspki_c.so.{VERSION}"
+    try:
+        ctypes.CDLL(name)
+    except OSError:
+        return None
+    return name
+
+
 def found() -> str:
     """The path of the library: what SPKI_LIBRARY names, else the file beside this module, else what the loader finds."""
     beside = os.path.join(os.path.dirname(os.path.abspath(__file__)), "libspki_c.so")
-    path = os.environ.get("SPKI_LIBRARY") or (beside if os.path.exists(beside) else ctypes.util.find_library("spki_c"))
+    path = os.environ.get("SPKI_LIBRARY") or (beside if os.path.exists(beside) else of_this_version() or ctypes.util.find_library("spki_c"))
     if path is None:
         raise ImportError("libspki_c.so is not found: install it, or name the file in SPKI_LIBRARY")
     return path
@@ -81,8 +91,10 @@ at_once = ctypes.PyDLL(library._name)
 ask: Callable[[c_void_p, c_void_p, c_void_p, c_void_p, c_size_t, c_void_p], int] = library.spki_guard_ask
 signature: Callable[[c_void_p, c_size_t, c_void_p], int] = at_once.spki_asked_signature
 count: Callable[[c_void_p], int] = at_once.spki_asked_count
+mark: Callable[[c_void_p, c_size_t], int] = at_once.spki_asked_mark
+possible: Callable[[c_void_p], bool] = at_once.spki_asked_possible
 close: Callable[[c_void_p], None] = library.spki_asked_close
-Answers = Callable[[c_void_p, bytes, c_size_t, c_void_p, c_size_t, c_void_p], int]
+Answers = Callable[[c_void_p, c_void_p, c_size_t, c_void_p], int]
 decide: Answers = library.spki_asked_decide
 explain: Answers = library.spki_asked_explain
 reduce: Answers = library.spki_asked_reduce
@@ -95,3 +107,4 @@ for _name, _types in {
     getattr(library, f"spki_{_name}").argtypes = _types
 library.spki_guard_close.restype = library.spki_asked_close.restype = None
 library.spki_guard_entries.restype = at_once.spki_asked_count.restype = c_size_t
+at_once.spki_asked_possible.restype = c_bool

@@ -3,17 +3,21 @@ from __future__ import annotations
 
 import ctypes
 import enum
+import math
 import re
-from collections.abc import Iterator, Sequence
+from collections.abc import Callable, Iterator, Sequence
 from ctypes import addressof, c_int64, c_size_t, c_void_p, pointer
 from dataclasses import dataclass, fields
-from typing import NamedTuple
+from datetime import datetime
+from typing import NamedTuple, Union
 
 from . import _library as of
 
 FAULT = re.compile(r".*\b([A-Z]\w*)")
 REASON = re.compile(r"^(?:entry (\d+) )?(?:item (\d+) )?(\w+)$", re.MULTILINE)
 MOST_OCTETS, MOST_NODES, HIGHEST = 1_048_576, 1_000_000, c_size_t(-1).value
+# The last second of the year 9999, and seconds that the library refuses as BadDate.
+LAST_SECOND, NO_SECONDS = 253_402_300_799, 2 ** 62
 
 
 class Refused(Exception):
@@ -23,9 +27,16 @@ class Refused(Exception):
     """
 
     def __init__(self, line: str) -> None:
+        # (what is raised is copied and pickled by these arguments)
         super().__init__(line)
         self.line = line
         """The line without its line feed, as `refused sequence 3 Shape`."""
+
+    @property
+    def part(self) -> str:
+        """What is refused: `acl`, `sequence`, `key`, `request`, `at`, `question` or `form`. Empty if the line names no part."""
+        words = self.line.split(" ")
+        return words[1] if len(words) > 2 else ""
 
     @property
     def fault(self) -> str:
@@ -39,7 +50,7 @@ class Policy(enum.Enum):
 
     STRICT = 0
     """Hashes by SHA-256 and SHA-512 do."""
-    OPEN = 1
+    ALLOW_SHA1 = 1
     """Hashes by SHA-1, SHA-256 and SHA-512 do."""
 
 
@@ -73,38 +84,66 @@ class Limits:
 
 
 class Question:
-    """What is asked. It is made once and does not change: all its octets are kept."""
+    """What is asked. It is made once and does not change: all its octets are kept. Questions with the same parts are equal, and a copy is made
+    of the parts."""
 
     def __init__(self, sequence: bytes, key: bytes, *, words: Sequence[bytes] | None = None, text: bytes | None = None,
-                 moment: bytes | int) -> None:
+                 moment: bytes | int | datetime) -> None:
         """`sequence` has the certificates and signatures that the client shows. `key` is the client's key, which it has proved to hold.
 
         The request is given by `words`, its strings, each as octets that may come from the client: several strings are the list of them,
-        and one is the string itself. Or it is given by `text`, one value. `moment` is the time: the seconds since 1970-01-01 00:00:00 UTC, or
-        the text of a date.
+        and one is the string itself. Or it is given by `text`, one value. `moment` is the time: the seconds since 1970-01-01 00:00:00 UTC, a
+        `datetime` with a time zone, or the text of a date. A number below 0 or past the year 9999 is refused as `BadDate` when it is asked.
         """
         if (words is None) == (text is None):
             raise TypeError("a request is given by `words` or by `text`, and not by both")
-        self._key = octets_of(key)
-        self._given = given = of.Question(ctypes.sizeof(of.Question), text_of(sequence), text_of(self._key))
+        sequence, key = octets_of(sequence), octets_of(key)
+        self._given = given = of.Question(ctypes.sizeof(of.Question), of.Text(sequence, len(sequence)), of.Text(key, len(key)))
         if text is not None:
-            given.request = text_of(text)
+            text = octets_of(text)
+            given.request = of.Text(text, len(text))
         elif words is not None:
             if isinstance(words, (bytes, str)):
                 raise TypeError("`words` is a sequence of strings, and not one of them")
-            strings = [text_of(word) for word in words]
+            words = tuple(map(octets_of, words))
             # (a null address would mean that the request is a text, so an array of no strings has an address too)
-            given.words, given.word_count = (of.Text * max(1, len(strings)))(*strings), len(strings)
+            given.words = (of.Text * max(1, len(words)))(*[of.Text(word, len(word)) for word in words])
+            given.word_count = len(words)
         if isinstance(moment, bytes):
-            given.moment = text_of(moment)
+            moment = octets_of(moment)
+            given.moment = of.Text(moment, len(moment))
         else:
-            given.seconds = pointer(c_int64(seconds_of(moment)))
+            moment = seconds_of(moment)
+            given.seconds = pointer(c_int64(moment if 0 <= moment <= LAST_SECOND else NO_SECONDS))
+        self._parts = (sequence, key, words, text, moment)
         self._at = c_void_p(addressof(given))
 
     @property
     def key(self) -> bytes:
         """The client's key, as it was given."""
-        return self._key
+        return self._parts[1]
+
+    def __eq__(self, other: object) -> bool:
+        return isinstance(other, Question) and self._parts == other._parts
+
+    def __hash__(self) -> int:
+        return hash(self._parts)
+
+    def __reduce__(self) -> tuple[Callable[..., Question], _Parts]:
+        return _question_of, self._parts
+
+    def __repr__(self) -> str:
+        sequence, key, words, text, moment = self._parts
+        request = f"text={text!r}" if words is None else f"words={words!r}"
+        return f"Question({sequence!r}, {key!r}, {request}, moment={moment!r})"
+
+
+_Parts = tuple[bytes, bytes, Union[Sequence[bytes], None], Union[bytes, None], Union[bytes, int]]
+
+
+def _question_of(sequence: bytes, key: bytes, words: Sequence[bytes] | None, text: bytes | None, moment: bytes | int) -> Question:
+    """A copy of a question, of its parts."""
+    return Question(sequence, key, words=words, text=text, moment=moment)
 
 
 class Signature(NamedTuple):
@@ -133,7 +172,14 @@ class Decision:
     """The number of the first entry that grants the request, from 1. `None` if no entry does."""
 
     def __bool__(self) -> bool:
-        return self.entry is not None
+        return bool(self.entry)
+
+
+class Denied(Exception):
+    """No entry grants the request."""
+
+    def __init__(self) -> None:
+        super().__init__("no entry grants the request")
 
 
 class Reason(NamedTuple):
@@ -177,7 +223,7 @@ class Reduction(NoDecision):
 # ---- checks
 
 
-def mark_of(answer: object) -> bool:
+def answer_of(answer: object) -> bool:
     """An answer of a verifier."""
     if answer is not True and answer is not False:
         raise TypeError(f"a signature is valid by True or not by False, and not by {type(answer).__name__}")
@@ -191,11 +237,6 @@ def octets_of(text: bytes) -> bytes:
     return text if type(text) is bytes else memoryview(text).tobytes()
 
 
-def text_of(text: bytes) -> of.Text:
-    octets = octets_of(text)
-    return of.Text(octets, len(octets))
-
-
 def whole(number: int) -> int:
     """A number. ctypes would cut one that is too large, so what calls this compares it."""
     if not isinstance(number, int) or isinstance(number, bool):
@@ -203,8 +244,10 @@ def whole(number: int) -> int:
     return int.__index__(number)
 
 
-def seconds_of(moment: int) -> int:
-    """A moment in seconds. The library takes 64 bits of it."""
-    if not -2 ** 63 <= whole(moment) < 2 ** 63:
-        raise OverflowError("the moment has more than 64 bits")
-    return whole(moment)
+def seconds_of(moment: int | datetime) -> int:
+    """A moment in seconds: the one that it is in."""
+    if not isinstance(moment, datetime):
+        return whole(moment)
+    if moment.tzinfo is None:
+        raise TypeError("a `datetime` without a time zone is no moment: use datetime.now(timezone.utc)")
+    return math.floor(moment.timestamp())

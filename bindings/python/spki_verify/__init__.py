@@ -22,8 +22,15 @@ __all__ = ["Public", "LEAST_BITS", "MOST_BITS", "MOST_EXPONENT_BITS", "challenge
 
 Public = Union[Ed25519PublicKey, RSAPublicKey, EllipticCurvePublicKey]
 
-LEAST_BITS, MOST_BITS, MOST_EXPONENT_BITS = 2048, 16384, 64
+LEAST_BITS, MOST_BITS, MOST_EXPONENT_BITS = 2048, 4096, 31
 HALF, POINT = 32, 65
+# A canonical text of more octets is no key and no value of a signature.
+MOST_OCTETS = 4096
+# The prime and the order of Ed25519, and those of P-256.
+P_25519, ORDER_25519 = 2**255 - 19, 2**252 + 27742317777372353535851937790883648493
+P_256, ORDER_256 = 2**256 - 2**224 + 2**192 + 2**96 - 1, 0xFFFFFFFF00000000FFFFFFFFFFFFFFFFBCE6FAADA7179E84F3B9CAC2FC632551
+# The coordinate y of the four points of order 8.
+EIGHTHS = (0x05FC536D880238B13933C6D305ACDFD5F098EFF289F4C345B027B2C28F95E826, 0x7A03AC9277FDC74EC6CC392CFA53202A0F67100D760B3CBA4FD84D3D706A17C7)
 # The canonical texts of keys and of values, with `%` for each string that differs.
 ED25519_KEY = b"(10:public-key(3:ecc(5:curve7:Ed25519)(5:flags5:eddsa)(1:q%)))"
 RSA_KEY = b"(10:public-key(3:rsa(1:n%)(1:e%)))"
@@ -35,19 +42,19 @@ def verify(key: bytes, message: bytes, value: bytes) -> bool:
     """Whether a value is a signature of a message by a key. Key and value are canonical texts; those of any other form are not valid."""
     public = public_of(key)
     try:
-        return public is not None and _is_signed(public, message, value)
+        return public is not None and message != b"" and _is_signed(public, message, value)
     except (InvalidSignature, OverflowError, ValueError):
         return False
 
 
 def public_of(key: bytes) -> Public | None:
-    """The public key of a canonical text. `None` if it is in none of the three forms, has a number in another form, or a modulus of less
-    than 2,048 bits."""
+    """The public key of a canonical text. `None` if it is in none of the three forms, or has a number or a point that docs/FORMATS.md, "What a
+    verifier tests first", excludes."""
     try:
         if found := _strings(key, ED25519_KEY):
-            return Ed25519PublicKey.from_public_bytes(found[0])
-        if (found := _strings(key, P256_KEY)) and len(found[0]) == POINT:
-            return EllipticCurvePublicKey.from_encoded_point(SECP256R1(), found[0])
+            return Ed25519PublicKey.from_public_bytes(found[0]) if _is_of_large_order(found[0]) else None
+        if found := _strings(key, P256_KEY):
+            return EllipticCurvePublicKey.from_encoded_point(SECP256R1(), found[0]) if _is_written_point(found[0]) else None
         return _rsa(*found) if (found := _strings(key, RSA_KEY)) else None
     except ValueError:
         return None
@@ -68,28 +75,39 @@ def number(value: int) -> bytes:
     return value.to_bytes(value.bit_length() // 8 + 1, "big")
 
 
+def _is_of_large_order(q: bytes) -> bool:
+    """Whether a point of Ed25519 has no small order and one text only, as far as y says that."""
+    y = int.from_bytes(q, "little") % 2**255
+    return len(q) == HALF and 2**192 <= y < P_25519 - 1 and y not in EIGHTHS
+
+
+def _is_written_point(q: bytes) -> bool:
+    """Whether octets are those of two coordinates of P-256. The library tests that they are a point."""
+    x, y = int.from_bytes(q[1:1 + HALF], "big"), int.from_bytes(q[1 + HALF:], "big")
+    return len(q) == POINT and q[0] == 4 and x < P_256 and y < P_256
+
+
 def _rsa(modulus: bytes, exponent: bytes) -> RSAPublicKey | None:
     """The key of a modulus and an exponent."""
-    if len(modulus) > MOST_BITS // 8 + 1 or len(exponent) > MOST_EXPONENT_BITS // 8 + 1:
-        return None
     n, e = int.from_bytes(modulus, "big"), int.from_bytes(exponent, "big")
     is_written = (modulus, exponent) == (number(n), number(e))
-    is_large = LEAST_BITS <= n.bit_length() <= MOST_BITS and e.bit_length() <= MOST_EXPONENT_BITS
-    return RSAPublicNumbers(e, n).public_key() if is_written and is_large and n % 2 else None
+    is_within = LEAST_BITS <= n.bit_length() <= MOST_BITS and 3 <= e < 2**MOST_EXPONENT_BITS
+    return RSAPublicNumbers(e, n).public_key() if is_written and is_within and n % 2 and e % 2 else None
 
 
 def _is_signed(public: Public, message: bytes, value: bytes) -> bool:
     """True if a value is a signature by a public key. Otherwise False or an exception."""
-    if isinstance(public, Ed25519PublicKey) and (found := _strings(value, EDDSA)):
-        if [len(it) for it in found] != [HALF, HALF]:
+    if isinstance(public, Ed25519PublicKey):
+        found = _strings(value, EDDSA)
+        if [len(it) for it in found] != [HALF, HALF] or int.from_bytes(found[1], "little") >= ORDER_25519:
             return False
         public.verify(b"".join(found), message)
         return True
     numbers = [int.from_bytes(it, "big") for it in _strings(value, RSA if isinstance(public, RSAPublicKey) else ECDSA_)]
-    if isinstance(public, RSAPublicKey) and numbers:
+    if isinstance(public, RSAPublicKey) and numbers and 1 <= numbers[0] < public.public_numbers().n:
         public.verify(numbers[0].to_bytes((public.key_size + 7) // 8, "big"), message, PKCS1v15(), SHA256())
         return True
-    if isinstance(public, EllipticCurvePublicKey) and numbers:
+    if isinstance(public, EllipticCurvePublicKey) and numbers and all(1 <= it < ORDER_256 for it in numbers):
         public.verify(encode_dss_signature(*numbers), message, ECDSA(SHA256()))
         return True
     return False
@@ -99,6 +117,8 @@ def _strings(text: bytes, form: bytes) -> list[bytes]:
     """The strings of a text that are at the marks of a form. None of them if the text has another form."""
     first, *rest = form.split(b"%")
     at, found = len(first), []
+    if len(text) > MOST_OCTETS or not text.startswith(first):
+        return []
     for part in rest:
         colon = text.find(b":", at, at + 8)
         length = int(text[at:colon]) if colon > at and text[at:colon].isdigit() else -1
@@ -107,4 +127,4 @@ def _strings(text: bytes, form: bytes) -> list[bytes]:
             return []
         found.append(text[colon + 1:end])
         at = end + len(part)
-    return found if text.startswith(first) and at == len(text) else []
+    return found if at == len(text) else []

@@ -73,7 +73,7 @@ fn answer(input: &mut Input) -> Option<Result<String, Refusal>> {
     let policy = if policy == "strict" {
         Policy::Strict
     } else {
-        Policy::Open
+        Policy::AllowSha1
     };
     Some(answer_to(&command, &texts[0], policy, &question, &accepted))
 }
@@ -89,19 +89,23 @@ fn answer_to(
         accepted.chunks(3).any(|row| row == [key, message, value])
     };
     let guard = Guard::read(list, policy, Limits::highest())?;
-    let asked = guard.ask(question)?;
-    let marks = asked.marks(verify).unwrap_or_else(|never| match never {});
+    let mut asked = guard.ask(question)?;
+    match asked.verify(verify) {
+        Ok(()) => {}
+        Err(Denied::Refused(refusal)) => return Err(refusal),
+        Err(denied) => return Ok(denied.to_string()),
+    }
     match command {
-        "reduce" => asked.reduce(&marks),
+        "reduce" => asked.reduce(),
         "explain" => {
-            let lines: Vec<_> = asked.explain(&marks)?.reasons().map(spelled).collect();
+            let lines: Vec<_> = asked.explain()?.reasons().map(spelled).collect();
             Ok(if lines.is_empty() {
                 "no entries".into()
             } else {
                 lines.join("\n")
             })
         }
-        _ => match asked.decide(&marks) {
+        _ => match asked.decide() {
             Ok(Grant { entry, .. }) => Ok(format!("yes entry {entry}")),
             Err(Denied::Refused(refusal)) => Err(refusal),
             Err(_) => Ok("no".into()),

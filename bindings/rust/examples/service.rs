@@ -76,15 +76,17 @@ fn holds_key(key: &[u8], signature: &[u8], nonce: &[u8], words: &[&[u8]]) -> io:
 
 /// The lines of the answer to a question.
 fn answer(guard: &Guard, question: &Question) -> io::Result<Result<String, Refusal>> {
-    let asked = match guard.ask(question) {
+    let mut asked = match guard.ask(question) {
         Ok(asked) => asked,
         Err(refusal) => return Ok(Err(refusal)),
     };
-    let marks = asked.marks(|key, message, value| Openssl.verify(key, message, value))?;
-    Ok(match asked.decide(&marks) {
+    asked
+        .verify(|key, message, value| Openssl.verify(key, message, value))
+        .map_err(io::Error::other)?;
+    Ok(match asked.decide() {
         Ok(grant) => Ok(format!("yes entry {}", grant.entry)),
         Err(Denied::Refused(refusal)) => Err(refusal),
-        Err(_) => asked.explain(&marks).map(|why| format!("no\n{why}")),
+        Err(_) => asked.explain().map(|why| format!("no\n{why}")),
     })
 }
 

@@ -21,7 +21,7 @@ fn question() -> Question<'static> {
 fn granted(guard: &Guard) -> usize {
     let asked = guard.ask(&question()).expect("a question");
     let anew = |_: &usize| guard.decide(&question(), |_, _, _| true).is_ok();
-    let opened = |_: &usize| asked.decide(&[]).is_ok();
+    let opened = |_: &usize| asked.decide().is_ok();
     (0..TURNS).filter(anew).count() + (0..TURNS).filter(opened).count()
 }
 

@@ -11,8 +11,8 @@ use std::path::{Path, PathBuf};
 use std::process::{exit, Command};
 
 /// The versions that this crate can call, from the first and below the second.
-const FIRST: &str = "0.1";
-const END: &str = "0.2";
+const FIRST: &str = "0.2";
+const END: &str = "0.3";
 const OF_PKG_CONFIG: [&str; 5] = [
     "PKG_CONFIG_PATH",
     "PKG_CONFIG_LIBDIR",

@@ -1,5 +1,6 @@
 //! What the calls answer: lines, in a buffer that is made larger until they fit.
 
+use crate::words::{Fault, Part};
 use spki_sys::{self as sys, Status};
 use std::error::Error;
 use std::ffi::c_void;
@@ -10,32 +11,35 @@ pub(crate) const LINE: usize = 128;
 
 /// A line that begins with `refused`: a text is no input, or an allocation failed. Nothing is granted.
 ///
-/// The lines are those of the program `spki`; its manual lists them.
+/// The lines are those of the program `spki`; its manual lists them. A call that was made wrongly has a line that begins with `misused`.
 ///
 /// ```
+/// # use spki::{Fault, Part};
 /// let refusal = spki::canonical(b"(a ~)").unwrap_err();
 /// assert_eq!(refusal.line(), "refused form Bad 3");
-/// assert_eq!(refusal.fault(), "Bad");
+/// assert_eq!((refusal.part(), refusal.fault()), (Some(Part::Form), Fault::Bad));
 /// ```
-#[derive(Clone, Debug, PartialEq, Eq)]
+#[must_use]
+#[derive(Clone, Debug, PartialEq, Eq, Hash)]
 pub struct Refusal {
     line: String,
 }
 
 impl Refusal {
     /// The refusal of a call.
-    ///
-    /// # Panics
-    ///
-    /// If the call was not refused: then the library says that it was called wrongly, which no caller of this crate can cause.
     pub(crate) fn of(status: Status, answer: &[u8]) -> Refusal {
-        assert_eq!(
-            status,
-            sys::REFUSED,
-            "libspki_c answered with this status, which the crate does not know"
-        );
+        if status != sys::REFUSED {
+            return Refusal::misused(&format!("libspki_c answered with the status {status}"));
+        }
         Refusal {
             line: line_of(answer).to_owned(),
+        }
+    }
+
+    /// The refusal of a call that was made wrongly.
+    pub(crate) fn misused(why: &str) -> Refusal {
+        Refusal {
+            line: format!("misused: {why}"),
         }
     }
 
@@ -47,14 +51,26 @@ impl Refusal {
     }
 
     /// The line, without its line feed, such as `refused sequence 3 Shape`.
+    #[must_use]
     pub fn line(&self) -> &str {
         &self.line
     }
 
-    /// The name of the fault, such as `Shape`, `Bad`, `EmptyList`, `TooLarge` or `Memory`.
-    pub fn fault(&self) -> &str {
+    /// What is wrong.
+    #[must_use]
+    pub fn fault(&self) -> Fault {
         let is_name = |word: &&str| word.starts_with(|first: char| first.is_ascii_uppercase());
-        self.line.split(' ').rfind(is_name).unwrap_or_default()
+        match self.line.strip_prefix("misused") {
+            Some(_) => Fault::Misused,
+            None => Fault::of(self.line.split(' ').rfind(is_name).unwrap_or_default()),
+        }
+    }
+
+    /// What is refused. `None` if the line names no part, as `refused Memory`.
+    #[must_use]
+    pub fn part(&self) -> Option<Part> {
+        let word = self.line.strip_prefix("refused ")?.split_once(' ')?.0;
+        Some(Part::of(word))
     }
 }
 
@@ -96,8 +112,9 @@ pub(crate) fn answered(
             buffer.reserve(needed);
             continue;
         }
+        let length = needed.min(buffer.capacity());
         // SAFETY: the answer has so many octets, and the call has written them to the front of the buffer.
-        unsafe { buffer.set_len(needed) };
+        unsafe { buffer.set_len(length) };
         return (status, buffer);
     }
 }

@@ -1,42 +1,49 @@
-//! A question that was read, which is decided by marks of its signatures.
+//! A question that was read, which is decided by the marks that it carries.
 
 use crate::answer::{answered, line_of, with_line, Refusal};
 use crate::decision::{Denied, Grant, Verdict};
 use crate::explanation::Explanation;
-use crate::guard::Guard;
 use spki_sys as sys;
 use std::ffi::c_void;
 use std::fmt;
-use std::marker::PhantomData;
 use std::ptr::NonNull;
 use std::slice;
 
 /// Room for so many octets of lines is there at first. More is made where it is needed.
 const LINES: usize = 4096;
 
-/// A question that was read. It owns all that it needs of the question's texts.
+/// A question that was read. It owns all that it needs of the question's texts and of its guard, which may be dropped before it. So it may be
+/// stored, sent to another thread, and held while something else is awaited.
 ///
-/// A service verifies its [`signatures`](Asked::signatures) as it likes: one by one, together, or in another process. Then it decides by
-/// marks, one for each signature, any number of times.
-pub struct Asked<'g> {
+/// A service verifies its [`signatures`](Asked::signatures) as it likes: one by one, together, or in another process. It
+/// [marks](Asked::mark) the place of each valid one. A signature that is not marked is not valid, and a mark cannot be taken back. The marks are
+/// part of the question, so those of another client cannot be used for it. [`verify`](Asked::verify) does both by a function.
+///
+/// Several threads may share a question. Only its owner can mark it:
+///
+/// ```compile_fail,E0596
+/// fn share(asked: &spki::Asked) {
+///     asked.mark(0).ok();
+/// }
+/// ```
+pub struct Asked {
     handle: NonNull<sys::Asked>,
     count: usize,
-    guard: PhantomData<&'g Guard>,
 }
 
-// SAFETY: the library's calls only read what the handle points to, except the last one, which frees it, and only `drop` makes that.
-unsafe impl Send for Asked<'_> {}
-// SAFETY: as above: all calls on `&Asked` take the handle as `const`.
-unsafe impl Sync for Asked<'_> {}
+// SAFETY: the library's calls only read what the handle points to, except `mark`, and the last one, which frees it, and only `drop` makes that.
+unsafe impl Send for Asked {}
+// SAFETY: as above: all calls on `&Asked` take the handle as `const`. `mark` takes `&mut Asked`, so no other call uses the handle then.
+unsafe impl Sync for Asked {}
 
-impl Drop for Asked<'_> {
+impl Drop for Asked {
     fn drop(&mut self) {
         // SAFETY: the handle is that of `spki_guard_ask`, and it is not used again.
         unsafe { sys::spki_asked_close(self.handle.as_ptr()) }
     }
 }
 
-impl fmt::Debug for Asked<'_> {
+impl fmt::Debug for Asked {
     fn fmt(&self, f: &mut fmt::Formatter) -> fmt::Result {
         f.debug_struct("Asked")
             .field("signatures", &self.count)
@@ -58,24 +65,41 @@ pub struct Signature<'a> {
     pub octets: Option<&'a [u8]>,
 }
 
-impl<'g> Asked<'g> {
+impl Asked {
     /// The question of a handle that is open.
-    pub(crate) fn new(handle: NonNull<sys::Asked>, _guard: &'g Guard) -> Asked<'g> {
+    pub(crate) fn new(handle: NonNull<sys::Asked>) -> Asked {
         // SAFETY: the handle is open.
         let count = unsafe { sys::spki_asked_count(handle.as_ptr()) };
-        Asked {
-            handle,
-            count,
-            guard: PhantomData,
-        }
+        Asked { handle, count }
+    }
+
+    /// The number of the signatures.
+    pub(crate) fn count(&self) -> usize {
+        self.count
     }
 
     /// The signatures on which the answers depend, in order.
+    ///
+    /// # Panics
+    ///
+    /// The iterator does if an allocation of the library fails.
+    #[must_use]
     pub fn signatures(&self) -> impl ExactSizeIterator<Item = Signature<'_>> + '_ {
-        (0..self.count).map(|place| self.signature(place))
+        (0..self.count).map(|place| {
+            self.signature(place)
+                .unwrap_or_else(|refusal| panic!("{refusal}"))
+        })
     }
 
-    fn signature(&self, place: usize) -> Signature<'_> {
+    /// The signature at a place, from 0.
+    ///
+    /// # Errors
+    ///
+    /// The question has no signature at this place, or an allocation failed.
+    pub fn signature(&self, place: usize) -> Result<Signature<'_>, Refusal> {
+        if place >= self.count {
+            return Err(self.no_place(place));
+        }
         let none = sys::Text::NONE;
         let mut signed = sys::Signed {
             key: none,
@@ -85,71 +109,88 @@ impl<'g> Asked<'g> {
         };
         // SAFETY: the handle is open, and the place of the result is valid.
         let status = unsafe { sys::spki_asked_signature(self.handle.as_ptr(), place, &mut signed) };
-        assert_eq!(status, sys::DONE, "there is no signature {place}");
+        match status {
+            sys::DONE => {}
+            sys::NO_MEMORY => return Err(Refusal::memory()),
+            _ => return Err(Refusal::of(status, b"")),
+        }
         let of = |text: sys::Text| {
             // SAFETY: the texts last and do not change until the handle is closed, which `self` outlives.
             unsafe { slice::from_raw_parts(text.octets.cast::<u8>(), text.length) }
         };
-        Signature {
+        Ok(Signature {
             key: of(signed.key),
             message: of(signed.message),
             value: of(signed.value),
             octets: (!signed.octets.octets.is_null()).then(|| of(signed.octets)),
-        }
+        })
     }
 
-    /// What a function says of each signature, in order. It is not called after the first that is not valid, and the marks after this one are
-    /// `false` too.
+    /// Says that the signature at this place, from 0, is valid. The mark is for its place alone, also if the same signature is there twice.
     ///
     /// # Errors
     ///
-    /// That of the function, if it fails.
-    pub fn marks<V, A>(&self, verify: V) -> Result<Vec<bool>, A::Error>
-    where
-        V: FnMut(&[u8], &[u8], &[u8]) -> A,
-        A: Verdict,
-    {
-        let mut marks = vec![false; self.count];
-        self.mark(&mut marks, verify)?;
-        Ok(marks)
+    /// The question has no signature at this place. Nothing is marked then.
+    pub fn mark(&mut self, place: usize) -> Result<(), Refusal> {
+        // SAFETY: the handle is open, and `&mut self` says that no other call uses it.
+        match unsafe { sys::spki_asked_mark(self.handle.as_ptr(), place) } {
+            sys::DONE => Ok(()),
+            _ => Err(self.no_place(place)),
+        }
     }
 
-    /// Sets the marks of as many signatures.
-    pub(crate) fn mark<V, A>(&self, marks: &mut [bool], mut verify: V) -> Result<(), A::Error>
+    /// The refusal of a place that the question does not have.
+    fn no_place(&self, place: usize) -> Refusal {
+        let why = format!("place {place} of {} signatures", self.count);
+        Refusal::misused(&why)
+    }
+
+    /// Marks each signature of which a function says that it is valid, in order. It is not called after the first that is not valid.
+    ///
+    /// To explain why a request is denied, verify also where the request [cannot be granted](Asked::is_possible).
+    ///
+    /// # Errors
+    ///
+    /// The function failed, or an allocation did.
+    pub fn verify<V, A>(&mut self, mut verify: V) -> Result<(), Denied<A::Error>>
     where
         V: FnMut(&[u8], &[u8], &[u8]) -> A,
         A: Verdict,
     {
-        for (mark, it) in marks.iter_mut().zip(self.signatures()) {
-            *mark = verify(it.key, it.message, it.value).verdict()?;
-            if !*mark {
+        for place in 0..self.count {
+            let it = self.signature(place)?;
+            let verdict = verify(it.key, it.message, it.value).verdict();
+            if verdict.map_err(Denied::Verifier)? {
+                self.mark(place)?;
+            } else {
                 break;
             }
         }
         Ok(())
     }
 
-    /// Whether the request is granted, if exactly the signatures are valid whose marks are `true`.
+    /// Whether the request would be granted if all signatures were valid. If not, no marks make it a yes, and no signature has to be verified.
+    /// `true` grants nothing.
+    #[must_use]
+    pub fn is_possible(&self) -> bool {
+        // SAFETY: the handle is open.
+        unsafe { sys::spki_asked_possible(self.handle.as_ptr()) }
+    }
+
+    /// Whether the request is granted, if exactly the marked signatures are valid. It may be asked any number of times.
     ///
     /// # Errors
     ///
     /// The request is not granted: no entry grants it, or an allocation failed.
-    ///
-    /// # Panics
-    ///
-    /// If there is not one mark for each signature.
-    pub fn decide(&self, marks: &[bool]) -> Result<Grant, Denied> {
-        self.decided(marks)
+    pub fn decide(&self) -> Result<Grant, Denied> {
+        self.decided()
     }
 
     /// The same, with the error of any verifier.
-    pub(crate) fn decided<E>(&self, marks: &[bool]) -> Result<Grant, Denied<E>> {
-        let call =
-            |buffer, room, needed| self.call(sys::spki_asked_decide, marks, (buffer, room, needed));
+    pub(crate) fn decided<E>(&self) -> Result<Grant, Denied<E>> {
+        let call = |buffer, room, needed| self.call(sys::spki_asked_decide, (buffer, room, needed));
         with_line(call, |status, line| match status {
-            sys::YES => Ok(Grant {
-                entry: entry_of(line),
-            }),
+            sys::YES => granted(line).map_err(Denied::Refused),
             sys::NO => Err(Denied::No),
             _ => Err(Denied::Refused(Refusal::of(status, line))),
         })
@@ -160,12 +201,8 @@ impl<'g> Asked<'g> {
     /// # Errors
     ///
     /// Tags or the lines are too large, or an allocation failed.
-    ///
-    /// # Panics
-    ///
-    /// If there is not one mark for each signature.
-    pub fn explain(&self, marks: &[bool]) -> Result<Explanation, Refusal> {
-        let text = self.lines(sys::spki_asked_explain, marks)?;
+    pub fn explain(&self) -> Result<Explanation, Refusal> {
+        let text = self.lines(sys::spki_asked_explain)?;
         Ok(Explanation { text })
     }
 
@@ -174,18 +211,14 @@ impl<'g> Asked<'g> {
     /// # Errors
     ///
     /// Tags or the lines are too large, or an allocation failed.
-    ///
-    /// # Panics
-    ///
-    /// If there is not one mark for each signature.
-    pub fn reduce(&self, marks: &[bool]) -> Result<String, Refusal> {
-        self.lines(sys::spki_asked_reduce, marks)
+    pub fn reduce(&self) -> Result<String, Refusal> {
+        self.lines(sys::spki_asked_reduce)
     }
 
     /// The lines of a call that decides nothing.
-    fn lines(&self, call: sys::Answers, marks: &[bool]) -> Result<String, Refusal> {
+    fn lines(&self, call: sys::Answers) -> Result<String, Refusal> {
         let (status, lines) = answered(LINES, |buffer, room, needed| {
-            self.call(call, marks, (buffer, room, needed))
+            self.call(call, (buffer, room, needed))
         });
         match status {
             sys::DONE => Ok(line_of(&lines).to_owned()),
@@ -193,38 +226,22 @@ impl<'g> Asked<'g> {
         }
     }
 
-    /// A call by marks, with a buffer, its room, and the place of the length of the answer.
+    /// A call with a buffer, its room, and the place of the length of the answer.
     fn call(
         &self,
         call: sys::Answers,
-        marks: &[bool],
         (buffer, room, needed): (*mut c_void, usize, *mut usize),
     ) -> sys::Status {
-        assert_eq!(
-            marks.len(),
-            self.count,
-            "there is a mark for each signature"
-        );
-        // (a `bool` is the octet 0 or 1)
-        let verified = marks.as_ptr().cast::<u8>();
         // SAFETY: the handle is open. Each pointer is to as many octets as its length says, and they do not overlap.
-        unsafe {
-            call(
-                self.handle.as_ptr(),
-                verified,
-                self.count,
-                buffer,
-                room,
-                needed,
-            )
-        }
+        unsafe { call(self.handle.as_ptr(), buffer, room, needed) }
     }
 }
 
-/// The number in `yes entry N`.
-fn entry_of(line: &[u8]) -> usize {
+/// The grant of a line `yes entry N`.
+fn granted(line: &[u8]) -> Result<Grant, Refusal> {
     line_of(line)
         .strip_prefix("yes entry ")
         .and_then(|number| number.parse().ok())
-        .expect("a number")
+        .map(|entry| Grant { entry })
+        .ok_or_else(|| Refusal::misused("libspki_c wrote another line"))
 }

@@ -7,7 +7,7 @@ use std::fmt;
 
 /// The request is granted. There is a value of this type only if the library decided so.
 #[non_exhaustive]
-#[derive(Clone, Copy, Debug, PartialEq, Eq)]
+#[derive(Clone, Copy, Debug, PartialEq, Eq, Hash)]
 pub struct Grant {
     /// The number of the first entry that grants the request, from 1.
     pub entry: usize,
@@ -15,6 +15,7 @@ pub struct Grant {
 
 /// The request is not granted, and why. `E` is the error of the verifier.
 #[non_exhaustive]
+#[must_use]
 #[derive(Clone, Debug, PartialEq, Eq)]
 pub enum Denied<E = Infallible> {
     /// No entry grants the request.
@@ -27,6 +28,7 @@ pub enum Denied<E = Infallible> {
 
 impl<E> Denied<E> {
     /// The line of a refusal. `None` if the library decided, or the verifier failed.
+    #[must_use]
     pub fn refusal(&self) -> Option<&Refusal> {
         match self {
             Denied::Refused(refusal) => Some(refusal),

@@ -1,8 +1,10 @@
 //! Why a request is granted, or is not.
 
+use crate::words::Cause;
 use std::fmt;
 
-/// The lines of the program's command `explain`.
+/// The lines of the program's command `explain`. They are no decision.
+#[must_use]
 #[derive(Clone, Debug, PartialEq, Eq)]
 pub struct Explanation {
     pub(crate) text: String,
@@ -10,18 +12,21 @@ pub struct Explanation {
 
 /// One line of an explanation.
 #[non_exhaustive]
-#[derive(Clone, Copy, Debug, PartialEq, Eq)]
+#[derive(Clone, Copy, Debug, PartialEq, Eq, Hash)]
 pub struct Reason<'e> {
     /// The number of the entry that the line is about, from 1. `None` if the certificate stops all entries.
     pub entry: Option<usize>,
     /// The number of the certificate that stops it, among the items of the sequence, from 1.
     pub item: Option<usize>,
-    /// `grants`, or the cause, such as `TagLacks`, `NoDelegation` or `NotAccepted`.
+    /// What the line says.
+    pub cause: Cause,
+    /// The word that says it: `grants`, or the cause, such as `TagLacks`, `NoDelegation` or `NotAccepted`.
     pub word: &'e str,
 }
 
 impl Explanation {
     /// The lines as they are, without the last line feed.
+    #[must_use]
     pub fn text(&self) -> &str {
         &self.text
     }
@@ -34,7 +39,12 @@ impl Explanation {
             .map(|line| {
                 let (entry, rest) = numbered("entry ", line);
                 let (item, word) = numbered("item ", rest);
-                Reason { entry, item, word }
+                Reason {
+                    entry,
+                    item,
+                    cause: Cause::of(word),
+                    word,
+                }
             })
     }
 }

@@ -14,25 +14,23 @@ use std::ptr::{self, NonNull};
 /// The most octets of a question and the most nodes of an intersection.
 const MOST_OCTETS: usize = 1_048_576;
 const MOST_NODES: usize = 1_000_000;
-/// The marks of so many signatures need no allocation.
-const MARKS: usize = 16;
 
 /// Which hashes name keys.
 #[non_exhaustive]
-#[derive(Clone, Copy, Debug, Default, PartialEq, Eq)]
+#[derive(Clone, Copy, Debug, Default, PartialEq, Eq, Hash)]
 pub enum Policy {
     /// Hashes by SHA-256 and SHA-512 do. SHA-1 is broken.
     #[default]
     Strict,
     /// Hashes by SHA-1, SHA-256 and SHA-512 do.
-    Open,
+    AllowSha1,
 }
 
 impl Policy {
     fn number(self) -> c_int {
         match self {
             Policy::Strict => sys::STRICT,
-            Policy::Open => sys::OPEN,
+            Policy::AllowSha1 => sys::OPEN,
         }
     }
 }
@@ -45,6 +43,7 @@ pub struct Limits {
 
 impl Limits {
     /// The highest limits. On some questions within them an explanation takes minutes.
+    #[must_use]
     pub const fn highest() -> Limits {
         Limits {
             values: sys::Limits {
@@ -60,6 +59,7 @@ impl Limits {
     }
 
     /// The most octets that the texts of a question may have together: 65,536 by default. More than 1,048,576 means 1,048,576.
+    #[must_use]
     pub const fn octets(mut self, most: usize) -> Limits {
         self.values.octets = if most < MOST_OCTETS {
             most
@@ -70,12 +70,14 @@ impl Limits {
     }
 
     /// The most certificates of a sequence: 16 by default.
+    #[must_use]
     pub const fn certificates(mut self, most: usize) -> Limits {
         self.values.certificates = most;
         self
     }
 
     /// The most strings of a request: 64 by default.
+    #[must_use]
     pub const fn words(mut self, most: usize) -> Limits {
         self.values.words = most;
         self
@@ -83,18 +85,21 @@ impl Limits {
 
     /// The most nodes of one tag times nodes of another for which `explain` and `reduce` compute their intersection: 1,000,000 by default.
     /// More means 1,000,000.
+    #[must_use]
     pub const fn nodes(mut self, most: usize) -> Limits {
         self.values.nodes = if most < MOST_NODES { most } else { MOST_NODES };
         self
     }
 
     /// The most of these products together, over all certificates and entries: 100,000 by default.
+    #[must_use]
     pub const fn work(mut self, most: usize) -> Limits {
         self.values.work = most;
         self
     }
 
     /// The most octets of the lines of `explain` and `reduce`: 1,048,576 by default.
+    #[must_use]
     pub const fn answer(mut self, most: usize) -> Limits {
         self.values.answer = most;
         self
@@ -115,7 +120,7 @@ impl Default for Limits {
 /// An access list that is read once and asked often, also by several threads at the same time.
 ///
 /// [`decide`](Guard::decide) opens a question, calls `verify(key, message, value)` for each signature that the answer depends on, in order, and
-/// decides. The three are octets of canonical forms: of the issuer's `(public-key ..)`, of the certificate, and of the value in
+/// decides. Where the request cannot be granted, whatever is valid, it calls `verify` not at all. The three are octets of canonical forms: of the issuer's `(public-key ..)`, of the certificate, and of the value in
 /// `(signature ..)`. `verify` returns whether the value is a signature of the message by the key, as a `bool` or as a `Result`.
 ///
 /// A thread that calls has 256 KiB of stack left. No call is made in a child that a process with several threads forked.
@@ -180,17 +185,18 @@ impl Guard {
     }
 
     /// The number of entries of the list.
+    #[must_use]
     pub fn entries(&self) -> usize {
         // SAFETY: the handle is open.
         unsafe { sys::spki_guard_entries(self.handle.as_ptr()) }
     }
 
-    /// Opens a question, which is decided by marks of its signatures.
+    /// Opens a question, which is decided by the marks of its signatures.
     ///
     /// # Errors
     ///
     /// A part of the question cannot be read, or exceeds a limit; an allocation failed.
-    pub fn ask(&self, question: &Question) -> Result<Asked<'_>, Refusal> {
+    pub fn ask(&self, question: &Question) -> Result<Asked, Refusal> {
         let mut handle = ptr::null_mut();
         let answer = question.lend(|question| {
             let call = |buffer, room, needed| {
@@ -200,7 +206,7 @@ impl Guard {
             };
             with_line(call, |status, line| (status, line.to_owned()))
         });
-        answer.opened(handle).map(|handle| Asked::new(handle, self))
+        answer.opened(handle).map(Asked::new)
     }
 
     /// Decides whether the question's request is granted. Only `Ok` is a yes.
@@ -222,17 +228,11 @@ impl Guard {
         V: FnMut(&[u8], &[u8], &[u8]) -> A,
         A: Verdict,
     {
-        let asked = self.ask(question)?;
-        let (mut few, mut many) = ([false; MARKS], Vec::new());
-        let count = asked.signatures().len();
-        let marks = if count <= MARKS {
-            &mut few[..count]
-        } else {
-            many.resize(count, false);
-            &mut many[..]
-        };
-        asked.mark(marks, verify).map_err(Denied::Verifier)?;
-        asked.decided(marks)
+        let mut asked = self.ask(question)?;
+        if asked.count() > 0 && asked.is_possible() {
+            asked.verify(verify)?;
+        }
+        asked.decided()
     }
 
     /// The same, by a [`Verifier`].

@@ -33,6 +33,7 @@
 
 #![deny(missing_docs)]
 #![deny(unsafe_op_in_unsafe_fn)]
+#![deny(clippy::must_use_candidate, clippy::return_self_not_must_use)]
 
 mod answer;
 mod asked;
@@ -42,6 +43,7 @@ mod guard;
 mod library;
 mod question;
 mod text;
+mod words;
 
 pub use answer::Refusal;
 pub use asked::{Asked, Signature};
@@ -51,3 +53,4 @@ pub use guard::{Guard, Limits, Policy};
 pub use library::library_version;
 pub use question::{Moment, Question, Request};
 pub use text::{advanced, canonical, string_at, transport};
+pub use words::{Cause, Fault, Part};

@@ -4,7 +4,8 @@ use spki_sys as sys;
 use std::ffi::CStr;
 use std::sync::Once;
 
-/// The version of the library that is linked, such as `0.1.0`.
+/// The version of the library that is linked, such as `0.2.0`.
+#[must_use]
 pub fn library_version() -> &'static str {
     // SAFETY: the call takes nothing and returns a text that lasts as long as the program.
     let version = unsafe { CStr::from_ptr(sys::spki_version()) };

@@ -7,6 +7,9 @@ use std::time::{SystemTime, UNIX_EPOCH};
 
 /// The places of so many strings need no allocation.
 const WORDS: usize = 16;
+/// The last second of the year 9999, and seconds that the library refuses as `BadDate`.
+const LAST_SECOND: i64 = 253_402_300_799;
+const NO_SECONDS: i64 = 1 << 62;
 
 /// What a service asks a guard. Each text is one value in any of the three forms of RFC 9804, so that no octets of one part can become
 /// another part.
@@ -40,7 +43,8 @@ pub enum Request<'q> {
 pub enum Moment<'q> {
     /// As the text of a date, `"2026-03-01_12:00:00"`, in UTC.
     Text(&'q [u8]),
-    /// As seconds since 1970-01-01 00:00:00 UTC.
+    /// As seconds since 1970-01-01 00:00:00 UTC. A number below 0 or past the year 9999 is that of a clock that failed, and is refused as
+    /// `BadDate`.
     Seconds(i64),
 }
 
@@ -61,6 +65,7 @@ impl From<SystemTime> for Moment<'_> {
 
 impl<'q> Question<'q> {
     /// A question. The moment is the time of the service's own clock, such as `SystemTime::now()`.
+    #[must_use]
     pub fn new(
         sequence: &'q [u8],
         key: &'q [u8],
@@ -99,7 +104,10 @@ impl<'q> Question<'q> {
         };
         let (moment, seconds) = match &self.moment {
             Moment::Text(text) => (sys::Text::of(text), ptr::null()),
-            Moment::Seconds(seconds) => (sys::Text::NONE, ptr::from_ref(seconds)),
+            Moment::Seconds(seconds) if (0..=LAST_SECOND).contains(seconds) => {
+                (sys::Text::NONE, ptr::from_ref(seconds))
+            }
+            Moment::Seconds(_) => (sys::Text::NONE, ptr::from_ref(&NO_SECONDS)),
         };
         sys::Question {
             size: size_of::<sys::Question>(),

@@ -1,7 +1,10 @@
 //! What the crate does beside the library: opened questions, marks, its buffers and its types. `tests/test_bindings.py` at the top of the
 //! repository compares the answers to many questions with the program's.
 
-use spki::{Denied, Explanation, Guard, Limits, Moment, Policy, Question, Refusal, Request};
+use spki::{
+    Asked, Cause, Denied, Explanation, Fault, Grant, Guard, Limits, Moment, Part, Policy, Question,
+    Refusal, Request,
+};
 use std::error::Error;
 use std::panic::{catch_unwind, AssertUnwindSafe};
 use std::time::{Duration, UNIX_EPOCH};
@@ -15,6 +18,12 @@ const SIGNED: [&[u8]; 3] = [
     b"3:sig",
 ];
 const KEY: &[u8] = b"(public-key (test b))";
+/// By which key a lets itself do everything: such a certificate may stand in front of another one, also twice.
+const OWN: &str = "(cert (issuer (public-key (test a))) (subject (public-key (test a))) (propagate) (tag (*)))
+    (signature (hash sha256 #b26a73c3cdcb26bbb71fa21531b5b6a1745fc316ddfcf53862a174f5dccebfb6#) (public-key (test a)) sig)";
+/// A certificate for c in the name of a, whose signature is not valid.
+const FORGED: &[u8] = b"(sequence (cert (issuer (public-key (test a))) (subject (public-key (test c))) (tag (*)))
+    (signature (hash sha256 #b0c7e53153c3b09dad60263b3b4738aa1ae756cc4642305bcf4fdc4114ff0d5d#) (public-key (test a)) forged))";
 const WORDS: Request = Request::Words(&[b"ftp", b"host"]);
 const NOW: Moment = Moment::Seconds(1_704_067_200); // 2024-01-01_00:00:00
 
@@ -76,27 +85,101 @@ fn a_verifier_is_not_called_behind_the_first_wrong_one() -> Outcome {
     let wrong = PAIR.replace("sig)", "wrong)");
     let sequence = format!("(sequence {PAIR} {wrong} {PAIR})");
     let guard = guard(LIST);
-    let asked = guard.ask(&shows(sequence.as_bytes()))?;
+    let mut asked = guard.ask(&shows(sequence.as_bytes()))?;
     let mut calls = 0;
-    let marks = asked.marks(|_, _, value| {
+    asked.verify(|_, _, value| {
         calls += 1;
         value == b"3:sig"
     })?;
-    assert_eq!((calls, &marks[..]), (2, &[true, false, false][..]));
-    let explanation = asked.explain(&marks)?;
+    assert_eq!(calls, 2);
+    let explanation = asked.explain()?;
     assert_eq!(lines(&explanation), [(None, Some(3), "NotAccepted")]);
     Ok(())
 }
 
 #[test]
 fn a_verifier_is_called_for_each_of_many() -> Outcome {
-    let sequence = shown(40);
+    let sequence = format!("(sequence {} {PAIR})", OWN.repeat(39));
     let mut calls = 0;
-    let denied = guard(LIST).decide(&shows(&sequence), |key, message, value| {
+    let grant = guard(LIST).decide(&shows(sequence.as_bytes()), |key, _, value| {
         calls += 1;
-        [key, message, value] == SIGNED
-    });
-    assert_eq!((calls, denied), (40, Err(Denied::No)));
+        [key, value] == [SIGNED[0], SIGNED[2]]
+    })?;
+    assert_eq!((calls, grant.entry), (40, 1));
+    Ok(())
+}
+
+/// Nothing is verified where no signature could help: the certificate is for another key, or the list has no entry for the issuer.
+#[test]
+fn a_verifier_is_not_called_in_vain() {
+    let sequence = shown(2);
+    for (list, question) in [(LIST, shows(&sequence)), (b"(acl)", shows(FORGED))] {
+        let verify = |_: &[u8], _: &[u8], _: &[u8]| -> bool { panic!("a signature is verified") };
+        assert_eq!(guard(list).decide(&question, verify), Err(Denied::No));
+    }
+}
+
+/// Two clients at once: what is marked for b grants nothing to c.
+#[test]
+fn marks_are_of_one_question() -> Outcome {
+    let guard = guard(LIST);
+    let sequence = shown(1);
+    let mut good = guard.ask(&shows(&sequence))?;
+    let mut bad = guard.ask(&Question::new(FORGED, b"(public-key (test c))", WORDS, NOW))?;
+    assert!(good.is_possible() && bad.is_possible());
+    for asked in [&mut good, &mut bad] {
+        asked.verify(|_, _, value| value == b"3:sig")?;
+    }
+    assert_eq!(
+        (good.decide().is_ok(), bad.decide()),
+        (true, Err(Denied::No))
+    );
+    std::mem::swap(&mut good, &mut bad);
+    assert_eq!(
+        (bad.decide().is_ok(), good.decide()),
+        (true, Err(Denied::No))
+    );
+    Ok(())
+}
+
+/// Two equal signatures are two places, and both marks are needed.
+#[test]
+fn marks_are_of_one_place() -> Outcome {
+    let guard = guard(LIST);
+    let sequence = format!("(sequence {OWN} {OWN})");
+    for place in [0, 1] {
+        let question = Question::new(sequence.as_bytes(), b"(public-key (test a))", WORDS, NOW);
+        let mut asked = guard.ask(&question)?;
+        assert_eq!(asked.signature(0), asked.signature(1));
+        asked.mark(place)?;
+        assert_eq!(asked.decide(), Err(Denied::No));
+        asked.mark(1 - place)?;
+        assert!(asked.decide().is_ok());
+    }
+    Ok(())
+}
+
+/// What is no place marks nothing: -255, 0x101 and other numbers that a verifier may have returned.
+#[test]
+fn other_numbers_are_no_places() -> Outcome {
+    let guard = guard(LIST);
+    let sequence = shown(1);
+    let mut asked = guard.ask(&shows(&sequence))?;
+    for place in [1, 0x101, usize::MAX, usize::MAX - 254] {
+        assert!(asked.signature(place).is_err());
+        let refusal = asked.mark(place).expect_err("a refusal");
+        assert_eq!(
+            (refusal.line(), refusal.fault(), refusal.part()),
+            (
+                &format!("misused: place {place} of 1 signatures")[..],
+                Fault::Misused,
+                None
+            )
+        );
+        assert_eq!(asked.decide(), Err(Denied::No));
+    }
+    asked.mark(0)?;
+    assert!(asked.decide().is_ok());
     Ok(())
 }
 
@@ -143,17 +226,17 @@ fn a_question_mark_is_no_grant() {
 fn an_opened_question_needs_no_texts() -> Outcome {
     let guard = guard(LIST);
     let mut sequence = shown(2);
-    let asked = guard.ask(&shows(&sequence))?;
+    let mut asked = guard.ask(&shows(&sequence))?;
     sequence.fill(b' ');
     for signature in asked.signatures() {
         assert_eq!([signature.key, signature.message, signature.value], SIGNED);
         assert_eq!(signature.octets, Some(&b"sig"[..]));
     }
     assert_eq!(asked.signatures().len(), 2);
-    for marks in [[true, true], [true, false], [false, true]] {
-        assert_eq!(asked.decide(&marks), Err(Denied::No)); // (the second certificate is none of b)
+    for place in 0..2 {
+        asked.mark(place)?;
+        assert_eq!(asked.decide(), Err(Denied::No)); // (the second certificate is none of b)
     }
-    assert!(catch_unwind(AssertUnwindSafe(|| asked.decide(&[true]))).is_err());
     Ok(())
 }
 
@@ -232,6 +315,86 @@ fn a_time_of_the_system_is_a_moment() {
     }
 }
 
+/// A right that has ended is not granted by the moments of a clock that failed.
+#[test]
+fn a_moment_before_1970_or_past_9999_is_refused() {
+    let ended =
+        b"(acl (entry (public-key (test b)) (tag (*)) (not-after \"1999-12-31_23:59:59\")))";
+    let guard = guard(ended);
+    let at = |seconds| Question::new(b"(sequence)", KEY, WORDS, Moment::Seconds(seconds));
+    assert!(guard.decide(&at(0), right).is_ok());
+    assert_eq!(guard.decide(&at(253_402_300_799), right), Err(Denied::No));
+    for seconds in [
+        -1,
+        -2_147_483_648,
+        -62_167_219_200,
+        i64::MIN,
+        253_402_300_800,
+        i64::MAX,
+    ] {
+        let line = refused(guard.decide(&at(seconds), right));
+        assert_eq!(line, "refused at BadDate", "{seconds}");
+    }
+    let before = Question::new(
+        b"(sequence)",
+        KEY,
+        WORDS,
+        UNIX_EPOCH - Duration::from_nanos(1),
+    );
+    assert_eq!(refused(guard.decide(&before, right)), "refused at BadDate");
+}
+
+/// A question is stored without its guard, and sent to another thread.
+#[test]
+fn an_opened_question_is_stored() -> Outcome {
+    fn storable<T: Send + Sync + 'static>(stored: T) -> T {
+        stored
+    }
+    let sequence = shown(1);
+    let mut asked: Asked = {
+        let guard = storable(guard(LIST));
+        storable(guard.ask(&shows(&sequence))?)
+    };
+    asked.mark(0)?;
+    let grant: Grant = std::thread::spawn(move || asked.decide())
+        .join()
+        .expect("an answer")?;
+    assert_eq!(grant.entry, 1);
+    Ok(())
+}
+
+#[test]
+fn the_words_of_lines_are_types() -> Outcome {
+    let guard = guard(LIST);
+    let asked = guard.ask(&shows(b"(sequence)"))?;
+    let explanation = asked.explain()?;
+    let causes: Vec<_> = explanation.reasons().map(|it| it.cause).collect();
+    assert_eq!(causes, [Cause::NotTheKey]);
+    let own = Question::new(b"(sequence)", b"(public-key (test a))", WORDS, NOW);
+    let explanation = guard.ask(&own)?.explain()?;
+    let causes: Vec<_> = explanation.reasons().map(|it| it.cause).collect();
+    assert_eq!(causes, [Cause::Grants]);
+    let rows: [(&[u8], Option<Part>, Fault); 4] = [
+        (b"(acl (entry))", Some(Part::Acl), Fault::Shape),
+        (
+            b"(acl (entry (public-key (test a)) (tag ())))",
+            Some(Part::Acl),
+            Fault::EmptyList,
+        ),
+        (b"(acl ~)", Some(Part::Form), Fault::Bad),
+        (b"", Some(Part::Form), Fault::Short),
+    ];
+    for (list, part, fault) in rows {
+        let refusal = Guard::read(list, Policy::Strict, Limits::default()).expect_err("a refusal");
+        assert_eq!(
+            (refusal.part(), refusal.fault()),
+            (part, fault),
+            "{refusal}"
+        );
+    }
+    Ok(())
+}
+
 #[test]
 fn refusals_name_the_part() {
     let guard = guard(LIST);
@@ -241,7 +404,10 @@ fn refusals_name_the_part() {
         "refused sequence Trailing 11"
     );
     let refusal = guard.ask(&shows(b"(sequence) x")).expect_err("a refusal");
-    assert_eq!(refusal.fault(), "Trailing");
+    assert_eq!(
+        (refusal.part(), refusal.fault()),
+        (Some(Part::Sequence), Fault::Trailing)
+    );
     assert_eq!(
         decided(requests(Request::Words(&[]))),
         "refused request EmptyList"
@@ -255,7 +421,7 @@ fn refusals_name_the_part() {
 #[test]
 fn questions_have_limits() -> Outcome {
     let decided = |limits, question: &Question| {
-        let guard = Guard::read(LIST, Policy::Open, limits).expect("a list");
+        let guard = Guard::read(LIST, Policy::AllowSha1, limits).expect("a list");
         guard.decide(question, right)
     };
     let (one, many) = (shown(1), shown(17));
@@ -270,13 +436,14 @@ fn questions_have_limits() -> Outcome {
     assert_eq!(line, "refused question TooManyWords");
     assert!(decided(usual.octets(usize::MAX).nodes(usize::MAX), &shows(&one)).is_ok());
     for limits in [usual.work(0), usual.nodes(0), usual.answer(5)] {
-        let guard = Guard::read(LIST, Policy::Open, limits)?;
-        let asked = guard.ask(&shows(&one))?;
-        assert!(asked.decide(&[true]).is_ok());
-        let refusal = asked.explain(&[true]).expect_err("a refusal");
+        let guard = Guard::read(LIST, Policy::AllowSha1, limits)?;
+        let mut asked = guard.ask(&shows(&one))?;
+        asked.mark(0)?;
+        assert!(asked.decide().is_ok());
+        let refusal = asked.explain().expect_err("a refusal");
         assert_eq!(refusal.line(), "refused TooLarge");
     }
-    let list: Result<Guard, Refusal> = Guard::read(b"(acl (entry))", Policy::Open, usual);
+    let list: Result<Guard, Refusal> = Guard::read(b"(acl (entry))", Policy::AllowSha1, usual);
     assert_eq!(list.expect_err("a refusal").line(), "refused acl 1 Shape");
     Ok(())
 }
@@ -287,13 +454,13 @@ fn long_answers_are_whole() -> Outcome {
     let guard = guard(format!("(acl {entries})").as_bytes());
     assert_eq!(guard.entries(), 500);
     let asked = guard.ask(&shows(b"(sequence)"))?;
-    let explanation = asked.explain(&[])?;
+    let explanation = asked.explain()?;
     let wanted: Vec<_> = (1..=500)
         .map(|entry| (Some(entry), None, "grants"))
         .collect();
     assert_eq!(lines(&explanation), wanted);
     let five = "entry 500 (five (subject (public-key (test b))) (tag (*)))";
-    assert_eq!(asked.reduce(&[])?.lines().last(), Some(five));
+    assert_eq!(asked.reduce()?.lines().last(), Some(five));
     Ok(())
 }
 
@@ -301,13 +468,15 @@ fn long_answers_are_whole() -> Outcome {
 fn several_threads_ask_one_guard() -> Outcome {
     let guard = guard(LIST);
     let sequence = shown(1);
-    let asked = guard.ask(&shows(&sequence))?;
+    let mut asked = guard.ask(&shows(&sequence))?;
+    asked.mark(0)?;
+    let asked = asked;
     std::thread::scope(|scope| {
         for _ in 0..8 {
             scope.spawn(|| {
                 for _ in 0..200 {
                     assert!(guard.decide(&shows(&sequence), right).is_ok());
-                    assert!(asked.decide(&[true]).is_ok());
+                    assert!(asked.decide().is_ok());
                 }
             });
         }

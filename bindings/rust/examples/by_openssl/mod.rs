@@ -1,5 +1,6 @@
 //! Verifies signatures by the command `openssl`, from OpenSSL 3.0 on, in the forms of docs/FORMATS.md, "Keys and signatures of services":
-//! Ed25519, RSA by PKCS#1 v1.5 with SHA-256, ECDSA with P-256 and SHA-256. A crate of cryptography takes less time. It replaces `Openssl`.
+//! Ed25519, RSA by PKCS#1 v1.5 with SHA-256, ECDSA with P-256 and SHA-256. A crate of cryptography takes less time. It replaces `Signed::verifies`.
+//! Points and numbers are tested first, as the same page has it: libraries differ in what they take.
 
 use spki::Verifier;
 use std::fs::{remove_dir_all, DirBuilder};
@@ -11,8 +12,20 @@ use std::{env, fs, io, process};
 
 const HALF: usize = 32;
 const POINT: usize = 65;
-const BITS: std::ops::RangeInclusive<usize> = 2048..=16384;
-const MOST_EXPONENT_BITS: usize = 64;
+const BITS: std::ops::RangeInclusive<usize> = 2048..=4096;
+const MOST_EXPONENT_BITS: usize = 31;
+/// A canonical text of more octets is no key and no value of a signature.
+const MOST_OCTETS: usize = 4096;
+
+/// Numbers, big-endian: p - 1 and the order of Ed25519, the coordinate y of its points of order 8, and the prime and the order of P-256.
+const LAST_Y: &str = "7fffffffffffffffffffffffffffffffffffffffffffffffffffffffffffffec";
+const ORDER_25519: &str = "1000000000000000000000000000000014def9dea2f79cd65812631a5cf5d3ed";
+const EIGHTHS: [&str; 2] = [
+    "05fc536d880238b13933c6d305acdfd5f098eff289f4c345b027b2c28f95e826",
+    "7a03ac9277fdc74ec6cc392cfa53202a0f67100d760b3cba4fd84d3d706a17c7",
+];
+const P_256: &str = "ffffffff00000001000000000000000000000000ffffffffffffffffffffffff";
+const ORDER_256: &str = "ffffffff00000000ffffffffffffffffbce6faada7179e84f3b9cac2fc632551";
 
 /// The beginnings of public keys in DER, up to the octets of the key.
 const ED25519: &[u8] = b"\x30\x2a\x30\x05\x06\x03\x2b\x65\x70\x03\x21\x00";
@@ -37,7 +50,9 @@ impl Verifier for Openssl {
     type Error = io::Error;
 
     fn verify(&mut self, key: &[u8], message: &[u8], value: &[u8]) -> io::Result<bool> {
-        signed(key, value).map_or(Ok(false), |signed| signed.verifies(message))
+        // (the command takes no empty file, and no certificate is empty)
+        let signed = signed(key, value).filter(|_| !message.is_empty());
+        signed.map_or(Ok(false), |signed| signed.verifies(message))
     }
 }
 
@@ -96,20 +111,33 @@ fn ed25519(key: &[u8], value: &[u8]) -> Option<Signed> {
         key,
         b"(10:public-key(3:ecc(5:curve7:Ed25519)(5:flags5:eddsa)(1:q%)))",
     )?;
-    let halves: [&[u8]; 2] = strings(value, b"(7:sig-val(5:eddsa(1:r%)(1:s%)))")?;
-    let is_whole = [point, halves[0], halves[1]].map(<[u8]>::len) == [HALF; 3];
-    is_whole.then(|| Signed {
+    let [r, s]: [&[u8]; 2] = strings(value, b"(7:sig-val(5:eddsa(1:r%)(1:s%)))")?;
+    let is_whole = [point, r, s].map(<[u8]>::len) == [HALF; 3];
+    (is_whole && is_of_large_order(point) && is_below(&reversed(s), ORDER_25519)).then(|| Signed {
         key: [ED25519, point].concat(),
-        signature: halves.concat(),
+        signature: [r, s].concat(),
         digest: &[],
     })
+}
+
+/// Whether a point of Ed25519 has no small order and one text only, as far as y says that.
+fn is_of_large_order(point: &[u8]) -> bool {
+    let mut y = reversed(point);
+    y[0] &= 0x7f;
+    let is_eighth = EIGHTHS.iter().any(|eighth| hex(&y) == *eighth);
+    y[..8] != [0; 8] && is_below(&y, LAST_Y) && !is_eighth
 }
 
 fn p256(key: &[u8], value: &[u8]) -> Option<Signed> {
     let [point] = strings(key, b"(10:public-key(3:ecc(5:curve10:NIST P-256)(1:q%)))")?;
     let numbers: [&[u8]; 2] = strings(value, b"(7:sig-val(5:ecdsa(1:r%)(1:s%)))")?;
+    let is_point = point.len() == POINT && point[0] == 4;
+    let is_written = is_point && point[1..].chunks(HALF).all(|it| is_below(it, P_256));
+    let is_pair = numbers
+        .iter()
+        .all(|it| !trimmed(it).is_empty() && is_below(it, ORDER_256));
     let [r, s] = numbers.map(|number| der(INTEGER, &signed_number(number)));
-    (point.len() == POINT && point[0] == 4).then(|| Signed {
+    (is_written && is_pair).then(|| Signed {
         key: [P256, point].concat(),
         signature: der(SEQUENCE, &[r, s].concat()),
         digest: &["-digest", "sha256"],
@@ -122,7 +150,8 @@ fn rsa(key: &[u8], value: &[u8]) -> Option<Signed> {
     let (bits, exponent_bits) = (bits_of(modulus)?, bits_of(exponent)?);
     let (size, number) = (bits.div_ceil(8), trimmed(number));
     let is_allowed = BITS.contains(&bits) && (2..=MOST_EXPONENT_BITS).contains(&exponent_bits);
-    (is_allowed && number.len() <= size).then(|| {
+    let is_within = !number.is_empty() && is_below(number, &hex(modulus));
+    (is_allowed && is_within).then(|| {
         let numbers = [der(INTEGER, modulus), der(INTEGER, exponent)].concat();
         let octets = [&[0], &der(SEQUENCE, &numbers)[..]].concat();
         Signed {
@@ -133,8 +162,31 @@ fn rsa(key: &[u8], value: &[u8]) -> Option<Signed> {
     })
 }
 
+/// Octets in hexadecimal digits.
+fn hex(octets: &[u8]) -> String {
+    octets.iter().map(|octet| format!("{octet:02x}")).collect()
+}
+
+/// Octets in the reverse order.
+fn reversed(octets: &[u8]) -> Vec<u8> {
+    octets.iter().rev().copied().collect()
+}
+
+/// Whether a number, big-endian, is below one in hexadecimal digits.
+fn is_below(number: &[u8], limit: &str) -> bool {
+    let number = hex(number);
+    let (number, limit) = (
+        number.trim_start_matches('0'),
+        limit.trim_start_matches('0'),
+    );
+    (number.len(), number) < (limit.len(), limit)
+}
+
 /// The strings of a canonical text that are at the marks `%` of a form. `None` if the text has another form.
 fn strings<'t, const N: usize>(text: &'t [u8], form: &[u8]) -> Option<[&'t [u8]; N]> {
+    if text.len() > MOST_OCTETS {
+        return None;
+    }
     let mut parts = form.split(|octet| *octet == b'%');
     let mut rest = text.strip_prefix(parts.next()?)?;
     let mut found = [&text[..0]; N];

@@ -2,12 +2,13 @@
 
 #![no_std]
 #![deny(missing_docs)]
+#![deny(clippy::must_use_candidate)]
 
 use core::ffi::{c_char, c_int, c_void};
 use core::ptr;
 
 /// The first two numbers of the versions of the library that have these calls.
-pub const VERSION: &str = "0.1";
+pub const VERSION: &str = "0.2";
 
 /// A status, `enum spki_status`. 0 is none of them.
 pub type Status = c_int;
@@ -58,6 +59,7 @@ impl Text {
     };
 
     /// These octets, which a call borrows.
+    #[must_use]
     pub const fn of(octets: &[u8]) -> Text {
         Text {
             octets: octets.as_ptr().cast(),
@@ -139,8 +141,6 @@ pub struct Asked {
 /// `spki_asked_decide`, `spki_asked_explain` or `spki_asked_reduce`.
 pub type Answers = unsafe extern "C" fn(
     asked: *const Asked,
-    verified: *const u8,
-    count: usize,
     buffer: *mut c_void,
     buffer_length: usize,
     needed: *mut usize,
@@ -174,26 +174,23 @@ extern "C" {
         place: usize,
         signature: *mut Signed,
     ) -> Status;
+    pub fn spki_asked_mark(asked: *mut Asked, place: usize) -> Status;
+    pub fn spki_asked_granted(asked: *const Asked) -> bool;
+    pub fn spki_asked_possible(asked: *const Asked) -> bool;
     pub fn spki_asked_decide(
         asked: *const Asked,
-        verified: *const u8,
-        count: usize,
         buffer: *mut c_void,
         buffer_length: usize,
         needed: *mut usize,
     ) -> Status;
     pub fn spki_asked_explain(
         asked: *const Asked,
-        verified: *const u8,
-        count: usize,
         buffer: *mut c_void,
         buffer_length: usize,
         needed: *mut usize,
     ) -> Status;
     pub fn spki_asked_reduce(
         asked: *const Asked,
-        verified: *const u8,
-        count: usize,
         buffer: *mut c_void,
         buffer_length: usize,
         needed: *mut usize,

@@ -1,0 +1,44 @@
+"""Decides a request as decide.py does, in a service with asyncio: the signatures are verified in threads, all at the same time, and other requests
+go on meanwhile.
+
+Usage: asynchronous.py ACL SEQUENCE KEY WORD ..
+"""
+import asyncio
+import os
+import sys
+import time
+
+import spki
+import spki_verify
+
+
+async def is_granted(guard: spki.Guard, sequence: bytes, key: bytes, words: list[bytes], now: int) -> bool:
+    """Whether a request is granted.
+
+    THE CLIENT MUST HAVE PROVED THAT IT HOLDS THE KEY: a public key is public.
+    """
+    question = spki.Question(sequence, key, words=words, moment=now)
+    with guard.ask(question) as asked:
+        signatures = asked.signatures() if asked.is_possible else []
+        verified = (asyncio.to_thread(spki_verify.verify, it.key, it.message, it.value) for it in signatures)
+        for place, is_valid in enumerate(await asyncio.gather(*verified)):
+            if is_valid:
+                asked.mark(place)
+        return bool(asked.decide())
+
+
+async def main() -> None:
+    if len(sys.argv) < 5:
+        sys.exit("usage: asynchronous.py ACL SEQUENCE KEY WORD ..")
+    texts = []
+    for path in sys.argv[1:4]:
+        with open(path, "rb") as file:
+            texts.append(file.read())
+    access_list, sequence, key = texts
+    with spki.Guard(access_list) as guard:
+        words = [os.fsencode(word) for word in sys.argv[4:]]
+        print("granted" if await is_granted(guard, sequence, key, words, int(time.time())) else "denied")
+
+
+if __name__ == "__main__":
+    asyncio.run(main())

@@ -1,0 +1,146 @@
+//! The words of the library's lines, as types.
+
+/// Makes an enum of the words of one kind.
+macro_rules! words {
+    ($(#[$about:meta])* $kind:ident { $($(#[$when:meta])* $word:ident,)* }) => {
+        $(#[$about])*
+        #[non_exhaustive]
+        #[derive(Clone, Copy, Debug, PartialEq, Eq, Hash)]
+        pub enum $kind {
+            $($(#[$when])* $word,)*
+            /// A word that this version of the crate does not know.
+            Other,
+        }
+
+        impl $kind {
+            /// What a word of a line says.
+            pub(crate) fn of(word: &str) -> $kind {
+                // (the words of parts and `grants` are in small letters)
+                $(if word.eq_ignore_ascii_case(stringify!($word)) {
+                    return $kind::$word;
+                })*
+                $kind::Other
+            }
+        }
+    };
+}
+
+words! {
+    /// Why a text or a question is refused.
+    Fault {
+        /// A string is followed by octets that no S-expression has there.
+        Bad,
+        /// A date that the calendar does not have, or seconds below 0 or past the year 9999.
+        BadDate,
+        /// A digest of another length than its algorithm has.
+        DigestLength,
+        /// A list of nothing in a tag or a request.
+        EmptyList,
+        /// An algorithm of a hash that is none of three.
+        HashAlg,
+        /// A display hint in a tag or a request.
+        Hint,
+        /// A key with `(uri ..)`.
+        KeyUris,
+        /// A subject `(keyholder ..)`.
+        Keyholder,
+        /// A list in a tag that begins with a list.
+        ListHead,
+        /// An allocation failed.
+        Memory,
+        /// The call was made wrongly, such as by a mark for a place that the question does not have.
+        Misused,
+        /// A validity with `(online ..)`.
+        Online,
+        /// A limit of a range in a tag that is none.
+        RangeLimit,
+        /// An ordering of a range in a tag that is none.
+        RangeOrdering,
+        /// An entry for a name without a principal.
+        RelativeInEntry,
+        /// A value that has none of the forms.
+        Shape,
+        /// The end of a text inside of a value.
+        Short,
+        /// A `(* ..)` in a request.
+        StarInRequest,
+        /// A signature without a certificate before it.
+        StraySignature,
+        /// A subject `(k-of-n ..)`.
+        Threshold,
+        /// Lists inside of lists, more than a limit.
+        TooDeep,
+        /// Tags or lines of an explanation or a reduction exceed a limit.
+        TooLarge,
+        /// A text or a question has more octets than a limit.
+        TooLong,
+        /// A question has more certificates than a limit.
+        TooManyCertificates,
+        /// A tag has more nodes than a limit.
+        TooManyNodes,
+        /// A request has more strings than a limit.
+        TooManyWords,
+        /// Octets behind a value.
+        Trailing,
+        /// A `(do ..)` that is none.
+        UnknownOp,
+        /// A `(* ..)` of no known kind in a tag.
+        UnknownStar,
+        /// A version that is none.
+        UnknownVersion,
+        /// A certificate that no signature follows.
+        UnsignedCert,
+    }
+}
+
+words! {
+    /// Why an entry grants a request or does not, or which test a certificate does not pass.
+    Cause {
+        /// The digest in its signature is another than that of the certificate.
+        DigestDiffers,
+        /// The entry grants the request.
+        Grants,
+        /// The key of its issuer is not in the sequence.
+        KeyNotShown,
+        /// The authorization so far must not be delegated.
+        NoDelegation,
+        /// The intersection of the tags is nothing.
+        NoTag,
+        /// No moment is within both windows.
+        NoValidity,
+        /// Its signature is not valid.
+        NotAccepted,
+        /// The subject so far is another than the issuer.
+        NotIssuer,
+        /// The last subject is another than the client's key.
+        NotTheKey,
+        /// The subject so far does not begin with the name that the certificate defines.
+        NotTheName,
+        /// The signature is by another key than that of the issuer.
+        SignerDiffers,
+        /// The tag does not contain the request.
+        TagLacks,
+        /// The window does not contain the moment.
+        WindowLacks,
+    }
+}
+
+words! {
+    /// What is refused.
+    Part {
+        /// The access list.
+        Acl,
+        /// The moment.
+        At,
+        /// A text in none of the three forms.
+        Form,
+        /// The client's key.
+        Key,
+        /// The question as a whole, by a limit.
+        Question,
+        /// The request.
+        Request,
+        /// The certificates and signatures.
+        Sequence,
+    }
+}
