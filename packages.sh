@@ -1,83 +1,194 @@
 #!/usr/bin/env bash
-# Makes three Debian packages of what install.sh installs: `spki`, the program and its manual page, `libspki-dev`, the library for C programs,
-# and `spki-cert`, the command for those who hold keys.
-# A machine without the toolchain can install them: `apt-get install ./spki_*.deb`. Needs dpkg-deb, and the file VERSION at the top.
-# There is no package with the shared library alone: a program that is linked with it needs libspki-dev where it runs.
-# --arm64 makes a package of the library for ARM too. It is taken from the folder aarch64-unknown-linux-gnu beside LIBRARY, or built.
-# DEBFULLNAME and DEBEMAIL name the maintainer.
-# Usage: ./packages.sh [--arm64] [FOLDER [PROGRAM [LIBRARY]]]        the packages go to FOLDER, or here; the rest is as for install.sh
+# Makes Debian packages, for machines without the toolchain: `spki`, the program; `libspki-c0.1`, the shared library, named after its soname;
+# `libspki-dev`, what C programs are compiled with; `spki-cert`, the command for those who hold keys; `spki-authd`, the daemon that decides for a
+# web server. `apt-get install ./spki_*.deb` installs one. Beside them are SHA256SUMS and the list of all files inside, in SPDX 2.3.
+# Equal sources, programs and libraries give equal octets. All times are that of the last commit, or SOURCE_DATE_EPOCH, in seconds since 1970.
+# --maintainer says who answers for the packages; without it DEBFULLNAME and DEBEMAIL do. --arm64 makes packages of the library for ARM too, from
+# the folder aarch64-unknown-linux-gnu beside LIBRARY, or built. Needs Debian's dpkg, binutils, gcc, golang-go and python3.
+# Usage: ./packages.sh [--maintainer 'NAME <ADDRESS>'] [--arm64] [FOLDER [PROGRAM [LIBRARY]]]
+#        the packages go to FOLDER, or here; the rest is as for install.sh
 set -euo pipefail
-for_arm=
-if [[ ${1:-} == --arm64 ]]; then
-    for_arm=aarch64-unknown-linux-gnu
-    shift
-fi
+export LC_ALL=C
+umask 022
 here=$(realpath "$(dirname "$0")")
+maintainer=${DEBFULLNAME:+${DEBEMAIL:+$DEBFULLNAME <$DEBEMAIL>}} arm=
+while [[ ${1:-} == --* ]]; do
+    case $1 in
+        --maintainer) maintainer=${2:?a maintainer is \'NAME <ADDRESS>\'}; shift ;;
+        --arm64) arm=aarch64-unknown-linux-gnu ;;
+        *) echo "packages.sh: $1 is no option" >&2; exit 2 ;;
+    esac
+    shift
+done
+if [[ ! $maintainer =~ ^[^\<\>[:cntrl:]]+' <'[^\<\>@[:space:]]+@[^\<\>@[:space:]]+'>'$ ]]; then
+    echo "packages.sh: who answers for the packages? Give --maintainer 'NAME <ADDRESS>', or set DEBFULLNAME and DEBEMAIL" >&2
+    exit 2
+fi
+SOURCE_DATE_EPOCH=${SOURCE_DATE_EPOCH:-$(git -C "$here" log -1 --format=%ct)} ||
+    { echo "packages.sh: $here is no clone: set SOURCE_DATE_EPOCH to the time of the sources, in seconds since 1970" >&2; exit 2; }
+export SOURCE_DATE_EPOCH
 target=$(realpath -m "${1:-.}")
+program=${2:+$(realpath "$2")} library=${3:+$(realpath "$3")}
 version=$(< "$here/VERSION")
 architecture=$(dpkg --print-architecture)
+shared=libspki-c${version%.*}
 room=$(mktemp -d)
 trap 'rm -rf "$room"' EXIT
-umask 022
+mkdir "$room/made"
 
-# The newest version of the C library that a file asks for.
-libc_of() {
-    grep -aoE 'GLIBC_2\.[0-9]+' "$1" | sort -uV | tail -n 1 | cut -d _ -f 2
+# The folder of an architecture's libraries, below /usr.
+libraries_of() {
+    case $1 in
+        amd64) echo lib/x86_64-linux-gnu ;;
+        arm64) echo lib/aarch64-linux-gnu ;;
+        *) echo "packages.sh: the library is not made for $1" >&2; return 1 ;;
+    esac
 }
 
-# Makes a package of a folder: its name, what else it depends on, its section, its descriptions, the short one first, the architecture if it
-# is another one, and what it recommends.
+# What the packages of a program or a shared library depend on. Nothing but the C library may be linked.
+libc_of() {
+    local others newest
+    others=$(readelf -dW "$1" | sed -n 's/.*(NEEDED).*\[\(.*\)\]/\1/p' | grep -vE '^(libc\.so\.6|libresolv\.so\.2|ld-linux.*)$' || true)
+    [[ -z $others ]] || { echo "packages.sh: $1 is linked with ${others//$'\n'/, }" >&2; return 1; }
+    newest=$(readelf -VW "$1" | grep -oE 'GLIBC_[0-9.]+' | sort -uV | tail -n 1 | cut -d _ -f 2)
+    echo "libc6${newest:+ (>= $newest)}"
+}
+
+# Takes out of a program or a library what is only for debuggers. The section .comment stays, which says by which logic it was proved.
+stripped() {
+    local tools=$1 how=$2 file=$3
+    "${tools}strip" "$how" "$file"
+}
+
+# Puts a file of this repository into a package.
+put() {
+    install -D -m "$1" "$here/$2" "$room/$3/$4"
+}
+
+# Makes a package of the folder of its name: its architecture, section, further fields, and descriptions, the short one first.
 package() {
-    local name=$1 depends=$2 section=$3 short=$4 long=$5 architecture=${6:-$architecture} recommends=${7:-} folder=$room/$1
-    install -D -m 644 "$room/copyright" "$folder/usr/share/doc/$name/copyright"
-    gzip -9nc "$here/CHANGELOG.md" > "$folder/usr/share/doc/$name/changelog.gz"
-    mkdir "$folder/DEBIAN"
+    local name=$1 architecture=$2 section=$3 fields=$4 short=$5 long=$6 folder=$room/$1 size
+    install -d "$folder/DEBIAN" "$folder/usr/share/doc/$name"
+    echo "No license is given yet: it is for the owner to choose." > "$folder/usr/share/doc/$name/copyright"
+    gzip -9nc "$room/changelog" > "$folder/usr/share/doc/$name/changelog.gz"
+    [[ ! -d $folder/usr/share/man ]] || find "$folder/usr/share/man" -type f -exec gzip -9n {} +
+    size=$(find "$folder" -name DEBIAN -prune -o -printf '%y %s\n' | awk '{ sum += $1 == "f" ? int(($2 + 1023) / 1024) : 1 } END { print sum }')
     cat > "$folder/DEBIAN/control" << END
 Package: $name
+Source: spki
 Version: $version
 Architecture: $architecture
-Maintainer: ${DEBFULLNAME:-nobody} <${DEBEMAIL:-nobody@localhost}>
+Maintainer: $maintainer
+Installed-Size: $size
+$fields
 Section: $section
 Priority: optional
-Depends: $depends${recommends:+
-Recommends: $recommends}
-Installed-Size: $(du -sk --exclude=DEBIAN "$folder" | cut -f 1)
 Description: $short
  $long
 END
-    [[ ! -e $folder/usr/lib/libspki_c.so ]] || echo "activate-noawait ldconfig" > "$folder/DEBIAN/triggers"
-    (cd "$folder" && find usr -type f -print0 | sort -z | xargs -0 md5sum > DEBIAN/md5sums)
-    dpkg-deb --root-owner-group --build "$folder" "$target/${name}_${version}_$architecture.deb"
+    (cd "$folder" && find . -name DEBIAN -prune -o -type f -printf '%P\0' | sort -z | xargs -0 md5sum > DEBIAN/md5sums)
+    find "$folder" -exec touch -h -d "@$SOURCE_DATE_EPOCH" {} +
+    dpkg-deb --root-owner-group --threads-max=1 --build "$folder" "$room/made/${name}_${version}_$architecture.deb"
 }
 
-echo "No license is given yet: it is for the owner to choose." > "$room/copyright"
-"$here/install.sh" "$room/all/usr" "${@:2}"
-for file in "$room"/all/usr/lib/pkgconfig/*.pc; do
-    [[ ! -e $file ]] || sed -i 's|^prefix=.*|prefix=/usr|' "$file"
-done
-mkdir -p "$target" "$room/spki/usr" "$room/libspki-dev/usr" "$room"/spki-cert/usr/{bin,share/man/man1}
-mv "$room/all/usr/bin/spki-cert" "$room/spki-cert/usr/bin"
-mv "$room/all/usr/share/spki-cert" "$room/spki-cert/usr/share"
-mv "$room/all/usr/share/man/man1/spki-cert.1" "$room/spki-cert/usr/share/man/man1"
-mv "$room"/all/usr/{bin,share} "$room/spki/usr"
-mv "$room"/all/usr/{include,lib} "$room/libspki-dev/usr"
-gzip -9n "$room"/{spki,spki-cert}/usr/share/man/man1/*.1
-package spki "libc6 (>= $(libc_of "$room/spki/usr/bin/spki"))" utils "decide requests by access lists and certificates (SPKI)" \
-    "The program reads one question and answers yes or no by the rules of RFC 2693."
+# Makes the packages of the library for an architecture, of which all but the libraries is in `all`, with the tools whose names begin so.
 package_library() {
-    package libspki-dev "libc6-dev" libdevel "decide requests by access lists and certificates, from C" \
-        "The library answers what the program spki answers, from memory to memory." "$@"
+    local architecture=$1 static=$2 tools=$3 own place depends
+    own=$(libraries_of "$(dpkg --print-architecture)") place=usr/$(libraries_of "$1")
+    rm -rf "${room:?}/$shared" "$room/libspki-dev"
+    install -D -m 644 "${static%.a}.so" "$room/$shared/$place/libspki_c.so.${version%.*}"
+    install -D -m 644 "$static" "$room/libspki-dev/$place/libspki_c.a"
+    ln -s "libspki_c.so.${version%.*}" "$room/libspki-dev/$place/libspki_c.so"
+    cp -R "$room/all/usr/include" "$room/libspki-dev/usr"
+    cp -R "$room/all/usr/$own"/{cmake,pkgconfig} "$room/libspki-dev/$place"
+    sed -i "s|$room/all/usr|/usr|; s|$own|${place#usr/}|g" "$room/libspki-dev/$place"/{cmake/spki,pkgconfig}/*
+    stripped "$tools" --strip-unneeded "$room/$shared/$place/libspki_c.so.${version%.*}"
+    stripped "$tools" --strip-debug "$room/libspki-dev/$place/libspki_c.a"
+    install -d "$room/$shared/DEBIAN"
+    echo "activate-noawait ldconfig" > "$room/$shared/DEBIAN/triggers"
+    echo "libspki_c ${version%.*} $shared (>= ${version%.*})" > "$room/$shared/DEBIAN/shlibs"
+    depends=$(libc_of "$room/$shared/$place/libspki_c.so.${version%.*}")
+    package "$shared" "$architecture" libs "Multi-Arch: same
+Depends: $depends" "decide requests by access lists and certificates, shared library" \
+        "The library answers what the program spki answers, from memory to memory, by
+ the rules of RFC 2693. Programs that are linked with it need this package."
+    package libspki-dev "$architecture" libdevel "Multi-Arch: same
+Depends: $shared (= $version), libc6-dev" "decide requests by access lists and certificates, from C and C++" \
+        "The headers, the static library and what pkg-config and CMake read. A program
+ that is linked with the static library needs no other package where it runs."
 }
-package_library
-if [[ $for_arm ]]; then
-    library=${3:-$here/crates/spki_c/out/libspki_c.a}
-    [[ ${3:-} ]] || "$here/crates/spki_c/archive.py" --target "$for_arm"
-    for end in a so; do
-        install -m 644 "${library%/*}/$for_arm/libspki_c.$end" "$(realpath "$room/libspki-dev/usr/lib/libspki_c.$end")"
+
+# Builds the daemon over a static library. No path of this machine gets into it.
+build_daemon() {
+    local flags
+    flags="-g -O2 -DSPKI_OF_LIBRARY_$(sha256sum < "$1" | cut -c 1-64)"
+    (cd "$here/apps/spki-authd" && GOFLAGS=-mod=mod GOPROXY=off GOENV=off GOWORK=off GOTOOLCHAIN=local CGO_ENABLED=1 CGO_CFLAGS=$flags \
+        CGO_LDFLAGS="-L$(dirname "$1")" go build -trimpath -buildvcs=false -buildmode=pie \
+        -ldflags '-s -w -buildid= -linkmode=external -extldflags "-Wl,-z,relro -Wl,-z,now"' -o "$2" .)
+}
+
+# The place of a page or an example below the folder of documents.
+place_in_doc() {
+    local place=${1#apps/spki-authd/}
+    echo "${place#docs/}"
+}
+
+package_daemon() {
+    local units=() unit page depends
+    install -d "$room/spki-authd/usr/bin" "$room/spki-authd/lib/systemd/system" "$room/spki-authd/DEBIAN"
+    build_daemon "$library" "$room/spki-authd/usr/bin/spki-authd"
+    for unit in "$here"/apps/spki-authd/*.{service,socket}; do
+        [[ -e $unit ]] || continue
+        units+=("${unit##*/}")
+        sed 's|/usr/local/bin/|/usr/bin/|g' "$unit" > "$room/spki-authd/lib/systemd/system/${unit##*/}"
     done
-    rm -r "$room/libspki-dev/DEBIAN"
-    package_library arm64
+    for page in apps/spki-authd/{,servers/}*.md docs/OPERATING.md examples/{nginx,caddy,haproxy,apache}/*; do
+        [[ ! -e $page || $page == *.sh || $page == */loopback.conf ]] || put 644 "$page" spki-authd "usr/share/doc/spki-authd/$(place_in_doc "$page")"
+    done
+    put 644 docs/spki-authd.8 spki-authd usr/share/man/man8/spki-authd.8
+    install -d "$room/spki-authd/etc/spki-authd"
+    for script in postinst prerm postrm; do
+        sed "s|@UNITS@|${units[*]}|" "$here/packaging/spki-authd.$script" > "$room/spki-authd/DEBIAN/$script"
+        chmod 755 "$room/spki-authd/DEBIAN/$script"
+    done
+    depends=$(libc_of "$room/spki-authd/usr/bin/spki-authd")
+    package spki-authd "$architecture" httpd "Depends: $depends, adduser, init-system-helpers (>= 1.54~)
+Recommends: spki-cert
+Suggests: nginx | caddy | haproxy | apache2" "decide requests to a web server by access lists and certificates" \
+        "A daemon that says, before each request to nginx, Caddy, HAProxy, Apache, Envoy
+ or Traefik, whether the key of the client's TLS certificate may do it, by the
+ rules of RFC 2693. It is not started before it is configured."
+}
+
+cd "$here"
+"$here/packaging/describe.py" changelog "$maintainer" > "$room/changelog"
+LIBDIR=$(libraries_of "$architecture") "$here/install.sh" "$room/all/usr" ${program:+"$program"} ${library:+"$library"}
+library=${library:-$here/crates/spki_c/out/libspki_c.a}
+install -d "$room"/{spki,spki-cert}/usr/{bin,share/man/man1} "$room/spki-cert/DEBIAN"
+for name in spki spki-cert; do
+    mv "$room/all/usr/bin/$name" "$room/$name/usr/bin"
+    mv "$room/all/usr/share/man/man1/$name.1" "$room/$name/usr/share/man/man1"
+done
+mv "$room/all/usr/share/spki-cert" "$room/spki-cert/usr/share"
+stripped "" --strip-all "$room/spki/usr/bin/spki"
+depends=$(libc_of "$room/spki/usr/bin/spki")
+package spki "$architecture" utils "Depends: $depends" "decide requests by access lists and certificates (SPKI)" \
+    "The program reads one question, in nested lists, and answers yes or no by the
+ rules of RFC 2693. That it does so is proved."
+package_library "$architecture" "$library" ""
+if [[ $arm ]]; then
+    [[ ${3:-} ]] || "$here/crates/spki_c/archive.py" --target "$arm"
+    package_library arm64 "${library%/*}/$arm/libspki_c.a" aarch64-linux-gnu-
 fi
-package spki-cert "python3 (>= 3.10), python3-cryptography" utils "make, sign, show and explain certificates (SPKI)" \
-    "The command spki-cert makes certificates with the keys of OpenSSH and PEM, and says why a request is granted or not." \
-    all "libspki-dev, python3-bcrypt"
+for script in postinst prerm; do
+    put 755 "packaging/spki-cert.$script" spki-cert "DEBIAN/$script"
+done
+package spki-cert all utils "Depends: python3 (>= 3.10), python3-cryptography
+Recommends: $shared, python3-bcrypt" "make, sign, show, explain and end certificates (SPKI)" \
+    "The command spki-cert makes certificates with the keys of OpenSSH and PEM, and
+ says why a request is granted or not, for which it needs the shared library."
+package_daemon
+"$here/packaging/describe.py" contents "$maintainer" "$room"/made/*.deb > "$room/made/spki_$version.spdx.json"
+(cd "$room/made" && sha256sum -- * > ../SHA256SUMS)
+mkdir -p "$target"
+install -m 644 "$room"/made/* "$room/SHA256SUMS" "$target"

@@ -1,0 +1,61 @@
+"""A page to try Conguraki in: parts of a question, the answer, the reason and the picture, as one types.
+
+Serves the page on 127.0.0.1, prints its address and opens it in the browser. Nothing is sent to any other host. The library for C decides,
+or the program `spki` where the library is not built.
+
+Usage: python3 apps/playground [--port N] [--no-browser] [--engine library|program] [--seconds N]
+"""
+import argparse
+import json
+import os
+import signal
+import sys
+import webbrowser
+
+from asking import JOBS
+from engine import TOP, engine
+from examples import EXAMPLES, OTHERS
+from server import MOST_BODY, Server
+from workers import SECONDS, Workers
+
+
+def options():
+    parser = argparse.ArgumentParser(prog="apps/playground", description=__doc__.split("\n")[0])
+    parser.add_argument("--port", type=int, default=0, help="the port; the default is one that is free")
+    parser.add_argument("--no-browser", action="store_true", help="print the address only")
+    parser.add_argument("--engine", choices=("library", "program"), help="who decides; the default is the library where it is built")
+    parser.add_argument("--seconds", type=int, default=SECONDS, help=f"how long a question may take; the default is {SECONDS}")
+    return parser.parse_args()
+
+
+def start(name):
+    """What the page begins with, as a file: the examples, and the name of what decides."""
+    with open(os.path.join(TOP, "examples", "guide", "granted.sexp"), encoding="utf-8") as file:
+        others = {**OTHERS, "case": file.read()}
+    return json.dumps({"engine": name, "examples": EXAMPLES, "others": others, "mostOctets": MOST_BODY}).encode()
+
+
+def main():
+    given = options()
+    try:
+        decides = engine(given.engine)
+    except LookupError as why:
+        print(why, file=sys.stderr)
+        return 2
+    workers = Workers(given.engine, given.seconds)
+    with Server(given.port, workers, JOBS, start(decides.name)) as server:
+        print(f"{server.address}\n{decides.name} decides; ctrl-c ends the page", flush=True)
+        if not given.no_browser:
+            webbrowser.open(server.address)
+        signal.signal(signal.SIGTERM, lambda *_: sys.exit(0))
+        try:
+            server.serve_forever()
+        except KeyboardInterrupt:
+            print()
+        finally:
+            workers.end()
+    return 0
+
+
+if __name__ == "__main__":
+    sys.exit(main())

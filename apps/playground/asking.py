@@ -1,0 +1,171 @@
+"""What the page asks, and the answers as it shows them. Each job yields its answer in parts, the decision first.
+
+A job that takes too long is ended by the one who asked for it, who keeps the parts that were yielded.
+"""
+import moments
+from chain import chain
+from engine import PARTS, Question, Refused, string
+from given import MOST_LETTERS, Given, GivenCase, text
+from labels import Labels
+from place import places, shown
+from sentences import ONE_STRING, REFUSED, is_one_line, right_left, said, title
+from spki_cert_tool.sexp import laid_out, read
+from story import Story, reasons_of
+
+MOST_REASONS, MOST_LEFT = 100, 20
+
+
+def refused(given, line):
+    """The answer where a text is refused."""
+    return {"kind": "refused", "line": line, "shown": given.shown(line), "title": REFUSED.get(line, ""), "faults": given.fault(line)}
+
+
+def labels_of(engine, given):
+    return Labels(engine, text(given, "labels"))
+
+
+# ---- the jobs
+
+
+def question(engine, sent):
+    """A question in boxes."""
+    given, labels = Given(engine, sent), labels_of(engine, sent)
+    yield {"labelFaults": labels.faults}
+    try:
+        signatures = given.signatures(labels)
+        yield from explained(given, labels)
+        yield {"signatures": signatures}
+        if sent.get("withCase") is True:
+            yield {"case": laid_out(read(given.case()))}
+    except Refused as why:
+        yield refused(given, why.line)
+
+
+def case(engine, sent):
+    """A whole case in one box."""
+    given, labels = GivenCase(engine, sent), labels_of(engine, sent)
+    yield {"labelFaults": labels.faults}
+    try:
+        yield from explained(given, labels)
+    except Refused as why:
+        yield refused(given, why.line)
+
+
+def explained(given, labels):
+    """The decision, then the explanation and the picture, then the same with what right remains."""
+    line = given.check()
+    yield {"kind": "yes" if line.startswith("yes") else "no", "line": line}
+    acl, sequence, key, request, at = given.values()
+    for value in (key, acl, sequence):
+        labels.learn(value)
+    entries = [member for member in acl[1:] if member[0] == b"entry"]
+    story = Story(labels, entries, sequence[1:], key, request, at)
+    try:
+        reasons = sorted(reasons_of(given.lines("explain")), key=lambda reason: reason.rank)
+        yield shown_reasons(story, reasons, line)
+        add_lefts(given, story, reasons, given.lines("reduce"))
+    except Refused as why:
+        yield {"notice": f"The decision has no explanation here: {why.line}."}
+        return
+    rights = [right_left(story, number, item, left) for (number, item), left in story.lefts.items()]
+    yield {"rights": rights, **shown_reasons(story, reasons, line)}
+
+
+def shown_reasons(story, reasons, line):
+    """The sentences, the ones that matter first, and the picture of the first."""
+    sentences = [said(story, reason) for reason in reasons[:MOST_REASONS]]
+    return {"reasons": sentences, "more": max(0, len(reasons) - MOST_REASONS), "title": title(sentences, line),
+            "chain": chain(story, reasons[0] if reasons else None)}
+
+
+def add_lefts(given, story, reasons, reduced):
+    """Reads the rights that remain, and the one right before the item that stops the first chain."""
+    value = given.engine.value
+    for reason in reasons[:MOST_LEFT]:
+        if reason.entry and "(five" in reduced[reason.entry - 1]:
+            story.lefts[reason.entry, None] = value(five_of(reduced[reason.entry - 1]))
+    first = reasons[0] if reasons else None
+    if first and first.entry and first.item:
+        keys = [it for it in story.items[first.item:] if it[0] == b"public-key"]
+        before = given.cut([*story.items[:first.item - 1], *keys])[first.entry - 1]
+        if "(five" in before:
+            story.lefts[first.entry, first.item] = value(five_of(before))
+
+
+def five_of(line):
+    """The right in a line of `reduce`."""
+    return line.split(" ", 2)[2].encode()
+
+
+def times(engine, sent):
+    """When the answer is yes."""
+    given = Given(engine, sent)
+    try:
+        acl, sequence, *_ = given.values()
+        yield moments.spans((acl, sequence), lambda date: engine.lines(given.question._replace(at=string(date)), "check")[0])
+    except Refused as why:
+        yield {"refused": why.line}
+
+
+def tags(engine, sent):
+    """Two tags and a request: which of them contains it, and their intersection."""
+    words = tuple(it.encode(errors="replace") for it in sent.get("request") or [] if isinstance(it, str))
+    octets = {name: text(sent, name).encode(errors="replace") for name in ("first", "second")}
+    done = {name: contains(engine, octets[name], words) for name in octets}
+    yield dict(done)
+    if len(words) == 1 and is_one_line(words[0]) and any(it.get("contains") is False for it in done.values()):
+        yield {"hint": ONE_STRING}
+    if all("line" not in it for it in done.values()):
+        yield {"both": intersection(engine, octets, words)}
+
+
+def contains(engine, tag, words):
+    """Whether a tag contains a request, which a guard with one entry says."""
+    try:
+        acl = b"(3:acl(5:entry" + PARTS["key"] + b"(3:tag" + engine.canonical(tag) + b")))"
+    except Refused as why:
+        return {"line": why.line, "places": shown(tag, places(tag, why.line))}
+    try:
+        answer = engine.lines(Question(acl, PARTS["sequence"], PARTS["key"], words, PARTS["at"]), "check")[0]
+        return {"contains": answer != "no"}
+    except Refused as why:
+        return fault_of_tag(engine, tag, why.line)
+
+
+def fault_of_tag(engine, tag, line):
+    """The places of a fault in a tag, which `intersect` names."""
+    if line.split()[1] != "acl":
+        return {"requestLine": line}
+    line = line.replace("acl 1 Tag", "tag 1").replace("acl 1", "tag 1")
+    front = b"(intersect "
+    found = [(at - len(front), why) for at, why in places(front + tag + b" a)", line)]
+    return {"line": line, "places": shown(tag, [(at, why) for at, why in found if 0 <= at <= len(tag)])}
+
+
+def intersection(engine, octets, words):
+    try:
+        both = engine.command("intersect", b"(9:intersect" + b"".join(map(engine.canonical, octets.values())) + b")")
+        return {"text": both.decode()[:MOST_LETTERS], "isWhole": len(both) <= MOST_LETTERS, **contains(engine, both, words)}
+    except Refused as why:
+        return {"line": why.line}
+
+
+def forms(engine, sent):
+    """The three forms of a value."""
+    octets = text(sent, "text").encode(errors="replace")
+    try:
+        for name in ("canonical", "advanced", "transport"):
+            yield {name: printable(engine.command(name, octets))}
+    except Refused as why:
+        yield {"line": why.line, "places": shown(octets, places(octets, why.line))}
+
+
+def printable(octets):
+    """Octets for people to read: what is no printable character is written as in advanced form."""
+    try:
+        return "".join(it if it.isprintable() else "".join(f"\\x{octet:02x}" for octet in it.encode()) for it in octets.decode())
+    except UnicodeDecodeError:
+        return "".join(chr(octet) if 32 <= octet < 127 else f"\\x{octet:02x}" for octet in octets)
+
+
+JOBS = {"question": question, "case": case, "times": times, "tags": tags, "forms": forms}

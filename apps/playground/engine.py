@@ -1,0 +1,263 @@
+"""Who decides: the library for C through `bindings/python/spki/`, or the program `spki` where the library is not built.
+
+Both give the same lines. The library takes the parts of a question as separate texts. For the program one case is written of their
+canonical forms, so that no part can become another one.
+"""
+import ctypes
+import ctypes.util
+import functools
+import hashlib
+import os
+import shutil
+import subprocess
+import sys
+from typing import NamedTuple
+
+TOP = os.path.realpath(os.path.join(os.path.dirname(os.path.abspath(__file__)), "..", ".."))
+LIBRARY = os.path.join(TOP, "crates", "spki_c", "out", "libspki_c.so")
+PROGRAM = os.path.join(TOP, "crates", "spki", "out", "spki")
+# The program that `tests/run --quick` compiles without a proof.
+TRIED = os.path.join(TOP, "tests", "out", "tried", "spki")
+# What is said where nothing can decide: the quickest command that changes it.
+NOTHING = "nothing that can decide is built: `{} --quick words` compiles the program in a minute or two, and proves nothing; then start this again"
+sys.path.append(os.path.join(TOP, "apps", "spki-cert"))
+from spki_cert_tool.sexp import canonical, read  # noqa: E402
+
+COMMANDS = ("canonical", "advanced", "transport", "intersect", "reduce", "check", "explain")
+# The limits of a guard on each question. A list is bounded by what the server takes.
+MOST_OCTETS, MOST_NODES = 65_536, 1_000_000
+KEPT = 32
+# The parts in the order in which they are read, each with a text that can be read.
+PARTS = {"sequence": b"(8:sequence)", "key": b"(10:public-key(4:test7:anybody))", "request": b"1:a", "at": b"19:2000-01-01_00:00:00"}
+
+
+class Question(NamedTuple):
+    """A question of separate parts."""
+
+    acl: bytes
+    sequence: bytes
+    key: bytes
+    words: tuple[bytes, ...]
+    at: bytes
+    is_strict: bool = True
+    refused_signatures: tuple[int, ...] = ()
+    """The numbers, from 0, of the listed signatures that do not count."""
+
+
+class Refused(Exception):
+    """A line that begins with `refused`."""
+
+    def __init__(self, line):
+        super().__init__(line)
+        self.line = line
+
+
+class Failed(Exception):
+    """The program ended without an answer."""
+
+
+class Signed(NamedTuple):
+    """A signature on which the decision depends, as canonical texts."""
+
+    key: bytes
+    message: bytes
+    value: bytes
+
+
+def string(octets):
+    """A string in canonical form."""
+    return b"%d:%s" % (len(octets), octets)
+
+
+def request_text(words):
+    """The request that strings mean: the list of them, or the string if there is one."""
+    return string(words[0]) if len(words) == 1 else b"(" + b"".join(map(string, words)) + b")"
+
+
+class Engine:
+    """What both engines have: commands on one text, whose answers are kept for the next keystroke."""
+
+    def __init__(self):
+        self.canonical = functools.lru_cache(KEPT)(lambda text: self.command("canonical", text))
+        self.value = functools.lru_cache(KEPT)(lambda text: read(self.canonical(text)))
+
+    def command(self, name, text):
+        """The answer of a command to a text, without the line feed at its end. Raises `Refused`."""
+        answer = self.answer(name, text)
+        if answer.startswith(b"refused "):
+            raise Refused(answer.decode().rstrip("\n"))
+        return answer if name == "canonical" else answer.removesuffix(b"\n")
+
+
+class ByLibrary(Engine):
+    """The library for C, in this process. So the memory of this process can be limited."""
+
+    name, limits_memory = "libspki_c.so", True
+
+    def __init__(self):
+        super().__init__()
+        if "SPKI_LIBRARY" not in os.environ and os.path.exists(LIBRARY):
+            os.environ["SPKI_LIBRARY"] = LIBRARY
+        sys.path.append(os.path.join(TOP, "bindings", "python"))
+        import spki
+        self.spki = spki
+        self.call = ctypes.CDLL(os.environ.get("SPKI_LIBRARY") or ctypes.util.find_library("spki_c")).spki_answer
+        self.call.argtypes = [ctypes.c_int, ctypes.c_char_p, ctypes.c_size_t, ctypes.c_void_p, ctypes.c_size_t, ctypes.c_void_p]
+        self.guard = functools.lru_cache(2)(self.opened)
+
+    def answer(self, name, text):
+        """The octets that the program writes for a text."""
+        needed, room = ctypes.c_size_t(MOST_OCTETS), b""
+        while len(room) < needed.value:
+            room = ctypes.create_string_buffer(needed.value)
+            self.call(COMMANDS.index(name), text, len(text), room, len(room), ctypes.byref(needed))
+        return room.raw[:needed.value]
+
+    def opened(self, acl, is_strict):
+        return self.spki.Guard(acl, self.spki.Policy.STRICT if is_strict else self.spki.Policy.ALLOW_SHA1,
+                               self.spki.Limits(octets=MOST_OCTETS, certificates=MOST_OCTETS, words=MOST_OCTETS, nodes=MOST_NODES))
+
+    def asked(self, question, answer):
+        """What a function answers of the opened question. Raises `Refused`."""
+        parts = self.spki.Question(question.sequence, question.key, words=question.words, moment=question.at)
+        try:
+            with self.guard(question.acl, question.is_strict).ask(parts) as asked:
+                return answer(asked)
+        except self.spki.Refused as why:
+            raise Refused(why.line) from None
+
+    def signed(self, question):
+        """The signatures on which the decision depends."""
+        return self.asked(question, lambda asked: [Signed(it.key, it.message, it.value) for it in asked.signatures()])
+
+    def lines(self, question, command):
+        """The lines of `check`, `explain` or `reduce`. Raises `Refused`."""
+        def answer(asked):
+            for place in range(len(asked)):
+                if place not in question.refused_signatures:
+                    asked.mark(place)
+            return getattr(asked, "decide" if command == "check" else command)()
+
+        answered = self.asked(question, answer)
+        if command == "check":
+            return [f"yes entry {answered.entry}" if answered else "no"]
+        return str(answered).split("\n")
+
+
+class ByProgram(Engine):
+    """The program, which is run for each answer."""
+
+    limits_memory = False
+
+    def __init__(self, program):
+        super().__init__()
+        self.program = program
+        self.name = "spki, compiled without proofs," if program == TRIED else "spki"
+        self.signed = functools.lru_cache(KEPT)(self.listed)
+
+    def answer(self, name, text):
+        """The octets that the program writes for a text. Raises `Failed`."""
+        done = subprocess.run([self.program, name], input=text, stdout=subprocess.PIPE, stderr=subprocess.DEVNULL)
+        if done.returncode not in (0, 1, 2) or not done.stdout:
+            raise Failed(f"The program ended with status {done.returncode} and no answer.")
+        return done.stdout
+
+    def parts(self, question):
+        """The canonical forms of the parts. A fault of the form is named after its part, as a guard names it."""
+        acl = self.canonical(question.acl)
+        texts = (question.sequence, question.key, request_text(question.words), question.at)
+        if sum(map(len, texts)) > MOST_OCTETS:
+            raise Refused("refused question TooLong")
+        done = []
+        for name, text in zip(PARTS, texts):
+            try:
+                done.append(self.canonical(text))
+            except Refused as why:
+                # (a part before this one is refused first)
+                self.command("check", case_text(acl, *done, *list(PARTS.values())[len(done):], (), question.is_strict))
+                raise Refused(why.line.replace(" form ", f" {name} ", 1)) from None
+        return acl, *done
+
+    def listed(self, question):
+        """The signatures on which the decision depends: up to the first that is not right. Raises `Refused`."""
+        self.decided(question, ())
+        items, listed = [item for item in self.value(question.sequence)[1:] if item[0] != b"do"], []
+        keys = [item for item in items if item[0] == b"public-key"]
+        for certificate, signature in zip(items, items[1:]):
+            if certificate[0] != b"cert":
+                continue
+            signed = signed_by(certificate, signature, keys, question.is_strict)
+            if signed is None:
+                break
+            listed.append(signed)
+        return listed
+
+    def decided(self, question, listed, command="check"):
+        case = case_text(*self.parts(question), listed, question.is_strict)
+        return self.command(command, case).decode()
+
+    def lines(self, question, command):
+        """The lines of `check`, `explain` or `reduce`. Raises `Refused`."""
+        listed = [it for place, it in enumerate(self.signed(question)) if place not in question.refused_signatures]
+        return self.decided(question, listed, command).split("\n")
+
+
+def signed_by(certificate, signature, keys, is_strict):
+    """The signature of a certificate, if it passes the first three tests: its key is shown, and the digest and the signer are right."""
+    issuer = next(field[1] for field in certificate[1:] if field[0] == b"issuer")
+    key, message = key_of(issuer[1] if issuer[0] == b"name" else issuer, keys, is_strict), canonical(certificate)
+    _, (_, algorithm, digest, *_), signer, value = signature
+    is_right = key is not None and hashlib.new(algorithm.decode(), message).digest() == digest and names(signer, key, is_strict)
+    return Signed(canonical(key), message, canonical(value)) if is_right else None
+
+
+def key_of(principal, keys, is_strict):
+    """The key that a principal names, or None."""
+    if principal[0] == b"public-key":
+        return principal
+    return next((key for key in keys if names(principal, key, is_strict)), None)
+
+
+def names(principal, key, is_strict):
+    """Whether a principal names a key. Under the strict policy no hash by SHA-1 does."""
+    if principal[0] == b"public-key":
+        return principal == key
+    is_allowed = principal[1] != b"sha1" or not is_strict
+    return is_allowed and hashlib.new(principal[1].decode(), canonical(key)).digest() == principal[2]
+
+
+def row(signed):
+    """The row of an accepted list that accepts a signature."""
+    return b"(2:by" + signed.key + b"(4:hash6:sha256" + string(hashlib.sha256(signed.message).digest()) + b")" + signed.value + b")"
+
+
+def case_text(acl, sequence, key, request, at, listed, is_strict):
+    """The case of parts in canonical form."""
+    rows = b"".join(dict.fromkeys(map(row, listed)))
+    policy = b"(6:policy6:strict)" if is_strict else b""
+    return (b"(4:case" + acl + b"(8:accepted" + rows + b")" + sequence + b"(3:key" + key + b")(7:request" + request + b")(2:at" + at + b")"
+            + policy + b")")
+
+
+def program():
+    """The path of the program, or None: the built one, the installed one, or the one without proofs. The variable SPKI_PROGRAM of the
+    environment names another than these."""
+    if "SPKI_PROGRAM" in os.environ:
+        return shutil.which(os.environ["SPKI_PROGRAM"])
+    return shutil.which(PROGRAM) or shutil.which("spki") or shutil.which(TRIED)
+
+
+def engine(wanted=None):
+    """The library where it can be loaded, else the program. Raises `LookupError` if neither is there."""
+    if wanted != "program":
+        try:
+            return ByLibrary()
+        except (ImportError, OSError):
+            if wanted == "library":
+                raise LookupError("libspki_c.so is not found: build it by crates/spki_c/archive.py, or name it in SPKI_LIBRARY") from None
+    path = program()
+    if path is None and "SPKI_PROGRAM" in os.environ:
+        raise LookupError(f"SPKI_PROGRAM names no program: {os.environ['SPKI_PROGRAM']}")
+    if path is None:
+        raise LookupError(NOTHING.format(os.path.relpath(os.path.join(TOP, "tests", "run"))))
+    return ByProgram(path)

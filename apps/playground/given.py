@@ -1,0 +1,129 @@
+"""A question as the page sent it, in boxes or as one case: how it is asked, and where a box is refused."""
+import functools
+
+from completion import VALUE, completed
+from engine import Question, case_text, request_text, string
+from place import heads_in, numbered, places, shown
+from spki_cert_tool.sexp import canonical, on_one_line, read
+
+BOXES = ("acl", "sequence", "key", "request", "at")
+MOST_LETTERS = 4000
+
+
+def text(given, name):
+    """A string that the page sent, or an empty one."""
+    value = given.get(name)
+    return value if isinstance(value, str) else ""
+
+
+class Given:
+    """A question of separate boxes, as octets."""
+
+    def __init__(self, engine, given):
+        self.engine, self.box = engine, {name: text(given, name).encode(errors="replace") for name in ("acl", "sequence", "key", "at")}
+        words = [it for it in given.get("request") or [] if isinstance(it, str)]
+        self.words = tuple(word.encode(errors="replace") for word in words)
+        self.sequence = completed(engine, self.box["sequence"])
+        refused = tuple(it for it in given.get("refused") or [] if isinstance(it, int))
+        self.question = Question(self.box["acl"], self.sequence.text, self.box["key"], self.words, string(self.box["at"]),
+                                 given.get("strict") is not False, refused)
+
+    def values(self):
+        """The access list, the sequence, the key, the request and the moment."""
+        value, question = self.engine.value, self.question
+        request = self.words[0] if len(self.words) == 1 else list(self.words)
+        return value(question.acl), value(question.sequence), value(question.key), request, self.box["at"]
+
+    def check(self):
+        return self.engine.lines(self.question, "check")[0]
+
+    def lines(self, command):
+        return self.engine.lines(self.question, command)
+
+    def cut(self, items):
+        """The lines of `reduce` with these items only."""
+        return self.engine.lines(self.question._replace(sequence=canonical([b"sequence", *items])), "reduce")
+
+    def signatures(self, labels):
+        """The signatures on which the decision depends, each with whether it counts."""
+        listed = []
+        for place, signed in enumerate(self.engine.signed(self.question)):
+            story = read(signed.message)
+            labels.learn(story)
+            listed.append({"by": labels.of(read(signed.key)), "says": on_one_line(story)[:MOST_LETTERS],
+                           "madeUp": signed.value == string(VALUE), "counts": place not in self.question.refused_signatures})
+        return listed
+
+    def fault(self, line):
+        """The box that a refusal is about, and its places there."""
+        word = line.split()[1]
+        name = "acl" if word == "form" else word
+        if name not in BOXES:
+            return {}
+        if name in ("request", "at"):
+            return {name: self.fault_of_words(name, line)}
+        octets = self.question.sequence if name == "sequence" else self.box[name]
+        found = places(octets, line)
+        if name == "sequence":
+            found = [(self.sequence.typed(at), numbered(why, self.heads)) for at, why in found]
+        return {name: {"line": line, "shown": self.shown(line), "places": shown(self.box[name], found)}}
+
+    @functools.cached_property
+    def heads(self):
+        """The words that the items of the sequence begin with. One that the page made up is left out by None."""
+        return heads_in(self.question.sequence, [at + 1 for at, _ in self.sequence.added])
+
+    def shown(self, line):
+        """A refusal as the page writes it: with the number of a certificate among the certificates."""
+        return numbered(line, self.heads)
+
+    def fault_of_words(self, name, line):
+        """The same of a box whose text is no S-expression, and is written as one."""
+        typed = self.box["at"]
+        why = f"{'this is no moment' if typed else 'the moment is missing'}; choose a date and a time of day, in UTC"
+        if name == "request":
+            typed = b"\n".join(self.words)
+            why = next((it for _, it in places(request_text(self.words), line)), "") if self.words else "a request has at least one string"
+        first = typed.split(b"\n")[0]
+        place = {"begin": 0, "end": len(first.decode(errors="replace")), "line": 1, "column": 1, "why": why}
+        return {"line": line, "places": [place]}
+
+    def case(self):
+        """The same question as one text for the program."""
+        question = self.question
+        listed = [it for place, it in enumerate(self.engine.signed(question)) if place not in question.refused_signatures]
+        parts = map(self.engine.canonical, (question.acl, question.sequence, question.key))
+        return case_text(*parts, request_text(self.words), question.at, listed, question.is_strict)
+
+
+class GivenCase:
+    """A whole case in one box."""
+
+    def __init__(self, engine, given):
+        self.engine, self.octets = engine, text(given, "text").encode(errors="replace")
+
+    def values(self):
+        case = self.engine.value(self.octets)
+        return case[1], case[3], case[4][1], case[5][1], case[6][1]
+
+    def check(self):
+        return self.lines("check")[0]
+
+    def lines(self, command):
+        return self.engine.command(command, self.octets).decode().split("\n")
+
+    def cut(self, items):
+        case = self.engine.value(self.octets)
+        return self.engine.command("reduce", canonical([*case[:3], [b"sequence", *items], *case[4:]])).decode().split("\n")
+
+    @functools.cached_property
+    def heads(self):
+        return heads_in(self.octets)
+
+    def shown(self, line):
+        """A refusal as the page writes it."""
+        return numbered(line, self.heads)
+
+    def fault(self, line):
+        found = [(at, numbered(why, self.heads)) for at, why in places(self.octets, line)]
+        return {"case": {"line": line, "shown": self.shown(line), "places": shown(self.octets, found)}}

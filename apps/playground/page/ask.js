@@ -1,0 +1,62 @@
+// Questions to the server. An answer is shown only if nothing was typed since its question was sent. A question that comes while another one of
+// its kind is under way waits for it a moment, and then replaces it.
+
+const PATIENCE = 150;
+const PAGE = crypto.randomUUID();
+let mostOctets = Infinity;
+
+/** Sets how many octets the server takes in one question. */
+export function bound(octets) {
+  mostOctets = octets;
+}
+
+/** Sends what `collect` returns, and gives the answer to `show`, for each call of what is returned. `typed` counts the changes of the texts. */
+export function asker(kind, collect, show, typed) {
+  let underWay = null;
+  let isWanted = false;
+
+  async function send() {
+    const count = typed();
+    const stops = new AbortController();
+    isWanted = false;
+    underWay = stops;
+    const sent = performance.now();
+    const answer = await answered(kind, JSON.stringify({ ...collect(), page: PAGE }), stops.signal);
+    if (underWay === stops) {
+      underWay = null;
+    }
+    if (count === typed() && answer) {
+      show(answer);
+      performance.measure(`answer ${kind}`, { start: sent });
+    }
+    if (isWanted && !underWay) {
+      send();
+    }
+  }
+
+  return () => {
+    if (!underWay) {
+      send();
+    } else if (!isWanted) {
+      isWanted = true;
+      const before = underWay;
+      setTimeout(() => isWanted && underWay === before && (before.abort(), send()), PATIENCE);
+    }
+  };
+}
+
+/** The answer of the server, or null if another question replaced this one. Without an answer, `notice` says why. */
+async function answered(kind, body, signal) {
+  const octets = new TextEncoder().encode(body);
+  if (octets.length > mostOctets) {
+    const [sent, most] = [octets.length, mostOctets].map((it) => it.toLocaleString("en"));
+    return { notice: `The texts are too long for this page: ${sent} octets as they are sent, and it takes ${most}.` };
+  }
+  try {
+    const reply = await fetch(kind, { method: "POST", headers: { "Content-Type": "application/json" }, body: octets, signal });
+    return reply.ok ? await reply.json() : { notice: `The server refused the question with status ${reply.status}. `
+      + "If it was started again, open the address that it printed." };
+  } catch (why) {
+    return why.name === "AbortError" ? null : { notice: "The server does not answer. Start it again, and open the address that it prints." };
+  }
+}

@@ -1,0 +1,77 @@
+// A box for a text, in which places can be underlined: a mirror of the text lies behind it.
+import { made } from "./dom.js";
+
+export class Box {
+  /** Fills an element that has a label and a hint. `changed` is called when the text was changed. */
+  constructor(element, changed) {
+    const label = element.querySelector("label");
+    this.name = label.htmlFor;
+    this.text = made("textarea", { id: this.name, rows: 1, spellcheck: "false", autocomplete: "off", autocapitalize: "off",
+      "aria-describedby": `${this.name}-hint ${this.name}-fault` });
+    this.mirror = made("div", { class: "mirror", "aria-hidden": "true" });
+    this.faults = made("ul", { class: "fault", id: `${this.name}-fault` });
+    element.append(made("div", { class: "field" }, this.mirror, this.text), this.faults);
+    this.text.addEventListener("input", () => {
+      this.reflect();
+      changed();
+    });
+    this.fault(null);
+  }
+
+  get value() {
+    return this.text.value;
+  }
+
+  set value(text) {
+    this.text.value = text;
+    this.fault(null);
+  }
+
+  /** Shows a refusal: its line, and the places with their remarks. */
+  fault(fault) {
+    const places = fault?.places ?? [];
+    this.reflect(places[0]);
+    this.text.setAttribute("aria-invalid", String(Boolean(fault)));
+    const key = JSON.stringify(fault);
+    if (key === this.shown) {
+      return;
+    }
+    this.shown = key;
+    this.faults.replaceChildren(...(fault ? [this.remark(fault, places[0]), ...places.slice(1, 4).map((it) => this.further(it))] : []));
+  }
+
+  remark(fault, place) {
+    const line = made("code", {}, ` ${fault.shown ?? fault.line}`);
+    if (!place) {
+      return made("li", {}, "This is refused.", line);
+    }
+    return made("li", {}, this.goTo(place), `: ${place.why}`, line);
+  }
+
+  further(place) {
+    return made("li", { class: "further" }, this.goTo(place), `: ${place.why}`);
+  }
+
+  /** A button that selects a place. */
+  goTo(place) {
+    const button = made("button", { type: "button" }, `Line ${place.line}, column ${place.column}`);
+    button.addEventListener("click", () => {
+      this.text.focus();
+      this.text.setSelectionRange(place.begin, Math.max(place.end, place.begin));
+    });
+    return button;
+  }
+
+  /** Copies the text into the mirror, with a place underlined. */
+  reflect(place) {
+    // (a line feed at the end has no height without something behind it)
+    const text = this.value, end = "\u200b";
+    if (!place) {
+      this.mirror.textContent = text + end;
+      return;
+    }
+    const mark = made("mark", {}, text.slice(place.begin, place.end));
+    mark.classList.toggle("at-end", !text.slice(place.begin, place.end).trim());
+    this.mirror.replaceChildren(text.slice(0, place.begin), mark, text.slice(place.end) + end);
+  }
+}

@@ -1,0 +1,175 @@
+// The page: boxes are filled, and changes are asked about.
+import { Answer } from "./answer.js";
+import { asker, bound } from "./ask.js";
+import { Box } from "./box.js";
+import { at, made, say } from "./dom.js";
+import { inFragment, linked } from "./link.js";
+import { showForms, showTags } from "./others.js";
+import { outdate } from "./state.js";
+import { Times, calendar } from "./times.js";
+
+const PANELS = ["question", "case", "tags", "forms"];
+const OTHERS = ["case", "first", "second", "words", "value"];
+const boxes = {};
+for (const element of document.querySelectorAll("[data-box]")) {
+  boxes[element.dataset.box] = new Box(element, () => changed());
+}
+const times = new Times(() => changed());
+const answer = new Answer(boxes, () => changed());
+let chosen = "question";
+let changes = 0;
+
+// ---- what is asked
+
+const lines = (text) => (text === "" ? [] : text.replace(/\n$/, "").split("\n"));
+
+/** The moment as a case has it. */
+function moment() {
+  const [date, time = ""] = at("at").value.split("T");
+  return date && `${date}_${time.length === 5 ? `${time}:00` : time.slice(0, 8)}`;
+}
+
+function question() {
+  return { acl: boxes.acl.value, sequence: boxes.sequence.value, key: boxes.key.value, request: lines(boxes.request.value), at: moment(),
+    labels: boxes.labels.value, refused: answer.refused, strict: at("strict").checked, withCase: at("text-card").open };
+}
+
+function shown(got) {
+  answer.show(got);
+  if (got.kind && chosen === "question") {
+    askers.times();
+  } else {
+    times.show({});
+  }
+}
+
+const typed = () => changes;
+const askers = {
+  question: asker("question", question, shown, typed),
+  case: asker("case", () => ({ text: boxes.case.value, labels: boxes.labels.value }), shown, typed),
+  times: asker("times", question, (got) => times.show(got), typed),
+  tags: asker("tags", () => ({ first: boxes.first.value, second: boxes.second.value, request: lines(boxes.words.value) }),
+    (got) => showTags(boxes, got), typed),
+  forms: asker("forms", () => ({ text: boxes.value.value }), (got) => showForms(boxes, got), typed),
+};
+
+function changed() {
+  changes += 1;
+  outdate(() => answer.wait());
+  askers[chosen]();
+}
+
+// ---- what is chosen
+
+function load(given) {
+  for (const name of ["acl", "sequence", "key", "labels"]) {
+    boxes[name].value = String(given[name] ?? "");
+  }
+  boxes.request.value = (Array.isArray(given.request) ? given.request : []).map(String).join("\n");
+  at("at").value = String(given.at ?? "").replace("_", "T");
+  at("strict").checked = given.strict !== false;
+  answer.refused = (Array.isArray(given.refused) ? given.refused : []).filter(Number.isInteger);
+  at("all").checked = !answer.refused.length;
+}
+
+function loadOthers(given) {
+  for (const name of OTHERS) {
+    if (typeof given[name] === "string") {
+      boxes[name].value = given[name];
+    }
+  }
+}
+
+function choose(panel) {
+  chosen = PANELS.includes(panel) ? panel : "question";
+  for (const name of PANELS) {
+    const isChosen = name === chosen;
+    at(`panel-${name}`).hidden = !isChosen;
+    at(`tab-${name}`).setAttribute("aria-selected", String(isChosen));
+    at(`tab-${name}`).tabIndex = isChosen ? 0 : -1;
+  }
+  at("answer").hidden = at("verdict").hidden = !["question", "case"].includes(chosen);
+  at("notice").hidden ||= at("verdict").hidden;
+  changed();
+}
+
+function moveTab(event) {
+  const place = PANELS.indexOf(chosen);
+  const step = { ArrowRight: 1, ArrowLeft: -1, Home: -place, End: PANELS.length - 1 - place }[event.key];
+  if (step !== undefined) {
+    event.preventDefault();
+    choose(PANELS[(place + step + PANELS.length) % PANELS.length]);
+    at(`tab-${chosen}`).focus();
+  }
+}
+
+async function copyLink() {
+  const others = Object.fromEntries(OTHERS.map((name) => [name, boxes[name].value]));
+  const address = linked({ panel: chosen, ...question(), ...others });
+  history.replaceState(null, "", address);
+  try {
+    await navigator.clipboard.writeText(address);
+    say(at("link"), "Copied");
+  } catch {
+    say(at("link"), "See the address bar");
+  }
+  setTimeout(() => say(at("link"), "Copy link"), 2000);
+}
+
+function editCase() {
+  boxes.case.value = at("text").textContent;
+  choose("case");
+  boxes.case.text.focus();
+}
+
+function offerExamples(examples) {
+  const groups = {};
+  examples.forEach((example, place) => {
+    groups[example.group] ??= made("optgroup", { label: example.group });
+    groups[example.group].append(made("option", { value: place }, example.name));
+  });
+  at("example").replaceChildren(made("option", { value: "", hidden: "" }, "Examples .."), ...Object.values(groups));
+  at("example").addEventListener("change", () => {
+    load(examples[Number(at("example").value)].question);
+    choose("question");
+  });
+}
+
+/** Fills the boxes with what the address holds. */
+function restore() {
+  const given = inFragment();
+  if (given) {
+    load(given);
+    loadOthers(given);
+    at("example").value = "";
+  }
+  choose(given?.panel ?? chosen);
+}
+
+async function start() {
+  const { examples, engine, others, mostOctets } = await (await fetch("start.json")).json();
+  bound(mostOctets);
+  say(at("engine"), engine);
+  offerExamples(examples);
+  loadOthers(others);
+  at("example").value = "0";
+  load(examples[0].question);
+  restore();
+}
+
+for (const name of PANELS) {
+  at(`tab-${name}`).addEventListener("click", () => choose(name));
+  at(`tab-${name}`).addEventListener("keydown", moveTab);
+}
+for (const name of ["at", "strict"]) {
+  at(name).addEventListener("input", () => changed());
+}
+at("now").addEventListener("click", () => {
+  at("at").value = calendar(Math.floor(Date.now() / 1000));
+  changed();
+});
+at("link").addEventListener("click", copyLink);
+at("edit").addEventListener("click", editCase);
+at("text-card").addEventListener("toggle", () => changed());
+addEventListener("hashchange", restore);
+start().catch(() => answer.show({ notice: "The server does not answer. Start it again, and open the address that it prints." }));

@@ -1,0 +1,28 @@
+// Whether what the page shows is the answer to what is typed. What answers an earlier text is dimmed at once, and hidden when the new answer
+// takes long: so nothing is read as the answer to another question.
+import { at } from "./dom.js";
+
+const WAITING = 300;
+const PARTS = { question: "#verdict, #answer, #signatures, .fault", times: "#bar, #span", tags: "#tags-card", forms: "#forms-card" };
+let waits;
+
+const elements = (name) => document.querySelectorAll(PARTS[name]);
+
+/** Marks all parts as those of an earlier text. `waited` is called when there is no answer yet after a while. */
+export function outdate(waited) {
+  clearTimeout(waits);
+  for (const name of Object.keys(PARTS)) {
+    elements(name).forEach((it) => it.classList.add("old"));
+  }
+  waits = setTimeout(() => {
+    document.querySelectorAll(".old").forEach((it) => it.classList.add("blank"));
+    if (at("verdict").matches(".old")) {
+      waited();
+    }
+  }, WAITING);
+}
+
+/** Marks a part as the answer to what is typed. */
+export function renew(name) {
+  elements(name).forEach((it) => it.classList.remove("old", "blank"));
+}

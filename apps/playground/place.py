@@ -1,0 +1,111 @@
+"""Where a text is refused and why, by the code of apps/spki-cert/ that apps/locate uses too."""
+import re
+import unicodedata
+from typing import NamedTuple
+
+from spki_cert_tool.forms import Parser, Wrong
+from spki_cert_tool.places import fault_of, places_of, refusal, value_in
+
+# What is underlined from a place on: a word, or one character.
+WORD = re.compile(r"\(?[\w\-./:*+=]+|.|$", re.DOTALL)
+# The number of an item, in a refusal and in a remark.
+NUMBER = re.compile(r"\b(?:sequence|item) ([1-9]\d*)\b")
+# The first line of a text in PEM, and what is said of it by the words there.
+PEM = re.compile(rb"-----BEGIN ([A-Z0-9 ]+)-----")
+OF_PEM = {
+    b"PRIVATE KEY": "this is a private key: keep it secret, and replace it if it was shown to anybody; `spki-cert key FILE` writes the public key",
+    b"CERTIFICATE REQUEST": "this is a request for an X.509 certificate; `openssl req -in FILE -noout -pubkey` writes its key for `spki-cert key`",
+    b"CERTIFICATE": "this is an X.509 certificate, and none of SPKI; `openssl x509 -in FILE -noout -pubkey` writes its key for `spki-cert key`"}
+TYPOGRAPHIC = {**dict.fromkeys("\u201c\u201d\u201e\u201f\u00ab\u00bb", '"'), **dict.fromkeys("\u2018\u2019\u201a\u2039\u203a\u00b4", '"')}
+
+
+class Item(NamedTuple):
+    """A member of a list as it is written: the word that it is headed by, and its place."""
+
+    head: bytes | None
+    begin: int
+    end: int
+
+
+def items_of(text):
+    """The members of the list that a text is in advanced or canonical form, with the head first. None if it is no list."""
+    try:
+        node = Parser(text).whole()
+    except (Wrong, RecursionError):
+        return None
+    return None if node.members is None else [Item(it.head if it.members is not None else None, it.begin, it.end) for it in node.members]
+
+
+def places(text, line):
+    """The places of a refusal in a text as offsets, with remarks: the place itself first. Empty if the refusal has none there."""
+    wrong, _, inner = fault_of(text, line)
+    if wrong is None or refusal(wrong, inner) != line:
+        return []
+    return [(inner[min(at, len(inner) - 1)] if inner else at, why) for at, why in places_of(wrong)]
+
+
+def shown(text, found):
+    """Places as a page underlines them: from one character to another, counted as JavaScript counts, with line and column."""
+    return [shown_place(text, at, why) for at, why in found]
+
+
+def heads_in(text, made_up=()):
+    """The words that the items of a sequence, or of a case's sequence, begin with. Of an item at a place that the page made up it is None."""
+    try:
+        node = value_in(text)
+    except (Wrong, RecursionError):
+        return []
+    if node.head == b"case":
+        node = next((it for it in node.rest if it.head == b"sequence"), node)
+    return [None if item.begin in made_up else item.head or b"" for item in node.rest]
+
+
+def numbered(words, heads):
+    """Words in which the number of an item is that of a certificate among the certificates, or of an item among those that were typed."""
+    def of_item(found):
+        number = int(found[1])
+        before = heads[:number]
+        count = before.count(b"cert")
+        if len(before) < number:
+            return found[0]
+        if before[-1] in (b"signature", None) and count:
+            return f"signature of certificate {count}"
+        return f"certificate {count}" if before[-1] == b"cert" else f"item {number - before.count(None)}"
+
+    return NUMBER.sub(of_item, words)
+
+
+def of_letter(text, at):
+    """What is said of a character that is not in ASCII, where a value is expected. None of another one."""
+    letter = text[at:at + 4].decode(errors="ignore")[:1]
+    if not letter or letter.isascii():
+        return None
+    if letter in TYPOGRAPHIC:
+        return f"`{letter}` is a typographic quote, as word processors and chats make it; write `{TYPOGRAPHIC[letter]}`"
+    if unicodedata.category(letter) in ("Zs", "Cf", "Zl", "Zp"):
+        return f"an invisible character is here, {unicodedata.name(letter, 'without a name').lower()}; delete it or type an ordinary space"
+    word = (re.search(rb"[\w\-./:*+=\x80-\xff]*\Z", text[:at])[0] + re.match(rb"[\w\-./:*+=\x80-\xff]*", text[at:])[0]).decode(errors="replace")
+    return f'`{letter}` needs quotes around its string: `"{word}"`'
+
+
+def remark(text, at, why):
+    """What is said of a place: of some texts more than what the reader of S-expressions says."""
+    if text[at:at + 1] == b";":
+        return "there are no comments here; write (comment ..) into an entry or a certificate, or use the box for labels"
+    pem = PEM.match(text, at)
+    of_pem = next((said for word, said in OF_PEM.items() if pem and word in pem[1]), None)
+    return of_pem or of_letter(text, at) or why
+
+
+def shown_place(text, at, why):
+    why = remark(text, at, why)
+    before = text[:at].decode(errors="ignore")
+    word = WORD.match(text[at:at + 200].decode(errors="ignore"))[0]
+    begin = units(before)
+    line = before.count("\n") + 1
+    return {"begin": begin, "end": begin + units(word), "line": line, "column": len(before) - before.rfind("\n"), "why": why}
+
+
+def units(text):
+    """The length of a string in JavaScript."""
+    return len(text.encode("utf-16-le", "surrogatepass")) // 2

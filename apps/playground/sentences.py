@@ -1,0 +1,76 @@
+"""The answer in words: a sentence for each line of `explain`, and what can be done about it."""
+from story import issuer_of, moment_of, tag_of, window
+
+# For each cause what it says, and what to do.
+WORDS = {
+    "grants": ("{holder} may do this, by entry {entry}{shown}.", ""),
+    "NotTheKey": ("The right ends at {holder}. The client is {client}.",
+                  "Show the certificate for the client's key, or the one that defines the name."),
+    "TagLacks": ("{holder} has a right, but it does not contain this request.", "Request less, or get a wider tag."),
+    "WindowLacks": ("{holder} has the right {window}. The moment is {moment}.", "Renew what has ended, or choose another moment."),
+    "NotIssuer": ("The right is with {holder}. Certificate {number} is issued by {issuer}.",
+                  "A certificate is missing, the order is wrong, or it is meant for another entry."),
+    "NotTheName": ("The name to resolve is {holder}. Certificate {number} defines {issuer}.",
+                   "A certificate is missing, or the order is wrong."),
+    "NoDelegation": ("{holder} has the right, but must not pass it on.", "The entry or certificate before needs (propagate)."),
+    "NoValidity": ("No moment is in the validity of certificate {number} and in all validities before it.", "Renew them."),
+    "NoTag": ("Certificate {number} grants nothing that {holder} has.", "Its issuer must have the right that it grants."),
+    "KeyNotShown": ("Certificate {number} names its issuer, {issuer}, by a hash, and no key shown has it.",
+                    "Show the key, as an item of the sequence."),
+    "DigestDiffers": ("The signature of certificate {number} has another digest than the certificate.",
+                      "The certificate was changed after it was signed. Without its signature, the page makes one up."),
+    "SignerDiffers": ("Certificate {number} is issued by {issuer}. Its signature names another key.", "Let the issuer sign it."),
+    "NotAccepted": ("The signature of certificate {number} does not count.",
+                    "A service accepts a signature that it has verified. Here a tick, or a row of the case, stands for that."),
+}
+REFUSED = {
+    "refused TooLarge": "The tags are too large to intersect.", "refused Memory": "There was not enough memory.",
+    "refused question TooLong": "The certificates, key, request and moment have more than 65,536 octets together."}
+
+
+# What is said where a request in one line was meant as several strings.
+ONE_STRING = "The request is one string with spaces in it. If each word is meant as a string, write each on a line of its own; in a case, as (a b c)."
+
+
+def is_one_line(request):
+    """Whether a request is one string of several words."""
+    return isinstance(request, bytes) and len(request.split()) > 1
+
+
+def said(story, reason):
+    """A line of `explain` in words."""
+    says, hint = WORDS[reason.word]
+    if reason.word == "TagLacks" and is_one_line(story.request):
+        hint = ONE_STRING
+    fields = {"entry": reason.entry, "number": story.number(reason.item) if reason.item else 0,
+              "client": story.labels.of(story.key), "moment": moment_of(story.at),
+              "holder": story.labels.of(story.holder(reason)) if reason.entry else "",
+              "issuer": story.labels.of(issuer_of(story.certificate(reason.item))) if reason.item else "",
+              "shown": shown(story), "window": "in another time"}
+    left = story.left(reason)
+    if left:
+        fields["window"] = window(left) or "at all times"
+    return {"entry": reason.entry, "item": reason.item, "certificate": fields["number"] or None, "word": reason.word, "line": reason.line,
+            "says": says.format(**fields), "hint": hint}
+
+
+def shown(story):
+    count = sum(item[0] == b"cert" for item in story.items)
+    return "" if not count else " and one certificate" if count == 1 else f" and {count} certificates"
+
+
+def title(reasons, line):
+    """The answer itself, in one sentence, by its line and the sentence that matters most."""
+    if line.startswith("yes"):
+        return reasons[0]["says"] if reasons else f"Entry {line.rsplit(' ', 1)[1]} grants the request."
+    return reasons[0]["says"] if reasons else "The access list is empty."
+
+
+def right_left(story, number, item, left):
+    """A right that remains of an entry, or that it was before an item, in words."""
+    return {"entry": number, "before": story.number(item) if item else 0, "holder": story.labels.of(field_of(left, b"subject")),
+            "tag": tag_of(left), "window": window(left) or "at all times", "passes": any(it == [b"propagate"] for it in left)}
+
+
+def field_of(value, head):
+    return next(it[1] for it in value[1:] if isinstance(it, list) and it[0] == head)

@@ -1,0 +1,112 @@
+"""A question that was answered, as values: what the words, the picture and the labels are made of.
+
+What is decided comes from the lines of `explain` and `reduce`. This module only follows the subjects along the certificates, for people
+to read.
+"""
+import re
+import sys
+from dataclasses import dataclass, field as of_default
+
+from labels import Labels, field
+from spki_cert_tool.sexp import on_one_line
+
+LINE = re.compile(r"(?:entry (\d+) )?(?:item (\d+) )?(.*)")
+
+
+@dataclass
+class Reason:
+    """A line of `explain`: numbers from 1, or None, and `grants` or the cause."""
+
+    entry: int | None
+    item: int | None
+    word: str
+
+    @property
+    def line(self):
+        """The line itself."""
+        parts = [self.entry and f"entry {self.entry}", self.item and f"item {self.item}", self.word]
+        return " ".join(part for part in parts if part)
+
+    @property
+    def rank(self):
+        """The order in which lines matter: what grants, then the chain that goes furthest."""
+        return self.word != "grants", -(self.item or sys.maxsize), self.word == "NotTheKey", self.entry or 0
+
+
+def reasons_of(lines):
+    """The lines of `explain`, read. There is none for an empty list."""
+    found = [LINE.fullmatch(line).groups() for line in lines if line != "no entries"]
+    return [Reason(int(entry) if entry else None, int(item) if item else None, word) for entry, item, word in found]
+
+
+@dataclass
+class Story:
+    """The values of a question, and what they are called."""
+
+    labels: Labels
+    entries: list
+    items: list
+    key: list
+    request: object
+    at: bytes
+    lefts: dict = of_default(default_factory=dict)
+    """The remaining right of an entry by its number, and by a number and an item the right before this item."""
+
+    def certificate(self, item):
+        return self.items[item - 1]
+
+    def number(self, item):
+        """The number of a certificate among the certificates, where keys and signatures are not counted."""
+        return sum(it[0] == b"cert" for it in self.items[:item])
+
+    def holder(self, reason):
+        """The subject that has the right where the chain of an entry ends, or stops."""
+        subject = self.entries[reason.entry - 1][1]
+        for number, item in enumerate(self.items, 1):
+            if reason.item is not None and number >= reason.item:
+                break
+            if item[0] == b"cert":
+                subject = joined(subject, item)
+        return subject
+
+    def left(self, reason):
+        """The right where the chain ends, or None if it is not known."""
+        return self.lefts.get((reason.entry, reason.item))
+
+
+def issuer_of(certificate):
+    return field(certificate, b"issuer")[1]
+
+
+def subject_of(certificate):
+    """The subject of a certificate. A relative name is one of the issuer's principal."""
+    subject, issuer = field(certificate, b"subject")[1], issuer_of(certificate)
+    if subject[0] == b"name" and isinstance(subject[1], bytes):
+        return [b"name", issuer[1] if issuer[0] == b"name" else issuer, *subject[1:]]
+    return subject
+
+
+def joined(before, certificate):
+    """The subject after a certificate. After one that defines a name the further names stay."""
+    subject = subject_of(certificate)
+    rest = before[3:] if issuer_of(certificate)[0] == b"name" and before[0] == b"name" else []
+    if not rest:
+        return subject
+    return [*subject, *rest] if subject[0] == b"name" else [b"name", subject, *rest]
+
+
+def window(value):
+    """The validity of an entry, a certificate or a right, in words, or None if it has no limit."""
+    limits = field(value, b"valid") or value
+    parts = [(word, field(limits, head)) for word, head in (("from", b"not-before"), ("until", b"not-after"))]
+    return " ".join(f"{word} {moment_of(limit[1])}" for word, limit in parts if limit) or None
+
+
+def moment_of(date):
+    return date.decode(errors="replace").replace("_", " ")
+
+
+def tag_of(value):
+    """The tag of an entry, a certificate or a right, as text, or None."""
+    tag = field(value, b"tag")
+    return on_one_line(tag[1]) if tag else None

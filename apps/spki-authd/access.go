@@ -1,0 +1,161 @@
+package main
+
+import (
+	"crypto/sha256"
+	"encoding/hex"
+	"fmt"
+	"sync/atomic"
+	"time"
+)
+
+// An access is the access lists, and the certificates that no longer count. It is read as a whole, and does not change.
+type access struct {
+	lists []*list
+	ended *ended
+	// The digest of the one list, or of the places and digests of several.
+	digest string
+	read   time.Time
+}
+
+// A keeper has the present access, and what became of the last reload.
+type keeper struct {
+	present atomic.Pointer[access]
+	last    atomic.Pointer[reloaded]
+	// The reloads since the start, and those that were refused.
+	all, refused atomic.Uint64
+}
+
+// A reloaded is how a reload ended.
+type reloaded struct {
+	at    time.Time
+	fault error
+}
+
+// readAccess reads the lists and the digests of a configuration.
+func readAccess(c *config, now time.Time) (*access, error) {
+	policy, err := policyOf(c.Policy)
+	if err != nil {
+		return nil, err
+	}
+	made := &access{ended: nothingEnded, read: now}
+	for _, at := range c.places() {
+		read, err := readList(at.List, policy, c.Limits)
+		if err != nil {
+			made.close()
+			return nil, err
+		}
+		read.place = at
+		made.lists = append(made.lists, read)
+	}
+	made.digest = made.digestOfLists()
+	if err := made.readEnded(c.Ended); err != nil {
+		made.close()
+		return nil, err
+	}
+	return made, nil
+}
+
+// readEnded reads the digests of ended certificates, if there is a file of them.
+func (a *access) readEnded(path string) error {
+	if path == "" {
+		return nil
+	}
+	octets, err := readFile(path, mostEnded)
+	if err != nil {
+		return err
+	}
+	if a.ended, err = endedOf(octets); err != nil {
+		err = fmt.Errorf("%s: %w", path, err)
+	}
+	return err
+}
+
+// digestOfLists returns the digest of the one list, or that of the places and digests of several.
+func (a *access) digestOfLists() string {
+	if len(a.lists) == 1 {
+		return a.lists[0].digest
+	}
+	hash := sha256.New()
+	for _, each := range a.lists {
+		fmt.Fprintf(hash, "%s%s %s\n", each.Host, each.Prefix, each.digest)
+	}
+	return hex.EncodeToString(hash.Sum(nil))
+}
+
+// entries returns the number of entries of all lists.
+func (a *access) entries() int {
+	count := 0
+	for _, each := range a.lists {
+		count += each.guard.Entries()
+	}
+	return count
+}
+
+// close frees the lists, once the questions that they were asked are closed too.
+func (a *access) close() {
+	for _, each := range a.lists {
+		each.guard.Close()
+	}
+}
+
+// listOf returns the list that decides for a host and a path, or nil.
+func (a *access) listOf(host, path string) *list {
+	for _, each := range a.lists {
+		if each.is(host, path) {
+			return each
+		}
+	}
+	return nil
+}
+
+// hasEnded says whether the certificate with a digest has ended early.
+func (a *access) hasEnded(certificate digest) bool {
+	_, hasEnded := a.ended.digests[certificate]
+	return hasEnded
+}
+
+// reload reads the files of a configuration again. If one of them is refused, the old ones stay. So they do if a certificate that has ended would
+// count again, unless that is wanted. Questions under way end with those they began with.
+func (k *keeper) reload(c *config, mayLose bool, now time.Time) error {
+	err := k.replace(c, mayLose, now)
+	k.last.Store(&reloaded{now, err})
+	k.all.Add(1)
+	if err != nil {
+		k.refused.Add(1)
+	}
+	return err
+}
+
+// replace reads the files and replaces what was read before.
+func (k *keeper) replace(c *config, mayLose bool, now time.Time) error {
+	certificate, err := c.TLS.read()
+	if err != nil {
+		return err
+	}
+	made, err := readAccess(c, now)
+	if err != nil {
+		return err
+	}
+	old := k.present.Load()
+	if old != nil && !mayLose {
+		if lost := made.ended.lost(old.ended); lost > 0 {
+			made.close()
+			return fmt.Errorf("%s: %d digests that are in force are missing: `spki-authd -reload -fewer` has these certificates count again", c.Ended, lost)
+		}
+	}
+	c.TLS.use(certificate)
+	k.present.Store(made)
+	if old != nil {
+		old.close()
+	}
+	return nil
+}
+
+// at returns the present access, and the list in it that decides for a host and a path.
+func (k *keeper) at(host, path string) (*access, *list, error) {
+	present := k.present.Load()
+	if at := present.listOf(host, path); at != nil {
+		return present, at, nil
+	}
+	return nil, nil, errNoList
+}

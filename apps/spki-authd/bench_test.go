@@ -1,0 +1,28 @@
+package main
+
+import (
+	"net/http"
+	"net/http/httptest"
+	"testing"
+	"time"
+)
+
+// BenchmarkHandler measures a request by two certificates whose signatures were verified before.
+func BenchmarkHandler(b *testing.B) {
+	s := newSite(b, "")
+	s.grants = func([]byte) error { return nil }
+	_, carols := s.sequencesShown()
+	request := httptest.NewRequest(http.MethodGet, "/auth", nil)
+	for name, value := range map[string]string{
+		"X-Original-Method": "GET", "X-Original-Uri": "/web/docs/a/b", "X-Client-Cert": s.carol.escaped(), "Authorization": "SPKI " + carols,
+	} {
+		request.Header.Set(name, value)
+	}
+	b.ReportAllocs()
+	for turn := 0; turn < b.N; turn++ {
+		made := s.answerTo(request)
+		if made.response(time.Now(), false); made.Status != http.StatusOK {
+			b.Fatal(made.Status)
+		}
+	}
+}

@@ -1,0 +1,54 @@
+package main
+
+import (
+	"crypto/sha256"
+	"encoding/binary"
+	"encoding/hex"
+
+	"conguraki/spki/guard"
+)
+
+// A digest is by SHA-256.
+type digest = [sha256.Size]byte
+
+// hexDigest returns the SHA-256 digest of octets, in hexadecimal digits.
+func hexDigest(octets []byte) string {
+	digest := sha256.Sum256(octets)
+	return hex.EncodeToString(digest[:])
+}
+
+// A cache keeps which signatures were verified, by the digest of key, message and value. Only valid signatures are kept. A signature stays
+// valid, so nothing in it can become wrong.
+type cache struct {
+	valid *recent[digest, struct{}]
+}
+
+// newCache returns a cache of at most so many signatures. With 0 it keeps none.
+func newCache(most int) *cache {
+	return &cache{newRecent[digest, struct{}](most)}
+}
+
+// verifies says whether a signature is valid, and whether that was known before. The digest of its message is known.
+func (c *cache) verifies(signed guard.Signature, message digest, verify guard.Verify) (isValid, wasKnown bool) {
+	name := digestOf(signed, message)
+	if _, wasKnown := c.valid.get(name); wasKnown {
+		return true, true
+	}
+	if !verify(signed.Key, signed.Message, signed.Value) {
+		return false, false
+	}
+	c.valid.add(name, struct{}{})
+	return true, false
+}
+
+// digestOf returns the digest of a signature. The length of the key goes in front, so that no two signatures have the same octets.
+func digestOf(signed guard.Signature, message digest) (name digest) {
+	hash := sha256.New()
+	var length [8]byte
+	binary.BigEndian.PutUint64(length[:], uint64(len(signed.Key)))
+	for _, part := range [][]byte{length[:], signed.Key, message[:], signed.Value} {
+		hash.Write(part)
+	}
+	hash.Sum(name[:0])
+	return name
+}

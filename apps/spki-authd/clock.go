@@ -1,0 +1,24 @@
+package main
+
+import (
+	"sync/atomic"
+	"time"
+)
+
+// A clock notes whether the time of day goes back: then certificates that have ended count again.
+type clock struct {
+	last, times atomic.Int64
+}
+
+// By how much the time of one request may be before that of another that was noted earlier.
+const backAtLeast = time.Second
+
+// note notes a moment, and says whether it is before the one that was noted last.
+func (c *clock) note(now time.Time) bool {
+	last := c.last.Swap(now.UnixNano())
+	if now.UnixNano() >= last-int64(backAtLeast) {
+		return false
+	}
+	c.times.Add(1)
+	return true
+}

@@ -1,0 +1,232 @@
+package main
+
+import (
+	"bytes"
+	"encoding/json"
+	"errors"
+	"fmt"
+	"io"
+	"os"
+	"strings"
+	"time"
+
+	"conguraki/spki/guard"
+)
+
+// A config is the file of the daemon. README.md says what each field means.
+type config struct {
+	Listen          string  `json:"listen"`
+	SocketMode      string  `json:"socket_mode"`
+	SocketGroup     string  `json:"socket_group"`
+	SecretFile      string  `json:"secret_file"`
+	TLS             *tlsOf  `json:"tls"`
+	Control         string  `json:"control"`
+	Server          string  `json:"server"`
+	Headers         headers `json:"headers"`
+	CertificateForm string  `json:"certificate_form"`
+	PathPrefix      string  `json:"path_prefix"`
+	List            string  `json:"list"`
+	Lists           []place `json:"lists"`
+	Ended           string  `json:"ended"`
+	Log             string  `json:"log"`
+	LogSync         string  `json:"log_sync"`
+	Policy          string  `json:"policy"`
+	Requests        []rule  `json:"requests"`
+	RefusedStatus   int     `json:"refused_status"`
+	Explain         bool    `json:"explain"`
+	Cache           *int    `json:"cache"`
+	Limits          limits  `json:"limits"`
+
+	secret []byte
+	// Whether a rule or a list depends on the host, so that a request must have one.
+	needsHost bool
+}
+
+// The limits of the daemon. Zero is the usual limit.
+type limits struct {
+	Octets       int `json:"octets"`
+	Certificates int `json:"certificates"`
+	Words        int `json:"words"`
+	HeaderOctets int `json:"header_octets"`
+	PathOctets   int `json:"path_octets"`
+	Connections  int `json:"connections"`
+	Seconds      int `json:"seconds"`
+	// The requests a second of one key and of one address. Zero is no limit.
+	KeyRate     int `json:"key_rate"`
+	AddressRate int `json:"address_rate"`
+}
+
+const (
+	usualCache  = 10_000
+	leastSecret = 32
+	// The most octets of the configuration, of the secret and of the digests: what is longer is none of them. A list has at most those that the
+	// library reads.
+	mostConfig, mostSecret, mostEnded, mostList = 1 << 20, 4096, 1 << 24, 1 << 20
+)
+
+// usualLimits are taken for limits of zero. 40 workers of nginx that keep 16 connections each have 640, and there is room for others.
+var usualLimits = limits{Octets: 65_536, Certificates: 16, Words: 64, HeaderOctets: 131_072, PathOctets: 4096, Connections: 1024, Seconds: 5}
+
+// readConfig reads and checks a configuration.
+func readConfig(path string) (*config, error) {
+	octets, err := readFile(path, mostConfig)
+	if err != nil {
+		return nil, err
+	}
+	made, err := parseConfig(octets)
+	if err != nil {
+		return nil, fmt.Errorf("%s: %w", path, err)
+	}
+	if made.SecretFile != "" {
+		made.secret, err = readSecret(made.SecretFile)
+	}
+	return made, err
+}
+
+// parseConfig reads the text of a configuration: one object, of known fields, each once.
+func parseConfig(octets []byte) (*config, error) {
+	if err := checkFields(octets); err != nil {
+		return nil, err
+	}
+	decoder := json.NewDecoder(bytes.NewReader(octets))
+	decoder.DisallowUnknownFields()
+	made := new(config)
+	if err := decoder.Decode(made); err != nil {
+		return nil, err
+	}
+	if _, err := decoder.Token(); !errors.Is(err, io.EOF) {
+		return nil, errors.New("something follows the configuration")
+	}
+	made.setUsual()
+	return made, made.check()
+}
+
+// setUsual puts in what was left out.
+func (c *config) setUsual() {
+	setText(&c.SocketMode, "0660")
+	setText(&c.Policy, "strict")
+	setText(&c.LogSync, syncSeconds)
+	if path := strings.TrimPrefix(c.Listen, unixScheme); path != c.Listen {
+		setText(&c.Control, c.Listen+controlSuffix)
+	}
+	if c.RefusedStatus == 0 {
+		c.RefusedStatus = 400
+	}
+	if c.Cache == nil {
+		size := usualCache
+		c.Cache = &size
+	}
+	given, usual := c.Limits.all(), usualLimits.all()
+	for place, limit := range given {
+		if *limit == 0 {
+			*limit = *usual[place]
+		}
+	}
+	if usual, known := servers[c.Server]; known {
+		c.Headers.setUsual(usual.headers)
+		setText(&c.CertificateForm, usual.form)
+	}
+}
+
+// all returns the limits one by one.
+func (l *limits) all() []*int {
+	return []*int{&l.Octets, &l.Certificates, &l.Words, &l.HeaderOctets, &l.PathOctets, &l.Connections, &l.Seconds, &l.KeyRate, &l.AddressRate}
+}
+
+// setText sets a text that was left out.
+func setText(text *string, usual string) {
+	if *text == "" {
+		*text = usual
+	}
+}
+
+// check says what is wrong in a configuration.
+func (c *config) check() error {
+	if _, known := servers[c.Server]; !known {
+		return fmt.Errorf(`"server" is %q, and must be nginx, caddy, haproxy, apache, traefik or envoy`, c.Server)
+	}
+	if c.PathPrefix != "" && c.Headers.URI != "" {
+		return errors.New(`"path_prefix" is for Envoy, whose requests have no header with the URI`)
+	}
+	if _, err := policyOf(c.Policy); err != nil {
+		return err
+	}
+	if c.RefusedStatus != 400 && c.RefusedStatus != 403 {
+		return fmt.Errorf(`"refused_status" is %d, and must be 400 or 403`, c.RefusedStatus)
+	}
+	for _, limit := range append(c.Limits.all(), c.Cache) {
+		if *limit < 0 {
+			return fmt.Errorf("a limit is %d, and must not be negative", *limit)
+		}
+	}
+	for _, err := range []error{
+		c.checkEntrance(), c.checkControl(), c.checkLog(), c.Headers.check(c.CertificateForm), checkRules(c.Requests), c.checkLists(),
+	} {
+		if err != nil {
+			return err
+		}
+	}
+	return nil
+}
+
+// checkLog says what is wrong in the file of grants.
+func (c *config) checkLog() error {
+	if !strings.HasPrefix(c.Log, "/") {
+		return fmt.Errorf(`"log" is %q, and must be /PATH: the file that gets a line before each grant`, c.Log)
+	}
+	if c.LogSync != syncNever && c.LogSync != syncSeconds && c.LogSync != syncEach {
+		return fmt.Errorf(`"log_sync" is %q, and must be %s, %s or %s`, c.LogSync, syncNever, syncSeconds, syncEach)
+	}
+	return nil
+}
+
+// policyOf returns the policy of a word.
+func policyOf(word string) (guard.Policy, error) {
+	switch word {
+	case "strict":
+		return guard.Strict, nil
+	case "allow-sha1":
+		return guard.AllowSHA1, nil
+	}
+	return guard.Strict, fmt.Errorf(`"policy" is %q, and must be strict or allow-sha1`, word)
+}
+
+// ofQuestion returns the limits that a guard has.
+func (l limits) ofQuestion() guard.Limits {
+	return guard.Limits{Octets: l.Octets, Certificates: l.Certificates, Words: l.Words}
+}
+
+// time returns the time that one request may take.
+func (l limits) time() time.Duration {
+	return time.Duration(l.Seconds) * time.Second
+}
+
+// readSecret reads the secret that the web server and the daemon share.
+func readSecret(path string) ([]byte, error) {
+	about, err := os.Stat(path)
+	if err != nil {
+		return nil, err
+	}
+	if about.Mode().Perm()&0o007 != 0 {
+		return nil, fmt.Errorf("%s: others may read or write the secret: its mode is %v", path, about.Mode().Perm())
+	}
+	octets, err := readFile(path, mostSecret)
+	if err != nil {
+		return nil, err
+	}
+	secret := bytes.TrimRight(octets, "\r\n")
+	if len(secret) < leastSecret || !isVisible(string(secret)) {
+		return nil, fmt.Errorf("%s: a secret is one line of at least %d visible characters", path, leastSecret)
+	}
+	return secret, nil
+}
+
+// isVisible says whether a text has only characters of ASCII that are visible.
+func isVisible(text string) bool {
+	for place := 0; place < len(text); place++ {
+		if text[place] <= ' ' || text[place] > '~' {
+			return false
+		}
+	}
+	return true
+}

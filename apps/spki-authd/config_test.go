@@ -1,0 +1,65 @@
+package main
+
+import (
+	"os"
+	"strings"
+	"testing"
+)
+
+// The least configuration.
+const least = `{"listen": "unix:/run/x/s", "server": "nginx", "list": "/acl", "log": "/log",
+ "requests": [{"prefix": "/", "methods": {"GET": "read"}, "request": ["files", "{method}", "{path}"]}]}`
+
+func TestLeastConfig(t *testing.T) {
+	made, err := parseConfig([]byte(least))
+	if err != nil {
+		t.Fatal(err)
+	}
+	wanted := headers{Method: "X-Original-Method", URI: "X-Original-Uri", Certificate: "X-Client-Cert", Sequence: "X-Spki-Sequence", Secret: "X-Spki-Secret",
+		ID: "X-Request-Id", Host: "X-Original-Host", Address: "X-Real-Ip"}
+	if made.Headers != wanted || made.CertificateForm != escapedPEM || made.RefusedStatus != 400 || made.Limits != usualLimits || *made.Cache != usualCache {
+		t.Errorf("%+v", made)
+	}
+}
+
+// with replaces the beginning of the least configuration.
+func with(fields string) string {
+	return strings.Replace(least, "{", "{"+fields+", ", 1)
+}
+
+func TestWrongConfigs(t *testing.T) {
+	for _, text := range []string{
+		"", "{}", "[]", "null", least[:40], least + "x", least + "{}", with(`"unknown": 1`), with(`"limits": {"octet": 1}`),
+		strings.Replace(least, "nginx", "lighttpd", 1), strings.Replace(least, `"/acl"`, `""`, 1), strings.Replace(least, "unix:/run/x/s", "unix:s", 1),
+		strings.Replace(least, "unix:/run/x/s", "0.0.0.0:80", 1), strings.Replace(least, "unix:/run/x/s", ":80", 1),
+		strings.Replace(least, "unix:/run/x/s", "192.0.2.1:80", 1), strings.Replace(least, "unix:/run/x/s", "localhost:80", 1),
+		strings.Replace(least, "unix:/run/x/s", "127.0.0.1:80", 1), with(`"socket_mode": "0666"`), with(`"socket_mode": "0777"`), with(`"socket_mode": "x"`),
+		with(`"policy": "open"`), with(`"refused_status": 200`), with(`"refused_status": 404`), with(`"cache": -1`), with(`"limits": {"seconds": -1}`),
+		with(`"certificate_form": "pem"`), with(`"headers": {"method": "authorization"}`), with(`"headers": {"method": "a", "uri": "A"}`),
+		with(`"headers": {"method": "a b"}`), strings.Replace(least, `{"GET": "read"}`, `{}`, 1), with(`"cache": "1"`),
+		with(`"path_prefix": "/auth"`),
+	} {
+		if _, err := parseConfig([]byte(text)); err == nil {
+			t.Errorf("accepted: %s", text)
+		}
+	}
+}
+
+func TestSecrets(t *testing.T) {
+	const secret = "0123456789abcdef0123456789abcdef"
+	path := written(t, "secret", secret+"\n")
+	if met, err := readSecret(path); err != nil || string(met) != secret {
+		t.Errorf("%q, %v", met, err)
+	}
+	for _, text := range []string{"", "short\n", secret + " x", secret + "\n" + secret, secret + "\x00"} {
+		if _, err := readSecret(written(t, "secret", text)); err == nil {
+			t.Errorf("%q is a secret", text)
+		}
+	}
+	if err := os.Chmod(path, 0o644); err != nil {
+		t.Fatal(err)
+	}
+	if _, err := readSecret(path); err == nil {
+		t.Error("a secret that everyone may read is one")
+	}
+}

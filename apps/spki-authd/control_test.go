@@ -1,0 +1,213 @@
+package main
+
+import (
+	"bytes"
+	"io"
+	"net"
+	"net/http"
+	"os"
+	"path/filepath"
+	"regexp"
+	"strconv"
+	"strings"
+	"testing"
+)
+
+// said runs the program with words behind the configuration of a site, and returns its status and what it says.
+func (s *served) said(t *testing.T, words ...string) (status int, out, messages string) {
+	t.Helper()
+	text := strings.Replace(strings.Replace(least, "/run/x/s", s.socket, 1), `"/log"`, `"`+s.config.Log+`"`, 1)
+	var to, fault bytes.Buffer
+	status = run(append(words, "-config", written(t, "config", text)), &to, &fault)
+	return status, to.String(), fault.String()
+}
+
+// TestReloadsThatAreRefused has lists read again over the control socket. The status says whether they are in force.
+func TestReloadsThatAreRefused(t *testing.T) {
+	s := serveHere(t, "")
+	s.config.Ended = written(t, "ended", sealed(oneDigest+"\n"))
+	list, err := os.ReadFile(s.config.List)
+	if err != nil {
+		t.Fatal(err)
+	}
+	for _, row := range []struct {
+		list, ended string
+		words       []string
+		status      int
+		said        string
+		isWell      bool
+	}{
+		{string(list), sealed(oneDigest + "\n"), []string{"-reload"}, 0, "", true},
+		{"(acl (entry))", sealed(oneDigest + "\n"), []string{"-reload"}, 1, "refused acl 1 Shape", false},
+		{string(list), sealed(""), []string{"-reload"}, 1, "1 digests that are in force are missing", false},
+		{string(list), "", []string{"-reload", "-fewer"}, 1, "its last line is not", false},
+		{string(list), sealed(""), []string{"-reload", "-fewer"}, 0, "", true},
+		{string(list), oneDigest + "\n", []string{"-reload"}, 1, "its last line is not", false},
+		{string(list), sealed(oneDigest + "\n"), []string{"-reload"}, 0, "", true},
+	} {
+		for path, text := range map[string]string{s.config.List: row.list, s.config.Ended: row.ended} {
+			if err := os.WriteFile(path, []byte(text), 0o600); err != nil {
+				t.Fatal(err)
+			}
+		}
+		if status, _, messages := s.said(t, row.words...); status != row.status || !strings.Contains(messages, row.said) {
+			t.Errorf("%+v: %d, %s", row, status, messages)
+		}
+		status, out, messages := s.said(t, "-health")
+		if (status == 0) != row.isWell || !strings.Contains(messages, row.said) || !strings.Contains(out, "list: "+hexDigest(list)+"\n") {
+			t.Errorf("%+v: %d, %s, %s", row, status, out, messages)
+		}
+		if met := s.get(t, "/web/x"); met != 200 {
+			t.Errorf("%+v: %d", row, met)
+		}
+	}
+}
+
+// TestHealth asks how a daemon is, while it is well, while it grants nothing, and where there is none.
+func TestHealth(t *testing.T) {
+	s := serveHere(t, "")
+	s.grants = s.daemon.granted.write
+	status, out, messages := s.said(t, "-health")
+	for _, wanted := range []string{
+		s.socket + ": answers\n", "\nlast reload: ", ", done\n", "\nreloads: 0, refused 0\n", "\nlists: 1, entries 1, read ", "\nended: 0, " + ofNothing + "\n",
+		"\nlog of grants: lines 0, failures 0\n", "\nclock: went back 0 times\n",
+	} {
+		if status != 0 || !strings.Contains(out, wanted) {
+			t.Errorf("%d, %q, %q", status, out, messages)
+		}
+	}
+	if line := s.lastLine(t); line.ID != healthID || line.Answer != answerRefused || s.lines() != 1 {
+		t.Errorf("%+v", line)
+	}
+	s.daemon.granted.do(func() { s.daemon.ledger.file = &failing{File: s.daemon.ledger.file.(*os.File), room: 0} })
+	if met := s.get(t, "/web/x"); met != 503 {
+		t.Errorf("a full disk: %d", met)
+	}
+	if status, out, messages := s.said(t, "-health"); status != 1 || !strings.Contains(messages, "takes no lines") || !strings.Contains(out, "failures 1") {
+		t.Errorf("%d, %q, %q", status, out, messages)
+	}
+	none := written(t, "config", strings.Replace(least, "/run/x/s", s.socket+"2", 1))
+	var to, fault bytes.Buffer
+	if status := run([]string{"-health", "-config", none}, &to, &fault); status != statusRefused {
+		t.Errorf("nobody is there: %d, %q", status, to.String())
+	}
+}
+
+// TestControlSocket asks the control socket for what is no order, and as a web server would.
+func TestControlSocket(t *testing.T) {
+	s := serveHere(t, "")
+	about, err := os.Stat(s.config.controlPath())
+	if err != nil || about.Mode().Perm() != 0o600 {
+		t.Errorf("%v, %v", about, err)
+	}
+	for _, text := range []string{"GET / HTTP/1.1\r\nHost: x\r\n\r\n", "\n", "reload \n", "Reload\n", strings.Repeat("x", 1000), "reload\r\n", "health"} {
+		connection, err := net.Dial("unix", s.config.controlPath())
+		if err != nil {
+			t.Fatal(err)
+		}
+		_, _ = connection.Write([]byte(text))
+		_ = connection.(*net.UnixConn).CloseWrite()
+		octets, _ := io.ReadAll(connection)
+		connection.Close()
+		if strings.Contains(string(octets), "200") || strings.HasPrefix(string(octets), isDone) {
+			t.Errorf("%q: %q", text, octets)
+		}
+	}
+	client := &http.Client{Transport: &http.Transport{Dial: func(_, _ string) (net.Conn, error) { return net.Dial("unix", s.config.controlPath()) }}}
+	if response, err := client.Get("http://x/"); err == nil {
+		t.Errorf("a web server is answered: %d", response.StatusCode)
+	}
+}
+
+// TestReopenedByOrder renames the log of grants under a daemon that goes on.
+func TestReopenedByOrder(t *testing.T) {
+	s := serveHere(t, "")
+	s.grants = s.daemon.granted.write
+	for turn, wanted := range []string{"-reopen", "signal"} {
+		s.get(t, "/web/x")
+		old := s.config.Log + strconv.Itoa(turn)
+		if err := os.Rename(s.config.Log, old); err != nil {
+			t.Fatal(err)
+		}
+		if wanted == "signal" {
+			s.daemon.signals.reopen <- os.Interrupt
+			s.said(t, "-reload")
+		} else if status, _, messages := s.said(t, wanted); status != 0 {
+			t.Error(messages)
+		}
+		s.get(t, "/web/y")
+		for path, count := range map[string]int{old: 1 + turn, s.config.Log: 1} {
+			if text, err := os.ReadFile(path); err != nil || strings.Count(string(text), "\n") != count {
+				t.Errorf("%s: %q, %v", path, text, err)
+			}
+		}
+	}
+	if err := os.Rename(filepath.Dir(s.config.Log), filepath.Dir(s.config.Log)+".gone"); err != nil {
+		t.Fatal(err)
+	}
+	defer os.Rename(filepath.Dir(s.config.Log)+".gone", filepath.Dir(s.config.Log))
+	if err := s.daemon.inMain((*daemon).reopen); err == nil {
+		t.Error("there is no folder")
+	}
+}
+
+// TestStates compares daemons by their control sockets.
+func TestStates(t *testing.T) {
+	one, two := serveHere(t, ""), serveHere(t, "")
+	compared := func() (int, string) {
+		var to, fault bytes.Buffer
+		return run([]string{"-state", "-of", one.config.Control, "-of", two.config.controlPath()}, &to, &fault), to.String()
+	}
+	if status, out := compared(); status != 1 || strings.Count(out, "\n") != 2 {
+		t.Errorf("%d, %q", status, out)
+	}
+	two.config.List = one.config.List
+	two.said(t, "-reload")
+	if status, out := compared(); status != 0 {
+		t.Errorf("%d, %q", status, out)
+	}
+	two.config.Ended = written(t, "ended", sealed(oneDigest+"\n"))
+	two.said(t, "-reload")
+	if status, out := compared(); status != 1 || !strings.Contains(out, "ended 1 "+ofOneLine) {
+		t.Errorf("%d, %q", status, out)
+	}
+	var to, fault bytes.Buffer
+	if status := run([]string{"-state", "-of", one.socket + "2"}, &to, &fault); status != 1 {
+		t.Errorf("no daemon: %d", status)
+	}
+}
+
+// A line of Prometheus' text format, of a value or about a family.
+var metric = regexp.MustCompile(`^(# (HELP|TYPE) [a-z_]+ .+|[a-z_]+(\{[a-z]+="[^"\\]*"(,[a-z]+="[^"\\]*")*\})? [0-9.e+-]+)$`)
+
+func TestMetrics(t *testing.T) {
+	s := serveHere(t, "")
+	s.grants = s.daemon.granted.write
+	bobs, _ := s.sequencesShown()
+	s.by(s.bob, "GET", "/web/docs/b", bobs)
+	s.by(s.bob, "GET", "/web/docs/b", bobs)
+	s.by(s.bob, "GET", "/web/x", bobs)
+	s.by(s.mallory, "GET", "/web/docs/b", bobs)
+	_, carols := s.sequencesShown()
+	s.by(s.mallory, "GET", "/web/docs/b", carols)
+	s.by(s.mallory, "GET", "//", "")
+	status, out, messages := s.said(t, "-metrics")
+	if status != 0 {
+		t.Fatal(messages)
+	}
+	for _, line := range strings.Split(strings.TrimSuffix(out, "\n"), "\n") {
+		if !metric.MatchString(line) {
+			t.Errorf("%q", line)
+		}
+	}
+	for _, wanted := range []string{
+		`decisions_total{answer="yes",rule="1"} 2`, `decisions_total{answer="no",rule="1"} 3`, `decisions_total{answer="refused",rule="0"} 1`,
+		`seconds_bucket{le="+Inf"} 6`, "seconds_count 6", `signatures_total{how="known"} 3`, `signatures_total{how="verified"} 1`,
+		`signatures_total{how="spared"} 2`, "list_entries 1", "reloads_refused_total 0", "last_reload_refused 0", "log_lines_total 2", "log_failures_total 0",
+		"clock_back_total 0", "lines_lost_total 0",
+	} {
+		if !strings.Contains(out, "\nspki_authd_"+wanted+"\n") {
+			t.Errorf("%s is not in %s", wanted, out)
+		}
+	}
+}

@@ -1,0 +1,62 @@
+package main
+
+import (
+	"strings"
+	"testing"
+
+	"conguraki/spki/verify"
+)
+
+// TestCostToStrangers counts the signatures that are verified. Who would get nothing by valid signatures costs none.
+func TestCostToStrangers(t *testing.T) {
+	s := newSite(t, "")
+	calls := 0
+	s.verify = func(key, message, value []byte) bool {
+		calls++
+		return verify.Signature(key, message, value)
+	}
+	bobs, carols := s.sequencesShown()
+	own := s.mallory.signed(s.mallory.certificate(s.mallory, prefix("read", "/web/"), propagates))
+	many := make([]string, 16)
+	for place := range many {
+		many[place] = own
+	}
+	forged := s.mallory.signed(s.alice.certificate(s.mallory, prefix("read", "/web/"), ""))
+	asAlice := strings.Replace(forged, s.mallory.key+"(7:sig-val", s.alice.key+"(7:sig-val", 1)
+	for _, row := range []struct {
+		name, shown, path string
+		who               person
+		status, calls     int
+		unverified        int
+	}{
+		{"sixteen of her own", sequence(many...), "/web/x", s.mallory, 403, 0, 16}, {"Carol's", carols, "/web/docs/a/b", s.mallory, 403, 0, 2},
+		{"Bob's", bobs, "/web/docs/b", s.mallory, 403, 0, 1}, {"Bob elsewhere", bobs, "/web/x", s.bob, 403, 0, 1},
+		{"another key's signature", sequence(forged), "/web/x", s.mallory, 403, 0, 0}, {"Alice's name under it", sequence(asAlice), "/web/x", s.mallory, 403, 1, 0},
+		{"Bob", bobs, "/web/docs/b", s.bob, 200, 1, 0}, {"Bob again", bobs, "/web/docs/b", s.bob, 200, 0, 0}, {"Carol", carols, "/web/docs/a/b", s.carol, 200, 1, 0},
+	} {
+		calls = 0
+		met, line := s.by(row.who, "GET", row.path, row.shown), s.lastLine(t)
+		if met.StatusCode != row.status || calls != row.calls || line.Unverified != row.unverified {
+			t.Errorf("%s: %d, %d calls, %+v", row.name, met.StatusCode, calls, line)
+		}
+	}
+	if known, verified, spared := s.counts.known.Load(), s.counts.verified.Load(), s.counts.spared.Load(); verified != 3 || spared != 20 || known != 2 {
+		t.Errorf("%d known, %d verified, %d spared", known, verified, spared)
+	}
+}
+
+// TestForgeryThatWouldBeGranted verifies one signature, the first that is false, and says which certificate has none.
+func TestForgeryThatWouldBeGranted(t *testing.T) {
+	s := newSite(t, "")
+	calls := 0
+	s.verify = func(_, _, _ []byte) bool { calls++; return false }
+	_, carols := s.sequencesShown()
+	for turn := 1; turn <= 2; turn++ {
+		if met := s.by(s.carol, "GET", "/web/docs/a/b", carols); met.StatusCode != 403 || calls != turn {
+			t.Errorf("%d, %d calls", met.StatusCode, calls)
+		}
+		if line := s.lastLine(t); line.Reason != "certificate "+digestOfText(s.toBob)+" has no valid signature" || len(line.Certificates) != 1 {
+			t.Errorf("%+v", line)
+		}
+	}
+}

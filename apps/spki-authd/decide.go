@@ -1,0 +1,238 @@
+package main
+
+import (
+	"errors"
+	"strings"
+	"time"
+
+	"conguraki/spki/guard"
+)
+
+// A decider answers what the web server asks.
+type decider struct {
+	config    *config
+	keys      *keys
+	keeper    keeper
+	cache     *cache
+	sequences *sequences
+	counts    *counts
+	clock     clock
+	// The rates of keys and of addresses.
+	byKey, byAddress *rates
+	now              func() time.Time
+	verify           guard.Verify
+	// What writes the line of a grant, and what writes every other line.
+	grants func(line []byte) error
+	rest   func(line []byte)
+}
+
+// The most octets of reasons, and of a target that is not clear, in the log.
+const (
+	mostReasons = 2048
+	mostTarget  = 256
+)
+
+var (
+	errNoCertificate = errors.New("the client has shown no certificate of TLS")
+	errNoRule        = errors.New("no rule says which request this is")
+	errNoList        = errors.New("no access list is for this host and path")
+	errOftenAddress  = errors.New("the address asks more often than address_rate")
+	errOftenKey      = errors.New("the key asks more often than key_rate")
+)
+
+// decide returns the record of what is asked. Its answer is yes only if the guard has granted the request.
+func (d *decider) decide(asked asked) record {
+	made := record{Answer: answerNo, ID: asked.id, Host: asked.host}
+	if !d.byAddress.allows(asked.address, d.now()) {
+		made.Address = cut(asked.address, mostID)
+		return made.ended(answerLimited, errOftenAddress)
+	}
+	if asked.certificate == "" {
+		return made.ended(answerUnknown, errNoCertificate)
+	}
+	client, err := d.keys.of(asked.certificate)
+	if err != nil {
+		return made.ended(answerRefused, err)
+	}
+	made.Key = client.name
+	if !d.byKey.allows(client.name, d.now()) {
+		return made.ended(answerLimited, errOftenKey)
+	}
+	path, err := pathOf(asked.target, d.config.Limits.PathOctets)
+	if err != nil {
+		made.Target = shownTarget(asked.target)
+		return made.ended(answerRefused, err)
+	}
+	made.Request, made.rule = requestOf(d.config.Requests, asked.host, asked.method, path)
+	if made.Request == nil {
+		made.Target = cut(asked.method+" "+path, mostTarget)
+		return made.ended(answerNo, errNoRule)
+	}
+	return d.judge(made, client.key, path, asked.sequence)
+}
+
+// shownTarget returns what the log has of a target that is not clear. A query may have a password or a token, and is left out.
+func shownTarget(target string) string {
+	path, _, _ := strings.Cut(target, "?")
+	return cut(path, mostTarget)
+}
+
+// judge asks the guard.
+func (d *decider) judge(made record, key []byte, path, sequence string) record {
+	question := guard.Question{Key: key, Words: made.Request, Time: d.now()}
+	var decision guard.Decision
+	var err error
+	if known := d.sequences.of(sequence); known != nil && !d.config.Explain {
+		decision, err = d.decideKnown(&made, question, path, known)
+	} else {
+		decision, err = d.decideAnew(&made, question, path, sequence)
+	}
+	switch {
+	case errors.Is(err, errNoList):
+		return made.ended(answerNo, err)
+	case err != nil:
+		return made.ended(answerOf(err), err)
+	case decision.Granted():
+		made.Answer, made.Entry = answerYes, decision.Entry()
+	case sequence == "":
+		made.Answer = answerUnknown
+	}
+	return made
+}
+
+// decideKnown decides a question whose signatures are known to be valid. A certificate that has ended early counts as not verified.
+func (d *decider) decideKnown(made *record, question guard.Question, path string, known *shown) (guard.Decision, error) {
+	question.Sequence = known.text
+	access, at, opened, err := d.ask(question, made.Host, path)
+	if err != nil {
+		return guard.Decision{}, err
+	}
+	defer opened.Close()
+	valid := known.notEnded(access)
+	made.List, made.Certificates, made.Cached = at.digest, known.names, valid
+	if valid < len(known.names) {
+		made.Certificates = known.names[:valid+1]
+		made.setEnded(known.names[valid])
+	}
+	if opened.Count() != len(known.names) {
+		return guard.Decision{}, guard.ErrMisused
+	}
+	if err := markFirst(opened, valid); err != nil {
+		return guard.Decision{}, err
+	}
+	return opened.Decide()
+}
+
+// ask opens a question at the present list of a host and a path.
+func (d *decider) ask(question guard.Question, host, path string) (*access, *list, *guard.Asked, error) {
+	for {
+		access, at, err := d.keeper.at(host, path)
+		if err != nil {
+			return nil, nil, nil, err
+		}
+		opened, err := at.guard.Ask(question)
+		if !errors.Is(err, guard.ErrClosed) {
+			return access, at, opened, err
+		}
+	}
+}
+
+// decideAnew opens a question, and verifies its signatures only if the request is granted where all of them are valid. So whoever gets no right
+// by them, whatever they are, costs no verification. If all of them are valid, the sequence is kept.
+func (d *decider) decideAnew(made *record, question guard.Question, path, sequence string) (guard.Decision, error) {
+	question.Sequence = nothingShown.text
+	if sequence != "" {
+		question.Sequence = []byte(sequence)
+	}
+	access, at, opened, err := d.ask(question, made.Host, path)
+	if err != nil {
+		return guard.Decision{}, err
+	}
+	defer opened.Close()
+	signatures := opened.Signatures()
+	found := shownBy(signatures)
+	standing := found.notEnded(access)
+	made.List, made.Certificates = at.digest, found.names
+	if standing < len(signatures) {
+		made.Certificates = found.names[:standing+1]
+		made.setEnded(found.names[standing])
+	}
+	valid, canHelp := 0, standing == len(signatures) && opened.Possible()
+	if canHelp {
+		valid = d.verified(made, found, signatures)
+	} else {
+		made.Unverified = standing
+	}
+	if err := markFirst(opened, valid); err != nil {
+		return guard.Decision{}, err
+	}
+	decision, err := opened.Decide()
+	if err == nil && canHelp && valid == len(signatures) {
+		d.sequences.add(sequence, found)
+	}
+	if err == nil && !decision.Granted() && d.config.Explain {
+		made.Reasons = explained(opened, made.Unverified)
+	}
+	return decision, err
+}
+
+// explained returns why a request that was decided is denied. Signatures that were not verified, since they could not help, count as valid: so
+// the reasons are what else is missing. What is marked here is asked for reasons alone.
+func explained(opened *guard.Asked, unverified int) string {
+	if err := markFirst(opened, unverified); err != nil {
+		return err.Error()
+	}
+	return reasonsOf(opened.Explain())
+}
+
+// verified returns how many signatures are valid, up to the first that is not.
+func (d *decider) verified(made *record, found *shown, signatures []guard.Signature) int {
+	for place, signed := range signatures {
+		isValid, wasKnown := d.cache.verifies(signed, found.digests[place], d.verify)
+		if !wasKnown {
+			d.counts.verified.Add(1)
+		}
+		if !isValid {
+			made.Certificates = found.names[:place+1]
+			made.Reason = "certificate " + found.names[place] + " has no valid signature"
+			return place
+		}
+		if wasKnown {
+			made.Cached++
+		}
+	}
+	return len(signatures)
+}
+
+// answerOf returns the answer where a guard has none: what is refused is refused, and a fault of the daemon is a failure.
+func answerOf(err error) answer {
+	if errors.Is(err, guard.ErrRefused) && !errors.Is(err, guard.ErrMemory) {
+		return answerRefused
+	}
+	return answerFailed
+}
+
+// reasonsOf returns why a request is denied, without the entries for other keys.
+func reasonsOf(explanation guard.Explanation, err error) string {
+	if err != nil {
+		return err.Error()
+	}
+	var lines []string
+	for _, reason := range explanation.Reasons() {
+		if reason.Word != "NotIssuer" && reason.Word != "NotTheKey" {
+			lines = append(lines, reason.String())
+		}
+	}
+	if lines == nil {
+		return "no entry is for this key or for the first issuer"
+	}
+	return cut(strings.Join(lines, ", "), mostReasons)
+}
+
+// cut returns at most so many octets of a text.
+func cut(text string, most int) string {
+	if len(text) <= most {
+		return text
+	}
+	return text[:most] + ".."
+}

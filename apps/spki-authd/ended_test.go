@@ -1,0 +1,76 @@
+package main
+
+import (
+	"os"
+	"strings"
+	"testing"
+)
+
+const (
+	oneDigest   = "0a0a0a0a0a0a0a0a0a0a0a0a0a0a0a0a0a0a0a0a0a0a0a0a0a0a0a0a0a0a0a0a"
+	otherDigest = "ffffffffffffffffffffffffffffffffffffffffffffffffffffffffffffffff"
+	// The digest of no octets, and that of the line of oneDigest, as sha256sum prints them.
+	ofNothing = "e3b0c44298fc1c149afbf4c8996fb92427ae41e4649b934ca495991b7852b855"
+	ofOneLine = "71e6362df11a023066db92cd17270d94cea7a9664d1757bd041464d2d3a03002"
+)
+
+func TestEnded(t *testing.T) {
+	for text, wanted := range map[string]int{
+		"end 0 " + ofNothing + "\n": 0, oneDigest + "\nend 1 " + ofOneLine + "\n": 1, sealed("# ended early\n\n" + oneDigest + "\n" + otherDigest + " # Carol's, stolen\n" + oneDigest + "\n"): 3,
+		sealed(oneDigest + " # # see sha256 of the release\n"): 1, sealed("#\n"): 0, sealed("\n\n"): 0,
+	} {
+		if ended, err := endedOf([]byte(text)); err != nil || ended.count != wanted {
+			t.Errorf("%q: %v, %v", text, ended, err)
+		}
+	}
+}
+
+func TestWrongEnded(t *testing.T) {
+	whole := sealed(oneDigest + "\n" + otherDigest + "\n")
+	for name, text := range map[string]string{
+		"empty": "", "no last line": oneDigest + "\n", "cut": whole[:65], "cut in the last line": whole[:len(whole)-9], "no line feed": whole[:len(whole)-1],
+		"a line more": whole + oneDigest + "\n", "a line before": oneDigest + "\n" + whole, "an empty line more": whole + "\n",
+		"twice": whole + whole, "another number": strings.Replace(whole, "end 2", "end 3", 1), "zeros": strings.Replace(whole, "end 2", "end 02", 1),
+		"another digest": strings.Replace(whole, otherDigest, oneDigest, 1), "a large letter": sealed(strings.ToUpper(otherDigest) + "\n"),
+		"short": sealed(oneDigest[1:] + "\n"), "long": sealed(oneDigest + "0a\n"), "two in a line": sealed(oneDigest + " " + otherDigest + "\n"),
+		"a text": sealed("sha256 of the release\n"), "behind a text": sealed("sha256 " + oneDigest + "\n"), "a space before": sealed(" " + oneDigest + "\n"),
+		"no space": sealed(oneDigest + "# x\n"), "a carriage return": sealed(oneDigest + "\r\n"), "spaces": sealed("  \n"), "half": sealed(oneDigest + " #x\n"),
+	} {
+		if _, err := endedOf([]byte(text)); err == nil {
+			t.Errorf("%s: %.200q is read", name, text)
+		}
+	}
+	if _, err := endedOf(nil); err == nil || !strings.Contains(err.Error(), "spki-cert end --ended") {
+		t.Error(err)
+	}
+}
+
+// TestFewerEnded reads files of ended certificates one after the other: what has ended stays so, unless one reload says otherwise.
+func TestFewerEnded(t *testing.T) {
+	s := newSite(t, "")
+	s.config.Ended = written(t, "ended", sealed(digestOfText(s.toBob)+"\n"))
+	for _, row := range []struct {
+		lines    string
+		mayLose  bool
+		isRight  bool
+		isStill  bool
+		evidence string
+	}{
+		{digestOfText(s.toBob) + "\n", false, true, true, "the same"}, {"", false, false, true, "none"},
+		{digestOfText(s.toCarol) + "\n", false, false, true, "another one"},
+		{digestOfText(s.toCarol) + "\n" + digestOfText(s.toBob) + "\n", false, true, true, "one more"},
+		{digestOfText(s.toCarol) + "\n", true, true, false, "one fewer, as wanted"}, {"", false, false, false, "none, later"},
+	} {
+		if err := os.WriteFile(s.config.Ended, []byte(sealed(row.lines)), 0o600); err != nil {
+			t.Fatal(err)
+		}
+		err := s.keeper.reload(s.config, row.mayLose, s.now())
+		if (err == nil) != row.isRight || err != nil && !strings.Contains(err.Error(), "-reload -fewer") {
+			t.Errorf("%s: %v", row.evidence, err)
+		}
+		bobs, _ := s.sequencesShown()
+		if met := s.by(s.bob, "GET", "/web/docs/b", bobs).StatusCode; (met == 403) != row.isStill {
+			t.Errorf("%s: %d", row.evidence, met)
+		}
+	}
+}

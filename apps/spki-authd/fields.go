@@ -1,0 +1,60 @@
+package main
+
+import (
+	"bytes"
+	"encoding/json"
+	"errors"
+	"fmt"
+	"io"
+	"strings"
+)
+
+// checkFields says whether an object of a configuration has a field twice. encoding/json would take the last one, whichever a reader sees first.
+// Upper and lower case are the same to it.
+func checkFields(octets []byte) error {
+	decoder := json.NewDecoder(bytes.NewReader(octets))
+	var open []*object
+	for {
+		token, err := decoder.Token()
+		if errors.Is(err, io.EOF) {
+			return nil
+		}
+		if err != nil {
+			return err
+		}
+		if token == json.Delim('}') || token == json.Delim(']') {
+			open = open[:len(open)-1]
+			continue
+		}
+		if len(open) > 0 {
+			if err := open[len(open)-1].take(token); err != nil {
+				return err
+			}
+		}
+		if token == json.Delim('{') || token == json.Delim('[') {
+			open = append(open, &object{isNamed: token == json.Delim('{'), seen: map[string]bool{}})
+		}
+	}
+}
+
+// An object is one that is being read, or an array.
+type object struct {
+	isNamed, isValue bool
+	seen             map[string]bool
+}
+
+// take notes a name or a value of an object.
+func (o *object) take(token json.Token) error {
+	if !o.isNamed {
+		return nil
+	}
+	if o.isValue = !o.isValue; !o.isValue {
+		return nil
+	}
+	name := strings.ToLower(fmt.Sprint(token))
+	if o.seen[name] {
+		return fmt.Errorf("%q is there twice", token)
+	}
+	o.seen[name] = true
+	return nil
+}

@@ -1,0 +1,24 @@
+package main
+
+import (
+	"strings"
+	"testing"
+)
+
+// TestFieldsThatAreThereTwice has fields twice, of which encoding/json takes the last one.
+func TestFieldsThatAreThereTwice(t *testing.T) {
+	for _, text := range []string{
+		with(`"list": "/other"`), with(`"LIST": "/other"`), with(`"limits": {"seconds": 1, "seconds": 2}`), with(`"policy": "allow-sha1", "policy": "strict"`),
+		with(`"limits": {}, "headers": {}, "Limits": {}`), strings.Replace(least, `"GET": "read"`, `"GET": "read", "GET": "write"`, 1),
+		strings.Replace(least, `"prefix": "/"`, `"prefix": "/", "prefix": "/x/"`, 1),
+	} {
+		if _, err := parseConfig([]byte(text)); err == nil || !strings.Contains(err.Error(), "twice") {
+			t.Errorf("%s: %v", text, err)
+		}
+	}
+	for _, text := range []string{least, with(`"limits": {"seconds": 1}, "headers": {"host": "seconds"}`)} {
+		if _, err := parseConfig([]byte(text)); err != nil {
+			t.Errorf("%s: %v", text, err)
+		}
+	}
+}

@@ -1,0 +1,47 @@
+package main
+
+import (
+	"errors"
+	"path/filepath"
+	"strings"
+	"syscall"
+	"testing"
+)
+
+// TestNoFiles reads what is no file. A FIFO without a writer hangs nobody.
+func TestNoFiles(t *testing.T) {
+	fifo := filepath.Join(t.TempDir(), "fifo")
+	if err := syscall.Mkfifo(fifo, 0o600); err != nil {
+		t.Fatal(err)
+	}
+	for _, path := range []string{fifo, "/dev/null", "/dev/zero", "/dev/tty", t.TempDir()} {
+		if _, err := readFile(path, 9); !errors.Is(err, errNoFile) {
+			t.Errorf("%s: %v", path, err)
+		}
+	}
+	s := newSite(t, "")
+	for _, change := range []func(){func() { s.config.Ended = fifo }, func() { s.config.Ended, s.config.List = "", fifo }} {
+		change()
+		if err := s.keeper.reload(s.config, false, s.now()); !errors.Is(err, errNoFile) {
+			t.Error(err)
+		}
+	}
+	if _, err := readConfig(fifo); !errors.Is(err, errNoFile) {
+		t.Error(err)
+	}
+}
+
+// TestLongLists reads lists of 1 MiB and of one octet more. The refusal says what to do.
+func TestLongLists(t *testing.T) {
+	begin, end := "(3:acl", ")"
+	longest := begin + strings.Repeat(" ", mostList-len(begin)-len(end)) + end
+	if made, err := readList(written(t, "acl", longest), 0, usualLimits); err == nil {
+		made.guard.Close()
+	} else if strings.Contains(err.Error(), "split") {
+		t.Error(err)
+	}
+	_, err := readList(written(t, "acl", longest+" "), 0, usualLimits)
+	if err == nil || !strings.Contains(err.Error(), `split the list by host or prefix ("lists"), or keep its entries in a store`) {
+		t.Error(err)
+	}
+}

@@ -1,0 +1,133 @@
+package main
+
+import (
+	"bytes"
+	"encoding/base64"
+	"encoding/json"
+	"net"
+	"strings"
+	"testing"
+	"time"
+)
+
+// FuzzHeaders sends headers that nobody sends, and holds each answer against what may be one: 200 only for the three requests that are granted.
+func FuzzHeaders(f *testing.F) {
+	s := newSite(f, "")
+	bobs, carols := s.sequencesShown()
+	people := []person{s.alice, s.bob, s.carol, s.mallory}
+	for who, shown := range []string{"", bobs, carols, carols} {
+		for _, target := range []string{"/web/x", "/web/docs/b", "/web/docs/a/b", "/web/%2e%2e/x", "//web/x"} {
+			f.Add("GET", target, people[who].escaped(), "SPKI "+shown, "")
+			f.Add("GET", target, people[who].escaped(), "", shown)
+		}
+	}
+	f.Fuzz(func(t *testing.T, method, target, certificate, credentials, own string) {
+		defer s.log.Reset()
+		pairs := []string{"X-Original-Method", method, "X-Original-URI", target, "X-Client-Cert", certificate}
+		if credentials != "" {
+			pairs = append(pairs, "Authorization", credentials)
+		}
+		if own != "" {
+			pairs = append(pairs, "X-Spki-Sequence", own)
+		}
+		status, line := s.ask(pairs...).StatusCode, s.lastLine(t)
+		switch status {
+		case 200:
+			s.mustBeGranted(t, method, line)
+		case 400, 401, 403:
+		default:
+			t.Errorf("%d: %+v", status, line)
+		}
+		if line.Status != status || (line.Answer == answerYes) != (status == 200) {
+			t.Errorf("%d: %+v", status, line)
+		}
+	})
+}
+
+// FuzzSequence sends other octets as certificates, in a right header, so that they reach the guard.
+func FuzzSequence(f *testing.F) {
+	s := newSite(f, "")
+	people := []person{s.alice, s.bob, s.carol, s.mallory}
+	bobs := s.alice.signed(s.toBob)
+	for who, shown := range []string{"", bobs, bobs + s.bob.signed(s.toCarol), s.mallory.signed(s.toBob)} {
+		f.Add(uint8(who), "/web/docs/a/b", []byte("(8:sequence"+shown+")"))
+	}
+	f.Fuzz(func(t *testing.T, who uint8, target string, octets []byte) {
+		defer s.log.Reset()
+		shown := "{" + base64.StdEncoding.EncodeToString(octets) + "}"
+		status, line := s.by(people[int(who)%len(people)], "GET", target, shown).StatusCode, s.lastLine(t)
+		if status == 200 {
+			s.mustBeGranted(t, "GET", line)
+		} else if status != 400 && status != 403 || line.Answer == answerYes {
+			t.Errorf("%d: %+v", status, line)
+		}
+	})
+}
+
+// A played connection is one on which a client has sent all that it sends.
+type played struct {
+	net.Conn
+	sent *bytes.Reader
+	told bytes.Buffer
+}
+
+func (p *played) Read(octets []byte) (int, error)  { return p.sent.Read(octets) }
+func (p *played) Write(octets []byte) (int, error) { return p.told.Write(octets) }
+func (p *played) Close() error                     { return nil }
+func (p *played) SetDeadline(time.Time) error      { return nil }
+func (p *played) SetReadDeadline(time.Time) error  { return nil }
+
+// FuzzConnection sends octets that may be requests. Each answer has a line in the log that says the same, and 200 is said where it is granted.
+func FuzzConnection(f *testing.F) {
+	s := newSite(f, "")
+	door := newDoor(s.decider)
+	header := " / HTTP/1.1\r\nHost: x\r\nX-Original-Method: GET\r\nX-Original-URI: /web/x\r\nX-Client-Cert: " + s.alice.escaped() + "\r\n"
+	for _, text := range []string{
+		"GET" + header + "\r\n", "GET" + header + "\r\nHEAD" + header + "Connection: close\r\n\r\n", "OPTIONS * HTTP/1.1\r\n\r\n", "x\r\n\r\n",
+		"GET" + header + "Content-Length: 3\r\n\r\nabcGET" + header + "\r\n", "GET" + header + "Transfer-Encoding: chunked\r\n\r\n0\r\n\r\n",
+		"GET" + header + "X-Client-Cert: " + s.bob.escaped() + "\r\n\r\n", "PUT" + header + "Expect: 100-continue\r\nContent-Length: 1\r\n\r\n",
+	} {
+		f.Add([]byte(text))
+	}
+	f.Fuzz(func(t *testing.T, octets []byte) {
+		defer s.log.Reset()
+		connection := &played{sent: bytes.NewReader(octets)}
+		door.places <- struct{}{}
+		if door.enter(connection); len(door.open) != 1 {
+			t.Fatal("the connection is not open")
+		}
+		door.answerAll(connection)
+		told, lines := connection.told.String(), strings.SplitAfter(s.log.String(), "\n")
+		answers := strings.SplitAfter(told, "\r\n\r\n")
+		if len(answers) != len(lines) || len(door.open) != 0 || len(door.places) != 0 {
+			t.Fatalf("%d answers, %d lines: %q", len(answers)-1, len(lines)-1, told)
+		}
+		for place, answer := range answers[:len(answers)-1] {
+			var line record
+			if err := json.Unmarshal([]byte(lines[place]), &line); err != nil {
+				t.Fatal(err)
+			}
+			if strings.HasPrefix(answer, "HTTP/1.1 200 ") != (line.Answer == answerYes) || !strings.Contains(answer, "X-Spki-Answer: "+string(line.Answer)+"\r\n") {
+				t.Errorf("%q, %+v", answer, line)
+			}
+			if line.Answer == answerYes {
+				s.mustBeGranted(t, "GET", line)
+			}
+		}
+	})
+}
+
+// mustBeGranted says whether a person may read a path: by what the certificates say, and by nothing that the daemon computes.
+func (s *site) mustBeGranted(t *testing.T, method string, line record) {
+	t.Helper()
+	folders := map[string]string{s.alice.key: "/web/", s.bob.key: "/web/docs/", s.carol.key: "/web/docs/a/"}
+	for key, folder := range folders {
+		if line.Key == hexDigest([]byte(key)) {
+			path := line.Request[2]
+			if method == "GET" && line.Request[1] == "read" && len(path) >= len(folder) && path[:len(folder)] == folder {
+				return
+			}
+		}
+	}
+	t.Errorf("granted: %+v", line)
+}

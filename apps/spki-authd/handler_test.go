@@ -1,0 +1,317 @@
+package main
+
+import (
+	"bufio"
+	"bytes"
+	"encoding/json"
+	"net/http"
+	"net/http/httptest"
+	"os"
+	"strings"
+	"testing"
+	"time"
+)
+
+// A site is a decider with a list, and the people whom the tests are about: Alice is on the list, and gives Bob a right, who gives Carol one.
+type site struct {
+	*decider
+	alice, bob, carol, mallory person
+	toBob, toCarol             string
+	log                        journal
+}
+
+// newSite makes a site, with more fields of a configuration.
+func newSite(t testing.TB, fields string) *site {
+	t.Helper()
+	made := &site{alice: newPerson(t), bob: newPerson(t), carol: newPerson(t), mallory: newPerson(t)}
+	list := "(3:acl(5:entry" + made.alice.key + propagates + "(3:tag" + prefix("read", "/web/") + ")))"
+	made.toBob = made.alice.certificate(made.bob, prefix("read", "/web/docs/"), propagates)
+	made.toCarol = made.bob.certificate(made.carol, prefix("read", "/web/docs/a/"), "")
+	text := `{"listen": "unix:/run/x/s", "server": "nginx", "list": "` + written(t, "acl", list) + `", "log": "/log",
+		"requests": [{"prefix": "/", "methods": {"GET": "read", "PUT": "write"}, "request": ["files", "{method}", "{path}"]}]` + fields + `}`
+	config, err := parseConfig([]byte(text))
+	if err != nil {
+		t.Fatal(err)
+	}
+	made.decider = newDecider(config)
+	made.grants, made.rest = made.log.grant, made.log.other
+	if err := made.keeper.reload(config, false, made.now()); err != nil {
+		t.Fatal(err)
+	}
+	return made
+}
+
+// sequencesShown returns what Bob and Carol show.
+func (s *site) sequencesShown() (bob, carol string) {
+	bobs := s.alice.signed(s.toBob)
+	return sequence(bobs), sequence(bobs, s.bob.signed(s.toCarol))
+}
+
+// ask returns the answer to a request with these headers, in pairs of name and value.
+func (s *site) ask(pairs ...string) *http.Response {
+	request := httptest.NewRequest(http.MethodGet, "/auth", nil)
+	for place := 0; place < len(pairs); place += 2 {
+		request.Header.Add(pairs[place], pairs[place+1])
+	}
+	return s.told(request)
+}
+
+// told returns what the web server is told of a request.
+func (s *site) told(request *http.Request) *http.Response {
+	made := s.answerTo(request)
+	response, err := http.ReadResponse(bufio.NewReader(bytes.NewReader(made.response(time.Now(), false))), request)
+	if err != nil {
+		panic(err)
+	}
+	return response
+}
+
+// by returns the answer to a person who shows a sequence, or none.
+func (s *site) by(who person, method, target, sequence string) *http.Response {
+	pairs := []string{"X-Original-Method", method, "X-Original-URI", target, "X-Client-Cert", who.escaped()}
+	if sequence != "" {
+		pairs = append(pairs, "Authorization", "SPKI "+sequence)
+	}
+	return s.ask(pairs...)
+}
+
+// lastLine returns the last line of the log.
+func (s *site) lastLine(t testing.TB) record {
+	t.Helper()
+	lines := strings.Split(strings.TrimSpace(s.log.String()), "\n")
+	var made record
+	if err := json.Unmarshal([]byte(lines[len(lines)-1]), &made); err != nil {
+		t.Fatalf("%q: %v", lines[len(lines)-1], err)
+	}
+	return made
+}
+
+func TestAnswers(t *testing.T) {
+	s := newSite(t, "")
+	bobs, carols := s.sequencesShown()
+	for name, row := range map[string]struct {
+		who                      person
+		method, target, sequence string
+		wanted                   int
+	}{
+		"Alice reads":              {s.alice, "GET", "/web/x", "", 200},
+		"Alice reads, with a text": {s.alice, "GET", "/web/x?y=z", "{KDg6c2VxdWVuY2Up}", 200},
+		"Alice writes":             {s.alice, "PUT", "/web/x", "", 401},
+		"Alice reads elsewhere":    {s.alice, "GET", "/etc/passwd", "", 401},
+		"Alice reads above":        {s.alice, "GET", "/web/../etc/passwd", "", 400},
+		"Bob reads":                {s.bob, "GET", "/web/docs/b", bobs, 200},
+		"Bob shows nothing":        {s.bob, "GET", "/web/docs/b", "", 401},
+		"Bob reads elsewhere":      {s.bob, "GET", "/web/x", bobs, 403},
+		"Bob shows Carol's":        {s.bob, "GET", "/web/docs/a/b", carols, 403},
+		"Carol reads":              {s.carol, "GET", "/web/docs/a/b", carols, 200},
+		"Carol reads more":         {s.carol, "GET", "/web/docs/b", carols, 403},
+		"Carol shows Bob's":        {s.carol, "GET", "/web/docs/a/b", bobs, 403},
+		"Mallory shows Carol's":    {s.mallory, "GET", "/web/docs/a/b", carols, 403},
+		"no rule":                  {s.alice, "DELETE", "/web/x", "", 403},
+		"no sequence":              {s.alice, "GET", "/web/x", "{KDE6YSk=}", 400},
+		"cut off":                  {s.carol, "GET", "/web/docs/a/b", carols[:len(carols)-9], 400},
+	} {
+		if met := s.by(row.who, row.method, row.target, row.sequence); met.StatusCode != row.wanted {
+			t.Errorf("%s: %d, wanted %d: %+v", name, met.StatusCode, row.wanted, s.lastLine(t))
+		}
+	}
+}
+
+func TestHeadersAndLog(t *testing.T) {
+	s := newSite(t, "")
+	bobs, _ := s.sequencesShown()
+	for turn, cached := range []int{0, 1} {
+		met, line := s.by(s.bob, "GET", "/web/docs/b", bobs).Header, s.lastLine(t)
+		key := hexDigest([]byte(s.bob.key))
+		if met.Get("X-Spki-Answer") != "yes" || met.Get("X-Spki-Entry") != "1" || met.Get("X-Spki-Key") != key || met.Get("Cache-Control") != "no-store" {
+			t.Errorf("turn %d: %v", turn, met)
+		}
+		if line.Answer != answerYes || line.Status != 200 || line.Key != key || line.Entry != 1 || line.Cached != cached || len(line.Certificates) != 1 ||
+			line.Certificates[0] != digestOfText(s.toBob) || strings.Join(line.Request, " ") != "files read /web/docs/b" || line.List == "" {
+			t.Errorf("turn %d: %+v", turn, line)
+		}
+	}
+	denied := s.by(s.bob, "GET", "/web/x", bobs)
+	if denied.Header.Get("X-Spki-Answer") != "no" || denied.Header.Get("X-Spki-Entry") != "" {
+		t.Errorf("%v", denied.Header)
+	}
+	refused := s.by(s.bob, "GET", "/web/x", "{KDE6YSk=}")
+	if refused.Header.Get("X-Spki-Reason") != "refused sequence 0 Shape" || s.lastLine(t).Reason != "refused sequence 0 Shape" {
+		t.Errorf("%v, %+v", refused.Header, s.lastLine(t))
+	}
+	if unknown := s.by(s.bob, "GET", "/web/x", ""); unknown.Header.Get("WWW-Authenticate") != "SPKI" {
+		t.Errorf("%v", unknown.Header)
+	}
+	if log := s.log.String(); strings.Contains(log, bobs) || strings.Contains(log, "BEGIN") || strings.Contains(log, "public-key") {
+		t.Error("the log has a whole key or certificate")
+	}
+}
+
+func TestForgedSignatures(t *testing.T) {
+	s := newSite(t, "")
+	forged := s.mallory.signed(s.alice.certificate(s.mallory, prefix("read", "/web/"), propagates))
+	own := s.mallory.signed(s.mallory.certificate(s.mallory, prefix("read", "/web/"), propagates))
+	asAlice := strings.Replace(forged, s.mallory.key+"(7:sig-val", s.alice.key+"(7:sig-val", 1)
+	for name, shown := range map[string]string{"by Mallory's key": forged, "from Mallory": own, "by Alice's key": asAlice} {
+		for turn := 0; turn < 2; turn++ {
+			if met := s.by(s.mallory, "GET", "/web/x", sequence(shown)); met.StatusCode != 403 {
+				t.Errorf("%s: %d", name, met.StatusCode)
+			}
+		}
+	}
+}
+
+func TestWrongHeaders(t *testing.T) {
+	s := newSite(t, "")
+	bobs, _ := s.sequencesShown()
+	whole := []string{"X-Original-Method", "GET", "X-Original-URI", "/web/docs/b", "X-Client-Cert", s.bob.escaped(), "Authorization", "SPKI " + bobs}
+	more := func(pairs ...string) []string { return append(append([]string(nil), whole...), pairs...) }
+	without := func(place int) []string { return append(append([]string(nil), whole[:place]...), whole[place+2:]...) }
+	for name, row := range map[string]struct {
+		pairs  []string
+		wanted int
+	}{
+		"whole": {whole, 200}, "no method": {without(0), 400}, "no URI": {without(2), 400}, "no certificate": {without(4), 401},
+		"no sequence": {without(6), 401}, "two methods": {more("X-Original-Method", "GET"), 400}, "two URIs": {more("X-Original-URI", "/web/docs/b"), 400},
+		"two certificates": {more("X-Client-Cert", s.alice.escaped()), 400}, "two sequences": {more("Authorization", "SPKI "+bobs), 400},
+		"both headers": {more("X-Spki-Sequence", bobs), 400}, "own header": {append(without(6), "X-Spki-Sequence", bobs), 200},
+		"other scheme": {append(without(6), "Authorization", "Basic QTpC"), 401}, "other scheme, own header": {append(without(6), "Authorization", "Bearer x",
+			"X-Spki-Sequence", bobs), 200}, "small letters": {append(without(6), "Authorization", "spki "+bobs), 200},
+		"spaces": {append(without(6), "Authorization", "SPKI    "+bobs), 200}, "no scheme": {append(without(6), "Authorization", bobs), 401},
+		"scheme alone": {append(without(6), "Authorization", "SPKI"), 400}, "advanced form": {append(without(6), "Authorization", "SPKI (sequence)"), 400},
+		"two texts": {append(without(6), "Authorization", "SPKI "+bobs+bobs), 400}, "text behind": {append(without(6), "Authorization", "SPKI "+bobs+" x"), 400},
+		"empty certificate": {append(without(4), "X-Client-Cert", ""), 401}, "long": {more("X-Other", strings.Repeat("x", 131_072)), 400},
+		"long sequence": {append(without(6), "Authorization", "SPKI {"+strings.Repeat("A", 65_536)+"}"), 400},
+	} {
+		if met := s.ask(row.pairs...); met.StatusCode != row.wanted {
+			t.Errorf("%s: %d, wanted %d: %+v", name, met.StatusCode, row.wanted, s.lastLine(t))
+		}
+	}
+}
+
+func TestManyCertificates(t *testing.T) {
+	s := newSite(t, "")
+	one := s.alice.signed(s.toBob)
+	many := make([]string, 17)
+	for place := range many {
+		many[place] = one
+	}
+	for count, wanted := range map[int]int{16: 403, 17: 400} {
+		if met := s.by(s.bob, "GET", "/web/docs/b", sequence(many[:count]...)); met.StatusCode != wanted {
+			t.Errorf("%d certificates: %d: %+v", count, met.StatusCode, s.lastLine(t))
+		}
+	}
+}
+
+func TestSecretOfServer(t *testing.T) {
+	s := newSite(t, "")
+	s.config.secret = []byte("0123456789abcdef0123456789abcdef")
+	whole := []string{"X-Original-Method", "GET", "X-Original-URI", "/web/b", "X-Client-Cert", s.alice.escaped()}
+	for given, wanted := range map[string]int{"": 403, "x": 403, string(s.config.secret): 200, string(s.config.secret) + "x": 403} {
+		pairs := whole
+		if given != "" {
+			pairs = append(pairs[:len(pairs):len(pairs)], "X-Spki-Secret", given)
+		}
+		if met := s.ask(pairs...); met.StatusCode != wanted {
+			t.Errorf("%q: %d", given, met.StatusCode)
+		}
+	}
+}
+
+func TestRefusedStatus(t *testing.T) {
+	s := newSite(t, `, "refused_status": 403`)
+	if met := s.by(s.alice, "GET", "/web/../x", ""); met.StatusCode != 403 || met.Header.Get("X-Spki-Answer") != "refused" {
+		t.Errorf("%d, %v", met.StatusCode, met.Header)
+	}
+}
+
+func TestEndedCertificates(t *testing.T) {
+	s := newSite(t, "")
+	bobs, carols := s.sequencesShown()
+	if met := s.by(s.carol, "GET", "/web/docs/a/b", carols); met.StatusCode != 200 {
+		t.Fatal(met.StatusCode)
+	}
+	s.config.Ended = written(t, "ended", sealed(digestOfText(s.toCarol)+" # stolen\n"))
+	if err := s.keeper.reload(s.config, false, s.now()); err != nil {
+		t.Fatal(err)
+	}
+	if met := s.by(s.carol, "GET", "/web/docs/a/b", carols); met.StatusCode != 403 || !strings.Contains(s.lastLine(t).Reason, digestOfText(s.toCarol)) {
+		t.Errorf("an ended certificate counts, although its signature is kept: %d, %+v", met.StatusCode, s.lastLine(t))
+	}
+	if met := s.by(s.bob, "GET", "/web/docs/b", bobs); met.StatusCode != 200 {
+		t.Error(met.StatusCode)
+	}
+}
+
+func TestReloads(t *testing.T) {
+	s := newSite(t, "")
+	if err := os.WriteFile(s.config.List, []byte("(acl (entry))"), 0o600); err != nil {
+		t.Fatal(err)
+	}
+	if err := s.keeper.reload(s.config, false, s.now()); err == nil || !strings.Contains(err.Error(), "refused acl 1 Shape") {
+		t.Error(err)
+	}
+	if met := s.by(s.alice, "GET", "/web/x", ""); met.StatusCode != 200 {
+		t.Errorf("a refused list has replaced the old one: %d", met.StatusCode)
+	}
+	if err := os.WriteFile(s.config.List, []byte("(acl)"), 0o600); err != nil {
+		t.Fatal(err)
+	}
+	if err := s.keeper.reload(s.config, false, s.now()); err != nil {
+		t.Error(err)
+	}
+	if met := s.by(s.alice, "GET", "/web/x", ""); met.StatusCode != 401 {
+		t.Errorf("the old list is asked: %d", met.StatusCode)
+	}
+}
+
+func TestExplanations(t *testing.T) {
+	s := newSite(t, `, "explain": true`)
+	bobs, _ := s.sequencesShown()
+	s.by(s.bob, "GET", "/web/x", bobs)
+	if met := s.lastLine(t).Reasons; met != "entry 1 TagLacks" {
+		t.Error(met)
+	}
+	s.by(s.mallory, "GET", "/web/x", "")
+	if met := s.lastLine(t).Reasons; met != "no entry is for this key or for the first issuer" {
+		t.Error(met)
+	}
+}
+
+func TestTime(t *testing.T) {
+	s := newSite(t, "")
+	until := s.alice.certificateUntil(s.bob, prefix("read", "/web/"), "2026-01-01_00:00:00")
+	for year, wanted := range map[int]int{2025: 200, 2027: 403} {
+		s.now = func() time.Time { return time.Date(year, 1, 1, 0, 0, 0, 0, time.UTC) }
+		if met := s.by(s.bob, "GET", "/web/x", sequence(s.alice.signed(until))); met.StatusCode != wanted {
+			t.Errorf("%d: %d, %+v", year, met.StatusCode, s.lastLine(t))
+		}
+	}
+}
+
+func TestPanicIsAFailure(t *testing.T) {
+	s := newSite(t, "")
+	s.cache = nil
+	bobs, _ := s.sequencesShown()
+	if met := s.by(s.bob, "GET", "/web/docs/b", bobs); met.StatusCode != 503 || s.lastLine(t).Answer != answerFailed {
+		t.Errorf("%d, %+v", met.StatusCode, s.lastLine(t))
+	}
+}
+
+func TestEnvoy(t *testing.T) {
+	s := newSite(t, "")
+	text := strings.Replace(strings.Replace(least, "nginx", "envoy", 1), "{", `{"path_prefix": "/auth", `, 1)
+	config, err := parseConfig([]byte(text))
+	if err != nil {
+		t.Fatal(err)
+	}
+	s.config, s.keys = config, newKeys(config.CertificateForm)
+	for target, wanted := range map[string]int{"/auth/web/x": 200, "/web/x": 400, "/auth/web/../x": 400, "/auth": 400, "/authx/web/x": 400} {
+		request := httptest.NewRequest(http.MethodGet, target, nil)
+		request.RequestURI = target
+		request.Header.Set("X-Forwarded-Client-Cert", `Hash=x;Cert="`+s.alice.escaped()+`"`)
+		if met := s.told(request); met.StatusCode != wanted {
+			t.Errorf("%s: %d, %+v", target, met.StatusCode, s.lastLine(t))
+		}
+	}
+}

@@ -1,0 +1,116 @@
+package main
+
+import (
+	"bytes"
+	"context"
+	"crypto/tls"
+	"crypto/x509"
+	"errors"
+	"fmt"
+	"io"
+	"net"
+	"net/http"
+	"strings"
+	"time"
+)
+
+// healthID is the number of the request by which a daemon is asked whether it answers.
+const healthID = "spki-authd-health"
+
+// checkHealth asks the daemon of a configuration for something that it refuses, and says whether it does, and then how it is. Nothing is decided by
+// that, and no request is ever answered with 200 to say that all is well: a web server could take that for a yes.
+func checkHealth(config *config, out io.Writer) error {
+	if err := config.answers(); err != nil {
+		return err
+	}
+	fmt.Fprintf(out, "%s: answers\n", config.Listen)
+	text, err := give(config.controlPath(), orderHealth)
+	fmt.Fprint(out, text)
+	return err
+}
+
+// answers asks the daemon of a configuration for something that it refuses, and says whether it does.
+func (c *config) answers() error {
+	request, err := http.NewRequest(http.MethodGet, c.scheme()+"://spki-authd/", nil)
+	if err != nil {
+		return err
+	}
+	request.Header.Set(c.Headers.ID, healthID)
+	if len(c.secret) > 0 {
+		request.Header.Set(c.Headers.Secret, string(c.secret))
+	}
+	client, err := c.client()
+	if err != nil {
+		return err
+	}
+	response, err := client.Do(request)
+	if err != nil {
+		return err
+	}
+	defer response.Body.Close()
+	if met := response.Header.Get("X-Spki-Answer"); met != string(answerRefused) && met != string(answerUnknown) {
+		return fmt.Errorf("%s: the answer is %d, %q", c.Listen, response.StatusCode, met)
+	}
+	return nil
+}
+
+// scheme returns the scheme by which the daemon of a configuration is asked.
+func (c *config) scheme() string {
+	if c.TLS != nil {
+		return "https"
+	}
+	return "http"
+}
+
+// client returns a client that asks the daemon of a configuration once. By TLS it asks the holder of the configured certificate alone.
+func (c *config) client() (*http.Client, error) {
+	network, address := "tcp", strings.TrimPrefix(c.Listen, tlsScheme)
+	if path := strings.TrimPrefix(c.Listen, unixScheme); path != c.Listen {
+		network, address = "unix", path
+	}
+	dial := func(ctx context.Context, _, _ string) (net.Conn, error) {
+		return new(net.Dialer).DialContext(ctx, network, address)
+	}
+	transport := &http.Transport{DialContext: dial, DisableKeepAlives: true}
+	certificate, err := c.TLS.read()
+	if certificate != nil {
+		// (the names in the certificate do not count, since it must be this one)
+		transport.TLSClientConfig = &tls.Config{InsecureSkipVerify: true, VerifyPeerCertificate: func(shown [][]byte, _ [][]*x509.Certificate) error {
+			if len(shown) == 0 || !bytes.Equal(shown[0], certificate.Certificate[0]) {
+				return errors.New("another certificate than that of the configuration is shown")
+			}
+			return nil
+		}}
+	}
+	return &http.Client{Timeout: c.Limits.time(), Transport: transport}, err
+}
+
+// health says how the daemon is. The error says what an operator must look after.
+func (d *daemon) health() (string, error) {
+	d.clock.note(d.now())
+	var text strings.Builder
+	present, last := d.keeper.present.Load(), d.keeper.last.Load()
+	how, faults := "done", []string{}
+	if last.fault != nil {
+		how = "refused: " + last.fault.Error()
+		faults = append(faults, "the last reload was refused: "+last.fault.Error())
+	}
+	if d.granted.isFailing.Load() || d.granted.isStuck.Load() {
+		faults = append(faults, "the log of grants takes no lines")
+	}
+	age := func(since time.Time) string {
+		return fmt.Sprintf("%s, %d s ago", stamp(since), int(d.now().Sub(since).Seconds()))
+	}
+	fmt.Fprintf(&text, "started: %s\n", age(d.begun))
+	fmt.Fprintf(&text, "last reload: %s, %s\n", age(last.at), how)
+	fmt.Fprintf(&text, "reloads: %d, refused %d\n", d.keeper.all.Load()-1, d.keeper.refused.Load())
+	fmt.Fprintf(&text, "lists: %d, entries %d, read %s\nlist: %s\n", len(present.lists), present.entries(), age(present.read), present.digest)
+	fmt.Fprintf(&text, "ended: %d, %s\n", present.ended.count, present.ended.digest)
+	fmt.Fprintf(&text, "log of grants: lines %d, failures %d\n", d.granted.written.Load(), d.granted.failed.Load())
+	fmt.Fprintf(&text, "other lines: %d, lost %d\n", d.other.written.Load(), d.other.failed.Load()+d.other.dropped.Load())
+	fmt.Fprintf(&text, "clock: went back %d times\n", d.clock.times.Load())
+	if len(faults) > 0 {
+		return text.String(), errors.New(strings.Join(faults, "; "))
+	}
+	return text.String(), nil
+}

@@ -1,0 +1,69 @@
+package main
+
+import (
+	"bytes"
+	"errors"
+	"io"
+	"sync"
+)
+
+// A journal is where the tests have all lines written: grants and others, each at once.
+type journal struct {
+	mutex sync.Mutex
+	text  bytes.Buffer
+	// What each grant fails by, if anything.
+	fault error
+}
+
+var errFull = errors.New("no space left")
+
+// grant writes the line of a grant.
+func (j *journal) grant(line []byte) error {
+	j.mutex.Lock()
+	defer j.mutex.Unlock()
+	if j.fault == nil {
+		j.text.Write(line)
+	}
+	return j.fault
+}
+
+// other writes another line.
+func (j *journal) other(line []byte) {
+	j.mutex.Lock()
+	defer j.mutex.Unlock()
+	j.text.Write(line)
+}
+
+// String returns all lines.
+func (j *journal) String() string {
+	j.mutex.Lock()
+	defer j.mutex.Unlock()
+	return j.text.String()
+}
+
+// Reset removes all lines.
+func (j *journal) Reset() {
+	j.mutex.Lock()
+	defer j.mutex.Unlock()
+	j.text.Reset()
+}
+
+// fail has each grant fail from now on, or not any more.
+func (j *journal) fail(fault error) {
+	j.mutex.Lock()
+	defer j.mutex.Unlock()
+	j.fault = fault
+}
+
+// writer returns what writes to the journal.
+func (j *journal) writer() io.Writer {
+	return toJournal{j}
+}
+
+// A toJournal writes to a journal.
+type toJournal struct{ *journal }
+
+func (w toJournal) Write(octets []byte) (int, error) {
+	w.other(octets)
+	return len(octets), nil
+}

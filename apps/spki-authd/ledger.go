@@ -1,0 +1,198 @@
+package main
+
+import (
+	"errors"
+	"fmt"
+	"io/fs"
+	"os"
+	"path/filepath"
+	"syscall"
+)
+
+// When a ledger is written to its disk, beyond what the system does by itself.
+const (
+	syncNever   = "never"
+	syncSeconds = "seconds"
+	syncEach    = "each"
+)
+
+// A ledger is the file with a line for each grant. Only one daemon writes it. A line in it is whole or absent.
+type ledger struct {
+	path, syncs string
+	file        file
+	// The octets of the file before the lines that are written now, and whether its last line was cut and could not be removed.
+	whole int64
+	isCut bool
+	// Whether something is written and not yet on the disk, and what was wrong the last time that it should have been.
+	isDirty bool
+	fault   error
+}
+
+// A file is what a ledger needs of an os.File.
+type file interface {
+	Write(octets []byte) (int, error)
+	Truncate(size int64) error
+	Sync() error
+	Stat() (fs.FileInfo, error)
+	Close() error
+}
+
+// Who may read a new ledger, beyond what the daemon's umask takes away.
+const modeOfLedger = 0o640
+
+// openLedger opens or makes a ledger.
+func openLedger(path, syncs string) (*ledger, error) {
+	made := &ledger{path: path, syncs: syncs}
+	return made, made.open()
+}
+
+// open opens or makes the file, which must be one and be written by nobody else. A file whose last line was cut gets a new line.
+func (l *ledger) open() error {
+	if err := mayBeLedger(l.path); err != nil {
+		return err
+	}
+	opened, err := os.OpenFile(l.path, os.O_RDWR|os.O_APPEND|os.O_CREATE|syscall.O_NONBLOCK, modeOfLedger)
+	if err != nil {
+		return err
+	}
+	isCut, size, err := stateOf(opened)
+	if err == nil {
+		err = syncFolder(filepath.Dir(l.path))
+	}
+	if err != nil {
+		opened.Close()
+		return err
+	}
+	l.file, l.whole, l.isCut, l.isDirty, l.fault = opened, size, isCut, false, nil
+	return nil
+}
+
+// mayBeLedger says what is wrong in a path at which a ledger is or will be.
+func mayBeLedger(path string) error {
+	about, err := os.Stat(path)
+	if errors.Is(err, fs.ErrNotExist) {
+		_, err = os.Stat(filepath.Dir(path))
+		return err
+	}
+	if err == nil && !about.Mode().IsRegular() {
+		err = fmt.Errorf("%s: the log is no ordinary file", path)
+	}
+	return err
+}
+
+// mayWrite says whether this user may write a file, or make it.
+func mayWrite(path string) error {
+	const toWrite = 2
+	if _, err := os.Stat(path); errors.Is(err, fs.ErrNotExist) {
+		path = filepath.Dir(path)
+	}
+	if err := syscall.Access(path, toWrite); err != nil {
+		return fmt.Errorf("%s: %w", path, err)
+	}
+	return nil
+}
+
+// stateOf takes a file for this daemon alone, and says whether its last line is cut, and how long it is.
+func stateOf(opened *os.File) (isCut bool, size int64, err error) {
+	about, err := opened.Stat()
+	if err == nil && !about.Mode().IsRegular() {
+		err = fs.ErrInvalid
+	}
+	if err == nil && syscall.Flock(int(opened.Fd()), syscall.LOCK_EX|syscall.LOCK_NB) != nil {
+		err = fmt.Errorf("%s: another daemon writes this log", opened.Name())
+	}
+	if err != nil || about.Size() == 0 {
+		return false, 0, err
+	}
+	last := make([]byte, 1)
+	_, err = opened.ReadAt(last, about.Size()-1)
+	return last[0] != '\n', about.Size(), err
+}
+
+// syncFolder writes a folder to its disk, so that a new file in it stays.
+func syncFolder(path string) error {
+	folder, err := os.Open(path)
+	if err != nil {
+		return err
+	}
+	defer folder.Close()
+	return folder.Sync()
+}
+
+// write writes lines. After an error they are cut off again.
+func (l *ledger) write(lines []byte) error {
+	if err := l.prepare(); err != nil {
+		return err
+	}
+	if l.isCut {
+		lines = append([]byte{'\n'}, lines...)
+	}
+	count, err := l.file.Write(lines)
+	if err == nil && l.syncs == syncEach {
+		err = l.file.Sync()
+	}
+	if err != nil {
+		if l.file.Truncate(l.whole) != nil {
+			l.isCut = l.isCut || count > 0
+		}
+		return err
+	}
+	l.isCut, l.isDirty = false, true
+	return nil
+}
+
+// prepare makes a ledger that was removed again, and tries again what was not written to the disk.
+func (l *ledger) prepare() error {
+	about, err := l.file.Stat()
+	if err != nil {
+		return err
+	}
+	l.whole = about.Size()
+	if system, isKnown := about.Sys().(*syscall.Stat_t); isKnown && system.Nlink == 0 {
+		return l.replace()
+	}
+	if l.fault != nil {
+		l.beat()
+	}
+	return l.fault
+}
+
+// beat writes to the disk what was written since the last time.
+func (l *ledger) beat() {
+	if l.syncs == syncSeconds && (l.isDirty || l.fault != nil) {
+		l.fault = l.file.Sync()
+		l.isDirty = l.fault != nil
+	}
+}
+
+// reopen opens the path again, at which another file may be since. If it cannot be opened, the old one stays.
+func (l *ledger) reopen() error {
+	present, err := l.file.Stat()
+	if err != nil {
+		return err
+	}
+	if about, err := os.Stat(l.path); err == nil && os.SameFile(about, present) {
+		return nil
+	}
+	return l.replace()
+}
+
+// replace opens the path, and closes the old file.
+func (l *ledger) replace() error {
+	old, isSynced := l.file, l.syncs != syncNever
+	if err := l.open(); err != nil {
+		return err
+	}
+	if isSynced {
+		_ = old.Sync()
+	}
+	return old.Close()
+}
+
+// close writes the file to its disk and closes it.
+func (l *ledger) close() {
+	if l.syncs != syncNever {
+		_ = l.file.Sync()
+	}
+	l.file.Close()
+}

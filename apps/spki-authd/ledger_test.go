@@ -1,0 +1,180 @@
+package main
+
+import (
+	"os"
+	"path/filepath"
+	"strings"
+	"syscall"
+	"testing"
+)
+
+// A failing file writes part of what it is given, and fails, as a full disk does. It may not be cut or not be written to its disk.
+type failing struct {
+	*os.File
+	room                  int
+	isUncut, isNotWritten bool
+}
+
+func (f *failing) Write(octets []byte) (int, error) {
+	if f.room < 0 || len(octets) <= f.room {
+		return f.File.Write(octets)
+	}
+	count, err := f.File.Write(octets[:f.room])
+	if err == nil {
+		err = errFull
+	}
+	return count, err
+}
+
+func (f *failing) Truncate(size int64) error {
+	if f.isUncut {
+		return errFull
+	}
+	return f.File.Truncate(size)
+}
+
+func (f *failing) Sync() error {
+	if f.isNotWritten {
+		return errFull
+	}
+	return f.File.Sync()
+}
+
+// opened opens a ledger whose file can fail.
+func opened(t *testing.T, syncs, text string) (*ledger, *failing) {
+	t.Helper()
+	path := filepath.Join(t.TempDir(), "log")
+	if text != "" {
+		path = written(t, "log", text)
+	}
+	made, err := openLedger(path, syncs)
+	if err != nil {
+		t.Fatal(err)
+	}
+	to := &failing{File: made.file.(*os.File), room: -1}
+	made.file = to
+	t.Cleanup(made.close)
+	return made, to
+}
+
+// has says whether a ledger's file has a text.
+func (l *ledger) has(t *testing.T, wanted string) {
+	t.Helper()
+	if met, err := os.ReadFile(l.path); err != nil || string(met) != wanted {
+		t.Errorf("%q, %v, wanted %q", met, err, wanted)
+	}
+}
+
+// TestFullDisk writes two lines of which the second is cut. It is removed, or the next one does not join it.
+func TestFullDisk(t *testing.T) {
+	for isUncut, wanted := range map[bool]string{false: "one\nthree\n", true: "one\ntw\nthree\n"} {
+		made, to := opened(t, syncNever, "")
+		if err := made.write([]byte("one\n")); err != nil {
+			t.Fatal(err)
+		}
+		to.room, to.isUncut = 2, isUncut
+		if made.write([]byte("two\n")) == nil {
+			t.Error("a cut line is written")
+		}
+		to.room = -1
+		if err := made.write([]byte("three\n")); err != nil {
+			t.Error(err)
+		}
+		made.has(t, wanted)
+	}
+}
+
+// TestCutLedger opens a file whose last line was cut, as by a machine that was switched off.
+func TestCutLedger(t *testing.T) {
+	made, to := opened(t, syncNever, "one\ntw")
+	to.room = 0
+	if made.write([]byte("three\n")) == nil {
+		t.Error("a full disk takes a line")
+	}
+	to.room = -1
+	for _, line := range []string{"four\n", "five\n"} {
+		if err := made.write([]byte(line)); err != nil {
+			t.Fatal(err)
+		}
+	}
+	made.has(t, "one\ntw\nfour\nfive\n")
+}
+
+// TestSyncs writes where the disk takes nothing. With `each` that is no line; with `seconds` no further one, until the disk takes them.
+func TestSyncs(t *testing.T) {
+	for syncs, row := range map[string]struct{ first, second bool }{syncNever: {true, true}, syncSeconds: {true, false}, syncEach: {false, false}} {
+		made, to := opened(t, syncs, "")
+		to.isNotWritten = true
+		if err := made.write([]byte("one\n")); (err == nil) != row.first {
+			t.Errorf("%s: %v", syncs, err)
+		}
+		made.beat()
+		if err := made.write([]byte("two\n")); (err == nil) != row.second {
+			t.Errorf("%s: %v", syncs, err)
+		}
+		to.isNotWritten = false
+		if err := made.write([]byte("three\n")); err != nil {
+			t.Errorf("%s: %v", syncs, err)
+		}
+		wanted := map[string]string{syncNever: "one\ntwo\nthree\n", syncSeconds: "one\nthree\n", syncEach: "three\n"}[syncs]
+		made.has(t, wanted)
+	}
+}
+
+// TestReopened renames, removes and empties a file that is written.
+func TestReopened(t *testing.T) {
+	made, _ := opened(t, syncSeconds, "")
+	write := func(line string) {
+		if err := made.write([]byte(line)); err != nil {
+			t.Error(err)
+		}
+	}
+	write("one\n")
+	old := made.path + ".1"
+	if err := os.Rename(made.path, old); err != nil {
+		t.Fatal(err)
+	}
+	write("two\n")
+	for turn := 0; turn < 2; turn++ {
+		if err := made.reopen(); err != nil {
+			t.Error(err)
+		}
+	}
+	write("three\n")
+	made.has(t, "three\n")
+	if met, err := os.ReadFile(old); err != nil || string(met) != "one\ntwo\n" {
+		t.Errorf("%q, %v", met, err)
+	}
+	os.Remove(made.path)
+	write("four\n")
+	made.has(t, "four\n")
+	if err := os.Truncate(made.path, 0); err != nil {
+		t.Fatal(err)
+	}
+	write("five\n")
+	made.has(t, "five\n")
+	if err := os.Rename(filepath.Dir(made.path), filepath.Dir(made.path)+".gone"); err != nil {
+		t.Fatal(err)
+	}
+	if made.reopen() == nil {
+		t.Error("there is no folder")
+	}
+	write("six\n")
+}
+
+// TestNoLedgers opens what is no file, or what another daemon has.
+func TestNoLedgers(t *testing.T) {
+	made, _ := opened(t, syncNever, "")
+	room := t.TempDir()
+	fifo := filepath.Join(room, "fifo")
+	if err := syscall.Mkfifo(fifo, 0o600); err != nil {
+		t.Fatal(err)
+	}
+	for path, wanted := range map[string]string{
+		made.path: "another daemon", fifo: "no ordinary file", room: "no ordinary file", "/dev/null": "no ordinary file", "/none/log": "no such file",
+	} {
+		if _, err := openLedger(path, syncNever); err == nil || !strings.Contains(err.Error(), wanted) {
+			t.Errorf("%s: %v", path, err)
+		}
+	}
+}

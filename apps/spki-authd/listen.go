@@ -1,0 +1,114 @@
+package main
+
+import (
+	"errors"
+	"fmt"
+	"io/fs"
+	"net"
+	"strconv"
+	"strings"
+)
+
+// What begins the name of a Unix socket, and the address of a port with TLS.
+const (
+	unixScheme = "unix:"
+	tlsScheme  = "tls:"
+)
+
+// checkEntrance says what is wrong in who may ask: it must be the web server alone. The web server in turn must know that it is this daemon that
+// answers: by the folder of a socket, or by a certificate.
+func (c *config) checkEntrance() error {
+	if path := strings.TrimPrefix(c.Listen, unixScheme); path != c.Listen {
+		return c.checkSocket(path)
+	}
+	address := strings.TrimPrefix(c.Listen, tlsScheme)
+	host, _, err := net.SplitHostPort(address)
+	ip := net.ParseIP(host)
+	if err == nil && ip != nil && address == c.Listen {
+		return fmt.Errorf(`"listen" is %q: a port without TLS is not taken, since another program could listen there and grant everything: `+
+			`write unix:/PATH, or %s%s with "tls"`, c.Listen, tlsScheme, c.Listen)
+	}
+	if err != nil || ip == nil || !ip.IsLoopback() {
+		return fmt.Errorf(`"listen" is %q, and must be unix:/PATH, tls:127.0.0.1:PORT or tls:[::1]:PORT`, c.Listen)
+	}
+	if c.TLS == nil || c.TLS.Certificate == "" || c.TLS.Key == "" {
+		return errors.New(`"tls" is missing: {"certificate": FILE, "key": FILE} of the daemon, which the web server verifies`)
+	}
+	if c.SecretFile == "" {
+		return errors.New("everyone on this machine may connect to a port: secret_file is missing")
+	}
+	return nil
+}
+
+// checkSocket says what is wrong in a Unix socket.
+func (c *config) checkSocket(path string) error {
+	mode, err := modeOf(c.SocketMode)
+	if err != nil || !strings.HasPrefix(path, "/") {
+		return fmt.Errorf(`"listen" is %q with the mode %q, and must be unix:/PATH with a mode such as 0660`, c.Listen, c.SocketMode)
+	}
+	if c.TLS != nil {
+		return errors.New(`"tls" is for a port`)
+	}
+	return c.mayBeOpenTo(mode)
+}
+
+// mayBeOpenTo says whether a socket may have a mode.
+func (c *config) mayBeOpenTo(mode fs.FileMode) error {
+	if mode&0o007 != 0 && c.SecretFile == "" {
+		return errors.New("everyone may write to the socket by its mode, and there is no secret_file")
+	}
+	return nil
+}
+
+// modeOf reads the mode of a socket.
+func modeOf(text string) (fs.FileMode, error) {
+	mode, err := strconv.ParseUint(text, 8, 12)
+	if err == nil && mode&^0o666 != 0 {
+		err = fs.ErrInvalid
+	}
+	return fs.FileMode(mode), err
+}
+
+// listen takes the socket or the port from the service manager, or opens it.
+func (c *config) listen() (net.Listener, error) {
+	listener, err := inherited()
+	if err == nil && listener != nil {
+		err = c.checkInherited(listener)
+	} else if err == nil {
+		listener, err = c.opened()
+	}
+	if err == nil {
+		err = widen(listener)
+	}
+	if err != nil {
+		return nil, closed(listener, err)
+	}
+	if c.TLS == nil {
+		return listener, nil
+	}
+	return c.TLS.around(listener), nil
+}
+
+// closed closes a listener after a fault.
+func closed(listener net.Listener, fault error) error {
+	if listener != nil {
+		listener.Close()
+	}
+	return fault
+}
+
+// opened opens the socket or the port.
+func (c *config) opened() (net.Listener, error) {
+	if address := strings.TrimPrefix(c.Listen, tlsScheme); address != c.Listen {
+		return net.Listen("tcp", address)
+	}
+	path := strings.TrimPrefix(c.Listen, unixScheme)
+	listener, err := openSocket(path)
+	if err != nil {
+		return nil, err
+	}
+	if err := c.setOwner(path); err != nil {
+		return nil, closed(listener, err)
+	}
+	return listener, nil
+}

@@ -1,0 +1,123 @@
+package main
+
+import (
+	"strings"
+	"testing"
+)
+
+func TestHosts(t *testing.T) {
+	for text, wanted := range map[string]string{
+		"a.example": "a.example", "A.Example": "a.example", "a.example:443": "a.example", "a.example:": "a.example", "192.0.2.1:8443": "192.0.2.1",
+		"[2001:DB8::1]": "[2001:db8::1]", "[::1]:443": "[::1]", "localhost": "localhost", "a-b_c.example": "a-b_c.example",
+	} {
+		if met, err := hostOf(text); err != nil || met != wanted {
+			t.Errorf("%q: %q, %v", text, met, err)
+		}
+	}
+	for _, text := range []string{
+		"", ":443", "a.example.", "a..example", ".example", "a example", "a/b", "a%2eb", "a@b", "a:b", "a:443:443", "::1", "[::1", "[192.0.2.1]", "[x]", "é.example",
+		"a.example:123456", "a,b", "a\x00", strings.Repeat("a", 254),
+	} {
+		if met, err := hostOf(text); err == nil {
+			t.Errorf("%q: %q", text, met)
+		}
+	}
+}
+
+// twoSites returns a site with two hosts: on the one Alice may read, on the other Bob. Below /api/ of each it is Carol.
+func twoSites(t *testing.T) *site {
+	t.Helper()
+	s := newSite(t, "")
+	list := func(who person) string {
+		return written(t, "acl", "(3:acl(5:entry"+who.key+propagates+"(3:tag"+prefix("read", "/web/")+")))")
+	}
+	s.config.List, s.config.Lists = "", []place{
+		{Prefix: "/web/api/", List: list(s.carol)}, {Host: "a.example", List: list(s.alice)}, {Host: "b.example", List: list(s.bob)},
+	}
+	if err := s.config.checkLists(); err != nil {
+		t.Fatal(err)
+	}
+	if err := s.keeper.reload(s.config, false, s.now()); err != nil {
+		t.Fatal(err)
+	}
+	return s
+}
+
+// TestListsOfHosts asks each host with each right. No right on one of them counts on the other.
+func TestListsOfHosts(t *testing.T) {
+	s := twoSites(t)
+	toMallory := s.alice.signed(s.alice.certificate(s.mallory, prefix("read", "/web/"), ""))
+	for name, row := range map[string]struct {
+		host         string
+		who          person
+		path, shown  string
+		wanted       int
+		isInTheLists bool
+	}{
+		"Alice on a": {"a.example", s.alice, "/web/x", "", 200, true}, "Alice on b": {"b.example", s.alice, "/web/x", "", 401, true},
+		"Bob on a": {"a.example", s.bob, "/web/x", "", 401, true}, "Bob on b": {"B.example:443", s.bob, "/web/x", "", 200, true},
+		"Alice's friend on a": {"a.example", s.mallory, "/web/x", sequence(toMallory), 200, true},
+		"Alice's friend on b": {"b.example", s.mallory, "/web/x", sequence(toMallory), 403, true},
+		"Carol's prefix on a": {"a.example", s.carol, "/web/api/x", "", 200, true}, "Alice there": {"a.example", s.alice, "/web/api/x", "", 401, true},
+		"another host": {"c.example", s.alice, "/web/x", "", 403, false}, "no host": {"", s.alice, "/web/x", "", 400, false},
+		"two hosts": {"a.example,b.example", s.alice, "/web/x", "", 400, false}, "below a": {"x.a.example", s.alice, "/web/x", "", 403, false},
+		"Carol's prefix anywhere": {"c.example", s.carol, "/web/api/x", "", 200, true}, "a dot": {"a.example.", s.alice, "/web/x", "", 400, false},
+	} {
+		for turn := 1; turn <= 2; turn++ {
+			pairs := []string{"X-Original-Method", "GET", "X-Original-URI", row.path, "X-Client-Cert", row.who.escaped(), "X-Spki-Sequence", row.shown}
+			if row.host != "" {
+				pairs = append(pairs, "X-Original-Host", row.host)
+			}
+			met, line := s.ask(pairs...), s.lastLine(t)
+			if met.StatusCode != row.wanted || (line.List != "") != row.isInTheLists {
+				t.Errorf("%s, turn %d: %d, wanted %d: %+v", name, turn, met.StatusCode, row.wanted, line)
+			}
+			if host, err := hostOf(row.host); err == nil && line.Host != host {
+				t.Errorf("%s: %+v", name, line)
+			}
+		}
+	}
+}
+
+// TestRulesOfHosts has a rule for one host, beside a list for all.
+func TestRulesOfHosts(t *testing.T) {
+	s := newSite(t, "")
+	s.config.Requests[0].Host = "a.example"
+	if err := s.config.checkLists(); err != nil {
+		t.Fatal(err)
+	}
+	for host, wanted := range map[string]int{"a.example": 200, "b.example": 403, "": 400} {
+		met := s.ask("X-Original-Method", "GET", "X-Original-URI", "/web/x", "X-Client-Cert", s.alice.escaped(), "X-Original-Host", host)
+		if met.StatusCode != wanted {
+			t.Errorf("%q: %d", host, met.StatusCode)
+		}
+	}
+}
+
+// TestHostsThatNothingDependsOn logs the host, and denies nobody for it.
+func TestHostsThatNothingDependsOn(t *testing.T) {
+	s := newSite(t, "")
+	for host, wanted := range map[string]string{"A.example:443": "a.example", "": "", "a b": ""} {
+		met := s.ask("X-Original-Method", "GET", "X-Original-URI", "/web/x", "X-Client-Cert", s.alice.escaped(), "X-Original-Host", host)
+		if met.StatusCode != 200 || s.lastLine(t).Host != wanted {
+			t.Errorf("%q: %d, %+v", host, met.StatusCode, s.lastLine(t))
+		}
+	}
+}
+
+func TestWrongLists(t *testing.T) {
+	lists := func(text string) string { return strings.Replace(least, `"list": "/acl"`, `"lists": [`+text+`]`, 1) }
+	for name, text := range map[string]string{
+		"none": lists(""), "both": with(`"lists": [{"list": "/acl"}]`), "no file": lists(`{"host": "a.example"}`),
+		"a port": lists(`{"host": "a.example:443", "list": "/acl"}`), "a large letter": lists(`{"host": "A.example", "list": "/acl"}`),
+		"no prefix": lists(`{"prefix": "x", "list": "/acl"}`), "twice": lists(`{"host": "a.example", "list": "/a"}, {"host": "a.example", "list": "/b"}`),
+		"behind all": lists(`{"list": "/a"}, {"host": "a.example", "list": "/b"}`), "a pattern": lists(`{"host": "*", "list": "/a"}`),
+	} {
+		if _, err := parseConfig([]byte(text)); err == nil {
+			t.Errorf("%s: accepted", name)
+		}
+	}
+	if made, err := parseConfig([]byte(lists(`{"host": "a.example", "list": "/a"}, {"list": "/b"}`))); err != nil || !made.needsHost || made.Lists[1].Prefix != "/" {
+		t.Errorf("%+v, %v", made, err)
+	}
+}

@@ -1,0 +1,105 @@
+package main
+
+import (
+	"encoding/json"
+	"strconv"
+	"strings"
+)
+
+// The octets that most lines have.
+const roomForLine = 1024
+
+// line returns the record as a line of JSON: what encoding/json writes, which takes four times as long.
+func (r *record) line() []byte {
+	line := fields(make([]byte, 0, roomForLine))
+	line.text("time", r.Time, true)
+	line.text("id", r.ID, false)
+	line.text("host", r.Host, false)
+	line.text("address", r.Address, false)
+	line.text("answer", string(r.Answer), true)
+	line.number("status", int64(r.Status), true)
+	line.text("key", r.Key, false)
+	line.texts("request", r.Request)
+	line.number("entry", int64(r.Entry), false)
+	line.texts("certificates", r.Certificates)
+	line.number("cached", int64(r.Cached), false)
+	line.number("unverified", int64(r.Unverified), false)
+	line.text("list", r.List, false)
+	line.text("reason", r.Reason, false)
+	line.text("reasons", r.Reasons, false)
+	line.text("target", r.Target, false)
+	line.number("microseconds", r.Microseconds, true)
+	return append(line, "}\n"...)
+}
+
+// A fields is an object of JSON up to some field.
+type fields []byte
+
+// name begins a field.
+func (f *fields) name(name string) {
+	begin := byte(',')
+	if len(*f) == 0 {
+		begin = '{'
+	}
+	*f = append(append(append(*f, begin, '"'), name...), '"', ':')
+}
+
+// text writes a field with a text. An empty one is written only if it is needed.
+func (f *fields) text(name, value string, isNeeded bool) {
+	if value != "" || isNeeded {
+		f.name(name)
+		f.string(value)
+	}
+}
+
+// texts writes a field with texts, if there are any.
+func (f *fields) texts(name string, values []string) {
+	if len(values) == 0 {
+		return
+	}
+	f.name(name)
+	before := byte('[')
+	for _, value := range values {
+		*f = append(*f, before)
+		f.string(value)
+		before = ','
+	}
+	*f = append(*f, ']')
+}
+
+// number writes a field with a number. Zero is written only if it is needed.
+func (f *fields) number(name string, value int64, isNeeded bool) {
+	if value != 0 || isNeeded {
+		f.name(name)
+		*f = strconv.AppendInt(*f, value, 10)
+	}
+}
+
+// string writes a text. Where a character of it may need an escape, encoding/json writes it.
+func (f *fields) string(value string) {
+	if isPlain(value) {
+		*f = append(append(append(*f, '"'), value...), '"')
+		return
+	}
+	// (a text has no value that JSON lacks)
+	escaped, _ := json.Marshal(value)
+	*f = append(*f, escaped...)
+}
+
+// plain has the characters that JSON writes as they are.
+var plain = func() (made [256]bool) {
+	for octet := ' '; octet <= '~'; octet++ {
+		made[octet] = !strings.ContainsRune("\"\\<>&", octet)
+	}
+	return made
+}()
+
+// isPlain says whether a text has only such characters.
+func isPlain(text string) bool {
+	for place := 0; place < len(text); place++ {
+		if !plain[text[place]] {
+			return false
+		}
+	}
+	return true
+}

@@ -1,0 +1,90 @@
+package main
+
+import (
+	"encoding/json"
+	"strings"
+	"testing"
+)
+
+// TestLines compares lines with those of encoding/json.
+func TestLines(t *testing.T) {
+	texts := []string{"", "a", "files read /a b", `"`, `\`, "<&>", "\x00\n\r\t\x1f\x7f", "\xff\xc0\x80", "é\u2028", "%5c", "{}[]:,"}
+	numbers := []int{0, 1, -1, 65_536}
+	for _, text := range texts {
+		for _, number := range numbers {
+			for _, list := range [][]string{nil, {}, {text}, {text, "", text}} {
+				made := record{
+					Time: text, ID: text, Answer: answer(text), Status: number, Key: text, Request: list, Entry: number, Certificates: list, Cached: number,
+					Unverified: number, List: text, Reason: text, Reasons: text, Target: text, Microseconds: int64(number), Host: text, Address: text,
+				}
+				wanted, err := json.Marshal(made)
+				if met := string(made.line()); err != nil || met != string(wanted)+"\n" {
+					t.Errorf("%q, wanted %q", met, wanted)
+				}
+			}
+		}
+	}
+}
+
+// TestLogThatCannotBeWritten asks where no grant can be logged: it is none. A denial stays what it is.
+func TestLogThatCannotBeWritten(t *testing.T) {
+	s := newSite(t, "")
+	if met := s.by(s.alice, "GET", "/web/x", ""); met.StatusCode != 200 {
+		t.Fatal(met.StatusCode)
+	}
+	s.log.fail(errFull)
+	met := s.by(s.alice, "GET", "/web/x", "")
+	if met.StatusCode != 503 || met.Header.Get("X-Spki-Answer") != "failed" || met.Header.Get("X-Spki-Entry") != "" {
+		t.Errorf("%d, %v", met.StatusCode, met.Header)
+	}
+	if line := s.lastLine(t); line.Answer != answerFailed || line.Status != 503 || !strings.Contains(line.Reason, errFull.Error()) {
+		t.Errorf("%+v", line)
+	}
+	if met := s.by(s.mallory, "GET", "/web/x", ""); met.StatusCode != 401 {
+		t.Errorf("a denial: %d", met.StatusCode)
+	}
+	s.log.fail(nil)
+	if met := s.by(s.alice, "GET", "/web/x", ""); met.StatusCode != 200 {
+		t.Errorf("afterwards: %d", met.StatusCode)
+	}
+}
+
+// TestLogThatHangs asks where the log of grants takes nothing and says nothing: no grant, and an answer in the time of a request.
+func TestLogThatHangs(t *testing.T) {
+	s := serveHere(t, "")
+	goes := make(chan struct{})
+	defer close(goes)
+	s.grants = newWriter(&hanging{goes: goes}, s.config.Limits.time()/20, nil).write
+	for turn := 0; turn < 2; turn++ {
+		if met := s.get(t, "/web/x"); met != 503 {
+			t.Errorf("%d", met)
+		}
+	}
+	if met := s.get(t, "/x"); met != 401 || s.lastLine(t).Status != 401 {
+		t.Errorf("a denial: %d", met)
+	}
+}
+
+func TestNumbersOfRequests(t *testing.T) {
+	s := newSite(t, "")
+	alice := []string{"X-Original-Method", "GET", "X-Original-URI", "/web/x", "X-Client-Cert", s.alice.escaped()}
+	for id, wanted := range map[string]string{
+		"": "", "4f2a": "4f2a", "\"}": "\"}", "a\n": "", "a\x00": "", strings.Repeat("x", mostID): strings.Repeat("x", mostID),
+		strings.Repeat("x", mostID+1): strings.Repeat("x", mostID) + "..",
+	} {
+		pairs := alice
+		if id != "" {
+			pairs = append(alice[:6:6], "X-Request-Id", id)
+		}
+		if s.ask(pairs...); s.lastLine(t).ID != wanted {
+			t.Errorf("%q: %+v", id, s.lastLine(t))
+		}
+	}
+	if met := s.ask(append(alice[:6:6], "X-Request-Id", "a", "X-Request-Id", "b")...); met.StatusCode != 400 {
+		t.Errorf("two numbers: %d", met.StatusCode)
+	}
+	refused := append([]string{"X-Original-Method", "GET", "X-Original-URI", "/web/../x", "X-Request-Id", "4f2b"}, alice[4:]...)
+	if met := s.ask(refused...); met.StatusCode != 400 || s.lastLine(t).ID != "4f2b" {
+		t.Errorf("%d, %+v", met.StatusCode, s.lastLine(t))
+	}
+}

@@ -1,0 +1,168 @@
+// Command spki-authd says, for a web server, whether the holder of a TLS client certificate may do what it requests. README.md says how it is
+// asked and what it answers.
+package main
+
+import (
+	"errors"
+	"flag"
+	"fmt"
+	"io"
+	"os"
+	"strings"
+
+	"conguraki/spki/guard"
+)
+
+// Exit statuses.
+const (
+	statusDone    = 0
+	statusRefused = 1
+	statusWords   = 2
+)
+
+// The words of the command line.
+type words struct {
+	config    string
+	list      string
+	isTest    bool
+	isHealth  bool
+	isState   bool
+	isMetrics bool
+	isReload  bool
+	isFewer   bool
+	isReopen  bool
+	noCache   bool
+	probe     string
+	isStopped bool
+	isVersion bool
+	// The control sockets whose daemons are compared.
+	controls controls
+}
+
+// controls are the values of a flag that may be there more than once.
+type controls []string
+
+func (c *controls) String() string         { return strings.Join(*c, " ") }
+func (c *controls) Set(value string) error { *c = append(*c, value); return nil }
+
+func main() {
+	os.Exit(run(os.Args[1:], os.Stdout, os.Stderr))
+}
+
+// run does what the words of the command line say, and returns the exit status.
+func run(given []string, out, messages io.Writer) int {
+	words, err := wordsOf(given, messages)
+	if errors.Is(err, flag.ErrHelp) {
+		return statusDone
+	}
+	if err != nil {
+		return statusWords
+	}
+	if words.isVersion {
+		fmt.Fprintln(out, "spki-authd", guard.Version)
+		return statusDone
+	}
+	switch {
+	case words.list != "":
+		err = checkList(words.list, out)
+	case len(words.controls) > 0:
+		err = checkStates(words.controls, out)
+	case words.probe != "":
+		err = probeSite(words.probe, words.isStopped, out)
+	case words.isHealth || words.order() != "":
+		err = askDaemon(words, out)
+	default:
+		err = start(words, out, messages)
+	}
+	if err != nil {
+		fmt.Fprintln(messages, "spki-authd:", err)
+		return statusRefused
+	}
+	return statusDone
+}
+
+// wordsOf reads the words of the command line.
+func wordsOf(given []string, messages io.Writer) (words, error) {
+	var made words
+	flags := flag.NewFlagSet("spki-authd", flag.ContinueOnError)
+	flags.SetOutput(messages)
+	flags.StringVar(&made.config, "config", "/etc/spki-authd/config.json", "the `FILE` of the configuration")
+	flags.StringVar(&made.list, "check", "", "read an access `LIST`, say whether it is one, and end")
+	flags.BoolVar(&made.isTest, "test", false, "read the configuration and its files, and end")
+	flags.BoolVar(&made.isHealth, "health", false, "ask the daemon of the configuration whether it answers and how it is, and end")
+	flags.BoolVar(&made.isReload, "reload", false, "have it read its files again; the status is 1 if one is refused")
+	flags.BoolVar(&made.isFewer, "fewer", false, "with -reload: certificates that have ended may count again")
+	flags.BoolVar(&made.isReopen, "reopen", false, "have it open its log again, after that was renamed")
+	flags.BoolVar(&made.isMetrics, "metrics", false, "print its metrics for Prometheus")
+	flags.BoolVar(&made.isState, "state", false, "print the digests of its lists and of its ended certificates")
+	flags.Var(&made.controls, "of", "with -state: the `CONTROL` socket of a daemon; of several, say whether they have the same state")
+	flags.BoolVar(&made.noCache, "no-cache", false, "verify each signature each time")
+	flags.StringVar(&made.probe, "probe", "", "ask the finished site at this `URL` for what it must deny, say what it grants, and end")
+	flags.BoolVar(&made.isStopped, "stopped", false, "with -probe: the daemon is stopped meanwhile")
+	flags.BoolVar(&made.isVersion, "version", false, "print the version")
+	err := flags.Parse(given)
+	if err != nil {
+		return made, err
+	}
+	if err = made.check(flags.Args()); err != nil {
+		fmt.Fprintln(messages, "spki-authd:", err)
+	}
+	return made, err
+}
+
+// check says what is wrong in the words beside the flags, or in flags together.
+func (w *words) check(rest []string) error {
+	switch {
+	case len(rest) > 0:
+		return fmt.Errorf("%q is no flag", rest[0])
+	case w.isStopped && w.probe == "":
+		return errors.New("-stopped goes with -probe")
+	case w.isFewer && !w.isReload:
+		return errors.New("-fewer is for -reload")
+	case len(w.controls) > 0 && !w.isState:
+		return errors.New("-of is for -state")
+	}
+	return nil
+}
+
+// order returns what the daemon of the configuration is ordered, or nothing.
+func (w *words) order() string {
+	switch {
+	case w.isReload && w.isFewer:
+		return orderReloadFewer
+	case w.isReload:
+		return orderReload
+	case w.isReopen:
+		return orderReopen
+	case w.isMetrics:
+		return orderMetrics
+	case w.isState:
+		return orderState
+	}
+	return ""
+}
+
+// askDaemon asks the daemon of a configuration how it is, or gives it an order.
+func askDaemon(words words, out io.Writer) error {
+	config, err := readConfig(words.config)
+	if err != nil {
+		return err
+	}
+	if words.isHealth {
+		return checkHealth(config, out)
+	}
+	text, err := give(config.controlPath(), words.order())
+	fmt.Fprint(out, text)
+	return err
+}
+
+// checkList says how many entries an access list has.
+func checkList(path string, out io.Writer) error {
+	read, err := readList(path, guard.Strict, usualLimits)
+	if err != nil {
+		return err
+	}
+	defer read.guard.Close()
+	fmt.Fprintf(out, "%s: %d entries\n", path, read.guard.Entries())
+	return nil
+}

@@ -1,0 +1,87 @@
+package main
+
+import (
+	"fmt"
+	"io/fs"
+	"net"
+	"os"
+	"os/user"
+	"strconv"
+	"strings"
+	"syscall"
+)
+
+// What systemd sets for a program that it starts, and the number of the first socket that it hands over.
+const (
+	envNotify  = "NOTIFY_SOCKET"
+	envProcess = "LISTEN_PID"
+	envSockets = "LISTEN_FDS"
+	firstFile  = 3
+)
+
+// notify tells the service manager something, if there is one: READY=1, RELOADING=1, STOPPING=1 or STATUS=TEXT, one a line.
+func notify(what string) error {
+	path := os.Getenv(envNotify)
+	if path == "" {
+		return nil
+	}
+	connection, err := net.Dial("unixgram", path)
+	if err != nil {
+		return err
+	}
+	defer connection.Close()
+	_, err = connection.Write([]byte(what))
+	return err
+}
+
+// inherited returns the socket that the service manager has opened, or nil if it has not. Then connections wait while the daemon is started again.
+func inherited() (net.Listener, error) {
+	if os.Getenv(envProcess) != strconv.Itoa(os.Getpid()) {
+		return nil, nil
+	}
+	if count := os.Getenv(envSockets); count != "1" {
+		return nil, fmt.Errorf("the service manager hands over %s sockets, and must hand over one", count)
+	}
+	file := os.NewFile(firstFile, "the socket of the service manager")
+	defer file.Close()
+	return net.FileListener(file)
+}
+
+// checkInherited says whether a socket of the service manager is that of the configuration. The manager has set its mode and its group.
+func (c *config) checkInherited(listener net.Listener) error {
+	address := listener.Addr()
+	wanted := unixScheme + address.String()
+	if address.Network() != "unix" {
+		wanted = tlsScheme + address.String()
+	}
+	if c.Listen != wanted {
+		return fmt.Errorf(`the service manager hands over %s, and "listen" is %q`, wanted, c.Listen)
+	}
+	path := strings.TrimPrefix(c.Listen, unixScheme)
+	if path == c.Listen {
+		return nil
+	}
+	about, err := os.Stat(path)
+	if err != nil {
+		return err
+	}
+	if err := c.hasGroup(about); err != nil {
+		return err
+	}
+	return c.mayBeOpenTo(about.Mode().Perm())
+}
+
+// hasGroup says whether a socket has the group of the configuration, which may name none.
+func (c *config) hasGroup(about fs.FileInfo) error {
+	if c.SocketGroup == "" {
+		return nil
+	}
+	group, err := user.LookupGroup(c.SocketGroup)
+	if err != nil {
+		return err
+	}
+	if system, isKnown := about.Sys().(*syscall.Stat_t); !isKnown || group.Gid != strconv.Itoa(int(system.Gid)) {
+		return fmt.Errorf(`"socket_group" is %s, and the service manager gives the socket to another one: write SocketGroup in its unit`, c.SocketGroup)
+	}
+	return nil
+}

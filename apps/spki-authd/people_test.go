@@ -1,0 +1,128 @@
+package main
+
+import (
+	"crypto"
+	"crypto/ed25519"
+	"crypto/rand"
+	"crypto/sha256"
+	"crypto/x509"
+	"crypto/x509/pkix"
+	"encoding/base64"
+	"encoding/hex"
+	"encoding/pem"
+	"fmt"
+	"math/big"
+	"net/url"
+	"os"
+	"path/filepath"
+	"strings"
+	"testing"
+	"time"
+
+	"conguraki/spki/verify"
+)
+
+// A person has a key, and a TLS certificate of it that it has signed itself.
+type person struct {
+	private ed25519.PrivateKey
+	key     string
+	der     []byte
+}
+
+// newPerson makes a person.
+func newPerson(t testing.TB) person {
+	t.Helper()
+	public, private, err := ed25519.GenerateKey(rand.Reader)
+	if err != nil {
+		t.Fatal(err)
+	}
+	key, err := verify.KeyOf(public)
+	if err != nil {
+		t.Fatal(err)
+	}
+	return person{private, string(key), selfSigned(t, private)}
+}
+
+// selfSigned returns a certificate of X.509, in DER.
+func selfSigned(t testing.TB, private crypto.Signer) []byte {
+	t.Helper()
+	template := &x509.Certificate{SerialNumber: big.NewInt(1), Subject: pkix.Name{CommonName: "nobody"}, NotAfter: time.Unix(1, 0)}
+	der, err := x509.CreateCertificate(rand.Reader, template, template, private.Public(), private)
+	if err != nil {
+		t.Fatal(err)
+	}
+	return der
+}
+
+// pem returns the certificate in PEM.
+func (p person) pem() string {
+	return string(pem.EncodeToMemory(&pem.Block{Type: "CERTIFICATE", Bytes: p.der}))
+}
+
+// escaped returns the certificate as nginx passes it on.
+func (p person) escaped() string {
+	return strings.ReplaceAll(url.QueryEscape(p.pem()), "+", "%20")
+}
+
+// str writes a string in canonical form.
+func str(octets string) string {
+	return fmt.Sprintf("%d:%s", len(octets), octets)
+}
+
+// certificate writes a certificate in canonical form, by which a person gives a right to another one.
+func (p person) certificate(to person, tag, more string) string {
+	return "(4:cert(6:issuer" + p.key + ")(7:subject" + to.key + ")" + more + "(3:tag" + tag + "))"
+}
+
+// certificateUntil writes a certificate that ends.
+func (p person) certificateUntil(to person, tag, end string) string {
+	return "(4:cert(6:issuer" + p.key + ")(7:subject" + to.key + ")(3:tag" + tag + ")(5:valid(9:not-after" + str(end) + ")))"
+}
+
+// signed returns a certificate with its signature.
+func (p person) signed(certificate string) string {
+	digest := sha256.Sum256([]byte(certificate))
+	octets := ed25519.Sign(p.private, []byte(certificate))
+	value := "(7:sig-val(5:eddsa(1:r" + str(string(octets[:32])) + ")(1:s" + str(string(octets[32:])) + ")))"
+	return certificate + "(9:signature(4:hash6:sha256" + str(string(digest[:])) + ")" + p.key + value + ")"
+}
+
+// sequence returns certificates as a client sends them.
+func sequence(signed ...string) string {
+	return "{" + base64.StdEncoding.EncodeToString([]byte("(8:sequence"+strings.Join(signed, "")+")")) + "}"
+}
+
+// digestOfText returns the digest of a certificate, as the file of ended ones has it.
+func digestOfText(certificate string) string {
+	digest := sha256.Sum256([]byte(certificate))
+	return hex.EncodeToString(digest[:])
+}
+
+// prefix writes the tag of the files that a word may be done to, below a path.
+func prefix(word, path string) string {
+	return "(5:files" + str(word) + "(1:*6:prefix" + str(path) + "))"
+}
+
+// sealed returns the lines of ended certificates with their last line.
+func sealed(lines string) string {
+	digests := 0
+	for _, line := range strings.Split(lines, "\n") {
+		if line != "" && line[0] != '#' {
+			digests++
+		}
+	}
+	return fmt.Sprintf("%send %d %s\n", lines, digests, digestOfText(lines))
+}
+
+// propagates lets the subject delegate.
+const propagates = "(9:propagate)"
+
+// written writes a file, and returns its path.
+func written(t testing.TB, name, text string) string {
+	t.Helper()
+	path := filepath.Join(t.TempDir(), name)
+	if err := os.WriteFile(path, []byte(text), 0o600); err != nil {
+		t.Fatal(err)
+	}
+	return path
+}

@@ -1,0 +1,182 @@
+package main
+
+import (
+	"errors"
+	"fmt"
+	"io"
+	"net/http"
+	"net/url"
+	"sort"
+	"strings"
+)
+
+// A probe asks a finished site for what it must deny. Each request is for a path of its own that is drawn by chance, so a hole shows and no
+// file is read, changed or removed.
+type probe struct {
+	base      *url.URL
+	isStopped bool
+	out       io.Writer
+	// All that was sent, the answers that show that nothing decided, and what was granted.
+	sent, failed, granted int
+}
+
+var (
+	errBase    = errors.New("-probe takes the address of a folder, such as https://files.example.org/")
+	errGranted = errors.New("the site grants what it must deny")
+	errShown   = errors.New("nothing is shown")
+)
+
+// A verdict is what an answer of the site means.
+type verdict int
+
+const (
+	isDenied verdict = iota
+	isFailed
+	isGranted
+)
+
+// denials are the statuses by which a web server says no, by itself or for the daemon: a malformed request, no key, no right, no such method,
+// another host, too many requests, too long a header, and a method or a version that it does not have.
+var denials = map[int]bool{400: true, 401: true, 403: true, 405: true, 421: true, 429: true, 431: true, 501: true, 505: true}
+
+// verdictOf says what a status means. What is neither a denial nor a fault of the server is a grant, also 404: that there is no such file is said
+// behind the decision, and so is 301, 304, 409, 412 or 416.
+func verdictOf(status int) verdict {
+	switch {
+	case denials[status]:
+		return isDenied
+	case status >= 500:
+		return isFailed
+	}
+	return isGranted
+}
+
+// probeSite asks the site at an address, with the daemon or, in a second call, without it. It says what was granted, and returns nil only if that
+// is nothing, and if the answers show that the daemon was asked.
+func probeSite(address string, isStopped bool, out io.Writer) error {
+	base, err := baseOf(address)
+	if err != nil {
+		return err
+	}
+	askers, err := askersOf(base)
+	if err != nil {
+		return err
+	}
+	made := &probe{base: base, isStopped: isStopped, out: out}
+	for _, each := range askers {
+		if err := made.asks(each); err != nil {
+			return err
+		}
+	}
+	return made.end()
+}
+
+// baseOf reads the address of a folder.
+func baseOf(address string) (*url.URL, error) {
+	base, err := url.Parse(address)
+	if err != nil || base.Scheme != "https" && base.Scheme != "http" {
+		return nil, errBase
+	}
+	if base.Host == "" || base.User != nil || base.RawQuery != "" || base.Fragment != "" {
+		return nil, errBase
+	}
+	if base.Path = strings.TrimSuffix(base.Path, "/"); base.RawPath != "" {
+		return nil, errBase
+	}
+	return base, nil
+}
+
+// asks sends all requests of an asker, and prints how often each status was the answer.
+func (p *probe) asks(by asker) error {
+	first, err := by.send(p.base, tries[0])
+	if err != nil && by.mayFail {
+		fmt.Fprintf(p.out, "%s: left out, the server gives no answer: %v\n", by.name, err)
+		return nil
+	}
+	if err != nil {
+		return fmt.Errorf("%s: %w", by.name, err)
+	}
+	if by.protocol != first.protocol {
+		fmt.Fprintf(p.out, "%s: left out, the server has no such protocol\n", by.name)
+		return nil
+	}
+	if !p.isStopped && verdictOf(first.status) == isFailed {
+		return fmt.Errorf("%w: %s: %s is %d; does the daemon run?", errShown, by.name, tries[0].method, first.status)
+	}
+	counts := map[string]int{}
+	p.note(by, first, counts)
+	for _, each := range tries[1:] {
+		answer, err := by.send(p.base, each)
+		switch {
+		case errors.Is(err, errNotSent):
+		case errors.Is(err, errShown):
+			return fmt.Errorf("%s: %w", by.name, err)
+		case err != nil:
+			p.sent++
+			counts["no answer"]++
+		default:
+			p.note(by, answer, counts)
+		}
+	}
+	fmt.Fprintf(p.out, "%s: %s\n", by.name, listed(counts))
+	return nil
+}
+
+// note counts an answer, and says if it is a grant.
+func (p *probe) note(by asker, met answered, counts map[string]int) {
+	p.sent++
+	counts[fmt.Sprint(met.status)]++
+	switch verdictOf(met.status) {
+	case isFailed:
+		p.failed++
+	case isGranted:
+		p.granted++
+		fmt.Fprintf(p.out, "granted: %s %s is %d: %s%s\n", met.try.method, met.target, met.status, by.name, met.left())
+	}
+}
+
+// end says what all answers show.
+func (p *probe) end() error {
+	switch {
+	case p.granted > 0:
+		return fmt.Errorf("%w: %d of %d requests", errGranted, p.granted, p.sent)
+	case p.isStopped && p.failed == 0:
+		return fmt.Errorf("%w: no answer is 5xx, so the daemon is not stopped, or the web server denies without it", errShown)
+	}
+	fmt.Fprintf(p.out, "%s/: %d requests, nothing was granted\n", p.base, p.sent)
+	return nil
+}
+
+// left says what a granted request may have made.
+func (a answered) left() string {
+	if a.status/100 != 2 || !a.try.makes {
+		return ""
+	}
+	return "; remove what it has made"
+}
+
+// listed prints how often each answer was met.
+func listed(counts map[string]int) string {
+	names := make([]string, 0, len(counts))
+	for name := range counts {
+		names = append(names, name)
+	}
+	sort.Strings(names)
+	for place, name := range names {
+		names[place] = fmt.Sprintf("%s %d times", name, counts[name])
+	}
+	return strings.Join(names, ", ")
+}
+
+// header returns the header of a request for a second path, where the method needs one.
+func (t try) header(base *url.URL, second string) http.Header {
+	header := http.Header{"User-Agent": {"spki-authd -probe"}}
+	for name, value := range t.more {
+		header.Set(name, value)
+	}
+	if t.hasSecond {
+		header.Set("Destination", base.String()+"/"+second)
+		header.Set("Overwrite", "F")
+	}
+	return header
+}

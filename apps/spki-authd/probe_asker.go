@@ -1,0 +1,190 @@
+package main
+
+import (
+	"crypto/ecdsa"
+	"crypto/elliptic"
+	"crypto/rand"
+	"crypto/tls"
+	"crypto/x509"
+	"encoding/hex"
+	"errors"
+	"fmt"
+	"io"
+	"math/big"
+	"net/http"
+	"net/url"
+	"strings"
+	"time"
+)
+
+// A try is a request that must be denied. `{}` in its path is a name that is drawn by chance.
+type try struct {
+	method, path, body string
+	more               map[string]string
+	// Whether it would make something if it were granted, whether it names a second path, and whether only HTTP/1.1 has it with a path.
+	makes, hasSecond, isOld bool
+}
+
+// The body of what writes, and of a lock by WebDAV.
+const (
+	textBody = "written by spki-authd -probe\n"
+	lockBody = `<?xml version="1.0"?><lockinfo xmlns="DAV:"><lockscope><exclusive/></lockscope><locktype><write/></locktype></lockinfo>`
+)
+
+// tries are all requests: each method for a plain name, and names that a web server may have rules of their own for.
+var tries = append([]try{
+	{method: "GET"}, {method: "HEAD"}, {method: "POST", body: textBody, makes: true}, {method: "PUT", body: textBody, makes: true},
+	{method: "PATCH", body: textBody, makes: true}, {method: "DELETE"}, {method: "OPTIONS"}, {method: "TRACE"}, {method: "CONNECT", isOld: true},
+	{method: "PROPFIND", more: map[string]string{"Depth": "0"}}, {method: "MKCOL", makes: true}, {method: "MKCOL", path: "{}/", makes: true},
+	{method: "COPY", hasSecond: true, makes: true}, {method: "MOVE", hasSecond: true, makes: true},
+	{method: "LOCK", body: lockBody, makes: true, more: map[string]string{"Depth": "0"}}, {method: "UNLOCK"}, {method: "REPORT"}, {method: "SEARCH"},
+	{method: "PURGE"}, {method: "QUERY"}, {method: "get"}, {method: "PROBE"},
+	{method: "GET", more: map[string]string{"X-Spki-Answer": "yes", "X-Forwarded-For": "127.0.0.1", "X-Real-Ip": "127.0.0.1"}},
+	{method: "GET", more: map[string]string{"Authorization": "Basic cHJvYmU6cHJvYmU="}},
+	{method: "GET", more: map[string]string{"Cache-Control": "only-if-cached, max-stale"}},
+	{method: "POST", body: textBody, makes: true, more: map[string]string{"X-Http-Method-Override": "PUT"}},
+}, named("{}/", "{}/{}", "{}/index.html", "{}.html", "{}.css", "{}.js", "{}.png", "{}.php", "{}.json", "{}.txt", ".{}", "{}?{}")...)
+
+// named returns requests that read and write paths of these forms.
+func named(paths ...string) (made []try) {
+	for _, path := range paths {
+		made = append(made, try{method: "GET", path: path}, try{method: "PUT", path: path, body: textBody, makes: true})
+	}
+	return made
+}
+
+// How often a request is sent again where the answer is 429, the pause before, and the time for an answer.
+const mostAgain = 100
+
+var (
+	timeAgain     = 200 * time.Millisecond
+	timeForAnswer = 30 * time.Second
+	// Who may have signed the site's certificate: nil for those whom the system trusts.
+	rootsOfSite *x509.CertPool
+)
+
+// errNotSent is the fault of a request that the protocol does not have.
+var errNotSent = errors.New("the protocol has no such request")
+
+// An asker sends requests by one protocol, with a key or without.
+type asker struct {
+	name     string
+	protocol int
+	// Whether the server may refuse its key before any answer.
+	mayFail bool
+	client  *http.Client
+}
+
+// An answered is a request and the status of its answer.
+type answered struct {
+	try              try
+	target           string
+	status, protocol int
+}
+
+// askersOf returns who asks: nobody, and a key that nobody knows, by each protocol of the address.
+func askersOf(base *url.URL) ([]asker, error) {
+	if base.Scheme == "http" {
+		return []asker{newAsker("HTTP/1.1 without TLS", 1, nil)}, nil
+	}
+	strange, err := newStrange()
+	if err != nil {
+		return nil, err
+	}
+	return []asker{newAsker("HTTP/1.1, no key", 1, nil), newAsker("HTTP/2, no key", 2, nil),
+		newAsker("HTTP/1.1, a strange key", 1, strange), newAsker("HTTP/2, a strange key", 2, strange)}, nil
+}
+
+// newAsker returns an asker with a certificate for TLS, or with none. It follows no redirect.
+func newAsker(name string, protocol int, own *tls.Certificate) asker {
+	settings := &tls.Config{RootCAs: rootsOfSite, NextProtos: []string{"http/1.1"}}
+	if own != nil {
+		settings.Certificates = []tls.Certificate{*own}
+	}
+	transport := &http.Transport{TLSClientConfig: settings, DisableCompression: true, ForceAttemptHTTP2: protocol == 2}
+	if protocol == 2 {
+		settings.NextProtos = nil
+	} else {
+		transport.TLSNextProto = map[string]func(string, *tls.Conn) http.RoundTripper{}
+	}
+	client := &http.Client{Transport: transport, Timeout: timeForAnswer}
+	client.CheckRedirect = func(*http.Request, []*http.Request) error { return http.ErrUseLastResponse }
+	return asker{name, protocol, own != nil, client}
+}
+
+// newStrange makes a key, and a certificate for TLS that it signs itself.
+func newStrange() (*tls.Certificate, error) {
+	private, err := ecdsa.GenerateKey(elliptic.P256(), rand.Reader)
+	if err != nil {
+		return nil, err
+	}
+	now := time.Now()
+	about := &x509.Certificate{SerialNumber: big.NewInt(now.UnixNano()), NotBefore: now.Add(-time.Hour), NotAfter: now.Add(24 * time.Hour)}
+	octets, err := x509.CreateCertificate(rand.Reader, about, about, private.Public(), private)
+	return &tls.Certificate{Certificate: [][]byte{octets}, PrivateKey: private}, err
+}
+
+// send sends a request, for a path that nobody has asked for before. Where it is one too many, it waits and sends it again.
+func (a asker) send(base *url.URL, each try) (answered, error) {
+	if each.isOld && a.protocol != 1 {
+		return answered{}, errNotSent
+	}
+	for count := 0; ; count++ {
+		made, err := a.sendOnce(base, each)
+		if err == nil && made.status == http.StatusTooManyRequests && count == mostAgain {
+			err = fmt.Errorf("%w: each answer to %s is 429", errShown, each.method)
+		}
+		if err != nil || made.status != http.StatusTooManyRequests {
+			return made, err
+		}
+		time.Sleep(timeAgain)
+	}
+}
+
+// sendOnce sends a request once.
+func (a asker) sendOnce(base *url.URL, each try) (made answered, err error) {
+	path := each.path
+	if path == "" {
+		path = "{}"
+	}
+	target, err := fresh(base, path)
+	if err != nil {
+		return made, err
+	}
+	second, err := drawn()
+	if err != nil {
+		return made, err
+	}
+	request, err := http.NewRequest(each.method, target, strings.NewReader(each.body))
+	if err != nil {
+		return made, err
+	}
+	request.Header = each.header(base, second)
+	response, err := a.client.Do(request)
+	if err != nil {
+		return made, err
+	}
+	// (what is in the answer does not matter)
+	_, _ = io.CopyN(io.Discard, response.Body, mostBody)
+	response.Body.Close()
+	return answered{each, request.URL.RequestURI(), response.StatusCode, response.ProtoMajor}, nil
+}
+
+// fresh returns the address of a path of some form, with names that are drawn by chance.
+func fresh(base *url.URL, path string) (string, error) {
+	for strings.Contains(path, "{}") {
+		name, err := drawn()
+		if err != nil {
+			return "", err
+		}
+		path = strings.Replace(path, "{}", name, 1)
+	}
+	return base.String() + "/" + path, nil
+}
+
+// drawn returns a name that nobody has used before.
+func drawn() (string, error) {
+	var octets [16]byte
+	_, err := rand.Read(octets[:])
+	return "spki-probe-" + hex.EncodeToString(octets[:]), err
+}

@@ -1,0 +1,165 @@
+package main
+
+import (
+	"bytes"
+	"crypto/tls"
+	"crypto/x509"
+	"net/http"
+	"net/http/httptest"
+	"strings"
+	"sync"
+	"testing"
+	"time"
+)
+
+// probed starts a site with some handler, probes it, and returns the status, what was said, and the paths that were asked for.
+func probed(t *testing.T, handler func(http.ResponseWriter, *http.Request), words ...string) (status int, said string, paths []string) {
+	t.Helper()
+	var mutex sync.Mutex
+	server := httptest.NewUnstartedServer(http.HandlerFunc(func(answer http.ResponseWriter, request *http.Request) {
+		mutex.Lock()
+		paths = append(paths, request.URL.Path)
+		mutex.Unlock()
+		handler(answer, request)
+	}))
+	server.EnableHTTP2 = true
+	server.TLS = &tls.Config{ClientAuth: tls.RequestClientCert}
+	server.StartTLS()
+	defer server.Close()
+	rootsOfSite, timeAgain = x509.NewCertPool(), time.Millisecond
+	rootsOfSite.AddCert(server.Certificate())
+	defer func() { rootsOfSite, timeAgain = nil, 200*time.Millisecond }()
+	var out, messages bytes.Buffer
+	status = run(append([]string{"-probe", server.URL + "/files/"}, words...), &out, &messages)
+	return status, out.String() + messages.String(), paths
+}
+
+// denies answers 401, except where a hole is: there the status is another one.
+func denies(isHole func(*http.Request) bool, status int) func(http.ResponseWriter, *http.Request) {
+	return func(answer http.ResponseWriter, request *http.Request) {
+		if isHole(request) {
+			answer.WriteHeader(status)
+			return
+		}
+		answer.WriteHeader(http.StatusUnauthorized)
+	}
+}
+
+func never(*http.Request) bool  { return false }
+func always(*http.Request) bool { return true }
+
+// isMethod says that the hole is for one method.
+func isMethod(method string) func(*http.Request) bool {
+	return func(request *http.Request) bool { return request.Method == method }
+}
+
+func hasKey(request *http.Request) bool     { return len(request.TLS.PeerCertificates) > 0 }
+func isAnswered(request *http.Request) bool { return request.Header.Get("X-Spki-Answer") == "yes" }
+
+func hasSuffix(suffix string) func(*http.Request) bool {
+	return func(request *http.Request) bool { return strings.HasSuffix(request.URL.Path, suffix) }
+}
+
+// Each hole is found, and what denies passes.
+func TestProbe(t *testing.T) {
+	for name, each := range map[string]struct {
+		isHole         func(*http.Request) bool
+		answer, status int
+		words, said    string
+	}{
+		"all is denied":             {never, 200, statusDone, "", "nothing was granted"},
+		"denied, none was stopped":  {never, 200, statusRefused, "-stopped", "nothing is shown"},
+		"the daemon is stopped":     {always, 500, statusDone, "-stopped", "nothing was granted"},
+		"no gateway":                {always, 502, statusDone, "-stopped", "nothing was granted"},
+		"stopped without the words": {always, 500, statusRefused, "", "does the daemon run?"},
+		"a page of errors":          {always, 200, statusRefused, "-stopped", "granted: GET /files/spki-probe-"},
+		"no such file":              {always, 404, statusRefused, "", "granted: GET /files/spki-probe-"},
+		"no such file, stopped":     {always, 404, statusRefused, "-stopped", "granted: GET"},
+		"a redirect":                {always, 302, statusRefused, "", "granted: GET"},
+		"it has not changed":        {always, 304, statusRefused, "", "granted: GET"},
+		"a conflict":                {isMethod("MKCOL"), 409, statusRefused, "", "granted: MKCOL"},
+		"one method":                {isMethod("PUT"), 201, statusRefused, "", "; remove what it has made"},
+		"a method of nobody's":      {isMethod("PROBE"), 404, statusRefused, "", "granted: PROBE"},
+		"small letters":             {isMethod("get"), 404, statusRefused, "", "granted: get"},
+		"a question of methods":     {isMethod("OPTIONS"), 204, statusRefused, "", "granted: OPTIONS"},
+		"a head":                    {isMethod("HEAD"), 404, statusRefused, "", "granted: HEAD"},
+		"no such method":            {isMethod("TRACE"), 405, statusDone, "", "405 1 times"},
+		"not done by the server":    {isMethod("LOCK"), 501, statusDone, "", "501 1 times"},
+		"a kind of file":            {hasSuffix(".css"), 404, statusRefused, "", ".css is 404"},
+		"a folder":                  {hasSuffix("/"), 200, statusRefused, "", "/ is 200"},
+		"HTTP/2 alone":              {func(it *http.Request) bool { return it.ProtoMajor == 2 }, 200, statusRefused, "", "HTTP/2, no key"},
+		"any key":                   {hasKey, 404, statusRefused, "", "HTTP/1.1, a strange key"},
+		"the daemon's own header":   {isAnswered, 404, statusRefused, "", "granted"},
+		"a password":                {func(it *http.Request) bool { return it.Header.Get("Authorization") != "" }, 200, statusRefused, "", "granted"},
+		"too many for ever":         {isMethod("PUT"), 429, statusRefused, "", "each answer to PUT is 429"},
+	} {
+		t.Run(name, func(t *testing.T) {
+			status, said, paths := probed(t, denies(each.isHole, each.answer), strings.Fields(each.words)...)
+			if status != each.status || !strings.Contains(said, each.said) {
+				t.Errorf("status %d, and must be %d with %q: %s", status, each.status, each.said, said)
+			}
+			if len(paths) == 0 {
+				t.Error("nothing was asked")
+			}
+		})
+	}
+}
+
+// No path is asked for twice, and each is one that was drawn by chance. So is the second path of COPY and MOVE.
+func TestProbePaths(t *testing.T) {
+	seconds := map[string]bool{}
+	_, _, paths := probed(t, func(answer http.ResponseWriter, request *http.Request) {
+		if second := request.Header.Get("Destination"); second != "" {
+			seconds[second] = true
+		}
+		answer.WriteHeader(http.StatusForbidden)
+	})
+	seen := map[string]bool{}
+	for _, path := range paths {
+		if seen[path] || !strings.HasPrefix(strings.Replace(path, "/.", "/", 1), "/files/spki-probe-") {
+			t.Errorf("%s is asked for", path)
+		}
+		seen[path] = true
+	}
+	for second := range seconds {
+		if !strings.Contains(second, "/files/spki-probe-") {
+			t.Errorf("%s is a second path", second)
+		}
+	}
+	if len(seen) < 4*len(tries)-2 || len(seconds) != 8 {
+		t.Errorf("%d paths and %d second ones", len(seen), len(seconds))
+	}
+}
+
+// A request that is one too many is sent again.
+func TestProbeAgain(t *testing.T) {
+	count := 0
+	status, said, _ := probed(t, func(answer http.ResponseWriter, _ *http.Request) {
+		if count++; count%3 != 0 {
+			answer.WriteHeader(http.StatusTooManyRequests)
+			return
+		}
+		answer.WriteHeader(http.StatusUnauthorized)
+	})
+	if status != statusDone {
+		t.Error(said)
+	}
+}
+
+// What is no address of a folder, and a flag that goes with another one.
+func TestProbeWords(t *testing.T) {
+	for _, words := range [][]string{{"-probe", "files"}, {"-probe", "ftp://localhost/"}, {"-probe", "https://u:p@localhost/"},
+		{"-probe", "https://localhost/?x"}, {"-probe", "https:///x"}, {"-probe", "https://localhost/%2F/"}} {
+		var out, messages bytes.Buffer
+		if status := run(words, &out, &messages); status != statusRefused || !strings.Contains(messages.String(), errBase.Error()) {
+			t.Errorf("%q: %d %s", words, status, messages.String())
+		}
+	}
+	var out, messages bytes.Buffer
+	if status := run([]string{"-stopped"}, &out, &messages); status != statusWords {
+		t.Errorf("%d %s", status, messages.String())
+	}
+	if status := run([]string{"-probe", "https://127.0.0.1:1/"}, &out, &messages); status != statusRefused {
+		t.Errorf("%d %s", status, messages.String())
+	}
+}

@@ -1,0 +1,115 @@
+package main
+
+import (
+	"fmt"
+	"strings"
+	"testing"
+	"time"
+)
+
+func TestRates(t *testing.T) {
+	made, now := newRates(5), time.Unix(1_000_000, 0)
+	count := func(who string, times int) (allowed int) {
+		for turn := 0; turn < times; turn++ {
+			if made.allows(who, now) {
+				allowed++
+			}
+		}
+		return allowed
+	}
+	for _, row := range []struct {
+		who           string
+		later         time.Duration
+		times, wanted int
+	}{
+		{"a", 0, 100, 10}, {"b", 0, 3, 3}, {"a", time.Second, 100, 5}, {"a", 200 * time.Millisecond, 100, 1}, {"b", 0, 100, 10},
+		{"a", -time.Hour, 100, 0}, {"a", time.Second, 100, 5}, {"a", 24 * time.Hour, 100, 10},
+	} {
+		now = now.Add(row.later)
+		if met := count(row.who, row.times); met != row.wanted {
+			t.Errorf("%+v: %d", row, met)
+		}
+	}
+	none := newRates(0)
+	for turn := 0; turn < 1000; turn++ {
+		if !none.allows("a", now) {
+			t.Fatal("no rate is one")
+		}
+	}
+}
+
+// TestRatesAreBounded asks from more addresses than are known. One that asks all the time is not forgotten.
+func TestRatesAreBounded(t *testing.T) {
+	made, now, allowed := newRates(1), time.Unix(1_000_000, 0), 0
+	for number := 0; number < 3*mostKnown; number++ {
+		made.allows(fmt.Sprint(number), now)
+		if made.allows("a", now) {
+			allowed++
+		}
+	}
+	if known := len(made.known.old) + len(made.known.young); known > mostKnown || allowed != saved {
+		t.Errorf("%d are known, %d are allowed", known, allowed)
+	}
+}
+
+// TestLimited asks more often than a key and an address may.
+func TestLimited(t *testing.T) {
+	for fields, wanted := range map[string]int{"": 429, `, "refused_status": 403`: 403} {
+		for limit, address := range map[string]string{"address_rate": "192.0.2.1", "key_rate": ""} {
+			s := newSite(t, fields+`, "limits": {"`+limit+`": 1}`)
+			fixed := time.Now()
+			s.now = func() time.Time { return fixed }
+			pairs := []string{"X-Original-Method", "GET", "X-Original-URI", "/web/x", "X-Client-Cert", s.alice.escaped()}
+			if address != "" {
+				if met := s.ask(pairs...); met.StatusCode/100 != 4 {
+					t.Errorf("no address: %d", met.StatusCode)
+				}
+				pairs = append(pairs, "X-Real-IP", address)
+			}
+			for turn, status := range []int{200, 200, wanted, wanted} {
+				if met := s.ask(pairs...); met.StatusCode != status {
+					t.Errorf("%s, turn %d: %d, wanted %d", limit, turn, met.StatusCode, status)
+				}
+			}
+			if line := s.lastLine(t); line.Answer != answerLimited || line.Address != address {
+				t.Errorf("%+v", line)
+			}
+			fixed = fixed.Add(time.Second)
+			if met := s.ask(pairs...); met.StatusCode != 200 {
+				t.Errorf("a second later: %d", met.StatusCode)
+			}
+		}
+	}
+}
+
+func TestClock(t *testing.T) {
+	var made clock
+	begin := time.Unix(1_000_000, 0)
+	for _, row := range []struct {
+		at     time.Duration
+		isBack bool
+	}{{0, false}, {time.Second, false}, {500 * time.Millisecond, false}, {-time.Hour, true}, {-time.Hour, false}, {time.Hour, false}} {
+		if made.note(begin.Add(row.at)) != row.isBack {
+			t.Errorf("%+v", row)
+		}
+	}
+	if made.times.Load() != 1 {
+		t.Errorf("%d times", made.times.Load())
+	}
+}
+
+// TestClockIsWatched sets the clock back under a daemon, which says so once.
+func TestClockIsWatched(t *testing.T) {
+	s := newSite(t, "")
+	at := time.Now()
+	s.now = func() time.Time { return at }
+	var messages journal
+	made := &daemon{decider: s.decider, messages: newWriter(&stream{to: messages.writer()}, time.Minute, nil)}
+	for _, later := range []time.Duration{0, time.Second, -time.Hour, time.Second, time.Second} {
+		at = at.Add(later)
+		made.watchClock()
+	}
+	if text := messages.String(); strings.Count(text, `"event":"the clock went back"`) != 1 || strings.Count(text, "\n") != 1 {
+		t.Errorf("%q", text)
+	}
+}

@@ -1,0 +1,122 @@
+package main
+
+import (
+	"net/http"
+	"strconv"
+	"strings"
+	"time"
+)
+
+// An answer is what is said to the web server.
+type answer string
+
+const (
+	answerYes     answer = "yes"
+	answerNo      answer = "no"
+	answerRefused answer = "refused"
+	answerUnknown answer = "unauthenticated"
+	answerLimited answer = "limited"
+	answerFailed  answer = "failed"
+)
+
+// A record is one decision: a line of the log, and what the web server is told. It has no key and no certificate, but their digests.
+type record struct {
+	Time         string   `json:"time"`
+	ID           string   `json:"id,omitempty"`
+	Host         string   `json:"host,omitempty"`
+	Address      string   `json:"address,omitempty"`
+	Answer       answer   `json:"answer"`
+	Status       int      `json:"status"`
+	Key          string   `json:"key,omitempty"`
+	Request      []string `json:"request,omitempty"`
+	Entry        int      `json:"entry,omitempty"`
+	Certificates []string `json:"certificates,omitempty"`
+	Cached       int      `json:"cached,omitempty"`
+	Unverified   int      `json:"unverified,omitempty"`
+	List         string   `json:"list,omitempty"`
+	Reason       string   `json:"reason,omitempty"`
+	Reasons      string   `json:"reasons,omitempty"`
+	Target       string   `json:"target,omitempty"`
+	Microseconds int64    `json:"microseconds"`
+	// The number of the rule that says which request it is, or 0.
+	rule int
+}
+
+// ended returns the record of a request that a fault ends.
+func (r record) ended(answer answer, fault error) record {
+	r.Answer, r.Reason = answer, fault.Error()
+	return r
+}
+
+// setEnded says which certificate has ended early.
+func (r *record) setEnded(certificate string) {
+	r.Reason = "certificate " + certificate + " has ended"
+}
+
+// status returns the status of an answer. Only yes is 200.
+func (a answer) status(refused int) int {
+	switch a {
+	case answerYes:
+		return http.StatusOK
+	case answerNo:
+		return http.StatusForbidden
+	case answerUnknown:
+		return http.StatusUnauthorized
+	case answerRefused:
+		return refused
+	case answerLimited:
+		if refused == http.StatusForbidden {
+			return refused
+		}
+		return http.StatusTooManyRequests
+	}
+	return http.StatusServiceUnavailable
+}
+
+// The octets that most answers have.
+const roomForAnswer = 512
+
+// response returns what the web server is told. It has no body, so it is the same for HEAD. The headers have digits, words of the daemon and
+// lines of the library alone, and nothing that a client sent. After the last answer the connection is closed.
+func (r *record) response(now time.Time, isLast bool) []byte {
+	made := append(make([]byte, 0, roomForAnswer), "HTTP/1.1 "...)
+	made = strconv.AppendInt(made, int64(r.Status), 10)
+	made = append(append(append(made, ' '), http.StatusText(r.Status)...), "\r\nCache-Control: no-store\r\nContent-Length: 0\r\nDate: "...)
+	made = now.UTC().AppendFormat(made, http.TimeFormat)
+	header := func(name, value string) {
+		made = append(append(append(append(made, "\r\n"...), name...), ": "...), value...)
+	}
+	header("X-Spki-Answer", string(r.Answer))
+	if r.Key != "" {
+		header("X-Spki-Key", r.Key)
+	}
+	if r.Entry > 0 {
+		header("X-Spki-Entry", strconv.Itoa(r.Entry))
+	}
+	if r.Answer == answerRefused {
+		header("X-Spki-Reason", strings.ReplaceAll(r.Reason, "\n", ", "))
+	}
+	if r.Status == http.StatusUnauthorized {
+		header("WWW-Authenticate", "SPKI")
+	}
+	if isLast {
+		header("Connection", "close")
+	}
+	return append(made, "\r\n\r\n"...)
+}
+
+// An event is a message of the daemon itself.
+type event struct {
+	Time        string `json:"time"`
+	Event       string `json:"event"`
+	Detail      string `json:"detail,omitempty"`
+	Entries     int    `json:"entries"`
+	List        string `json:"list,omitempty"`
+	Ended       int    `json:"ended"`
+	EndedDigest string `json:"ended_digest,omitempty"`
+}
+
+// stamp returns a moment as the log has it.
+func stamp(moment time.Time) string {
+	return moment.UTC().Format("2006-01-02T15:04:05.000Z")
+}

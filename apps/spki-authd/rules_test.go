@@ -1,0 +1,74 @@
+package main
+
+import (
+	"reflect"
+	"testing"
+)
+
+var rulesOfTests = []rule{
+	{Prefix: "/api/", Methods: map[string]string{"POST": "call"}, Request: []string{"api", "{path}", "{method}"}},
+	{Prefix: "/", Methods: map[string]string{"GET": "read", "PUT": "write"}, Request: []string{"files", "{method}", "{path}"}},
+}
+
+func TestRequests(t *testing.T) {
+	for _, row := range []struct {
+		method, path string
+		wanted       []string
+		rule         int
+	}{
+		{"GET", "/a", []string{"files", "read", "/a"}, 2}, {"PUT", "/", []string{"files", "write", "/"}, 2},
+		{"POST", "/api/x", []string{"api", "/api/x", "call"}, 1}, {"GET", "/api", []string{"files", "read", "/api"}, 2},
+		{"GET", "/api/x", nil, 1}, {"get", "/a", nil, 2}, {"DELETE", "/a", nil, 2}, {"", "/a", nil, 2}, {"GET ", "/a", nil, 2},
+		{"GET", "/{method}", []string{"files", "read", "/{method}"}, 2},
+	} {
+		met, rule := requestOf(rulesOfTests, "", row.method, row.path)
+		if !reflect.DeepEqual(met, row.wanted) || rule != row.rule {
+			t.Errorf("%s %s: %q by rule %d, wanted %q", row.method, row.path, met, rule, row.wanted)
+		}
+	}
+	if rulesOfTests[1].Request[2] != "{path}" {
+		t.Error("a rule was changed")
+	}
+}
+
+// TestRequestsOfHosts has rules of two hosts, and one of any host behind them.
+func TestRequestsOfHosts(t *testing.T) {
+	read := map[string]string{"GET": "read"}
+	rules := []rule{
+		{Host: "a.example", Prefix: "/", Methods: read, Request: []string{"a", "{method}", "{path}"}},
+		{Host: "b.example", Prefix: "/x/", Methods: read, Request: []string{"b", "{path}"}},
+		{Prefix: "/x/", Methods: read, Request: []string{"{host}", "{path}"}},
+	}
+	if err := checkRules(rules); err != nil {
+		t.Fatal(err)
+	}
+	for _, row := range []struct {
+		host, path string
+		wanted     []string
+	}{
+		{"a.example", "/x/1", []string{"a", "read", "/x/1"}}, {"b.example", "/x/1", []string{"b", "/x/1"}}, {"c.example", "/x/1", []string{"c.example", "/x/1"}},
+		{"b.example", "/y", nil}, {"", "/y", nil},
+	} {
+		if met, _ := requestOf(rules, row.host, "GET", row.path); !reflect.DeepEqual(met, row.wanted) {
+			t.Errorf("%s %s: %q", row.host, row.path, met)
+		}
+	}
+}
+
+func TestWrongRules(t *testing.T) {
+	methods, request := map[string]string{"GET": "read"}, []string{"files", "{path}"}
+	for name, rules := range map[string][]rule{
+		"none": nil, "no methods": {{"", "/", nil, request}}, "no request": {{"", "/", methods, nil}}, "no prefix": {{"", "", methods, request}},
+		"relative": {{"", "a/", methods, request}}, "no end": {{"", "/a", methods, request}}, "dots": {{"", "/../", methods, request}},
+		"escaped": {{"", "/%61/", methods, request}}, "unknown place": {{"", "/", methods, []string{"{user}"}}},
+		"part of a string": {{"", "/", methods, []string{"x{path}"}}}, "query": {{"", "/?/", methods, request}}, "a host with a port": {{"a.example:443", "/", methods, request}}, "a large letter": {{"A.example", "/", methods, request}},
+		"a pattern": {{"*.example", "/", methods, request}}, "doubled": {{"", "//", methods, request}},
+	} {
+		if checkRules(rules) == nil {
+			t.Errorf("%s: the rules are accepted", name)
+		}
+	}
+	if err := checkRules(rulesOfTests); err != nil {
+		t.Error(err)
+	}
+}

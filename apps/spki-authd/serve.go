@@ -1,0 +1,158 @@
+package main
+
+import (
+	"context"
+	"fmt"
+	"io"
+	"net"
+	"time"
+)
+
+// The time that open questions have to end, that an idle connection is kept, which is longer than nginx keeps it, and after which a connection is
+// taken again where that has failed.
+const (
+	timeToEnd   = 10 * time.Second
+	timeIdle    = 75 * time.Second
+	timeToRetry = 50 * time.Millisecond
+)
+
+// The parts of the time of a request for which a grant waits for its line, and another answer for its own.
+const (
+	partOfGrant = 2
+	partOfOther = 20
+)
+
+// A daemon is a decider with what is around it.
+type daemon struct {
+	*decider
+	ledger *ledger
+	// What writes grants, other answers, and messages.
+	granted, other, messages *writer
+	signals                  signals
+	orders                   chan order
+	begun                    time.Time
+	// How often the clock had gone back when that was told last.
+	backs int64
+}
+
+// open opens the logs.
+func (d *daemon) open(out, messages io.Writer) error {
+	ledger, err := openLedger(d.config.Log, d.config.LogSync)
+	if err != nil {
+		return err
+	}
+	patience := d.config.Limits.time()
+	d.ledger = ledger
+	d.granted = newWriter(ledger, patience/partOfGrant, ledger.beat)
+	d.other = newWriter(&stream{to: out}, patience/partOfOther, nil)
+	d.messages = newWriter(&stream{to: messages}, patience/partOfOther, nil)
+	d.grants, d.rest = d.granted.write, d.other.offer
+	return nil
+}
+
+// listenAndServe answers until a signal ends the daemon.
+func (d *daemon) listenAndServe() error {
+	defer d.close()
+	listener, err := d.config.listen()
+	if err != nil {
+		return err
+	}
+	control, err := openSocket(d.config.controlPath())
+	if err != nil {
+		return closed(listener, err)
+	}
+	defer control.Close()
+	go d.serveControl(control)
+	return d.serve(listener)
+}
+
+// close writes what is not yet written.
+func (d *daemon) close() {
+	d.other.flush()
+	d.messages.flush()
+	d.granted.do(d.ledger.close)
+}
+
+// serve answers until a signal ends it. Questions under way are answered.
+func (d *daemon) serve(listener net.Listener) error {
+	door := newDoor(d.decider)
+	go door.serve(listener)
+	d.tell("started", notify(d.statusLine()+"\nREADY=1"))
+	seconds := time.NewTicker(time.Second)
+	defer seconds.Stop()
+	for {
+		select {
+		case <-seconds.C:
+			d.watchClock()
+		case <-d.signals.reload:
+			_ = d.reload(false)
+		case <-d.signals.reopen:
+			_ = d.reopen()
+		case asked := <-d.orders:
+			asked.done <- asked.what(d)
+		case <-d.signals.end:
+			return d.end(listener, door)
+		}
+	}
+}
+
+// watchClock writes a message if the time of day went back.
+func (d *daemon) watchClock() {
+	d.clock.note(d.now())
+	if backs := d.clock.times.Load(); backs > d.backs {
+		d.backs = backs
+		d.tell("the clock went back", nil)
+	}
+}
+
+// end ends the daemon, once what was asked is answered.
+func (d *daemon) end(listener net.Listener, door *door) error {
+	_ = notify("STOPPING=1")
+	waiting, cancel := context.WithTimeout(context.Background(), timeToEnd)
+	defer cancel()
+	listener.Close()
+	err := door.end(waiting)
+	d.tell("ended", err)
+	return err
+}
+
+// reload reads the files again, and says so to the service manager and in a message.
+func (d *daemon) reload(mayLose bool) error {
+	_ = notify("RELOADING=1")
+	err := d.keeper.reload(d.config, mayLose, d.now())
+	d.tell("reloaded", err)
+	_ = notify(d.statusLine() + "\nREADY=1")
+	return err
+}
+
+// reopen opens the file of grants again, as after it was renamed.
+func (d *daemon) reopen() error {
+	done, err := make(chan error, 1), errHangs
+	if d.granted.do(func() { done <- d.ledger.reopen() }) {
+		err = <-done
+	}
+	d.tell("reopened", err)
+	return err
+}
+
+// statusLine returns what the service manager shows of the daemon.
+func (d *daemon) statusLine() string {
+	present := d.keeper.present.Load()
+	made := fmt.Sprintf("STATUS=%d entries, %d ended certificates", present.entries(), present.ended.count)
+	if d.keeper.last.Load().fault != nil {
+		made += "; the last reload was refused"
+	}
+	return made
+}
+
+// tell writes what the daemon did, with the lists that it has now.
+func (d *daemon) tell(what string, fault error) {
+	present := d.keeper.present.Load()
+	made := event{
+		Time: stamp(d.now()), Event: what, Entries: present.entries(), List: present.digest, Ended: present.ended.count, EndedDigest: present.ended.digest,
+	}
+	if fault != nil {
+		made.Event, made.Detail = what+" not", fault.Error()
+	}
+	d.messages.tell(made)
+}

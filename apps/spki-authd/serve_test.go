@@ -1,0 +1,360 @@
+package main
+
+import (
+	"bufio"
+	"bytes"
+	"context"
+	"io"
+	"net"
+	"net/http"
+	"os"
+	"path/filepath"
+	"strings"
+	"sync"
+	"syscall"
+	"testing"
+	"time"
+)
+
+// served is a site that answers on a Unix socket, in this process.
+type served struct {
+	*site
+	daemon *daemon
+	socket string
+	client *http.Client
+	// What stays open until the daemon has ended.
+	open []net.Conn
+}
+
+// serveHere begins to answer.
+func serveHere(t *testing.T, fields string) *served {
+	t.Helper()
+	room := t.TempDir()
+	made := &served{site: newSite(t, fields), socket: filepath.Join(room, "socket")}
+	made.config.Listen, made.config.SocketMode, made.config.Log = unixScheme+made.socket, "0600", filepath.Join(room, "log")
+	made.config.Control = made.config.Listen + controlSuffix
+	signals := signals{make(chan os.Signal, 1), make(chan os.Signal, 1), make(chan os.Signal, 1)}
+	made.daemon = &daemon{decider: made.decider, signals: signals, orders: make(chan order), begun: time.Now()}
+	var messages journal
+	if err := made.daemon.open(io.Discard, messages.writer()); err != nil {
+		t.Fatal(err)
+	}
+	made.grants, made.rest = made.log.grant, made.log.other
+	ended := make(chan error, 1)
+	go func() { ended <- made.daemon.listenAndServe() }()
+	made.client = &http.Client{Transport: &http.Transport{MaxIdleConnsPerHost: 16, DialContext: func(ctx context.Context, _, _ string) (net.Conn, error) {
+		return (&net.Dialer{}).DialContext(ctx, "unix", made.socket)
+	}}}
+	waitFor(t, made.config.controlPath())
+	t.Cleanup(func() {
+		made.client.CloseIdleConnections()
+		signals.end <- syscall.SIGTERM
+		if err := <-ended; err != nil || !strings.Contains(messages.String(), `"ended"`) {
+			t.Errorf("%v, %s", err, messages.String())
+		}
+		for _, connection := range made.open {
+			connection.Close()
+		}
+	})
+	return made
+}
+
+// waitFor waits until somebody listens at a socket.
+func waitFor(t *testing.T, path string) {
+	t.Helper()
+	for turn := 0; turn < 1000; turn++ {
+		if connection, err := net.Dial("unix", path); err == nil {
+			connection.Close()
+			return
+		}
+		time.Sleep(10 * time.Millisecond)
+	}
+	t.Fatal("nobody listens at ", path)
+}
+
+// get returns the status of a request by Alice.
+func (s *served) get(t *testing.T, target string) int {
+	request, err := http.NewRequest(http.MethodGet, "http://daemon/", nil)
+	if err != nil {
+		t.Error(err)
+		return 0
+	}
+	request.Header.Set("X-Original-Method", "GET")
+	request.Header.Set("X-Original-URI", target)
+	request.Header.Set("X-Client-Cert", s.alice.escaped())
+	response, err := s.client.Do(request)
+	if err != nil {
+		t.Error(err)
+		return 0
+	}
+	defer response.Body.Close()
+	_, _ = io.Copy(io.Discard, response.Body)
+	return response.StatusCode
+}
+
+func TestReloadsUnderLoad(t *testing.T) {
+	s := serveHere(t, "")
+	var all sync.WaitGroup
+	for routine := 0; routine < 8; routine++ {
+		all.Add(1)
+		go func() {
+			defer all.Done()
+			for turn := 0; turn < 100; turn++ {
+				if met := s.get(t, "/web/x"); met != 200 {
+					t.Errorf("granted: %d", met)
+				}
+				if met := s.get(t, "/x"); met != 401 {
+					t.Errorf("denied: %d", met)
+				}
+			}
+		}()
+	}
+	for turn := 0; turn < 50; turn++ {
+		s.daemon.signals.reload <- syscall.SIGHUP
+		time.Sleep(time.Millisecond)
+	}
+	all.Wait()
+}
+
+func TestConnectionsAreBounded(t *testing.T) {
+	s := serveHere(t, `, "limits": {"connections": 2, "seconds": 1}`)
+	var waiting []net.Conn
+	for turn := 0; turn < 6; turn++ {
+		connection, err := net.Dial("unix", s.socket)
+		if err != nil {
+			t.Fatal(err)
+		}
+		defer connection.Close()
+		waiting = append(waiting, connection)
+		// (a slow client: it never sends the rest)
+		if _, err := connection.Write([]byte("GET / HTTP/1.1\r\nHost: x\r\nX-Slow: ")); err != nil {
+			t.Fatal(err)
+		}
+	}
+	if met := s.get(t, "/web/x"); met != 200 {
+		t.Errorf("after the slow ones: %d", met)
+	}
+	for _, connection := range waiting {
+		octets, _ := io.ReadAll(connection)
+		if bytes.Contains(octets, []byte(" 200 ")) {
+			t.Errorf("%q", octets)
+		}
+	}
+}
+
+// TestOtherRequests sends what no web server sends. Each gets one line in the log, and an answer of the decider or none.
+func TestOtherRequests(t *testing.T) {
+	s := serveHere(t, `, "limits": {"seconds": 1}`)
+	for name, text := range map[string]string{
+		"OPTIONS *": "OPTIONS * HTTP/1.1\r\nHost: x\r\nConnection: close\r\n\r\n", "OPTIONS * by 1.0": "OPTIONS * HTTP/1.0\r\n\r\n", "no HTTP": "x\r\n\r\n",
+		"no host": "GET / HTTP/1.1\r\nConnection: close\r\n\r\n", "spaces": "GET / HTTP/1.0\r\nHost: x\r\nX-Y : z\r\n\r\n",
+		"NUL": "GET / HTTP/1.0\r\nHost: x\r\nA: \x00\r\n\r\n", "HTTP/2.0": "PRI * HTTP/2.0\r\n\r\n", "HTTP/0.9": "GET /\r\n",
+		"long":        "GET / HTTP/1.1\r\nHost: x\r\nA: " + strings.Repeat("x", 300_000) + "\r\n\r\n",
+		"two lengths": "GET / HTTP/1.1\r\nHost: x\r\nContent-Length: 1\r\nContent-Length: 2\r\n\r\n",
+		"slow":        "GET / HTTP/1.1\r\nHost: x\r\nA: ",
+		"body":        "GET / HTTP/1.1\r\nHost: x\r\nContent-Length: 26\r\n\r\nOPTIONS * HTTP/1.1\r\nA: \r\n\r\n",
+		"chunks":      "GET / HTTP/1.1\r\nHost: x\r\nTransfer-Encoding: chunked\r\n\r\n0\r\n\r\n",
+		"no length":   s.request("GET", "/web/x", "Content-Length: \r\n"), "no length, and a body": s.request("GET", "/web/x", "content-length:\r\n") + "abc",
+		"long body": "GET / HTTP/1.1\r\nHost: x\r\nContent-Length: 100000\r\n\r\n" + strings.Repeat("GET / HTTP/1.1\r\n\r\n", 5000),
+		"late body": "GET / HTTP/1.1\r\nHost: x\r\nContent-Length: 9\r\nExpect: 100-continue\r\n\r\n",
+	} {
+		before := s.lines()
+		octets := s.sent(t, text)
+		if bytes.Contains(octets, []byte(" 200 ")) || len(octets) > 0 && !bytes.Contains(octets, []byte("\r\nX-Spki-Answer: ")) {
+			t.Errorf("%s: %q", name, octets)
+		}
+		if s.lines() != before+1 {
+			t.Errorf("%s: %d lines", name, s.lines()-before)
+		}
+	}
+	if met := s.get(t, "/web/x"); met != 200 {
+		t.Errorf("after them: %d", met)
+	}
+}
+
+// sent returns what the daemon answers to octets, until it closes the connection.
+func (s *served) sent(t *testing.T, text string) []byte {
+	t.Helper()
+	connection, err := net.Dial("unix", s.socket)
+	if err != nil {
+		t.Fatal(err)
+	}
+	defer connection.Close()
+	// (the daemon may close before all is written)
+	_, _ = connection.Write([]byte(text))
+	octets, _ := io.ReadAll(connection)
+	return octets
+}
+
+// request returns a request by Alice, with more lines in its header.
+func (s *served) request(method, target, more string) string {
+	return method + " / HTTP/1.1\r\nHost: x\r\nX-Original-Method: GET\r\nX-Original-URI: " + target + "\r\nX-Client-Cert: " + s.alice.escaped() + "\r\n" +
+		more + "\r\n"
+}
+
+// TestRequestsInOneConnection sends requests one behind the other. Each is answered in its turn, without a body.
+func TestRequestsInOneConnection(t *testing.T) {
+	s := serveHere(t, "")
+	octets := s.sent(t, s.request("GET", "/web/x", "")+s.request("HEAD", "/web/../x", "")+s.request("GET", "/x", "")+
+		s.request("GET", "/web/y", "Connection: close\r\n")+s.request("GET", "/web/z", ""))
+	var met []string
+	for _, answer := range strings.Split(string(octets), "\r\n\r\n") {
+		line, _, _ := strings.Cut(answer, "\r\n")
+		met = append(met, line)
+	}
+	if wanted := "HTTP/1.1 200 OK,HTTP/1.1 400 Bad Request,HTTP/1.1 401 Unauthorized,HTTP/1.1 200 OK,"; strings.Join(met, ",") != wanted {
+		t.Errorf("%q", met)
+	}
+	if s.lines() != 4 {
+		t.Errorf("%d lines", s.lines())
+	}
+}
+
+// TestWaitingConnections asks where as many connections are open as may be. One that is idle makes room. Beside one on which a request is under way
+// the answer comes when that one is closed, and until then no line.
+func TestWaitingConnections(t *testing.T) {
+	s := serveHere(t, `, "limits": {"connections": 1, "seconds": 60}`)
+	first, err := net.Dial("unix", s.socket)
+	if err != nil {
+		t.Fatal(err)
+	}
+	if _, err := first.Write([]byte(s.request("GET", "/web/x", ""))); err != nil {
+		t.Fatal(err)
+	}
+	if _, err := first.Read(make([]byte, 1)); err != nil {
+		t.Fatal(err)
+	}
+	if octets := s.sent(t, s.request("GET", "/web/y", "Connection: close\r\n")); !bytes.HasPrefix(octets, []byte("HTTP/1.1 200 ")) || s.lines() != 2 {
+		t.Errorf("beside an idle one: %q, %d lines", octets, s.lines())
+	}
+	busy, err := net.Dial("unix", s.socket)
+	if err != nil {
+		t.Fatal(err)
+	}
+	if _, err := busy.Write([]byte("GET / HTTP/1.1\r\n")); err != nil {
+		t.Fatal(err)
+	}
+	answered := make(chan []byte)
+	go func() { answered <- s.sent(t, s.request("GET", "/web/y", "Connection: close\r\n")) }()
+	select {
+	case octets := <-answered:
+		t.Errorf("answered beside a busy one: %q", octets)
+	case <-time.After(200 * time.Millisecond):
+	}
+	if s.lines() != 2 {
+		t.Errorf("%d lines", s.lines())
+	}
+	busy.Close()
+	if octets := <-answered; !bytes.HasPrefix(octets, []byte("HTTP/1.1 200 ")) || s.lines() != 4 {
+		t.Errorf("%q, %d lines", octets, s.lines())
+	}
+}
+
+// TestManyKeptConnections keeps more connections open than may be, as the workers of a web server do. Each that asks is answered, if need be on a new
+// connection, as web servers do it.
+func TestManyKeptConnections(t *testing.T) {
+	s := serveHere(t, `, "limits": {"connections": 8, "seconds": 60}`)
+	kept := make([]net.Conn, 40)
+	request := []byte(s.request("GET", "/web/x", ""))
+	asks := func(place int) bool {
+		if kept[place] == nil {
+			return false
+		}
+		if _, err := kept[place].Write(request); err != nil {
+			return false
+		}
+		_, err := http.ReadResponse(bufio.NewReader(kept[place]), nil)
+		return err == nil
+	}
+	for turn := 0; turn < 3; turn++ {
+		for place := range kept {
+			if asks(place) {
+				continue
+			}
+			made, err := net.Dial("unix", s.socket)
+			if err != nil {
+				t.Fatal(err)
+			}
+			defer made.Close()
+			if kept[place] = made; !asks(place) {
+				t.Fatalf("turn %d, connection %d: no answer", turn, place)
+			}
+		}
+	}
+	if s.lines() != 3*len(kept) {
+		t.Errorf("%d lines", s.lines())
+	}
+}
+
+// TestEndBesideConnections ends a daemon beside a connection without a request, and one whose request never ends.
+func TestEndBesideConnections(t *testing.T) {
+	s := serveHere(t, `, "limits": {"seconds": 1}`)
+	for _, text := range []string{"", "GET / HTTP/1.1\r\nHost: x\r\nX-Slow: "} {
+		connection, err := net.Dial("unix", s.socket)
+		if err != nil {
+			t.Fatal(err)
+		}
+		// (it stays open until the daemon has ended, which serveHere waits for)
+		s.open = append(s.open, connection)
+		if _, err := connection.Write([]byte(text)); err != nil {
+			t.Fatal(err)
+		}
+	}
+	if met := s.get(t, "/web/x"); met != 200 {
+		t.Error(met)
+	}
+}
+
+// lines returns the number of lines in the log.
+func (s *served) lines() int {
+	return strings.Count(s.log.String(), "\n")
+}
+
+func TestSockets(t *testing.T) {
+	s := serveHere(t, "")
+	if about, err := os.Stat(s.socket); err != nil || about.Mode().Perm() != 0o600 {
+		t.Errorf("%v, %v", about, err)
+	}
+	if _, err := s.config.listen(); err == nil {
+		t.Error("two daemons have one socket")
+	}
+	file := written(t, "file", "x")
+	s2 := *s.config
+	s2.Listen = unixScheme + file
+	if _, err := s2.listen(); err == nil {
+		t.Error("a file was replaced by a socket")
+	}
+	stale := filepath.Join(t.TempDir(), "stale")
+	old, err := net.ListenUnix("unix", &net.UnixAddr{Name: stale, Net: "unix"})
+	if err != nil {
+		t.Fatal(err)
+	}
+	old.SetUnlinkOnClose(false)
+	old.Close()
+	s2.Listen = unixScheme + stale
+	listener, err := s2.listen()
+	if err != nil {
+		t.Fatal(err)
+	}
+	listener.Close()
+}
+
+func TestWords(t *testing.T) {
+	list, bad := written(t, "acl", "(acl (entry (public-key (test a)) (tag (*))))"), written(t, "bad", "(acl (entry))")
+	config := written(t, "config", strings.Replace(strings.Replace(least, "/acl", list, 1), `"/log"`, `"`+filepath.Join(t.TempDir(), "log")+`"`, 1))
+	for line, wanted := range map[string]struct {
+		status    int
+		out, said string
+	}{
+		"-check " + list: {0, "1 entries", ""}, "-check " + bad: {1, "", "refused acl 1 Shape"}, "-check /none": {1, "", "no such file"},
+		"-version": {0, "spki-authd 0.2.0", ""}, "-help": {0, "", "-config"}, "-x": {2, "", "-x"}, "x": {2, "", "no flag"},
+		"-test -config " + config: {0, "1 entries", ""}, "-test -config " + list: {1, "", "invalid"}, "-config /none": {1, "", "no such file"},
+		"-fewer": {2, "", "-reload"}, "-of x": {2, "", "-state"}, "-reload -config " + config: {1, "", "no such file"},
+	} {
+		var out, said bytes.Buffer
+		status := run(strings.Fields(line), &out, &said)
+		if status != wanted.status || !strings.Contains(out.String(), wanted.out) || !strings.Contains(said.String(), wanted.said) {
+			t.Errorf("%s: %d, %q, %q", line, status, out.String(), said.String())
+		}
+	}
+}

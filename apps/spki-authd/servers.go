@@ -1,0 +1,79 @@
+package main
+
+import (
+	"fmt"
+	"net/textproto"
+)
+
+// The names of the headers that are read. An empty method, URI or host is that of the request itself.
+type headers struct {
+	Method      string `json:"method"`
+	URI         string `json:"uri"`
+	Certificate string `json:"certificate"`
+	Sequence    string `json:"sequence"`
+	Secret      string `json:"secret"`
+	ID          string `json:"id"`
+	Host        string `json:"host"`
+	Address     string `json:"address"`
+}
+
+// How a web server asks.
+type server struct {
+	headers headers
+	form    string
+}
+
+var servers = map[string]server{
+	"nginx":   {headers{Method: "X-Original-Method", URI: "X-Original-Uri", Host: "X-Original-Host", Certificate: "X-Client-Cert"}, escapedPEM},
+	"caddy":   {headers{Method: "X-Forwarded-Method", URI: "X-Forwarded-Uri", Host: forwardedHost, Certificate: "X-Client-Cert"}, base64DER},
+	"traefik": {headers{Method: "X-Forwarded-Method", URI: "X-Forwarded-Uri", Host: forwardedHost, Certificate: "X-Forwarded-Tls-Client-Cert"}, base64DER},
+	"envoy":   {headers{Certificate: "X-Forwarded-Client-Cert"}, xfcc},
+}
+
+// HAProxy and Apache ask by a script of examples/, with the headers of nginx.
+func init() {
+	servers["haproxy"] = server{servers["nginx"].headers, base64DER}
+	servers["apache"] = servers["haproxy"]
+}
+
+// The headers of every server, if no others are set.
+const (
+	usualSequence = "X-Spki-Sequence"
+	usualSecret   = "X-Spki-Secret"
+	usualID       = "X-Request-Id"
+	usualAddress  = "X-Real-Ip"
+	forwardedHost = "X-Forwarded-Host"
+	authorization = "Authorization"
+)
+
+// setUsual puts in what was left out. Names are the same in upper and lower case.
+func (h *headers) setUsual(usual headers) {
+	usual.Sequence, usual.Secret, usual.ID, usual.Address = usualSequence, usualSecret, usualID, usualAddress
+	for place, name := range h.all() {
+		setText(name, *usual.all()[place])
+		*name = textproto.CanonicalMIMEHeaderKey(*name)
+	}
+}
+
+// all returns the names one by one.
+func (h *headers) all() []*string {
+	return []*string{&h.Method, &h.URI, &h.Certificate, &h.Sequence, &h.Secret, &h.ID, &h.Host, &h.Address}
+}
+
+// check says what is wrong in the names and in the form of the certificate.
+func (h headers) check(form string) error {
+	if _, known := forms[form]; !known {
+		return fmt.Errorf(`"certificate_form" is %q, and must be %s, %s or %s`, form, escapedPEM, base64DER, xfcc)
+	}
+	seen := map[string]bool{authorization: true}
+	for _, name := range h.all() {
+		if *name == "" {
+			continue
+		}
+		if seen[*name] || !isVisible(*name) {
+			return fmt.Errorf(`"headers" has %q twice, or this is no name of a header`, *name)
+		}
+		seen[*name] = true
+	}
+	return nil
+}

@@ -1,0 +1,92 @@
+package main
+
+import (
+	"crypto/sha256"
+	"encoding/hex"
+
+	"conguraki/spki/guard"
+)
+
+// A shown is a sequence whose signatures are all valid. Which signatures a guard lists depends on the sequence and the policy alone, the policy
+// of a daemon does not change, and a signature stays valid. So nothing in it can become wrong. It says nothing of the key, the request, the time,
+// the list and the ended certificates: each question is decided anew.
+type shown struct {
+	// The sequence in canonical form, which is read in three quarters of the time.
+	text []byte
+	// The digests of the certificates that are signed, and the same as the log has them.
+	digests []digest
+	names   []string
+}
+
+// The number of sequences that are kept, and the most octets of one that is.
+const (
+	mostShown       = 1000
+	mostShownOctets = 8192
+)
+
+// nothingShown is the sequence of a client that shows no certificates.
+var nothingShown = &shown{text: []byte("(8:sequence)")}
+
+// A sequences keeps sequences by their texts.
+type sequences struct {
+	kept *recent[string, *shown]
+}
+
+// newSequences returns what keeps sequences. If no signatures are kept, no sequences are.
+func newSequences(cache int) *sequences {
+	if cache == 0 {
+		return &sequences{newRecent[string, *shown](0)}
+	}
+	return &sequences{newRecent[string, *shown](mostShown)}
+}
+
+// of returns a sequence whose signatures are known to be valid, or nil.
+func (s *sequences) of(text string) *shown {
+	if text == "" {
+		return nothingShown
+	}
+	known, _ := s.kept.get(text)
+	return known
+}
+
+// add keeps a sequence whose signatures are all valid, by which a guard has decided.
+func (s *sequences) add(text string, made *shown) {
+	if len(text) > mostShownOctets || s.kept.half == 0 {
+		return
+	}
+	canonical, err := guard.Canonical([]byte(text))
+	if err == nil {
+		made.text = canonical
+		s.kept.add(text, made)
+	}
+}
+
+// shownBy returns a sequence by its signatures, without its text.
+func shownBy(signatures []guard.Signature) *shown {
+	made := &shown{digests: make([]digest, len(signatures)), names: make([]string, len(signatures))}
+	for place, signed := range signatures {
+		made.digests[place] = sha256.Sum256(signed.Message)
+		made.names[place] = hex.EncodeToString(made.digests[place][:])
+	}
+	return made
+}
+
+// notEnded returns the number of certificates up to the first that has ended early.
+func (s *shown) notEnded(access *access) int {
+	for place, message := range s.digests {
+		if access.hasEnded(message) {
+			return place
+		}
+	}
+	return len(s.digests)
+}
+
+// markFirst marks the first signatures of a question, as many as are valid.
+func markFirst(opened *guard.Asked, valid int) error {
+	for place := 0; place < valid; place++ {
+		if err := opened.Mark(place); err != nil {
+			return err
+		}
+	}
+	return nil
+}

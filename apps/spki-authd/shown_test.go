@@ -1,0 +1,154 @@
+package main
+
+import (
+	"fmt"
+	"os"
+	"strings"
+	"testing"
+	"time"
+)
+
+// kept returns the number of sequences that are kept.
+func (s *site) kept() int {
+	return len(s.sequences.kept.old) + len(s.sequences.kept.young)
+}
+
+// mustBe asks twice, so that the second question is by a sequence that is kept, if the first one's was valid.
+func (s *site) mustBe(t *testing.T, what string, who person, target, shown string, wanted int) record {
+	t.Helper()
+	for turn := 1; turn <= 2; turn++ {
+		if met := s.by(who, "GET", target, shown); met.StatusCode != wanted {
+			t.Errorf("%s, turn %d: %d, wanted %d: %+v", what, turn, met.StatusCode, wanted, s.lastLine(t))
+		}
+	}
+	return s.lastLine(t)
+}
+
+func TestKeptSequencesGrantNothingByThemselves(t *testing.T) {
+	s := newSite(t, "")
+	_, carols := s.sequencesShown()
+	for what, row := range map[string]struct {
+		who    person
+		target string
+		wanted int
+	}{
+		"Carol": {s.carol, "/web/docs/a/b", 200}, "another path": {s.carol, "/web/docs/b", 403}, "a path beside it": {s.carol, "/web/docs/a", 403},
+		"another key": {s.mallory, "/web/docs/a/b", 403}, "the issuer's key": {s.bob, "/web/docs/a/b", 403}, "Carol again": {s.carol, "/web/docs/a/c", 200},
+	} {
+		s.mustBe(t, what, row.who, row.target, carols, row.wanted)
+	}
+	if s.kept() != 1 {
+		t.Errorf("%d sequences are kept", s.kept())
+	}
+	if met := s.by(s.carol, "PUT", "/web/docs/a/b", carols); met.StatusCode != 403 {
+		t.Errorf("another method: %d", met.StatusCode)
+	}
+}
+
+func TestKeptSequencesAndTheList(t *testing.T) {
+	s := newSite(t, "")
+	_, carols := s.sequencesShown()
+	s.mustBe(t, "before", s.carol, "/web/docs/a/b", carols, 200)
+	list, err := os.ReadFile(s.config.List)
+	if err != nil {
+		t.Fatal(err)
+	}
+	for _, row := range []struct {
+		text   string
+		wanted int
+	}{{"(acl)", 403}, {string(list), 200}, {strings.Replace(string(list), "4:read", "5:write", 1), 403}, {string(list), 200}} {
+		if err := os.WriteFile(s.config.List, []byte(row.text), 0o600); err != nil {
+			t.Fatal(err)
+		}
+		if err := s.keeper.reload(s.config, true, s.now()); err != nil {
+			t.Fatal(err)
+		}
+		s.mustBe(t, "another list", s.carol, "/web/docs/a/b", carols, row.wanted)
+	}
+}
+
+func TestKeptSequencesAndEndedCertificates(t *testing.T) {
+	s := newSite(t, "")
+	bobs, carols := s.sequencesShown()
+	s.mustBe(t, "before", s.carol, "/web/docs/a/b", carols, 200)
+	s.mustBe(t, "before", s.bob, "/web/docs/b", bobs, 200)
+	for place, certificate := range []string{s.toBob, s.toCarol} {
+		s.config.Ended = written(t, "ended", sealed(digestOfText(certificate)+"\n"))
+		if err := s.keeper.reload(s.config, true, s.now()); err != nil {
+			t.Fatal(err)
+		}
+		line := s.mustBe(t, "ended", s.carol, "/web/docs/a/b", carols, 403)
+		if !strings.Contains(line.Reason, digestOfText(certificate)) || len(line.Certificates) != place+1 || line.Cached != place {
+			t.Errorf("%+v", line)
+		}
+		s.mustBe(t, "Bob's", s.bob, "/web/docs/b", bobs, map[int]int{0: 403, 1: 200}[place])
+	}
+	s.config.Ended = ""
+	if err := s.keeper.reload(s.config, true, s.now()); err != nil {
+		t.Fatal(err)
+	}
+	if line := s.mustBe(t, "no longer ended", s.carol, "/web/docs/a/b", carols, 200); line.Cached != 2 || len(line.Certificates) != 2 || line.List == "" {
+		t.Errorf("%+v", line)
+	}
+}
+
+func TestKeptSequencesAndTime(t *testing.T) {
+	s := newSite(t, "")
+	s.now = func() time.Time { return time.Date(2026, 1, 1, 0, 0, 0, 0, time.UTC) }
+	until := s.alice.certificateUntil(s.bob, prefix("read", "/web/"), "2026-01-01_00:00:00")
+	shown := sequence(s.alice.signed(until))
+	s.mustBe(t, "in its last second", s.bob, "/web/x", shown, 200)
+	s.now = func() time.Time { return time.Date(2026, 1, 1, 0, 0, 1, 0, time.UTC) }
+	s.mustBe(t, "a second later", s.bob, "/web/x", shown, 403)
+}
+
+func TestOnlyValidSequencesAreKept(t *testing.T) {
+	s := newSite(t, "")
+	forged := s.mallory.signed(s.alice.certificate(s.mallory, prefix("read", "/web/"), propagates))
+	asAlice := strings.Replace(forged, s.mallory.key+"(7:sig-val", s.alice.key+"(7:sig-val", 1)
+	s.mustBe(t, "a forged one", s.mallory, "/web/x", sequence(asAlice), 403)
+	s.mustBe(t, "a right one and a forged one", s.mallory, "/web/x", sequence(s.alice.signed(s.toBob), asAlice), 403)
+	s.mustBe(t, "no text", s.mallory, "/web/x", "{AAAA}", 400)
+	if s.kept() != 0 {
+		t.Errorf("%d sequences are kept", s.kept())
+	}
+	ended := newSite(t, "")
+	ended.config.Ended = written(t, "ended", sealed(digestOfText(ended.toBob)+"\n"))
+	if err := ended.keeper.reload(ended.config, true, ended.now()); err != nil {
+		t.Fatal(err)
+	}
+	bobs, _ := ended.sequencesShown()
+	if ended.mustBe(t, "an ended one", ended.bob, "/web/docs/b", bobs, 403); ended.kept() != 0 {
+		t.Errorf("%d sequences are kept", ended.kept())
+	}
+	none := newSite(t, `, "cache": 0`)
+	_, carols := none.sequencesShown()
+	if line := none.mustBe(t, "no cache", none.carol, "/web/docs/a/b", carols, 200); none.kept() != 0 || line.Cached != 0 {
+		t.Errorf("%d sequences are kept, %+v", none.kept(), line)
+	}
+}
+
+func TestKeptSequencesAreBounded(t *testing.T) {
+	s := newSite(t, "")
+	for number := 0; number < 2*mostShown; number++ {
+		s.sequences.add(sequence(str(fmt.Sprint(number))), &shown{})
+	}
+	if s.kept() > mostShown || s.kept() < mostShown/2 {
+		t.Errorf("%d sequences are kept", s.kept())
+	}
+	for _, octets := range []int{5000, 7000} {
+		text := sequence(str(strings.Repeat("x", octets)))
+		if s.sequences.add(text, &shown{}); (s.sequences.of(text) != nil) != (len(text) <= mostShownOctets) {
+			t.Errorf("%d octets", len(text))
+		}
+	}
+}
+
+func TestKeptSequencesAreExplained(t *testing.T) {
+	s := newSite(t, `, "explain": true`)
+	bobs, _ := s.sequencesShown()
+	s.mustBe(t, "granted", s.bob, "/web/docs/b", bobs, 200)
+	if line := s.mustBe(t, "denied", s.bob, "/web/x", bobs, 403); line.Reasons != "entry 1 TagLacks" {
+		t.Errorf("%+v", line)
+	}
+}

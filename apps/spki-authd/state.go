@@ -1,0 +1,33 @@
+package main
+
+import (
+	"errors"
+	"fmt"
+	"io"
+	"strings"
+)
+
+var errStates = errors.New("the daemons have different lists or ended certificates")
+
+// state returns one line that is the same for two daemons with the same lists and the same ended certificates.
+func (d *daemon) state() string {
+	present := d.keeper.present.Load()
+	return fmt.Sprintf("list %s entries %d ended %d %s\n", present.digest, present.entries(), present.ended.count, present.ended.digest)
+}
+
+// checkStates prints the states of daemons by their control sockets, and says whether they are the same.
+func checkStates(controls []string, out io.Writer) error {
+	seen := map[string]bool{}
+	for _, each := range controls {
+		text, err := give(strings.TrimPrefix(each, unixScheme), orderState)
+		if err != nil {
+			return err
+		}
+		seen[text] = true
+		fmt.Fprint(out, text)
+	}
+	if len(seen) > 1 {
+		return errStates
+	}
+	return nil
+}

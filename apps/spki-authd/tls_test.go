@@ -1,0 +1,194 @@
+package main
+
+import (
+	"bytes"
+	"crypto/tls"
+	"crypto/x509"
+	"encoding/pem"
+	"fmt"
+	"net"
+	"net/http"
+	"os"
+	"path/filepath"
+	"strings"
+	"testing"
+)
+
+// pair writes the certificate and the key of somebody for TLS, and returns their paths.
+func pair(t *testing.T, who person) (certificate, key string) {
+	t.Helper()
+	octets, err := x509.MarshalPKCS8PrivateKey(who.private)
+	if err != nil {
+		t.Fatal(err)
+	}
+	return written(t, "crt", who.pem()), written(t, "key", string(pem.EncodeToMemory(&pem.Block{Type: "PRIVATE KEY", Bytes: octets})))
+}
+
+// tlsConfig returns the configuration of a daemon at a free port, that shows a certificate.
+func tlsConfig(t *testing.T, who person) string {
+	t.Helper()
+	listener, err := net.Listen("tcp", "127.0.0.1:0")
+	if err != nil {
+		t.Fatal(err)
+	}
+	address := listener.Addr().String()
+	listener.Close()
+	certificate, key := pair(t, who)
+	room := t.TempDir()
+	list := "(3:acl(5:entry" + who.key + "(3:tag(5:files))))"
+	return fmt.Sprintf(`{"listen": "tls:%s", "tls": {"certificate": %q, "key": %q}, "secret_file": %q, "control": "unix:%s/control", "log": "%s/log",
+		"server": "nginx", "list": %q, "requests": [{"prefix": "/", "methods": {"GET": "read"}, "request": ["files", "{method}", "{path}"]}]}`,
+		address, certificate, key, written(t, "secret", strings.Repeat("s", 32)+"\n"), room, room, written(t, "acl", list))
+}
+
+// TestTLS starts a daemon at a port. A web server that verifies its certificate asks it, and not another one in its place.
+func TestTLS(t *testing.T) {
+	alice, mallory := newPerson(t), newPerson(t)
+	path := written(t, "config", tlsConfig(t, alice))
+	config, err := readConfig(path)
+	if err != nil {
+		t.Fatal(err)
+	}
+	ended := make(chan int)
+	var out, messages journal
+	go func() { ended <- run([]string{"-config", path}, out.writer(), messages.writer()) }()
+	waitFor(t, config.controlPath())
+	asks := func() (int, error) {
+		client, err := config.client()
+		if err != nil {
+			return 0, err
+		}
+		request, _ := http.NewRequest(http.MethodGet, "https://x/", nil)
+		for name, value := range map[string]string{"Method": "GET", "URI": "/web/x"} {
+			request.Header.Set("X-Original-"+name, value)
+		}
+		request.Header.Set("X-Spki-Secret", strings.Repeat("s", 32))
+		request.Header.Set("X-Client-Cert", alice.escaped())
+		response, err := client.Do(request)
+		if err != nil {
+			return 0, err
+		}
+		response.Body.Close()
+		return response.StatusCode, nil
+	}
+	if met, err := asks(); met != 200 || err != nil {
+		t.Errorf("%d, %v, %s", met, err, messages.String())
+	}
+	var to, fault bytes.Buffer
+	if status := run([]string{"-health", "-config", path}, &to, &fault); status != 0 {
+		t.Errorf("%d, %s", status, fault.String())
+	}
+	if plain, err := http.Get("http://" + strings.TrimPrefix(config.Listen, tlsScheme)); err == nil && plain.StatusCode < 400 {
+		t.Errorf("without TLS: %d", plain.StatusCode)
+	}
+	// another certificate, which the daemon has not read yet, and then has
+	config.TLS.Certificate, config.TLS.Key = pair(t, mallory)
+	if met, err := asks(); err == nil {
+		t.Errorf("another certificate is expected: %d", met)
+	}
+	text := strings.Replace(tlsConfig(t, alice), "{", "{", 1)
+	if _, err := parseConfig([]byte(text)); err != nil {
+		t.Error(err)
+	}
+	process, _ := os.FindProcess(os.Getpid())
+	_ = process.Signal(os.Interrupt)
+	if status := <-ended; status != 0 {
+		t.Errorf("%d, %s", status, messages.String())
+	}
+}
+
+// TestCertificatesAreReadAgain replaces the certificate of a daemon. What is refused changes nothing.
+func TestCertificatesAreReadAgain(t *testing.T) {
+	alice, mallory := newPerson(t), newPerson(t)
+	config, err := parseConfig([]byte(tlsConfig(t, alice)))
+	if err != nil {
+		t.Fatal(err)
+	}
+	var keeper keeper
+	shown := func() []byte { return config.TLS.present.Load().Certificate[0] }
+	if err := keeper.reload(config, false, newSite(t, "").now()); err != nil || !bytes.Equal(shown(), alice.der) {
+		t.Fatal(err)
+	}
+	config.TLS.Certificate, _ = pair(t, mallory)
+	if err := keeper.reload(config, false, newSite(t, "").now()); err == nil || !bytes.Equal(shown(), alice.der) {
+		t.Error("a certificate of another key is shown")
+	}
+	config.TLS.Certificate, config.TLS.Key = pair(t, mallory)
+	list := config.List
+	config.List = filepath.Join(t.TempDir(), "none")
+	if err := keeper.reload(config, false, newSite(t, "").now()); err == nil || !bytes.Equal(shown(), alice.der) {
+		t.Error("a refused reload has changed the certificate")
+	}
+	config.List = list
+	if err := keeper.reload(config, false, newSite(t, "").now()); err != nil || !bytes.Equal(shown(), mallory.der) {
+		t.Error(err)
+	}
+	if err := os.Chmod(config.TLS.Key, 0o644); err != nil {
+		t.Fatal(err)
+	}
+	if _, err := config.TLS.read(); err == nil {
+		t.Error("a key that everyone may read is one")
+	}
+}
+
+// TestEntrances has who may ask, and how the web server knows that it is the daemon that answers.
+func TestEntrances(t *testing.T) {
+	files := `"tls": {"certificate": "/c", "key": "/k"}`
+	secret := `"secret_file": "/s"`
+	control := `"control": "unix:/run/x/control"`
+	listen := func(address string, fields ...string) string {
+		return strings.Replace(with(strings.Join(fields, ", ")), "unix:/run/x/s", address, 1)
+	}
+	for _, text := range []string{
+		listen("tls:127.0.0.1:9180", files, secret, control), listen("tls:[::1]:9180", files, secret, control), with(`"socket_mode": "0666", ` + secret),
+	} {
+		if _, err := parseConfig([]byte(text)); err != nil {
+			t.Errorf("%s: %v", text, err)
+		}
+	}
+	for text, wanted := range map[string]string{
+		listen("127.0.0.1:9180", files, secret, control): "a port without TLS is not taken", listen("[::1]:9180", secret, control): "a port without TLS is not taken",
+		listen("tls:127.0.0.1:9180", secret, control): `"tls" is missing`, listen("tls:127.0.0.1:9180", files, control): "secret_file is missing",
+		listen("tls:127.0.0.1:9180", `"tls": {"certificate": "/c"}`, secret, control): `"tls" is missing`,
+		listen("tls:127.0.0.1:9180", files, secret):                                   `"control"`, listen("tls:192.0.2.1:9180", files, secret, control): "must be",
+		listen("tls:localhost:9180", files, secret, control): "must be", with(files): `"tls" is for a port`,
+		with(`"control": "unix:/run/x/s"`): `another one than "listen"`, with(`"control": "/run/x/c"`): "unix:/PATH",
+	} {
+		if _, err := parseConfig([]byte(text)); err == nil || !strings.Contains(err.Error(), wanted) {
+			t.Errorf("%s: %v", text, err)
+		}
+	}
+}
+
+// TestOtherCertificate has a client that expects one certificate and is shown another one: the secret is not sent.
+func TestOtherCertificate(t *testing.T) {
+	alice, mallory := newPerson(t), newPerson(t)
+	config, err := parseConfig([]byte(tlsConfig(t, alice)))
+	if err != nil {
+		t.Fatal(err)
+	}
+	certificate, key := pair(t, mallory)
+	own, err := tls.LoadX509KeyPair(certificate, key)
+	if err != nil {
+		t.Fatal(err)
+	}
+	listener, err := tls.Listen("tcp", strings.TrimPrefix(config.Listen, tlsScheme), &tls.Config{Certificates: []tls.Certificate{own}})
+	if err != nil {
+		t.Fatal(err)
+	}
+	defer listener.Close()
+	go func() {
+		connection, err := listener.Accept()
+		if err == nil {
+			octets := make([]byte, 4096)
+			if count, _ := connection.Read(octets); count > 0 {
+				t.Errorf("sent to another program: %q", octets[:count])
+			}
+			connection.Close()
+		}
+	}()
+	config.secret = []byte(strings.Repeat("s", 32))
+	if err := config.answers(); err == nil || !strings.Contains(err.Error(), "another certificate") {
+		t.Error(err)
+	}
+}

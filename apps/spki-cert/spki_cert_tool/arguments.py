@@ -1,0 +1,239 @@
+"""The words of the command line of `spki-cert`, and its help."""
+from __future__ import annotations
+
+import argparse
+import functools
+import itertools
+import os
+import re
+from collections.abc import Sequence
+from typing import IO, Any, NoReturn
+
+from . import __version__
+from .files import Refused, put
+from .forms import meant
+from .keys import KINDS
+
+# (`key new` is a command of its own to argparse)
+NEW_KEY = "key-new"
+DESCRIPTION = """Makes, signs, shows and explains certificates of SPKI, with the keys that you have.
+
+A key holds rights. An access list, which belongs to a service, says what a key may do. The holder of a key may
+delegate a right by a certificate, where the list or the certificate before allows it by (propagate). A right is a
+tag, a pattern for requests: (packages read) contains the request (packages read /a). `(* prefix /web/)` contains what
+begins so, and `(* set read write)` what one of its members contains."""
+EPILOG = """the first certificate, with a key of OpenSSH:
+  spki-cert sign --by ~/.ssh/id_ed25519 --to bob.pub --tag '(packages read (* prefix /web/))' --days 30 -o to-bob.sexp
+  spki-cert show to-bob.sexp
+
+exit status: 0 done, yes, or nothing found; 1 no, or something found; 2 a file or a word is refused; 3 reading or
+writing failed, or a signal ended it; 4 a certificate or an entry was not made, because it is probably a mistake: --yes
+makes it, or for --chain --anyway
+Files are OpenSSH, PEM or S-expressions, and `-` is a stream. SPKI_LABELS names a file or folder as --labels does."""
+KEY_HELP = """Writes the SPKI key of a key of OpenSSH, PEM (SPKI, PKCS#8, PKCS#1) or an S-expression: Ed25519, RSA or ECDSA P-256.
+Of a private key it writes the public one. `spki-cert key new FILE` makes a new key: `spki-cert key new --help`."""
+NEW_KEY_HELP = """Makes a key. FILE is the private key, with mode 600 and a passphrase that is asked for on the terminal, and FILE.pub
+the public key. OpenSSH reads both."""
+SIGN_HELP = """Signs a certificate, and writes it with its signature as a sequence, which its subject shows to the service.
+What is probably a mistake is made only with --yes: a certificate without an end, for (*), for longer than its
+issuer has the right, with a tag that grants nothing, or if a request of --try is not granted. What the issuer
+cannot give by --chain is signed only with --anyway."""
+ENTRY_HELP = """Writes an entry of an access list: what a key, a hash or a name may do. With --acl it is put at the end of that list, which is
+made if it is not there. What is probably a mistake is written only with --yes, as by `spki-cert sign`."""
+NAME_HELP = """Signs a certificate that defines a name: the issuer calls the subject so. Rights that are given to the name are the subject's."""
+SHOW_HELP = """Shows access lists, certificates, sequences and cases: who, to whom, what, until when, delegated or not, and valid or not."""
+ASK_HELP = """Decides a request by an access list and certificates, as a service does, and says why or why not. All certificates
+that are given are looked through for a chain from the list to the key. The words after the options are the request."""
+CHECK_HELP = """Checks each file that is given, and each file of a folder: S-expressions (.sexp, .csexp, .tsexp, or no suffix) and keys. Prints
+what a service would refuse, with line and column, and what is legal and probably a mistake. Lines with `refused:` are errors."""
+
+
+class Once(argparse._StoreAction):
+    """An option with one value, which is given once."""
+
+    def __call__(self, parser: argparse.ArgumentParser, namespace: argparse.Namespace, values: Any, option: str | None = None) -> None:
+        if option and getattr(namespace, self.dest, None) not in (None, self.default):
+            parser.error(f"{option} is given twice")
+        setattr(namespace, self.dest, values)
+
+
+class Words(argparse.ArgumentParser):
+    """The words of a command. No option is abbreviated: the beginning of one may be another one."""
+
+    def __init__(self, **settings: Any) -> None:
+        super().__init__(formatter_class=argparse.RawDescriptionHelpFormatter, allow_abbrev=False, **settings)
+        for name in (None, "store"):
+            self.register("action", name, Once)
+
+    def parse_known_args(self, args: Sequence[str] | None = None, namespace: Any = None) -> Any:
+        options = [os.fsencode(it[2:]) for each in self._actions for it in each.option_strings]
+        commands = [it for each in self._actions if isinstance(each, argparse._SubParsersAction) for it in each.choices]
+        for word in itertools.takewhile(lambda it: it != "--", args or []):
+            name = os.fsencode(word.partition("=")[0])
+            if not commands and word.startswith("--") and " " not in word and name[2:] not in options:
+                having = ", ".join(it for it, those in commands_with_options().items() if word.partition("=")[0] in those)
+                others = f" of {self.prog.split()[-1]}, but of {having}" if having else ""
+                self.error(f"{word}: no such option{others}{meant(name[2:], options).replace('`', '`--', 1)}")
+            if commands and not word.startswith("-"):
+                if word not in commands:
+                    self.error(f"{word}: no such command{meant(name, map(os.fsencode, commands))}")
+                break
+        found, left = super().parse_known_args(args, namespace)
+        if left:
+            self.error(f"{left[0]}: one word too many; put quotes around what has spaces or parentheses")
+        return found, left
+
+    def _print_message(self, message: str, file: IO[str] | None = None) -> None:
+        put(message)
+
+    def error(self, message: str) -> NoReturn:
+        raise Refused(f"{message.removeprefix('argument ')} ({self.prog} --help)")
+
+
+def count_of(text: str) -> int:
+    """A number of at least 1."""
+    if re.fullmatch(r"\d{4}\D.*", text):
+        raise argparse.ArgumentTypeError(f"{text} is a date, and a number is wanted; a date is given by --until {text[:10]}")
+    if not re.fullmatch(r"[0-9]{1,9}", text) or int(text) == 0:
+        raise argparse.ArgumentTypeError(f"{text or 'nothing'} is no number of 1 or more")
+    return int(text)
+
+
+def some(text: str) -> str:
+    """A word that is not empty."""
+    if not text:
+        raise argparse.ArgumentTypeError("this is empty")
+    return text
+
+
+def plain(text: str) -> str:
+    """A word that is not empty, and has no line breaks or other controls."""
+    if re.search("[\0-\x1f\x7f]", text):
+        raise argparse.ArgumentTypeError("this has line breaks or other controls in it")
+    return some(text)
+
+
+FLAG: dict[str, Any] = {"action": "store_true"}
+MANY: dict[str, Any] = {"action": "append", "default": []}
+# The options that several commands have, with what argparse is told of each.
+OPTIONS: dict[str, dict[str, Any]] = {
+    "--json": {**FLAG, "help": "write JSON, for programs"},
+    "--output": {"metavar": "FILE", "type": some, "help": "where to write it, instead of standard output"},
+    "--force": {**FLAG, "help": "write over a file that is there, unless it is read or holds a key"},
+    "--svg": {"metavar": "FILE", "type": some, "help": "draw the chain, or the first file, as a picture"},
+    "--labels": {"metavar": "PATH", **MANY, "help": "what keys are called: public keys with comments, as authorized_keys has them, or a folder"},
+    "--at": {"metavar": "DATE", "type": some, "help": "the moment, as 2026-03-01 or 2026-03-01_12:00:00 in UTC; now if it is not given"},
+    "--key": {"metavar": "N", "type": count_of, "dest": "number", "help": "which key of a file of public keys, if it has several"},
+    "--by": {"metavar": "KEY", "required": True, "type": some, "help": "who signs: a private key, or a public key that ssh-agent holds"},
+    "--to": {"metavar": "KEY", "type": some, "help": "the subject: a file with its key, or an S-expression as '(hash sha256 #..#)'"},
+    "--named": {"metavar": "NAME", **MANY, "type": plain, "help": "a name of --to, instead of the key itself, or without --to of the issuer"},
+    "--tag": {"metavar": "TAG", "help": "the requests that are allowed, as '(packages read (* prefix /web/))'"},
+    "--propagate": {**FLAG, "help": "the subject may delegate the right"},
+    "--try": {"metavar": "WORD", "nargs": "+", **MANY, "dest": "tries", "help": "a request that the tag is to contain, by its words"},
+    "--from": {"metavar": "DATE", "type": some, "dest": "begins", "help": "valid from this day or moment on"},
+    "--comment": {"metavar": "TEXT", "type": plain, "help": "a comment, which grants nothing"},
+    "--yes": {**FLAG, "help": "make it although it is probably a mistake"},
+    "--chain": {"metavar": "FILE", "type": some, "help": "the sequence by which the issuer has the right: it is verified, and written in front"},
+    "--anyway": {**FLAG, "help": "make it although by --chain its issuer cannot give it"}}
+SHORT = {"--output": ["-o"]}
+FIELDS = ("--to", "--key", "--named", "--from", "--comment", "--yes", "--force")
+SIGNS = (*FIELDS, "--by", "--chain", "--anyway", "--output")
+RIGHT = ("--propagate", "--try")
+SHOWS = ("--labels", "--at", "--json", "--svg", "--force")
+
+
+def parser_of_commands() -> argparse.ArgumentParser:
+    """The words of the command line."""
+    parser = Words(prog="spki-cert", description=DESCRIPTION, epilog=EPILOG)
+    parser.add_argument("--version", action="version", version=f"spki-cert {__version__}", help="write the version")
+    commands = parser.add_subparsers(dest="command", required=True, metavar="COMMAND")
+
+    def added(name: str, told: str, long: str, epilog: str, *options: str) -> argparse.ArgumentParser:
+        command = commands.add_parser(name, help=told, description=long, epilog=epilog)
+        for option in options:
+            command.add_argument(*SHORT.get(option, []), option, **OPTIONS[option])
+        return command
+
+    key = added("key", "write a key as SPKI has it, or make one: key new FILE", KEY_HELP,
+                "example: spki-cert key --hash ~/.ssh/id_ed25519.pub", "--key", "--json", "--output", "--force")
+    key.add_argument("files", metavar="FILE", nargs="+", help="a key")
+    key.add_argument("--hash", action="store_true", help="write the hash of the key, which may name it")
+    new = commands.add_parser(NEW_KEY, prog="spki-cert key new", description=NEW_KEY_HELP, epilog="example: spki-cert key new alice")
+    new.add_argument("file", metavar="FILE", type=some, help="the private key to make; the public key is FILE.pub")
+    new.add_argument("--type", choices=KINDS, default=KINDS[0], help="ed25519 if it is not given")
+    new.add_argument("--comment", metavar="TEXT", type=plain, help="what the key is called; the name of the file if it is not given")
+    new.add_argument("--pem", action="store_true", help="write the private key in PEM, which TLS programs read, instead of OpenSSH's form")
+    new.add_argument("--no-passphrase", action="store_true", help="do not encrypt it")
+    with_rights(
+        added("sign", "sign a certificate that gives a right", SIGN_HELP, "example: spki-cert sign --by alice --to bob.pub "
+              "--tag '(packages (* set read write))' --days 30 -o to-bob.sexp", *SIGNS, *RIGHT),
+        added("name", "sign a certificate that defines a name", NAME_HELP, "example: spki-cert name --by alice --name builders --to bob.pub "
+              "--days 365 -o bob-builds.sexp", *SIGNS),
+        added("entry", "write an entry of an access list", ENTRY_HELP, "example: spki-cert entry --to alice.pub --tag '(packages)' --propagate "
+              "--acl acl.sexp", *FIELDS, "--tag", *RIGHT))
+    show = added("show", "say in words what a list, a certificate, a sequence or a case says", SHOW_HELP,
+                 "example: spki-cert show acl.sexp to-bob.sexp", *SHOWS)
+    show.add_argument("files", metavar="FILE", nargs="+")
+    show.add_argument("--braces", action="store_true", help="write each file on one line in braces instead, as `Authorization: SPKI {..}` has it")
+    with_ask(added("ask", "decide a request, and say why", ASK_HELP,
+                   "example: spki-cert ask --acl acl.sexp --key bob.pub --cert to-bob.sexp -- packages read /web/index.html", *SHOWS))
+    check = added("check", "say what is wrong in files, and what is probably a mistake", CHECK_HELP,
+                  "example: spki-cert check certificates/", "--json")
+    check.add_argument("paths", metavar="PATH", nargs="+")
+    commands.add_parser("completion", help="write the completion of bash: eval \"$(spki-cert completion)\"")
+    from .ending import with_end
+    with_end(commands.add_parser("end", help="end a certificate before its date"))
+    return parser
+
+
+def with_rights(sign: argparse.ArgumentParser, name: argparse.ArgumentParser, entry: argparse.ArgumentParser) -> None:
+    sign.add_argument("--tag", required=True, **OPTIONS["--tag"])
+    name.add_argument("--name", metavar="NAME", required=True, type=plain, help="the name that the issuer gives to the subject")
+    output = entry.add_mutually_exclusive_group()
+    output.add_argument("-o", "--output", **OPTIONS["--output"])
+    output.add_argument("--acl", metavar="FILE", type=some, help="the access list to put it in, which is made if it is not there")
+    entry.add_argument("--remove", action="store_true", help="remove the entries for --to from the list instead")
+    for each in (sign, name, entry):
+        each.set_defaults(name=None, tag=None, propagate=False, tries=[])
+        ends = each.add_mutually_exclusive_group()
+        ends.add_argument("--days", metavar="N", type=count_of, help="valid for so many days from now")
+        ends.add_argument("--until", metavar="DATE", type=some, help="valid until this day or moment, in UTC")
+
+
+def with_ask(ask: argparse.ArgumentParser) -> None:
+    ask.add_argument("--acl", metavar="FILE", type=some, help="the access list")
+    ask.add_argument("--key", metavar="FILE", type=some, help="the key that requests")
+    ask.add_argument("--cert", metavar="PATH", nargs="+", action="extend", default=[],
+                     help="sequences with certificates, or folders of them; put -- before the request if it is the last option")
+    ask.add_argument("--case", metavar="FILE", type=some, help="a whole case instead, whose rows say which signatures are valid")
+    ask.add_argument("--open", action="store_true", help="the open policy, under which hashes by SHA-1 name keys")
+    ask.add_argument("--save", metavar="FILE", type=some, help="write the case of the decision, for `spki check`")
+    ask.add_argument("--sequence", metavar="FILE", type=some, help="write the certificates of the decision, in order, to be shown to the service")
+    ask.add_argument("words", metavar="WORD", nargs="*", help="the strings of the request")
+
+
+COMPLETION = """_spki_cert() {{
+    local word=${{COMP_WORDS[COMP_CWORD]}}
+    if [[ $COMP_CWORD -eq 1 ]]; then
+        COMPREPLY=($(compgen -W '{commands}' -- "$word"))
+    elif [[ $word == -* ]]; then
+        case ${{COMP_WORDS[1]}} in
+{cases}
+        esac
+    fi
+}}
+complete -o default -F _spki_cert spki-cert"""
+
+
+@functools.cache
+def commands_with_options() -> dict[str, list[str]]:
+    """The commands, and the options of each."""
+    commands = next(it for it in parser_of_commands()._actions if isinstance(it, argparse._SubParsersAction)).choices
+    return {name: [option for it in each._actions for option in it.option_strings] for name, each in commands.items() if name != NEW_KEY}
+
+
+def completion() -> str:
+    """The completion of bash."""
+    commands = commands_with_options()
+    cases = (f"""            {name}) COMPREPLY=($(compgen -W '{" ".join(options)}' -- "$word")) ;;""" for name, options in commands.items())
+    return COMPLETION.format(commands=" ".join(commands), cases="\n".join(cases))

@@ -1,0 +1,328 @@
+"""Asks a guard of the library whether a request is granted, and says in words why or why not.
+
+The library decides. What is here finds the certificates that lead to the key among those that are given, verifies signatures, and names
+what the library's reasons mean in these files.
+"""
+from __future__ import annotations
+
+import itertools
+import sys
+from collections.abc import Hashable, Iterable, Iterator
+from dataclasses import dataclass, field, replace
+from typing import TYPE_CHECKING
+
+from .certificates import (Keys, Signed, Steps, Terms, certificates_in, chains, entries_of, fault_of_signature, keys_in, members, only, sequence_of,
+                           string_of)
+from .certificates import field as field_of
+from .files import Refused, now
+from .forms import Parser, meant
+from .keys import principal_of, verify
+from .labels import Labels
+from .making import sequence_with
+from .sexp import Value, canonical, on_one_line, read
+from .showing import FAULTS
+from .tag_words import lacks
+
+if TYPE_CHECKING:
+    from spki import Explanation, Guard, Question, Reason
+
+MOST_CHAINS = 64
+# The most certificates and strings of a question. A service may allow fewer.
+MOST_SHOWN = 65536
+# The last words of a chain that joins to its end.
+JOINED = ("grants", "TagLacks", "WindowLacks", "NotTheKey")
+
+
+@dataclass
+class Asked:
+    """What is asked, with all certificates that are at hand."""
+
+    access_list: Value
+    key: Value
+    request: Value
+    moment: bytes
+    labels: Labels
+    sequences: list[Value] = field(default_factory=list)
+    is_strict: bool = True
+    accepted: list[Value] | None = None
+    """The rows of a case, which say what signatures are valid. None if signatures are verified."""
+    unsigned: bytes | None = None
+    """A certificate that is not signed yet, in canonical form. It counts as if it were."""
+
+    def verify(self, key: bytes, message: bytes, value: bytes) -> bool:
+        """Whether a signature counts."""
+        if self.accepted is None:
+            return message == self.unsigned or verify(key, message, value)
+        from .keys import hash_of
+        row = [b"by", read(key), hash_of(read(message)), read(value)]
+        return row in self.accepted
+
+
+@dataclass
+class Answer:
+    """The decision about one sequence, and the library's reasons."""
+
+    sequence: Value
+    entry: int | None
+    reasons: list[Reason]
+    reduced: list[str]
+    unused: int = 0
+    """How many certificates are at hand, if none of their chains leads from an entry to the key."""
+    is_cut: bool = False
+    """Whether the search for chains ended at its bound."""
+
+    @property
+    def chosen(self) -> Reason | None:
+        return furthest(self.reasons)
+
+
+def furthest(reasons: list[Reason]) -> Reason | None:
+    """The reason of the entry that goes furthest: it grants, or its chain ends last. None if there are no entries."""
+    return max(reasons, key=lambda it: (it.word == "grants", it.item or sys.maxsize, -(it.entry or 0))) if reasons else None
+
+
+def guard_of(asked: Asked) -> Guard:
+    """The guard of the access list, by the module `spki` and its library."""
+    try:
+        import spki
+    except (ImportError, OSError) as why:
+        raise Refused(f"the library decides, and is not here: {why}; crates/spki_c/archive.py builds it, and SPKI_LIBRARY names it") from None
+    try:
+        limits = spki.Limits(octets=spki.Limits.highest().octets, certificates=MOST_SHOWN, words=MOST_SHOWN)
+        return spki.Guard(canonical(asked.access_list), spki.Policy.STRICT if asked.is_strict else spki.Policy.ALLOW_SHA1, limits)
+    except spki.Refused as why:
+        raise Refused(f"a service would refuse the access list: {why.line}") from None
+
+
+def answer_of(guard: Guard, asked: Asked, sequence: Value) -> Answer:
+    """The decision about a sequence, as a service would decide."""
+    import spki
+    question: Question = spki.Question(canonical(sequence), canonical(asked.key), text=canonical(asked.request), moment=canonical(asked.moment))
+    try:
+        with guard.ask(question) as opened:
+            opened.verify(asked.verify)
+            explanation: Explanation = opened.explain()
+            return Answer(sequence, opened.decide().entry, list(explanation.reasons()), opened.reduce().text.splitlines())
+    except spki.Refused as why:
+        raise Refused(f"a service would refuse the question: {why.line}") from None
+
+
+def answered(asked: Asked) -> Answer:
+    """The answer of the first chain that grants the request; else of the one sequence that is given, or of the chain that goes furthest."""
+    with guard_of(asked) as guard:
+        given = asked.sequences[0] if len(asked.sequences) == 1 else [b"sequence"]
+        first = answer_of(guard, asked, given)
+        if first.entry is not None or not asked.sequences:
+            return first
+        steps, others = Steps(), list[Answer]()
+        for sequence in sequences_to(asked, steps):
+            others.append(answer_of(guard, asked, sequence))
+            if others[-1].entry is not None:
+                return others[-1]
+    is_first = len(asked.sequences) == 1 and bool(certificates_in(given)) or not others
+    unused = 0 if others or certificates_in(given) else sum(len(certificates_in(it)) for it in asked.sequences)
+    return replace(first if is_first else max(others, key=rank), unused=unused, is_cut=steps.left < 0)
+
+
+def rank(answer: Answer) -> tuple[bool, int]:
+    """How far an answer goes: a chain that joins to its end goes furthest."""
+    chosen = answer.chosen
+    return (chosen is not None and chosen.word in ("TagLacks", "WindowLacks"), (chosen.item or sys.maxsize) if chosen else 0)
+
+
+def sequences_to(asked: Asked, steps: Steps) -> Iterator[Value]:
+    """The sequences of the chains that lead from an entry to the key, of all certificates at hand: of those whose signatures are valid, and if
+    there is none, of all, so that it can be said what stops them."""
+    keys = Keys([asked.key, *itertools.chain.from_iterable(map(keys_in, asked.sequences)), *asked.labels.keys.by_hash.values()])
+    certificates = list(itertools.chain.from_iterable(map(certificates_in, asked.sequences)))
+    valid = [it for it in certificates if asked.accepted is not None or fault_of_signature(it, keys) is None]
+    entries, count = entries_of(asked.access_list), 0
+    for chain in itertools.islice(chains(entries, valid, keys, asked.key, steps), MOST_CHAINS):
+        count += 1
+        yield sequence_of(chain, keys)
+    if not count and len(valid) < len(certificates):
+        yield from (sequence_of(it, keys) for it in itertools.islice(chains(entries, certificates, keys, asked.key, steps), 1))
+
+
+def case_of(asked: Asked, sequence: Value) -> Value:
+    """The case of a question, with a row for each signature that counts."""
+    keys = Keys([asked.key, *keys_in(sequence)])
+    rows: list[Value] = []
+    for each in certificates_in(sequence):
+        key = keys.named(each.terms.issuer or b"")
+        value = members(each.signature)[2]
+        if key is not None and asked.verify(canonical(key), canonical(each.terms.value), canonical(value)):
+            from .keys import hash_of
+            rows.append([b"by", key, hash_of(each.terms.value), value])
+    policy: list[Value] = [[b"policy", b"strict"]] if asked.is_strict else []
+    return [b"case", asked.access_list, [b"accepted", *rows], sequence, [b"key", asked.key], [b"request", asked.request], [b"at", asked.moment],
+            *policy]
+
+
+# ---- in words
+
+
+class Words:
+    """Says an answer in words, with the labels of keys and in the form in which the files have strings."""
+
+    def __init__(self, asked: Asked, answer: Answer) -> None:
+        self.asked, self.answer, self.labels = asked, answer, asked.labels
+        self.entries, self.chain = entries_of(asked.access_list), certificates_in(answer.sequence)
+        self.keys = Keys([asked.key, *keys_in(answer.sequence)])
+        self.asker = self.labels.of(asked.key)
+
+    def lines(self) -> Iterator[str]:
+        """All that is said."""
+        chosen = self.answer.chosen
+        wants = f"{self.asker} requests {on_one_line(self.asked.request)} at {self.asked.moment.decode()}"
+        yield f"{'yes' if self.answer.entry is not None else 'no'}: {wants}"
+        if chosen is None:
+            yield "the access list has no entries"
+            return
+        if chosen.entry is not None:
+            yield from self.way(self.entries[chosen.entry - 1], chosen)
+        yield from self.end(chosen)
+        if self.answer.unused:
+            yield f"  of the {self.answer.unused} certificates at hand, no chain leads from an entry to {self.asker}"
+        if self.answer.is_cut:
+            yield f"  the search for chains ended after {Steps.most} steps: give only the certificates of the chain"
+
+    def way(self, entry: Terms, chosen: Reason) -> Iterator[str]:
+        """The entry and the certificates up to where the chain stops."""
+        yield f"  entry {chosen.entry}: {self.step(entry)}"
+        for each in self.chain:
+            if chosen.item is None or each.number <= chosen.item:
+                yield f"  item {each.number}: {self.step(each.terms)}"
+
+    def step(self, terms: Terms) -> str:
+        """What an entry or a certificate says, in one line."""
+        subject = self.labels.of_subject(terms.subject)
+        if terms.name is not None:
+            return f"{self.labels.of(terms.issuer)} calls {subject} {on_one_line(terms.name)}, {terms.window}"
+        delegates = ", and may delegate it" if terms.delegates else ""
+        return f"{self.labels.of(terms.issuer)} lets {subject} {on_one_line(terms.tag or b'')}{delegates}, {terms.window}"
+
+    def end(self, chosen: Reason) -> Iterator[str]:
+        """What the last word of the library means here."""
+        if chosen.word == "grants":
+            yield f"  so entry {chosen.entry} grants it"
+            return
+        item = self.item(chosen)
+        said = {"TagLacks": self.tag_lacks, "WindowLacks": self.window_lacks, "NotTheKey": self.not_the_key}.get(chosen.word)
+        if said is not None:
+            yield from (f"  {line} ({chosen.word})" for line in said(chosen))
+        elif item is not None:
+            yield f"  item {item.number}: {self.stop(item, chosen)} ({chosen.word})"
+
+    def item(self, chosen: Reason) -> Signed | None:
+        return next((it for it in self.chain if it.number == chosen.item), None)
+
+    def before(self, chosen: Reason) -> list[tuple[str, Terms]]:
+        """The entry and the certificates before the item that stops the chain, each with its name."""
+        entry = [(f"entry {chosen.entry}", self.entries[chosen.entry - 1])] if chosen.entry else []
+        return entry + [(f"item {it.number}", it.terms) for it in self.chain if chosen.item is None or it.number < chosen.item]
+
+    def tag_lacks(self, chosen: Reason) -> Iterator[str]:
+        for name, terms in self.before(chosen):
+            why = lacks(terms.tag, self.asked.request) if terms.tag is not None else None
+            if why:
+                yield f"the tag of {name} does not contain the request: {why}"
+
+    def window_lacks(self, chosen: Reason) -> Iterator[str]:
+        for name, terms in self.before(chosen):
+            if terms.ends is not None and terms.ends < self.asked.moment:
+                yield f"{name} ended on {terms.ends.decode()}"
+            if terms.begins is not None and terms.begins > self.asked.moment:
+                yield f"{name} begins on {terms.begins.decode()}"
+
+    def not_the_key(self, chosen: Reason) -> Iterator[str]:
+        holder = self.holder(chosen)
+        _, names, _ = subject_of_chain([terms for _, terms in self.before(chosen)])
+        if names:
+            defined = {it.terms.name: self.labels.of(it.terms.issuer) for one in self.asked.sequences for it in certificates_in(one) if it.terms.name}
+            others = [f"; there is {on_one_line(name)} of {issuer}, which is another name" for name, issuer in defined.items()
+                      if name == names[0] or meant(string_of(names[0]) or b"", [name])]
+            yield f"the right ends at {holder}, and that is a name, and no certificate says who it is{''.join(others[:1])}"
+        else:
+            yield f"the right ends at {holder}, and {self.asker} is another key"
+
+    def holder(self, chosen: Reason) -> str:
+        """Who has the right where the chain stops."""
+        principal, names, _ = subject_of_chain([terms for _, terms in self.before(chosen)])
+        return self.labels.of_subject([b"name", principal, *names] if names else principal)
+
+    def stop(self, item: Signed, chosen: Reason) -> str:
+        """Why a certificate stops the chain."""
+        if chosen.word in FAULTS:
+            return FAULTS[chosen.word]
+        issuer, holder = self.labels.of(item.terms.issuer), self.holder(chosen)
+        names = subject_of_chain(it for _, it in self.before(chosen))[1]
+        is_meant = meant(item.terms.name, [string_of(it) or b"" for it in names[:1]])
+        if chosen.word == "NoTag":
+            return f"its tag and the tags before it have no request in common: {self.tags(chosen, item)}"
+        return {
+            "NotIssuer": f"{issuer} issues it, and the right is with {holder} there",
+            "NotTheName": f"it defines {on_one_line(item.terms.name or b'')} of {issuer}, and the right is with {holder} there{is_meant}",
+            "NoDelegation": f"{issuer} may not delegate the right: what comes before it has no (propagate)",
+            "NoValidity": f"it is valid {item.terms.window}, and no moment of that is in the windows before it"}[chosen.word]
+
+    def tags(self, chosen: Reason, item: Signed) -> str:
+        tags = [terms.tag for _, terms in self.before(chosen)] + [item.terms.tag]
+        return " and ".join(on_one_line(tag) for tag in tags if tag is not None)
+
+
+def subject_of_chain(chain: Iterable[Terms]) -> tuple[Value, list[Value], bool]:
+    """Where a chain leads, if its certificates join: the principal, the names that are left, and whether the right may be delegated."""
+    principal: Value = b""
+    names: list[Value] = []
+    delegates = True
+    for terms in chain:
+        names = [*terms.names, *(names[1:] if terms.name is not None else [])]
+        principal, delegates = terms.principal, delegates if terms.name is not None else terms.delegates
+    return principal, names, delegates
+
+
+def asked_of_case(case: Value, labels: Labels) -> Asked:
+    """The question of a case. Its rows say which signatures are valid."""
+    access_list, accepted, sequence, key, request, moment, *policy = members(case)
+    date = members(moment)[0]
+    assert isinstance(date, bytes)
+    return Asked(access_list, members(key)[0], members(request)[0], date, labels, [sequence], bool(policy), members(accepted))
+
+
+# ---- what a chain gives
+
+
+def what_cannot_be_given(chain: Value, certificate: Value, key: Value, label: str) -> list[str]:
+    """What of a certificate that is to be signed its issuer, who is called so, cannot give, by the chain that leads to the issuer."""
+    found = certificates_in(chain)
+    if not found:
+        return ["the chain has no certificate"]
+    first = found[0].terms
+    begin: Value = [b"name", first.issuer or b"", first.name] if first.name is not None else first.issuer or b""
+    labels = Labels()
+    labels.add(key, label)
+    left, why = left_of(begin, sequence_with(chain, key, certificate, b"-"), certificate, key, labels)
+    if why or field_of(certificate, b"tag") is None:
+        return why
+    alone, _ = left_of(principal_of(key), sequence_with(None, key, certificate, b"-"), certificate, key, labels)
+    return [] if unordered(left) == unordered(alone) else [f"of this tag the chain gives only `{on_one_line(left)}`: sign that"]
+
+
+def left_of(subject: Value, sequence: Value, certificate: Value, key: Value, labels: Labels) -> tuple[Value, list[str]]:
+    """The tag that is left of a sequence, by a list that gives everything to a subject; or why none is, in the words of `ask`."""
+    access_list: Value = [b"acl", [b"entry", subject, [b"propagate"], [b"tag", [b"*"]]]]
+    asked = Asked(access_list, key, b"", now(), labels, [sequence], unsigned=canonical(certificate))
+    with guard_of(asked) as guard:
+        answer = answer_of(guard, asked, sequence)
+    if answer.chosen is not None and answer.chosen.word not in JOINED:
+        return b"", [line.strip() for line in Words(asked, answer).end(answer.chosen)]
+    return only(field_of(Parser(answer.reduced[0].split(" ", 2)[2].encode()).whole().value, b"tag")) or b"", []
+
+
+def unordered(tag: Value) -> Hashable:
+    """A tag, of whose sets the order of the members does not count."""
+    if not isinstance(tag, list):
+        return tag
+    parts = tuple(map(unordered, tag))
+    return (*parts[:2], frozenset(parts[2:])) if parts[:2] == (b"*", b"set") else parts

@@ -1,0 +1,252 @@
+"""What entries and certificates say: who gives what to whom, until when, and whether it may be delegated."""
+from __future__ import annotations
+
+import hashlib
+from collections import deque
+from collections.abc import Iterable, Iterator
+from dataclasses import dataclass
+from typing import ClassVar
+from datetime import datetime
+
+from .keys import hash_of, verifies
+from .sexp import Value, canonical
+
+DATE_FORMAT = "%Y-%m-%d_%H:%M:%S"
+
+
+def headed(value: Value, *heads: bytes) -> bool:
+    """Whether a value is a list with one of these heads."""
+    return isinstance(value, list) and bool(value) and value[0] in heads
+
+
+def members(value: Value) -> list[Value]:
+    """The members of a list after its head."""
+    return value[1:] if isinstance(value, list) else []
+
+
+def field(value: Value, head: bytes) -> Value | None:
+    """The field of an entry or a certificate with a head, or None."""
+    return next((member for member in members(value) if headed(member, head)), None)
+
+
+def only(value: Value | None) -> Value | None:
+    """The one member of a field, or None."""
+    return members(value)[0] if value is not None and members(value) else None
+
+
+def string_of(value: Value | None) -> bytes | None:
+    """A string without its display hint, or None."""
+    return value[1] if isinstance(value, tuple) else value if isinstance(value, bytes) else None
+
+
+@dataclass(frozen=True)
+class Terms:
+    """What an entry or a certificate says. An entry is issued by the owner of the list, which is None."""
+
+    value: Value
+    issuer: Value | None
+    """The principal that issues it."""
+    name: bytes | None
+    """The name that a certificate defines, or None if it gives a right."""
+    subject: Value
+    """A principal, or `(name PRINCIPAL n ..)`."""
+    tag: Value | None
+    begins: bytes | None
+    ends: bytes | None
+    delegates: bool
+    comment: str
+
+    @property
+    def principal(self) -> Value:
+        """The principal of the subject."""
+        return members(self.subject)[0] if headed(self.subject, b"name") else self.subject
+
+    @property
+    def names(self) -> list[Value]:
+        """The names of the subject, which certificates must define."""
+        return members(self.subject)[1:] if headed(self.subject, b"name") else []
+
+    @property
+    def window(self) -> str:
+        """From when until when it is valid, in words."""
+        begins = f"from {self.begins.decode()} " if self.begins else ""
+        return begins + (f"until {self.ends.decode()}" if self.ends else "without end")
+
+    def contains_moment(self, moment: bytes) -> bool:
+        """Whether a moment is in the window."""
+        return (self.begins is None or self.begins <= moment) and (self.ends is None or moment <= self.ends)
+
+
+def limit_of(value: Value, head: bytes) -> bytes | None:
+    """A limit of the window, given directly or in `(valid ..)`."""
+    return string_of(only(field(value, head) or field(field(value, b"valid") or b"", head)))
+
+
+def comment_of(value: Value) -> str:
+    """The comment of an entry or a certificate."""
+    strings = map(string_of, members(field(value, b"comment") or b""))
+    return " ".join(it.decode(errors="replace") for it in strings if it is not None)
+
+
+def terms_of(value: Value, issuer: Value | None, name: bytes | None, subject: Value) -> Terms:
+    """The terms of an entry or a certificate, of which the parts that differ are given."""
+    return Terms(value, issuer, name, subject, only(field(value, b"tag")), limit_of(value, b"not-before"), limit_of(value, b"not-after"),
+                 field(value, b"propagate") is not None, comment_of(value))
+
+
+def terms_of_entry(value: Value) -> Terms:
+    return terms_of(value, None, None, members(value)[0])
+
+
+def terms_of_certificate(value: Value) -> Terms:
+    """The terms of a certificate. A relative name is one of the issuer."""
+    issuer, subject, name = only(field(value, b"issuer")) or b"", only(field(value, b"subject")) or b"", None
+    if headed(issuer, b"name"):
+        issuer, defined = members(issuer)[0], members(issuer)[1]
+        name = string_of(defined)
+    if headed(subject, b"name") and not headed(members(subject)[0], b"public-key", b"hash"):
+        subject = [b"name", issuer, *members(subject)]
+    return terms_of(value, issuer, name, subject)
+
+
+def remarks_on_window(begins: bytes | None, ends: bytes | None, moment: bytes, what: str = "it") -> Iterator[tuple[bytes, str]]:
+    """What is probably a mistake in a window, each with the head of its field."""
+    for head, limit in ((b"not-before", begins), (b"not-after", ends)):
+        if limit and not is_in_calendar(limit):
+            yield head, f"no calendar has the moment {limit.decode()}"
+    if begins and ends and ends < begins:
+        yield b"not-after", f"{what} ends before it begins, so it is never valid"
+    elif ends and ends < moment:
+        yield b"not-after", f"{what} ended on {ends.decode()}"
+
+
+def is_in_calendar(moment: bytes) -> bool:
+    try:
+        datetime.strptime(moment.decode(), DATE_FORMAT)
+    except ValueError:
+        return moment.endswith(b":60")
+    return True
+
+
+def entries_of(access_list: Value) -> list[Terms]:
+    """The entries of an access list."""
+    return [terms_of_entry(member) for member in members(access_list) if headed(member, b"entry")]
+
+
+@dataclass(frozen=True)
+class Signed:
+    """A certificate of a sequence with its signature, and the number of its item."""
+
+    terms: Terms
+    signature: Value
+    number: int
+
+
+def keys_in(sequence: Value) -> list[Value]:
+    """The keys that are items of a sequence."""
+    return [item for item in members(sequence) if headed(item, b"public-key")]
+
+
+def certificates_in(sequence: Value) -> list[Signed]:
+    """The certificates of a sequence, each with the signature that follows it."""
+    found: list[Signed] = []
+    waits: tuple[Value, int] | None = None
+    for number, item in enumerate(members(sequence), 1):
+        if headed(item, b"cert"):
+            waits = item, number
+        elif headed(item, b"signature") and waits:
+            found.append(Signed(terms_of_certificate(waits[0]), item, waits[1]))
+            waits = None
+    return found
+
+
+class Keys:
+    """Keys that are known, to be found by the principals that name them."""
+
+    def __init__(self, keys: Iterable[Value] = ()) -> None:
+        self.by_hash: dict[tuple[bytes, bytes], Value] = {}
+        for key in keys:
+            self.add(key)
+
+    def add(self, key: Value) -> None:
+        octets = canonical(key)
+        for algorithm in ("sha1", "sha256", "sha512"):
+            self.by_hash.setdefault((algorithm.encode(), hashlib.new(algorithm, octets).digest()), key)
+
+    def named(self, principal: Value) -> Value | None:
+        """The key that a principal names, or None if it is a hash of no key that is known."""
+        if headed(principal, b"public-key"):
+            return principal
+        match principal:
+            case [b"hash", bytes() as algorithm, bytes() as digest, *_]:
+                return self.by_hash.get((algorithm, digest))
+        return None
+
+    def are_one(self, one: Value | None, other: Value | None) -> bool:
+        """Whether two principals name one key, as far as it is known."""
+        if one is None or other is None:
+            return False
+        return one == other or (self.named(one) is not None and self.named(one) == self.named(other))
+
+
+def fault_of_signature(signed: Signed, keys: Keys) -> str | None:
+    """Which of the four tests of a certificate fails, by the word that `explain` has for it, or None."""
+    key = keys.named(signed.terms.issuer or b"")
+    if key is None:
+        return "KeyNotShown"
+    digest, signer, value = members(signed.signature)
+    expected = hash_of(signed.terms.value)
+    if string_of(members(digest)[0]) == b"sha256" and digest != expected:
+        return "DigestDiffers"
+    if not keys.are_one(signer, key):
+        return "SignerDiffers"
+    return None if verifies(key, canonical(signed.terms.value), value) else "NotAccepted"
+
+
+@dataclass
+class Steps:
+    """How many certificates a search for chains may still put behind others."""
+
+    most: ClassVar[int] = 20_000
+    left: int = most
+
+
+# Whom a chain leads to: a principal and names, in canonical form.
+Holder = tuple[bytes, ...]
+
+
+def holder_of(principal: Value, names: Iterable[Value], keys: Keys) -> Holder:
+    return canonical(keys.named(principal) or principal), *map(canonical, names)
+
+
+def chains(entries: Iterable[Terms], certificates: list[Signed], keys: Keys, holder: Value, steps: Steps, most: int = 16) -> Iterator[list[Signed]]:
+    """The chains of certificates that lead from an entry to the holder of a key, the shortest first. None leads to a holder twice: without
+    what is between, it would give at least as much. The search ends when no steps are left."""
+    wanted, by_issuer = holder_of(holder, [], keys), dict[Holder, list[tuple[Signed, Holder]]]()
+    for each in certificates:
+        terms = each.terms
+        begins = holder_of(terms.issuer or b"", [terms.name] if terms.name is not None else [], keys)
+        by_issuer.setdefault(begins, []).append((each, holder_of(terms.principal, terms.names, keys)))
+    waiting = deque[tuple[list[Holder], list[Signed]]](([holder_of(it.principal, it.names, keys)], []) for it in entries)
+    while waiting and steps.left >= 0:
+        holders, chain = waiting.popleft()
+        if holders[-1] == wanted:
+            yield chain
+        for each, after in by_issuer.get(holders[-1][:2], []) if len(chain) < most and holders[-1] != wanted else []:
+            steps.left -= 1
+            leads_to = (*after, *holders[-1][2:])
+            if leads_to not in holders and steps.left >= 0:
+                waiting.append(([*holders, leads_to], [*chain, each]))
+
+
+def sequence_of(chain: Iterable[Signed], keys: Keys) -> Value:
+    """The sequence of a chain: the keys that its issuers name by hashes, and each certificate with its signature."""
+    shown: list[Value] = []
+    items: list[Value] = []
+    for each in chain:
+        issuer = each.terms.issuer or b""
+        key = keys.named(issuer)
+        if key is not None and key != issuer and key not in shown:
+            shown.append(key)
+        items += [each.terms.value, each.signature]
+    return [b"sequence", *shown, *items]

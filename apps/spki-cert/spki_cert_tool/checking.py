@@ -1,0 +1,222 @@
+"""Checks files: what a service would refuse, with the place, and what is legal and probably a mistake."""
+from __future__ import annotations
+
+import itertools
+import os
+from collections.abc import Iterator
+from dataclasses import dataclass
+
+from .certificates import Keys, certificates_in, fault_of_signature, keys_in, remarks_on_window, terms_of_certificate, terms_of_entry
+from .files import Refused, octets_of, remark_on_mode
+from .forms import Node, Wrong, meant
+from .keys import ENCRYPTED, BadKey, is_key_file, is_private, is_text, kind_of, no_passphrase, pieces_of, public_of, read_public
+from .places import BY_HEAD, line_and_column, places_of, read_text, refusal
+from .sexp import on_one_line
+from .showing import FAULTS, what_is
+from .structures import read_certificate, read_entry, read_hash, read_signature
+from .tag_words import contains, is_everything, remarks
+from .tags import read_tag
+
+S_EXPRESSIONS, OTHER_KEYS = (".sexp", ".csexp", ".tsexp"), (".pub", ".pem", ".key")
+OTHERS = {b"cert": read_certificate, b"signature": read_signature, b"hash": read_hash, b"entry": read_entry}
+HEADS = (*BY_HEAD, *OTHERS, b"tag", b"request", b"private-key")
+KINDS = {"intersect": "a question of two tags", "rows": "rows of valid signatures", "key": "a key"}
+# How many keys of a file are looked at.
+MOST_KEYS = 1000
+# How many entries for one subject are compared with each other, and how many octets of tags with how many others.
+MOST_COMPARED, MOST_PRODUCTS = 64, 50_000_000
+
+
+@dataclass(frozen=True)
+class Remark:
+    """What is said of a place in a file."""
+
+    path: str
+    line: int
+    column: int
+    is_refused: bool
+    """Whether a service would refuse the file. Else it is legal, and probably a mistake."""
+    text: str
+
+    def __str__(self) -> str:
+        return f"{self.path}:{self.line}:{self.column}: {'refused: ' if self.is_refused else ''}{self.text}"
+
+
+def remark(path: str, text: bytes, places: list[int] | None, at: int, is_refused: bool, why: str) -> Remark:
+    """A remark on the place at an offset. In braces it is on the place where they have the octet."""
+    return Remark(path, *(line_and_column(text, at) if places is None else (1, 1)), is_refused, why)
+
+
+def files_below(paths: list[str]) -> Iterator[tuple[str, bool]]:
+    """The files of some paths, in order, without hidden ones and what is no file; and whether each is given itself."""
+    for path in paths:
+        if not os.path.isdir(path):
+            yield path, True
+            continue
+        for folder, folders, names in os.walk(path):
+            folders[:] = sorted(it for it in folders if not it.startswith("."))
+            found = (os.path.join(folder, name) for name in sorted(names) if not name.startswith("."))
+            yield from ((it, False) for it in found if os.path.isfile(it) or os.path.islink(it))
+
+
+def is_of_interest(path: str, octets: bytes) -> bool:
+    """Whether a file is an S-expression or a key, by its name or by how it begins."""
+    begin = octets.lstrip()[:1]
+    _, end = os.path.splitext(path)
+    return end in S_EXPRESSIONS + OTHER_KEYS or is_key_file(octets) or not end and begin in (b"(", b"{")
+
+
+def remarks_on(path: str, moment: bytes, is_given: bool = True) -> tuple[str | None, list[Remark]]:
+    """What a file is, and what is said of it. It is None if it is none that is read: one of a folder, by its name and how it begins."""
+    try:
+        octets = octets_of(path)
+    except Refused as why:
+        return "no file that can be read", [Remark(path, 1, 1, True, why.lines[0].removeprefix(f"{path}: "))]
+    if not is_given and not is_of_interest(path, octets):
+        return None, []
+    if is_key_file(octets) or is_private(octets) and not is_text(octets):
+        return of_key_file(path, octets)
+    return of_text(path, octets, moment)
+
+
+def of_key_file(path: str, octets: bytes) -> tuple[str, list[Remark]]:
+    """What a key of OpenSSH or PEM is, or a private key, and what is said of it."""
+    found, kind, pieces = list[Remark](), "a file of keys", [octets] if is_private(octets) else pieces_of(octets)[:MOST_KEYS]
+    for piece in pieces:
+        at = octets.find(piece)
+        try:
+            key = read_public(piece, no_passphrase)
+            kind = f"{'a private' if is_private(octets) else 'a public'} key, {kind_of(key)}"
+        except (BadKey, Wrong) as why:
+            is_encrypted = is_private(octets) and str(why) == ENCRYPTED
+            kind = "a private key, encrypted" if is_encrypted else kind
+            found += [] if is_encrypted else [remark(path, octets, None, at, True, str(why) if isinstance(why, BadKey) else why.why)]
+    found += [Remark(path, 1, 1, False, why.removeprefix(f"{path} is ")) for why in remark_on_mode(path)]
+    return f"{len(pieces)} public keys" if len(pieces) > 1 else kind, found
+
+
+def of_text(path: str, octets: bytes, moment: bytes) -> tuple[str, list[Remark]]:
+    """What an S-expression is, and what is said of it."""
+    (wrong, text, places), node = read_text(octets)
+    if wrong is None and node.head not in BY_HEAD:
+        wrong = fault_of_other(node)
+    if wrong is not None:
+        at, why = places_of(wrong)[0]
+        return "refused", [remark(path, text, places, at, True, f"{refusal(wrong, places).removeprefix('refused ')}: {why}")]
+    return kind_of_text(node), [remark(path, text, places, at, False, why) for at, why in probable_mistakes(node, moment)]
+
+
+def kind_of_text(node: Node) -> str:
+    """What a value is, in words."""
+    kind = BY_HEAD.get(node.head or b"")
+    if kind in ("acl", "sequence", "case") or node.head == b"cert":
+        return what_is(node.value)
+    if kind == "key":
+        return f"a public key, {kind_of(node.value)}"
+    return KINDS[kind] if kind else f"a part, ({(node.head or b'').decode()} ..)" if node.head in OTHERS else "a tag, or another value"
+
+
+def fault_of_other(node: Node) -> Wrong | None:
+    """The fault of a value that is a part of others: a certificate, a tag, or what is headed by a word that is nearly known."""
+    try:
+        if node.head in OTHERS:
+            OTHERS[node.head](node)
+        elif node.head is not None and meant(node.head, HEADS):
+            raise Wrong("Shape", node.begin, f"no kind of text begins with `({node.head.decode(errors='replace')} ..)`{meant(node.head, HEADS)}")
+        else:
+            read_tag(tag_of(node), [0])
+    except Wrong as wrong:
+        return wrong
+    return None
+
+
+def tag_of(node: Node) -> Node:
+    """A tag that is given with its field, or alone."""
+    return node.members[1] if node.head == b"tag" and node.members and len(node.members) == 2 else node
+
+
+def probable_mistakes(node: Node, moment: bytes) -> Iterator[tuple[int, str]]:
+    """What is legal and probably a mistake in a value, with its places."""
+    kind = BY_HEAD.get(node.head or b"")
+    if kind in ("acl", "sequence", "case") or node.head == b"cert":
+        yield from of_parts(node, moment)
+    if kind in ("acl", "case"):
+        yield from of_entries(node if kind == "acl" else node.rest[0])
+    if kind in ("sequence", "case"):
+        yield from of_signatures(node)
+    elif kind == "key":
+        yield from of_key(node)
+    elif kind is None and node.head not in (*OTHERS, b"request"):
+        yield from remarks(tag_of(node))
+
+
+def of_parts(node: Node, moment: bytes) -> Iterator[tuple[int, str]]:
+    """What is probably a mistake in the entries, certificates, keys and hashes of a value."""
+    waiting = [node]
+    while waiting:
+        each = waiting.pop(0)
+        if each.head in (b"cert", b"entry"):
+            yield from of_terms(each, moment)
+        if each.head == b"public-key":
+            yield from of_key(each)
+        elif each.head == b"hash" and each.members and each.members[1].body == b"sha1":
+            yield each.begin, "a hash by sha1 names no key under the strict policy; `spki-cert key --hash` writes one by sha256"
+        elif each.head not in (b"tag", b"request", b"comment", b"accepted"):
+            waiting += [member for member in each.members or [] if member.members is not None]
+
+
+def of_terms(node: Node, moment: bytes) -> Iterator[tuple[int, str]]:
+    """What is probably a mistake in an entry or a certificate."""
+    is_certificate = node.head == b"cert"
+    terms = terms_of_certificate(node.value) if is_certificate else terms_of_entry(node.value)
+    for field in node.members or []:
+        if field.head == b"tag" and field.members:
+            yield from remarks(field.members[1])
+            if is_everything(field.members[1].value) and is_certificate:
+                yield field.begin, ("this tag contains every request: sign a certificate with a narrower one, for example `(packages read)`, "
+                                    "or keep it if that is meant")
+    if is_certificate and terms.ends is None:
+        yield node.begin, "this certificate has no end: sign a new one with `--days N`, and end this one by `spki-cert end`"
+    fields = [inner for it in node.members or [] for inner in ((it.members or []) if it.head == b"valid" else [it])]
+    places = {field.head: field.begin for field in fields}
+    what, mending = "this entry", "remove it, or give a later date"
+    if is_certificate:
+        what, mending = "this certificate", "sign a new one, since a changed date breaks the signature"
+    yield from ((places[head], f"{why}: {mending}") for head, why in remarks_on_window(terms.begins, terms.ends, moment, what))
+
+
+def of_entries(node: Node) -> Iterator[tuple[int, str]]:
+    """The entries of a list that give nothing that another one does not give. Of those for one subject the first ones are compared."""
+    entries = [(it, terms_of_entry(it.value)) for it in node.rest if it.head == b"entry"]
+    keys, by_subject = Keys(it.principal for _, it in entries), dict[object, list[int]]()
+    for number, (_, terms) in enumerate(entries):
+        by_subject.setdefault(on_one_line([keys.named(terms.principal) or terms.principal, *terms.names]), []).append(number)
+    left, told = MOST_PRODUCTS, set[int]()
+    for one, other in (pair for same in by_subject.values() for pair in itertools.permutations(same[:MOST_COMPARED], 2)):
+        (node, narrow), (its_node, wide) = entries[one], entries[other]
+        left -= (node.end - node.begin) * (its_node.end - its_node.begin)
+        is_first = other < one or not contains(narrow, wide, keys)
+        if left > 0 and one not in told and contains(wide, narrow, keys) and is_first:
+            told.add(one)
+            yield node.begin, f"entry {one + 1} gives nothing that entry {other + 1} does not give already"
+
+
+def of_key(node: Node) -> Iterator[tuple[int, str]]:
+    """What is probably a mistake with a key: one of a kind that services verify, in another form."""
+    inner = node.members[1] if node.members and len(node.members) > 1 else node
+    if inner.head == b"public-key":
+        yield inner.begin, "this is a key in a key, so no signature by it counts: replace the whole outer `(public-key ..)` by the inner one"
+    elif inner.head in (b"ecc", b"rsa", b"ecdsa", b"ed25519", b"eddsa", b"rsa-pkcs1-sha256") and public_of(node.value) is None:
+        yield inner.begin, "this is no whole key of Ed25519, RSA or ECDSA P-256, so no signature by it counts; `spki-cert key FILE` writes one"
+
+
+def of_signatures(node: Node) -> Iterator[tuple[int, str]]:
+    """The certificates of a sequence whose signatures are not valid. Keys of kinds that are not known are left out."""
+    sequence = node if node.head == b"sequence" else (node.members or [])[3]
+    value = sequence.value
+    keys = Keys(keys_in(value))
+    for each in certificates_in(value):
+        key = keys.named(each.terms.issuer or b"")
+        fault = fault_of_signature(each, keys)
+        if fault and (key is None or public_of(key) is not None or fault != "NotAccepted"):
+            yield (sequence.members or [])[each.number].begin, f"{FAULTS[fault]} ({fault})"

@@ -1,0 +1,349 @@
+"""The commands of `spki-cert`, and its exit statuses."""
+from __future__ import annotations
+
+import argparse
+import base64
+import contextlib
+import json
+import os
+import signal
+import sys
+import termios
+import warnings
+from collections.abc import Callable, Iterable
+from typing import NoReturn
+
+from .arguments import NEW_KEY, completion, parser_of_commands
+from .certificates import headed, members
+from .files import (DAY_ENDS, READ, TERMINAL, Refused, key_at, locked, moment_of, node_of, now, octets_of, passphrase_for, put, remark_on_mode,
+                    signer_at, tell, value_of, write, write_all)
+from .forms import Wrong
+from .keys import BadKey, file_of, hash_of, kind_of, new_private, openssh_line, principal_of
+from .labels import Labels
+from .making import (Wish, certificate_of, entry_of, list_with, list_without, named, signed_sequence, text_of, warnings_of, warnings_of_certificate,
+                     warnings_of_list)
+from .places import BY_HEAD, read_text, told, value_in
+from .sexp import Value, canonical, on_one_line
+from .structures import PRINCIPALS, read_certificate, read_subject
+from .tags import read_tag
+
+DONE, NO, REFUSED, FAILED, UNCONFIRMED = 0, 1, 2, 3, 4
+ENDING = (signal.SIGHUP, signal.SIGINT, signal.SIGQUIT, signal.SIGTERM)
+Command = Callable[[argparse.Namespace], int]
+
+
+# ---- key
+
+
+def key(given: argparse.Namespace) -> int:
+    keys = [(path, key_at(path, given.number, True)) for path in given.files]
+    if given.json:
+        rows = [{"file": path, "key": on_one_line(it), "hash": on_one_line(hash_of(it)), "algorithm": kind_of(it)} for path, it in keys]
+        write(given.output, json.dumps(rows, indent=1).encode() + b"\n", force=given.force)
+    else:
+        write(given.output, b"".join(text_of(hash_of(it) if given.hash else it) for _, it in keys), force=given.force)
+    return DONE
+
+
+def new_key(given: argparse.Namespace) -> int:
+    """Makes a key pair, as two files."""
+    path = given.file
+    there = [it for it in (path, f"{path}.pub") if os.path.lexists(it)]
+    if there or path == "-":
+        raise Refused(f"{there[0]} is there already, and a key is not written over" if there else "a new key needs the name of a file")
+    passphrase = b"" if given.no_passphrase else passphrase_for(f"the new {path} (empty: none)")
+    if passphrase and passphrase_for(f"the new {path} again") != passphrase:
+        raise Refused("the passphrases differ; nothing was written")
+    private = new_private(given.type)
+    octets = file_of(private, passphrase, given.pem)
+    comment = os.fsencode(given.comment or os.path.basename(path))
+    write(path, octets, 0o600)
+    write(f"{path}.pub", openssh_line(private.public_key()) + b" " + comment + b"\n")
+    put(f"made {path}, which is secret, and {path}.pub\n")
+    return DONE
+
+
+# ---- sign, name, entry
+
+
+def sign(given: argparse.Namespace) -> int:
+    """Signs a certificate, if nothing is probably a mistake, and its issuer can give what it says."""
+    from .asking import what_cannot_be_given
+    wish = wish_of(given)
+    chain = value_of(given.chain, "sequence") if given.chain else None
+    signer = signer_at(given.by)
+    certificate = certificate_of(wish, signer.key)
+    warnings = [*remark_on_mode(given.by), *warnings_of_certificate(wish, chain, [*map(request_of, given.tries)])]
+    try:
+        cannot = what_cannot_be_given(chain, certificate, signer.key, os.path.basename(given.by)) if chain is not None else []
+    except Refused as why:
+        cannot = list(why.lines)
+    if not all([is_confirmed(given.anyway, "--anyway", cannot), is_confirmed(given.yes, "--yes", warnings)]):
+        return UNCONFIRMED
+    write(given.output, text_of(signed_sequence(certificate, signer, chain)), force=given.force)
+    return DONE
+
+
+def entry(given: argparse.Namespace) -> int:
+    """Writes an entry, or puts it at the end of an access list."""
+    if given.to is None:
+        raise Refused("an entry needs --to, a key, a hash or a name")
+    if given.remove and (given.acl is None or given.tag is not None):
+        raise Refused("--remove needs --acl, and goes with no --tag")
+    change = remove if given.remove else add
+    if given.acl in (None, "-"):
+        return change(given)
+    with locked(given.acl):
+        return change(given)
+
+
+def add(given: argparse.Namespace) -> int:
+    """Writes an entry for a subject, into an access list if there is one."""
+    wish = wish_of(given)
+    made = entry_of(wish)
+    is_there = given.acl == "-" or given.acl is not None and os.path.exists(given.acl)
+    before = list_at(given.acl) if is_there else b"(acl)"
+    text = list_with(made, before)
+    if not is_confirmed(given.yes, "--yes", [*warnings_of(wish, [*map(request_of, given.tries)]), *warnings_of_list(made, before)]):
+        return UNCONFIRMED
+    write(given.acl or given.output, text if given.acl else text_of(made), force=given.force, edits=is_there)
+    return say("entries added: 1", is_aside=given.acl == "-") if given.acl else DONE
+
+
+def remove(given: argparse.Namespace) -> int:
+    """Removes the entries for a subject from an access list."""
+    text, count = list_without(subject_of(given), list_at(given.acl))
+    if count or given.acl == "-":
+        write(given.acl, text, edits=True)
+    say(f"entries removed: {count}{'' if count else f'; no entry of {given.acl} is for this subject'}", is_aside=given.acl == "-")
+    return DONE if count else NO
+
+
+def list_at(path: str) -> bytes:
+    """The text of an access list that is edited. It must be one that a service takes."""
+    if path != "-" and os.path.exists(path) and not os.path.isfile(path):
+        raise Refused(f"{path}: this is no regular file, and only such a list is edited; nothing was written")
+    octets = octets_of(path)
+    found, _ = read_text(octets, "refused acl")
+    if found[0] is not None:
+        raise Refused(*told(path, found))
+    return octets
+
+
+def say(*lines: str, is_aside: bool = False) -> int:
+    """Writes lines to standard output, or to standard error beside what standard output gets."""
+    if is_aside:
+        tell(*lines)
+    else:
+        put("".join(f"{line}\n" for line in lines))
+    return DONE
+
+
+def is_confirmed(is_wanted: bool, option: str, warnings: Iterable[str]) -> bool:
+    """Whether something is to be made: nothing is probably a mistake in it, or it is confirmed."""
+    said = list(warnings)
+    tell(*(f"spki-cert: {warning}" for warning in said))
+    if said and not is_wanted:
+        tell(f"spki-cert: nothing was written; {option} makes it as it is")
+    return is_wanted or not said
+
+
+def wish_of(given: argparse.Namespace) -> Wish:
+    """What the certificate or the entry is to say."""
+    if given.tag is None and given.name is None:
+        raise Refused("a right needs --tag")
+    tag = node_of(given.tag, "--tag", lambda node: read_tag(node, [0])) if given.tag is not None else None
+    ends = now(given.days) if given.days is not None else moment_of(given.until, DAY_ENDS) if given.until is not None else None
+    return Wish(subject_of(given), os.fsencode(given.name) if given.name is not None else None, tag, given.tag or "",
+                moment_of(given.begins) if given.begins is not None else None, ends, given.propagate, given.comment or "")
+
+
+def subject_of(given: argparse.Namespace) -> Value:
+    """The subject of the words: a key, a hash, or a name."""
+    if given.to is None:
+        if not given.named:
+            raise Refused("a certificate needs --to, or --named for a name of the issuer")
+        return named(None, given.named)
+    is_itself = given.to.lstrip().startswith(("(", "{"))
+    subject = named(node_of(given.to, "--to", read_subject).value if is_itself else principal_of(key_at(given.to, given.number)), given.named)
+    if given.command == "entry" and headed(subject, b"name") and not headed(members(subject)[0], *PRINCIPALS):
+        raise Refused(f"--to {given.to}: a name in an entry needs the key that defines it: give --to KEY --named NAME")
+    return subject
+
+
+def request_of(words: list[str]) -> Value:
+    """The request of some words: the list of them, or the string if there is one."""
+    strings: list[Value] = [os.fsencode(word) for word in words]
+    return strings[0] if len(strings) == 1 else strings
+
+
+# ---- show, ask, check
+
+
+def labels_of(given: argparse.Namespace, *paths: str) -> Labels:
+    """What keys are called: by the paths that are given, and by SPKI_LABELS."""
+    labels = Labels()
+    more = os.environ.get("SPKI_LABELS")
+    for path in [*given.labels, *([more] if more else []), *paths]:
+        labels.add_path(path)
+    return labels
+
+
+def moment_given(given: argparse.Namespace) -> bytes:
+    """The moment that is given, or now."""
+    return moment_of(given.at) if given.at is not None else now()
+
+
+def shown_value(path: str) -> Value:
+    """The value of a file that can be shown."""
+    octets = octets_of(path)
+    found, node = read_text(octets)
+    if found[0] is not None:
+        raise Refused(*told(path, found))
+    if node.head == b"cert":
+        node_of(octets.decode(errors="surrogateescape"), path, read_certificate)
+    elif BY_HEAD.get(node.head or b"") not in ("acl", "sequence", "case"):
+        raise Refused(f"{path}: only an access list, a certificate, a sequence or a case is shown; for a key there is `spki-cert key`")
+    return node.value
+
+
+def show(given: argparse.Namespace) -> int:
+    from .showing import lines_of, rows_of, what_is
+    labels, moment = labels_of(given), moment_given(given)
+    values = [(path, shown_value(path)) for path in given.files]
+    if given.braces:
+        put(b"".join(b"{%s}\n" % base64.b64encode(canonical(value)) for _, value in values))
+        return DONE
+    if given.svg:
+        from .drawing import svg_of
+        write(given.svg, svg_of(values[0][1], labels), force=given.force)
+    if given.json:
+        return say(json.dumps([{"file": path, "shows": [*rows_of(value, moment, labels)]} for path, value in values], indent=1))
+    for path, value in values if given.svg != "-" else []:
+        lines = (line for row in rows_of(value, moment, labels) for line in lines_of(row))
+        say(f"{path}: {what_is(value)}", *(f"  {line}" for line in lines))
+    return DONE
+
+
+def ask(given: argparse.Namespace) -> int:
+    from .asking import Asked, Words, answered, asked_of_case, case_of
+    if given.case:
+        asked = asked_of_case(value_of(given.case, "case"), labels_of(given))
+    elif not (given.acl and given.key and given.words):
+        raise Refused("ask needs --acl, --key and the words of a request, or --case")
+    else:
+        key = key_at(given.key)
+        labels = labels_of(given, *(path for path in [given.key, *filter(os.path.isdir, given.cert)] if path != "-"))
+        asked = Asked(value_of(given.acl, "acl"), key, request_of(given.words), moment_given(given), labels,
+                      [value_of(path, "sequence") for path in sequences_below(given.cert)], not given.open)
+    answer = answered(asked)
+    lines = list(Words(asked, answer).lines())
+    if answer.entry is not None and answer.sequence not in [*asked.sequences, [b"sequence"]] and not given.sequence:
+        lines.append("  these certificates are picked and put in order: --sequence FILE writes them for the service")
+    parts = [(path, text_of(value)) for path, value in ((given.sequence, answer.sequence), (given.save, case_of(asked, answer.sequence))) if path]
+    if given.svg:
+        from .drawing import svg_of_answer
+        parts.append((given.svg, svg_of_answer(asked, answer)))
+    write_all(parts, force=given.force)
+    is_aside = "-" in (given.sequence, given.save, given.svg)
+    if given.json:
+        reasons = [it._asdict() for it in answer.reasons]
+        lines = [json.dumps({"granted": answer.entry is not None, "entry": answer.entry, "reasons": reasons, "words": lines}, indent=1)]
+    say(*lines, is_aside=is_aside)
+    return DONE if answer.entry is not None else NO
+
+
+def sequences_below(paths: list[str]) -> list[str]:
+    """The files that are given, and those of folders that are sequences."""
+    from .checking import files_below
+    return [path for path, is_given in files_below(paths) if is_given or begins_as_sequence(path)]
+
+
+def begins_as_sequence(path: str) -> bool:
+    try:
+        return value_in(octets_of(path)).head == b"sequence"
+    except Wrong:
+        return False
+
+
+def check(given: argparse.Namespace) -> int:
+    from .checking import files_below, remarks_on
+    moment, kinds, remarks, read, left_out = now(), [], [], 0, 0
+    for path, is_given in files_below(given.paths):
+        kind, said = remarks_on(path, moment, is_given)
+        read, left_out = read + (kind is not None), left_out + (kind is None)
+        remarks += said
+        if is_given and kind:
+            kinds.append((path, kind))
+    refused = len({it.path for it in remarks if it.is_refused})
+    if given.json:
+        rows = [{"file": it.path, "line": it.line, "column": it.column, "refused": it.is_refused, "text": it.text} for it in remarks]
+        say(json.dumps({"files": read, "left_out": left_out, "kinds": dict(kinds), "remarks": rows}, indent=1))
+    else:
+        say(*(f"{path}: {kind}" for path, kind in kinds), *map(str, remarks))
+        tell(f"{read} files, {refused} refused, {len(remarks)} remarks; {left_out} other files left out")
+    return REFUSED if refused else NO if remarks else DONE
+
+
+def end(given: argparse.Namespace) -> int:
+    from .ending import end as end_certificates
+    return end_certificates(given)
+
+
+def write_completion(given: argparse.Namespace) -> int:
+    return say(completion())
+
+
+COMMANDS: dict[str, Command] = {"key": key, NEW_KEY: new_key, "sign": sign, "name": sign, "entry": entry, "show": show, "ask": ask, "check": check,
+                                "end": end, "completion": write_completion}
+
+
+def main() -> int:
+    """Runs the command of the command line."""
+    words = sys.argv[1:]
+    READ.clear()
+    try:
+        given = parser_of_commands().parse_args([NEW_KEY, *words[2:]] if words[:2] == ["key", "new"] else words)
+        return COMMANDS[given.command](given)
+    except Refused as why:
+        tell(*(f"spki-cert: {line}" if place == 0 else line for place, line in enumerate(why.lines)))
+        return why.status
+    except BadKey as why:
+        tell(f"spki-cert: {why}")
+        return REFUSED
+    except ModuleNotFoundError as why:
+        source = "pip install ./bindings/python" if why.name == "spki_verify" else f"Debian: python3-{why.name}"
+        tell(f"spki-cert: the module {why.name} is not there ({source})")
+    except OSError as why:
+        tell(f"spki-cert: {why.filename or 'reading or writing'}: {why.strerror or why}")
+    except KeyboardInterrupt:
+        tell("spki-cert: ended by SIGINT")
+    except Exception as why:
+        tell(f"spki-cert: a fault of spki-cert itself, please report it: {type(why).__name__} {why}")
+    return FAILED
+
+
+def ended(number: int, frame: object) -> NoReturn:
+    """Ends the program by a signal. No file is half written, since a signal waits until a file is in its place."""
+    for descriptor, attributes in TERMINAL:
+        termios.tcsetattr(descriptor, termios.TCSAFLUSH, attributes)
+    with contextlib.suppress(OSError):
+        os.write(2, f"spki-cert: ended by {signal.Signals(number).name}\n".encode())
+    os._exit(FAILED)
+
+
+def run() -> NoReturn:
+    """The program: `main`, with an end by each signal, and nothing left to be written at its end. Warnings of libraries are not for its user."""
+    warnings.simplefilter("ignore")
+    for number in ENDING:
+        if signal.getsignal(number) is not signal.SIG_IGN:
+            signal.signal(number, ended)
+    try:
+        status = main()
+    except SystemExit as end:
+        status = end.code if isinstance(end.code, int) else DONE
+    os._exit(status)
+
+
+if __name__ == "__main__":
+    run()

@@ -1,0 +1,231 @@
+"""Draws the delegation chain of a case as SVG. A certificate is an arrow, and what stops the chain is red.
+
+The chain is that of the entry that grants the request, else of the entry whose chain goes furthest. The library says what stops it, and
+what right is left at its end. Other entries are left out. Long texts are broken into lines, and nothing is cut off.
+"""
+from __future__ import annotations
+
+import textwrap
+from collections.abc import Callable, Iterable, Iterator
+from dataclasses import dataclass
+from html import escape
+from typing import TYPE_CHECKING
+
+from .asking import Answer, Asked, answered, asked_of_case, case_of, furthest
+from .certificates import Keys, entries_of, field, headed, keys_in, members, terms_of_certificate
+from .forms import Parser
+from .labels import Labels
+from .sexp import Value, canonical, on_one_line
+
+if TYPE_CHECKING:
+    from spki import Reason
+
+WIDTH, PICTURE_WIDTH = 36, 70
+RED, GREEN, BLACK = "red", "darkgreen", "black"
+MEANINGS = {
+    "KeyNotShown": "the key of its issuer is not shown", "DigestDiffers": "its signature has another digest",
+    "SignerDiffers": "it is signed by another key than its issuer's", "NotAccepted": "its signature is not accepted",
+    "NotIssuer": "another key issued it", "NotTheName": "it defines another name", "NoDelegation": "its issuer may not pass the right on",
+    "NoValidity": "no moment is left", "NoTag": "no request is left", "NotTheKey": "the right ends at another key",
+    "TagLacks": "the request is not in the tag", "WindowLacks": "the moment is not in the validity"}
+
+
+@dataclass(frozen=True)
+class Shape:
+    """A subject, or a box with a colour."""
+
+    lines: list[str]
+    colour: str = ""
+
+
+@dataclass(frozen=True)
+class Arrow:
+    """An arrow between two shapes, by their names, with lines of text beside it."""
+
+    begin: bytes
+    end: bytes
+    lines: list[str]
+    colour: str
+
+
+class Drawing:
+    """The shapes and arrows that are drawn. A hash of a key that is known is that key."""
+
+    def __init__(self, keys: Iterable[Value], labels: Labels | None, width: int) -> None:
+        known = labels.keys.by_hash.values() if labels is not None else ()
+        self.keys, self.labels, self.width = Keys([*keys, *known]), labels, width
+        self.shapes: dict[bytes, Shape] = {}
+        self.arrows: list[Arrow] = []
+
+    def in_lines(self, text: str) -> list[str]:
+        """A text in lines that are short enough."""
+        return textwrap.wrap(text, self.width, break_on_hyphens=False) or [""]
+
+    def of(self, value: Value) -> bytes:
+        """The shape of a subject."""
+        names = members(value)[1:] if headed(value, b"name") else []
+        principal = members(value)[0] if names else value
+        identity = canonical([self.keys.named(principal) or principal, *names])
+        label = [f"{' '.join(on_one_line(name) for name in names)} of"] if names else []
+        label += [self.labels.of(principal)] if self.labels is not None else self.in_lines(on_one_line(principal))
+        self.shapes.setdefault(identity, Shape(label))
+        return identity
+
+    def box(self, name: bytes, colour: str, *lines: str) -> bytes:
+        self.shapes[name] = Shape(list(lines), colour)
+        return name
+
+    def arrow(self, begin: bytes, end: bytes, colour: str, *lines: str) -> None:
+        self.arrows.append(Arrow(begin, end, [line for line in lines if line], colour))
+
+    def terms(self, value: Value) -> list[str]:
+        """What a certificate or an entry gives: its tag, its validity, and whether it may be passed on."""
+        parts = [field(value, head) for head in (b"tag", b"valid", b"not-before", b"not-after", b"propagate")]
+        return [line for part in parts if part for line in self.in_lines(on_one_line(part))]
+
+    def entries(self, access_list: Value, only: int | None = None) -> None:
+        """The access list, with an arrow for each of its entries or for one of them."""
+        begin = self.box(b"list", "blue", "access list")
+        for number, entry in enumerate(entries_of(access_list), 1):
+            if only in (None, number):
+                self.arrow(begin, self.of(entry.subject), BLACK, f"entry {number}", *self.terms(entry.value))
+
+    def links(self, sequence: Value, stops: int | None = None, cause: str = "") -> None:
+        """An arrow for each certificate up to the one that stops the chain, which is red."""
+        for number, item in enumerate(members(sequence), 1):
+            if headed(item, b"cert") and number <= (stops or number):
+                terms = terms_of_certificate(item)
+                said = [f"item {number} {cause}:", MEANINGS[cause]] if number == stops else [f"item {number}"]
+                begin = [b"name", terms.issuer or b"", terms.name] if terms.name is not None else terms.issuer or b""
+                self.arrow(self.of(begin), self.of(terms.subject), RED if number == stops else BLACK, *said, *self.terms(item))
+
+    def ends(self, case: Value, entry: int, word: str, left: Value) -> None:
+        """The request, and the arrow to it from what is left of the entry."""
+        key, request, moment = members(case)[3:6]
+        colour = GREEN if word == "grants" else RED
+        said = [f"yes entry {entry}"] if word == "grants" else [f"{word}:", MEANINGS[word]]
+        end = self.box(b"request", colour, *self.in_lines(on_one_line(request)), *self.in_lines(on_one_line(moment)))
+        tag = self.in_lines(f"left: {on_one_line(field(left, b'tag') or b'')}")
+        self.arrow(self.of(members(field(left, b"subject") or b"")[0]), end, colour, *said, *tag)
+        if word == "NotTheKey":
+            self.arrow(self.of(members(key)[0]), end, BLACK, "asks")
+
+
+def drawing_of_case(case: Value, reasons: list[Reason], reduced: Callable[[int], Value], labels: Labels | None = None, width: int = WIDTH) -> Drawing:
+    """The picture of a case, of which `explain` and `reduce` said this."""
+    chosen = furthest(reasons)
+    access_list, _, sequence, key = members(case)[:4]
+    drawing = Drawing([members(key)[0], *keys_in(sequence)], labels, width)
+    if chosen is not None:
+        if chosen.entry is not None:
+            drawing.entries(access_list, chosen.entry)
+        drawing.links(sequence, chosen.item, chosen.word)
+        if chosen.entry is not None and chosen.item is None:
+            drawing.ends(case, chosen.entry, chosen.word, reduced(chosen.entry))
+    return drawing
+
+
+# ---- SVG
+
+
+KINDS = {"blue": "own", "darkgreen": "good", "red": "bad"}
+# What a class of the pictures looks like, on light pages and on dark ones.
+CLASSES = {
+    ".page": ("fill: #ffffff; stroke: #d0d7de", "fill: #0d1117; stroke: #30363d"),
+    ".box": ("fill: #f6f8fa; stroke: #57606a", "fill: #161b22; stroke: #8b949e"),
+    ".good": ("fill: #dafbe1; stroke: #1a7f37", "fill: #12261e; stroke: #3fb950"),
+    ".own": ("fill: #ddf4ff; stroke: #0969da", "fill: #0c2d6b; stroke: #58a6ff"),
+    ".bad": ("fill: #ffebe9; stroke: #cf222e", "fill: #3c1618; stroke: #ff7b72"), "text": ("fill: #1f2328", "fill: #e6edf3"),
+    ".small": ("fill: #57606a", "fill: #8b949e"), ".line": ("stroke: #57606a", "stroke: #8b949e"), ".head": ("fill: #57606a", "fill: #8b949e"),
+    ".line.red": ("stroke: #cf222e", "stroke: #ff7b72"), ".line.darkgreen": ("stroke: #1a7f37", "stroke: #3fb950"),
+    "text.red": ("fill: #cf222e", "fill: #ff7b72"), "text.darkgreen": ("fill: #1a7f37", "fill: #3fb950")}
+LIGHT, DARK = ("\n".join(f"  {name} {{ {looks[place]} }}" for name, looks in CLASSES.items()) for place in (0, 1))
+STYLE = f"""
+  text {{ font-family: sans-serif; font-size: 14px; text-anchor: middle }}
+  .title {{ font-weight: bold }}
+  .small {{ font-size: 12px }}
+  .left {{ text-anchor: start }}
+  .line {{ fill: none; stroke-width: 1.5 }}
+{LIGHT}
+  @media (prefers-color-scheme: dark) {{
+{DARK}
+  }}
+"""
+
+
+def box(x: float, y: float, width: float, height: float, lines: list[str], kind: str = "box") -> Iterator[str]:
+    """A box with lines of text in its middle, of which the first is its title."""
+    yield f'<rect class="{kind}" x="{x}" y="{y}" width="{width}" height="{height}" rx="6"/>'
+    top = y + height / 2 - 18 * (len(lines) - 1) / 2 + 5
+    for place, line in enumerate(lines):
+        of_class = ' class="title"' if place == 0 else ' class="small"'
+        yield f'<text{of_class} x="{x + width / 2:g}" y="{top + 18 * place:g}">{escape(line)}</text>'
+
+
+def said(x: float | str, y: float, text: str, of_class: str = "small left") -> Iterator[str]:
+    yield f'<text class="{of_class}" x="{x}" y="{y}">{escape(text)}</text>'
+
+
+def page(width: float, height: float, title: str, *parts: Iterable[str]) -> Iterator[str]:
+    """A picture of some parts."""
+    yield (f'<svg xmlns="http://www.w3.org/2000/svg" viewBox="0 0 {width} {height}" width="{width}" height="{height}" role="img" '
+           f'aria-label="{escape(title)}">')
+    yield f"<title>{escape(title)}</title>"
+    yield f"<style>{STYLE}</style>"
+    yield ('<defs><marker id="end" viewBox="0 0 8 8" refX="7" refY="4" markerWidth="8" markerHeight="8" orient="auto">'
+           '<path class="head" d="M0 0 L8 4 L0 8 z"/></marker></defs>')
+    yield f'<rect class="page" x="0.5" y="0.5" width="{width - 1}" height="{height - 1}" rx="8"/>'
+    for part in parts:
+        yield from part
+    yield "</svg>"
+
+
+def coloured_arrow(x: float, y1: float, y2: float, beside: list[str], colour: str) -> Iterator[str]:
+    """An arrow downwards with lines of text to the right of it."""
+    yield f'<path class="line {colour}" marker-end="url(#end)" d="M{x:g} {y1:g} L{x:g} {y2:g}"/>'
+    for place, line in enumerate(beside):
+        yield from said(f"{x + 14:g}", y1 + 24 + 16 * place, line, f"small left {colour}")
+
+
+def svg_of_drawing(drawing: Drawing, title: str, width: float = 620) -> Iterator[str]:
+    """A picture as SVG: from top to bottom, each arrow with the boxes where it begins and ends. Where an arrow begins at the box before,
+    that box is not drawn again."""
+    x, y, parts = 20, 20, list[str]()
+    last: bytes | None = None
+    for arrow, is_end in ((arrow, is_end) for arrow in drawing.arrows for is_end in (False, True)):
+        node = arrow.end if is_end else arrow.begin
+        if node == last and not is_end:
+            continue
+        shape = drawing.shapes[node]
+        top = y + (24 + 16 * len(arrow.lines) if is_end else 20 if last else 0)
+        if is_end:
+            parts += coloured_arrow(x + 210, y, top - 2, arrow.lines, arrow.colour)
+        parts += box(x, top, 420, 22 + 18 * len(shape.lines), shape.lines, KINDS.get(shape.colour, "box"))
+        y, last = top + 22 + 18 * len(shape.lines), node
+    return page(width, y + 20, title, parts)
+
+
+def svg_of(value: Value, labels: Labels) -> bytes:
+    """A list, a certificate, a sequence or a case as SVG."""
+    if headed(value, b"case"):
+        asked = asked_of_case(value, labels)
+        return svg_of_answer(asked, answered(asked))
+    drawing = Drawing(keys_in(value), labels, PICTURE_WIDTH)
+    if headed(value, b"acl"):
+        drawing.entries(value)
+    else:
+        drawing.links([b"sequence", value] if headed(value, b"cert") else value)
+    return text_of_lines(svg_of_drawing(drawing, "Certificates", 840))
+
+
+def svg_of_answer(asked: Asked, answer: Answer) -> bytes:
+    """The chain of an answer as SVG."""
+    def reduced(entry: int) -> Value:
+        return Parser(answer.reduced[entry - 1].split(" ", 2)[2].encode()).whole().value
+
+    drawing = drawing_of_case(case_of(asked, answer.sequence), answer.reasons, reduced, asked.labels, PICTURE_WIDTH)
+    return text_of_lines(svg_of_drawing(drawing, "The chain of a request", 840))
+
+
+def text_of_lines(lines: Iterable[str]) -> bytes:
+    return "\n".join(lines).encode() + b"\n"

@@ -1,0 +1,298 @@
+"""Reads the files and words that a command is given. One function writes files: whole or not at all, and never over what was read or holds a key."""
+from __future__ import annotations
+
+import contextlib
+import errno
+import fcntl
+import getpass
+import os
+import re
+import signal
+import stat
+import sys
+import termios
+from collections.abc import Iterator
+from datetime import datetime, timedelta, timezone
+from typing import Any, TextIO
+
+from .certificates import DATE_FORMAT
+from .forms import MOST_OCTETS, Node, Wrong
+from .keys import BadKey, FileSigner, Signer, is_key_file, is_private, read_private, read_public
+from .places import fault_of, name_foreign, read_text, told, value_in
+from .sexp import Value
+from .structures import MOMENT, Reader
+
+DAY_ENDS = "_23:59:59"
+CONTROLS = re.compile("[\0-\x08\x0b-\x1f\x7f-\x9f]")
+# The files that this command has read, by device and inode, and whether it has read standard input. None of them is written over.
+READ: set[tuple[int, int]] = set()
+INPUT = (-1, -1)
+# What the terminal is set to, while a passphrase is asked for on it.
+TERMINAL: list[tuple[int, list[Any]]] = []
+
+
+class Refused(Exception):
+    """What is wrong with a file or a word, in lines for people to read."""
+
+    status = 2
+
+    def __init__(self, *lines: str) -> None:
+        super().__init__(*lines)
+        self.lines = lines
+
+
+class Failed(Refused):
+    """Reading or writing failed."""
+
+    status = 3
+
+
+# ---- streams
+
+
+def said(stream: TextIO | None, text: str | bytes) -> None:
+    """Writes to a stream of the system, at once. What its encoding or a terminal does not take is escaped."""
+    if stream is None:
+        raise OSError(errno.EBADF, "it is closed")
+    if isinstance(text, str):
+        shown = CONTROLS.sub(lambda found: f"\\x{ord(found[0]):02x}", text)
+        text = shown.encode(stream.encoding or "ascii", "backslashreplace")
+    stream.flush()
+    stream.buffer.write(text)
+    stream.buffer.flush()
+
+
+def put(text: str | bytes) -> None:
+    """Writes to standard output, if there is something to write."""
+    try:
+        if text:
+            said(sys.stdout, text)
+    except (OSError, ValueError) as why:
+        is_broken = isinstance(why, BrokenPipeError)
+        raise Failed(*([] if is_broken else [f"standard output: {getattr(why, 'strerror', None) or why}"])) from None
+
+
+def tell(*lines: str) -> None:
+    """Writes to standard error, if that is possible."""
+    with contextlib.suppress(OSError, ValueError, AttributeError):
+        said(sys.stderr, "".join(f"{line}\n" for line in lines))
+
+
+# ---- reading
+
+
+def identity(found: os.stat_result) -> tuple[int, int]:
+    return found.st_dev, found.st_ino
+
+
+def octets_of(path: str) -> bytes:
+    """The octets of a file, or of standard input for `-`. One octet more than the limit shows that there are more."""
+    try:
+        if path != "-":
+            with open(path, "rb") as file:
+                READ.add(identity(os.fstat(file.fileno())))
+                return file.read(MOST_OCTETS + 1)
+        if INPUT in READ or sys.stdin is None:
+            raise Refused(f"-: standard input {'is one file, and was read already' if INPUT in READ else 'is closed'}")
+        READ.add(INPUT)
+        with contextlib.suppress(OSError, ValueError):
+            READ.add(identity(os.fstat(sys.stdin.fileno())))
+        return sys.stdin.buffer.read(MOST_OCTETS + 1)
+    except OSError as why:
+        raise Refused(f"{path}: {why.strerror}") from None
+
+
+def value_of(path: str, kind: str) -> Value:
+    """The value of a file, which must be of a kind: acl, sequence, case. Refused as a service would, with the place."""
+    octets = octets_of(path)
+    found, node = read_text(octets, f"refused {kind}")
+    if found[0] is not None:
+        raise Refused(*told(path, found))
+    return node.value
+
+
+def node_of(text: str, what: str, read: Reader) -> Node:
+    """The value of a word of the command line, read by a reader of its structure."""
+    octets = os.fsencode(text)
+    try:
+        node = value_in(octets)
+        read(node)
+        return node
+    except Wrong as wrong:
+        name_foreign(octets, wrong)
+        if wrong.kind == "Trailing" and not octets.lstrip().startswith((b"(", b"{")):
+            wrong.why = f"these are several values; a list is in parentheses, as '({text})'"
+        raise Refused(*told(what, (wrong, octets, None))) from None
+
+
+def passphrase_for(path: str) -> bytes:
+    """Asks for a passphrase on the terminal, and nowhere else."""
+    try:
+        with open("/dev/tty", "rb") as terminal:
+            TERMINAL.append((terminal.fileno(), termios.tcgetattr(terminal)))
+            return os.fsencode(getpass.getpass(f"Passphrase of {path}: "))
+    except EOFError:
+        raise BadKey("the input ended where the passphrase was asked for") from None
+    except ValueError:
+        raise BadKey("the passphrase has octets that are no text in this encoding") from None
+    except (OSError, termios.error):
+        raise BadKey("it is encrypted, and there is no terminal to ask for the passphrase; or use ssh-agent") from None
+    finally:
+        TERMINAL.clear()
+
+
+def key_at(path: str, number: int | None = None, is_private_too: bool = False) -> Value:
+    """The public key of a file in any form: the one with this number, where there are several."""
+    octets = octets_of(path)
+    try:
+        if is_private(octets) and not is_private_too:
+            raise BadKey(f"this is a private key, which nobody else may have; give the public one{', ' + path + '.pub' if path != '-' else ''}")
+        return read_public(octets, lambda: passphrase_for(path), number)
+    except BadKey as why:
+        raise Refused(f"{path}: {why}") from None
+    except Wrong:
+        raise Refused(*told(path, fault_of(octets, "refused key"))) from None
+
+
+def signer_at(path: str) -> Signer:
+    """Who signs: the private key of a file, or for a public key ssh-agent."""
+    from .agent import AgentSigner
+    octets = octets_of(path)
+    try:
+        if is_private(octets):
+            return FileSigner(read_private(octets, lambda: passphrase_for(path)))
+        return AgentSigner(read_public(octets, lambda: b""))
+    except BadKey as why:
+        raise Refused(f"{path}: {why}") from None
+    except Wrong:
+        raise Refused(*told(path, fault_of(octets, "refused key"))) from None
+
+
+def remark_on_mode(path: str) -> Iterator[str]:
+    """What is said of the file of a private key that others may read."""
+    with contextlib.suppress(OSError):
+        found = os.stat(path)
+        mode = stat.S_IMODE(found.st_mode)
+        if stat.S_ISREG(found.st_mode) and mode & 0o077 and is_private(octets_of(path)):
+            yield f"{path} is a private key that others may read: its mode is {mode:o}; chmod 600 {path}"
+
+
+def now(days: int = 0) -> bytes:
+    """The moment that is so many days from now."""
+    try:
+        return (datetime.now(timezone.utc) + timedelta(days)).strftime(DATE_FORMAT).encode()
+    except OverflowError:
+        raise Refused(f"{days} days from now is after the year 9999") from None
+
+
+def moment_of(text: str, day: str = "_00:00:00") -> bytes:
+    """The moment of a word: a date with its time, or a day."""
+    whole = text if "_" in text else text + day
+    parts = re.fullmatch(r"(\d{4})[-/.](\d\d?)[-/.](\d\d?)(?:[T_ ]+(\d\d?):(\d\d)(?::(\d\d))?)?(Z|[+-]\d\d:?\d\d| ?UTC)?", text, re.ASCII)
+    if not MOMENT.fullmatch(os.fsencode(whole)):
+        right = "YYYY-MM-DD or YYYY-MM-DD_HH:MM:SS"
+        if parts and parts[7] in (None, "Z", " UTC", "UTC"):
+            year, *rest = (int(it or 0) for it in parts.groups()[:6])
+            right = f"{year:04}-{rest[0]:02}-{rest[1]:02}" + (f"_{rest[2]:02}:{rest[3]:02}:{rest[4]:02}" if parts[4] else "")
+        why = "give no zone: each moment is in UTC" if parts and parts[7] else "no date in the form that is read"
+        raise Refused(f"{text or 'an empty date'}: {why}; write {right}, in UTC")
+    try:
+        datetime.strptime(whole.removesuffix(":60"), DATE_FORMAT.removesuffix(":%S") if whole.endswith(":60") else DATE_FORMAT)
+    except ValueError:
+        raise Refused(f"{text}: no calendar has this day; write YYYY-MM-DD, in UTC") from None
+    return whole.encode()
+
+
+# ---- writing
+
+
+def target_of(path: str, force: bool, edits: bool = False) -> tuple[str, os.stat_result | None]:
+    """The file that a path leads to, which may be written, and what is there."""
+    place = os.path.realpath(path)
+    try:
+        before = os.stat(place)
+        if not stat.S_ISREG(before.st_mode):
+            raise Refused(f"{path}: this is no regular file, and only such a file is written; nothing was written")
+        if identity(before) in READ and not edits:
+            raise Refused(f"{path}: this command reads this file, so it is not written over; nothing was written")
+        if not before.st_mode & 0o222 or not os.access(place, os.W_OK):
+            raise Refused(f"{path}: its mode {stat.S_IMODE(before.st_mode):o} says that it is not to be written; nothing was written")
+        with open(place, "rb") as file:
+            octets = file.read(MOST_OCTETS)
+        if is_key_file(octets) or is_private(octets):
+            raise Refused(f"{path}: a key is there already, and a key is not written over; nothing was written")
+        if not force and not edits:
+            raise Refused(f"{path}: this file is there already; --force writes over it; nothing was written")
+        return place, before
+    except FileNotFoundError:
+        if not os.path.isdir(os.path.dirname(place)):
+            raise Refused(f"{path}: the folder {os.path.dirname(place)} is not there; nothing was written") from None
+        return place, None
+    except OSError as why:
+        raise Refused(f"{path}: {why.strerror}; nothing was written") from None
+
+
+def write(path: str | None, octets: bytes, mode: int = 0o644, force: bool = False, edits: bool = False) -> None:
+    """Writes a file whole or not at all, or standard output if there is no path. With `force` it may be there already, and with `edits`
+    it is one that was read: it keeps its mode and its owner."""
+    write_all([(path, octets)], mode, force, edits)
+
+
+def write_all(parts: list[tuple[str | None, bytes]], mode: int = 0o644, force: bool = False, edits: bool = False) -> None:
+    """Writes several files, after none of them is refused."""
+    targets = [(path, *target_of(path, force, edits), octets) for path, octets in parts if path is not None and path != "-"]
+    places = [place for _, place, _, _ in targets]
+    if len(set(places)) < len(places):
+        raise Refused(f"{targets[-1][0]}: two results are to be written to one file; nothing was written")
+    for name, place, before, octets in targets:
+        try:
+            replace(place, octets, mode, before)
+        except OSError as why:
+            raise Failed(f"{name}: {why.strerror}; the file is as before") from None
+    put(b"".join(octets for path, octets in parts if path in (None, "-")))
+
+
+def replace(place: str, octets: bytes, mode: int, before: os.stat_result | None) -> None:
+    """Puts a file in its place, by a temporary one beside it. A signal waits until it is there."""
+    import tempfile
+    folder, blocked = os.path.dirname(place), signal.pthread_sigmask(signal.SIG_BLOCK, signal.valid_signals())
+    made = ""
+    try:
+        handle, made = tempfile.mkstemp(prefix=".spki-cert-", dir=folder)
+        with open(handle, "wb") as file:
+            os.fchmod(handle, mode if before is None else stat.S_IMODE(before.st_mode))
+            if before is not None:
+                os.fchown(handle, before.st_uid, before.st_gid)
+            file.write(octets)
+            file.flush()
+            os.fsync(handle)
+        try:
+            # (a file that somebody else has made meanwhile stays)
+            if before is None:
+                os.link(made, place)
+            else:
+                os.replace(made, place)
+        except OSError:
+            if before is not None or os.path.lexists(place):
+                raise
+            # (a file system without links)
+            os.rename(made, place)
+    finally:
+        if made:
+            with contextlib.suppress(FileNotFoundError):
+                os.unlink(made)
+        signal.pthread_sigmask(signal.SIG_SETMASK, blocked)
+
+
+@contextlib.contextmanager
+def locked(path: str) -> Iterator[None]:
+    """Holds the lock of the folder of a file that is edited, so that no other edit is lost."""
+    try:
+        folder = os.open(os.path.dirname(os.path.realpath(path)), os.O_RDONLY)
+        fcntl.flock(folder, fcntl.LOCK_EX)
+    except OSError as why:
+        raise Refused(f"{path}: {why.strerror}; nothing was written") from None
+    try:
+        yield
+    finally:
+        os.close(folder)

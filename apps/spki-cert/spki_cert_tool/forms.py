@@ -1,0 +1,338 @@
+"""Reads a text of an S-expression in any of the three forms of docs/FORMATS.md, and says what is wrong with one and where.
+
+A value is read with its places, so that a fault can be shown at its line and column. The faults are those of the program `spki`.
+"""
+from __future__ import annotations
+
+import base64
+import difflib
+import re
+from collections.abc import Iterable
+from dataclasses import dataclass, field
+
+from .sexp import Value
+
+MOST_OCTETS, MOST_LISTS, MOST_NODES = 1_048_576, 64, 1024
+SPACES = re.compile(rb"[ \t\n\v\f\r]*")
+TOKEN = re.compile(rb"[A-Za-z\-./_:*+=][A-Za-z0-9\-./_:*+=]*")
+LENGTH = re.compile(rb"0|[1-9][0-9]*")
+BODIES = {b'"': re.compile(rb'(?:[^"\\]|\\.)*', re.DOTALL), b"#": re.compile(rb"[0-9A-Fa-f\s]*"), b"|": re.compile(rb"[A-Za-z0-9+/=\s]*")}
+ESCAPE = re.compile(rb"\\(?:([abtnvfr])|([\"'?\\])|([0-3][0-7]{2})|x([0-9A-Fa-f]{2})|(\r\n|\n\r|\r|\n))")
+DIGITS = re.compile(rb"[0-9A-Fa-f]{16}")
+SYMBOLS = re.compile(rb"([A-Za-z0-9+/]*)(=*)")
+FORM_FAULTS = ("TooLong", "TooDeep", "Short", "Bad", "Trailing")
+# A further place of a fault, with a remark.
+Place = tuple[int, str]
+
+
+@dataclass
+class Node:
+    """A value and its place: a string has a body, a list has members."""
+
+    begin: int
+    end: int = 0
+    body: bytes | None = None
+    hint: bytes | None = None
+    members: list[Node] | None = None
+
+    @property
+    def head(self) -> bytes | None:
+        """The word that a list is headed by, or None."""
+        first = self.members[0] if self.members else None
+        return first.body if first is not None and first.hint is None else None
+
+    @property
+    def rest(self) -> list[Node]:
+        """The members of a list after its head."""
+        return self.members[1:] if self.members else []
+
+    def is_plain(self, *words: bytes) -> bool:
+        return self.body is not None and self.hint is None and (not words or self.body in words)
+
+    @property
+    def value(self) -> Value:
+        """The value without its places."""
+        if self.members is not None:
+            return [member.value for member in self.members]
+        body = self.body or b""
+        return body if self.hint is None else (self.hint, body)
+
+
+class Wrong(Exception):
+    """Why a text is refused: the kind of fault, the offset of its place, a remark, and further places with remarks."""
+
+    def __init__(self, kind: str, at: int, why: str, others: Iterable[Place] = ()) -> None:
+        super().__init__(kind, at, why)
+        self.kind, self.at, self.why, self.others = kind, at, why, list(others)
+        self.shown_at: int | None = None
+        """The place that is shown first, if it is not the one where the fault is found."""
+
+
+def said_of(text: bytes, at: int) -> str | None:
+    """What is said of an octet that begins no value, and was probably meant to."""
+    octet, character = text[at:at + 1], text[at:at + 4].decode(errors="ignore")[:1]
+    if octet >= b"\x80" and character:
+        if character in "“”„‟«»‘’‚":
+            return f"`{character}` is a quotation mark of a word processor: write `\"`"
+        if not character.isprintable():
+            return f"this is the character U+{ord(character):04X}, which is no space here: write a plain one"
+        return f"a string with `{character}` needs quotes"
+    if octet == b";":
+        return "`;` begins no comment: there are no comments, only the field `(comment \"..\")`"
+    if octet in b"?!,$%&@~'<>\\^`":
+        return f"a string with `{octet.decode()}` needs quotes"
+    return None
+
+
+def spaces_end(text: bytes, at: int) -> int:
+    """The offset after the whitespace that begins at an offset."""
+    found = SPACES.match(text, at)
+    return found.end() if found else at
+
+
+def column(text: bytes, at: int) -> int:
+    """The column of an offset, from 0."""
+    return at - text.rfind(b"\n", 0, at) - 1
+
+
+def shape(node: Node, why: str, others: Iterable[Place] = ()) -> Wrong:
+    return Wrong("Shape", node.begin, why, others)
+
+
+def meant(word: bytes | None, allowed: Iterable[bytes]) -> str:
+    """The question whether one of the allowed words is meant, if the word is none of them and one is near."""
+    allowed = list(allowed)
+    if word in allowed:
+        return ""
+    near = difflib.get_close_matches((word or b"").decode(errors="replace"), [it.decode() for it in allowed], 1)
+    return f"; is `{near[0]}` meant?" if near else ""
+
+
+def shown(octets: bytes) -> str:
+    """Octets for people to read, cut off where they are many."""
+    return repr(octets[:40])[2:-1] + (".." if len(octets) > 40 else "")
+
+
+# ---- the forms of a text
+
+
+@dataclass
+class Parser:
+    """Reads advanced form, which contains canonical form, or canonical form alone."""
+
+    text: bytes
+    is_canonical: bool = False
+    opened: list[int] = field(default_factory=list)
+    unclosed: tuple[int, int] | None = None
+
+    def whole(self) -> Node:
+        """The value of the text. Nothing may follow it."""
+        if len(self.text) > MOST_OCTETS:
+            raise Wrong("TooLong", MOST_OCTETS, f"the text has {len(self.text):,} octets, and may have {MOST_OCTETS:,}")
+        node = self.value(self.skip(0), "a value")
+        behind = self.skip(node.end)
+        if behind < len(self.text):
+            raise self.trailing(node, behind)
+        return node
+
+    def trailing(self, node: Node, behind: int) -> Wrong:
+        """The fault of what follows the value. By its indentation it may belong to the value, which a `)` too many has ended."""
+        begins = (node.begin, "the value begins here")
+        if self.text[behind:behind + 1] == b")":
+            return Wrong("Trailing", behind, "this `)` closes no list: it is one too many, or a `(` is missing before it", [begins])
+        if node.members is None:
+            return Wrong("Trailing", behind, "the text is no access list, certificate or key, since each begins with `(`; a text is one value, "
+                         "and a second one begins here", [begins])
+        if node.head in (b"acl", b"sequence") and self.text.startswith(b"(" + node.head, behind):
+            return Wrong("Trailing", behind, "a second list begins here; a text is one value: put all into one "
+                         f"`({node.head.decode()} ..)`", [begins])
+        if not self.begins_line(behind) or column(self.text, behind) <= column(self.text, node.begin):
+            return Wrong("Trailing", behind, "a second value begins here; a text is one value", [begins])
+        wrong = Wrong("Trailing", behind, "this `)` ends the value, and by its indentation the next line belongs to it; is it one too many?",
+                      [(behind, "this follows the value"), begins])
+        wrong.shown_at = node.end - 1
+        return wrong
+
+    def begins_line(self, at: int) -> bool:
+        """Whether nothing but spaces is before an offset on its line."""
+        return not self.text[self.text.rfind(b"\n", 0, at) + 1:at].strip()
+
+    def look_at_indentation(self, list_begin: int, end: int, at: int) -> None:
+        """Keeps the first member that begins a line no further right than its list, which was perhaps to end before it."""
+        is_below = b"\n" in self.text[end:at] and column(self.text, at) <= column(self.text, list_begin)
+        if self.unclosed is None and not self.is_canonical and is_below:
+            self.unclosed = list_begin, end
+
+    def skip(self, at: int) -> int:
+        return at if self.is_canonical else spaces_end(self.text, at)
+
+    def octet(self, at: int, begun: int | None = None) -> bytes:
+        """The octet at an offset. If the text ends there, it says what is open."""
+        if at < len(self.text):
+            return self.text[at:at + 1]
+        places = [(begin, "this list is not closed") for begin in reversed(self.opened)]
+        if begun is not None:
+            raise self.cut_off(begun, places)
+        if self.unclosed is not None:
+            begin, end = self.unclosed
+            raise Wrong("Short", end, "a `)` is missing, and by the indentation of the next line it is missing here",
+                        [(begin, "the list that it closes begins here"), *places])
+        count = f": {len(self.opened)} `)` are missing" if len(self.opened) > 1 else ": a `)` is missing" if self.opened else ""
+        raise Wrong("Short", len(self.text.rstrip()), f"the text ends before the value is whole{count}" if self.text.strip() else "there is no value",
+                    places)
+
+    def cut_off(self, begun: int, places: list[Place]) -> Wrong:
+        """The fault of a string that the end of the text cuts off. If a mark begins it, the one that ends it was probably left out."""
+        wrong = Wrong("Short", len(self.text), "the text ends before the value is whole", [(begun, "this string is not whole"), *places])
+        if self.text[begun:begun + 1] in BODIES:
+            wrong.why, wrong.shown_at = "this string is not whole: its last mark is missing", begun
+        return wrong
+
+    def value(self, at: int, wanted: str) -> Node:
+        octet = self.octet(at)
+        if octet == b"(":
+            return self.list_at(at)
+        if octet == b"[":
+            return self.hinted(at)
+        body, end = self.string(at, wanted)
+        return Node(at, end, body)
+
+    def list_at(self, at: int) -> Node:
+        if len(self.opened) == MOST_LISTS:
+            raise Wrong("TooDeep", at, f"the {MOST_LISTS + 1}th list that is open at once begins here", [(self.opened[0], "the first one")])
+        self.opened.append(at)
+        members: list[Node] = []
+        next_at = self.skip(at + 1)
+        while self.octet(next_at) != b")":
+            self.look_at_indentation(at, members[-1].end if members else at + 1, next_at)
+            members.append(self.value(next_at, "a member or `)`"))
+            next_at = self.skip(members[-1].end)
+        self.opened.pop()
+        return Node(at, next_at + 1, members=members)
+
+    def hinted(self, at: int) -> Node:
+        hint, end = self.string(self.skip(at + 1), "a display hint, which is a string")
+        end = self.skip(end)
+        if self.octet(end, at) != b"]":
+            raise Wrong("Bad", end, "`]` must end the display hint", [(at, "which begins here")])
+        body, end = self.string(self.skip(end + 1), "the string of a display hint")
+        return Node(at, end, body, hint)
+
+    def string(self, at: int, wanted: str) -> tuple[bytes, int]:
+        """The octets of a string, and the offset after it."""
+        octet, token = self.octet(at), None if self.is_canonical else TOKEN.match(self.text, at)
+        if token:
+            return token[0], token.end()
+        if octet in BODIES and not self.is_canonical:
+            return self.marked(at, at, None)
+        length = LENGTH.match(self.text, at)
+        if not length:
+            said, of_form = None if self.is_canonical else said_of(self.text, at), "canonical " if self.is_canonical else ""
+            raise Wrong("Bad", at, f"{said}; here {wanted} is expected" if said else f"no {of_form}text has this octet where {wanted} is expected")
+        return self.of_length(at, length.end(), length[0])
+
+    def of_length(self, begin: int, at: int, digits: bytes) -> tuple[bytes, int]:
+        """The string after the digits of its length."""
+        octet = self.octet(at, begin)
+        length = int(digits) if len(digits) < 10 else 10**9
+        if octet == b":":
+            if at + 1 + length > len(self.text):
+                self.opened.append(begin)
+                raise Wrong("Short", len(self.text), f"the length says {digits.decode()} octets, and {len(self.text) - at - 1} are left",
+                            [(begin, "the string begins here"), *((it, "this list is not closed") for it in reversed(self.opened[:-1]))])
+            return self.text[at + 1:at + 1 + length], at + 1 + length
+        if octet in BODIES and not self.is_canonical:
+            return self.marked(begin, at, length)
+        if self.is_canonical or digits == b"0" and octet.isdigit() and not DIGITS.match(self.text, begin):
+            why = "a length is followed by a colon" if self.is_canonical else "a length has no leading zero"
+            raise Wrong("Bad", at, why, [(begin, "the length begins here")])
+        why = "put hexadecimal digits between two `#`" if DIGITS.match(self.text, begin) else "put quotes around a string that begins with a digit"
+        wrong = Wrong("Bad", at, f"{why}; otherwise the digits are the length of a string", [(at, "no length is followed by this")])
+        wrong.shown_at = begin
+        raise wrong
+
+    def marked(self, begin: int, at: int, length: int | None) -> tuple[bytes, int]:
+        """The string between two marks, of which the first is at an offset."""
+        mark = self.octet(at)
+        body = found_at(BODIES[mark], self.text, at + 1)
+        octets: bytes | None = self.unquoted(begin, at + 1) if mark == b'"' else b""
+        if self.octet(body.end(), begin) != mark:
+            raise Wrong("Bad", body.end(), f"this octet is not allowed between two `{mark.decode()}`", [(begin, "the string begins here")])
+        if mark == b"#":
+            digits = b"".join(body[0].split())
+            if len(digits) % 2:
+                raise Wrong("Bad", body.end(), "the number of hexadecimal digits is odd", [(begin, "the string begins here")])
+            octets = bytes.fromhex(digits.decode())
+        elif mark == b"|":
+            octets = of_base64(body[0])
+            if octets is None:
+                raise Wrong("Bad", body.end(), "the text before this mark is no base64", [(begin, "the string begins here")])
+        assert octets is not None
+        if length is not None and length != len(octets):
+            raise Wrong("Bad", body.end(), f"the length says {length} octets, and the string has {len(octets)}", [(begin, "the string begins here")])
+        return octets, body.end() + 1
+
+    def unquoted(self, begin: int, at: int) -> bytes:
+        """The octets of a quoted string. An escape may be wrong, or cut off by the end of the text."""
+        pieces = []
+        while at < len(self.text) and self.text[at:at + 1] != b'"':
+            if self.text[at:at + 1] != b"\\":
+                pieces.append(self.text[at:at + 1])
+                at += 1
+                continue
+            found = ESCAPE.match(self.text, at)
+            if not found:
+                self.escape_fault(begin, at)
+                break
+            letter, itself, octal, hexadecimal, _ = found.groups()
+            pieces.append(bytes([b"\a\b\t\n\v\f\r"[b"abtnvfr".index(letter)]]) if letter else itself or (
+                bytes([int(octal, 8)]) if octal else bytes.fromhex(hexadecimal.decode()) if hexadecimal else b""))
+            at = found.end()
+        return b"".join(pieces)
+
+    def escape_fault(self, begin: int, at: int) -> None:
+        """Raises the fault of an escape: at the first octet that no escape has."""
+        first = self.octet(at + 1, begin)
+        allowed = [b"0123abtnvfrx\"'?\\\r\n"] + ([b"01234567"] * 2 if first in b"0123" else [b"0123456789abcdefABCDEF"] * 2)
+        for place, wanted in enumerate(allowed, at + 1):
+            if self.octet(place, begin) not in wanted:
+                raise Wrong("Bad", place, "no escape has this octet here", [(at, "the escape begins here"), (begin, "the string begins here")])
+
+
+def found_at(pattern: re.Pattern[bytes], text: bytes, at: int) -> re.Match[bytes]:
+    """What a pattern finds at an offset, where it always finds something."""
+    found = pattern.match(text, at)
+    assert found is not None
+    return found
+
+
+def of_base64(body: bytes) -> bytes | None:
+    """The octets of base64 whose whitespace is ignored and whose padding may be left out; None if it is none."""
+    found = SYMBOLS.fullmatch(b"".join(body.split()))
+    if not found:
+        return None
+    wanted = -len(found[1]) % 4
+    if wanted == 3 or len(found[2]) > wanted:
+        return None
+    octets = base64.b64decode(found[1] + b"=" * wanted)
+    return octets if base64.b64encode(octets).rstrip(b"=") == found[1] else None
+
+
+def without_braces(text: bytes) -> tuple[bytes, list[int] | None, int]:
+    """The canonical text in the braces of a text, the place of each of its octets, and where the text should end. Without braces the text
+    itself and no places."""
+    begin = spaces_end(text, 0)
+    if text[begin:begin + 1] != b"{":
+        return text, None, len(text)
+    if len(text) > MOST_OCTETS:
+        raise Wrong("TooLong", MOST_OCTETS, f"the text has {len(text):,} octets, and may have {MOST_OCTETS:,}")
+    body = found_at(BODIES[b"|"], text, begin + 1)
+    if body.end() == len(text):
+        raise Wrong("Short", body.end(), "the text ends before `}`", [(begin, "the braces begin here")])
+    if text[body.end():body.end() + 1] != b"}":
+        raise Wrong("Bad", body.end(), "this octet is not allowed in braces", [(begin, "the braces begin here")])
+    octets = of_base64(body[0])
+    if octets is None:
+        raise Wrong("Bad", body.end(), "the text in the braces is no base64", [(begin, "the braces begin here")])
+    symbols = [body.start() + place for place, octet in enumerate(body[0]) if not bytes([octet]).isspace()]
+    return octets, [symbols[place * 4 // 3] for place in range(len(octets))] + [body.end()], spaces_end(text, body.end() + 1)

@@ -1,0 +1,327 @@
+"""Keys that people have, as keys of SPKI, and back; signing and verifying. The forms are those of docs/FORMATS.md, "Keys and signatures
+of services":
+
+    (public-key (ecc (curve Ed25519) (flags eddsa) (q #..#)))     (sig-val (eddsa (r #..#) (s #..#)))
+    (public-key (rsa (n #..#) (e #..#)))                          (sig-val (rsa (s #..#)))
+    (public-key (ecc (curve "NIST P-256") (q #04..#)))            (sig-val (ecdsa (r #..#) (s #..#)))
+
+libgcrypt and GnuPG read the same. `cryptography` reads the files and signs. The package `spki_verify` verifies by it. Both are imported
+where they are used, because that takes a tenth of a second.
+"""
+from __future__ import annotations
+
+import base64
+import contextlib
+import hashlib
+import importlib.util
+import re
+from collections.abc import Callable
+from typing import TYPE_CHECKING, Any, Protocol, Union, cast
+
+from .forms import Parser
+from .places import USED, foreign, value_in
+from .sexp import Value, canonical
+
+if TYPE_CHECKING:
+    from cryptography.hazmat.primitives.asymmetric.ec import EllipticCurvePrivateKey
+    from cryptography.hazmat.primitives.asymmetric.ed25519 import Ed25519PrivateKey
+    from cryptography.hazmat.primitives.asymmetric.rsa import RSAPrivateKey
+    from spki_verify import Public
+    Private = Union[Ed25519PrivateKey, RSAPrivateKey, EllipticCurvePrivateKey]
+
+ED25519, RSA, P256 = "ed25519", "rsa", "p256"
+KINDS = (ED25519, RSA, P256)
+NEW_BITS = 3072
+HALF, MOST_OCTETS = 32, 2049
+PRIVATE = (b"(private-key", b"(11:private-key")
+PEM = re.compile(rb"-----BEGIN ([A-Z0-9 ]+)-----")
+OPENSSH = re.compile(rb"^(?![ \t]*#)(?:.*?[ \t])?((?:ssh-|ecdsa-|sk-)[\w@.-]{1,64}[ \t]{1,64}AAAA[A-Za-z0-9+/=]+)[ \t]*([^\r\n]*)", re.MULTILINE)
+NEEDS_BCRYPT = "encrypted OpenSSH keys need python3-bcrypt (pip: bcrypt); or let ssh-agent sign by it"
+ENCRYPTED = "this is an encrypted private key"
+# Asks for the passphrase of a file.
+Asking = Callable[[], bytes]
+
+
+class BadKey(Exception):
+    """What is said of a file that has no key that can be used."""
+
+
+class Signer(Protocol):
+    """Who holds a private key, in a file or in an agent."""
+
+    @property
+    def key(self) -> Value:
+        """The public key."""
+
+    def sign(self, message: bytes) -> Value:
+        """The value of a signature of these octets."""
+
+
+def digest_of(value: Value) -> bytes:
+    """The SHA-256 digest of a value's canonical form."""
+    return hashlib.sha256(canonical(value)).digest()
+
+
+def hash_of(value: Value) -> Value:
+    """The hash that names a key, or that a signature has of its certificate."""
+    return [b"hash", b"sha256", digest_of(value)]
+
+
+def is_named_by_itself(key: Value) -> bool:
+    """Whether certificates have the key itself and not its hash: one of RSA is long."""
+    return not (isinstance(key, list) and isinstance(key[1], list) and key[1][0] == b"rsa")
+
+
+def principal_of(key: Value) -> Value:
+    """How certificates name a key."""
+    return key if is_named_by_itself(key) else hash_of(key)
+
+
+def key_of(public: object) -> Value:
+    """The SPKI key of a public key of `cryptography`."""
+    from cryptography.hazmat.primitives.asymmetric import ec, ed25519, rsa
+    from cryptography.hazmat.primitives.serialization import Encoding, PublicFormat
+    from spki_verify import LEAST_BITS, MOST_BITS, MOST_EXPONENT_BITS, number
+    if isinstance(public, ed25519.Ed25519PublicKey):
+        octets = public.public_bytes(Encoding.Raw, PublicFormat.Raw)
+        return [b"public-key", [b"ecc", [b"curve", b"Ed25519"], [b"flags", b"eddsa"], [b"q", octets]]]
+    if isinstance(public, rsa.RSAPublicKey):
+        numbers = public.public_numbers()
+        if not LEAST_BITS <= numbers.n.bit_length() <= MOST_BITS or numbers.e.bit_length() > MOST_EXPONENT_BITS:
+            raise BadKey(f"a key of RSA with {numbers.n.bit_length()} bits; it must have {LEAST_BITS} to {MOST_BITS}, "
+                         f"and an exponent of at most {MOST_EXPONENT_BITS}")
+        return [b"public-key", [b"rsa", [b"n", number(numbers.n)], [b"e", number(numbers.e)]]]
+    if isinstance(public, ec.EllipticCurvePublicKey) and isinstance(public.curve, ec.SECP256R1):
+        octets = public.public_bytes(Encoding.X962, PublicFormat.UncompressedPoint)
+        return [b"public-key", [b"ecc", [b"curve", b"NIST P-256"], [b"q", octets]]]
+    kind = type(public).__name__.strip("_").removesuffix("PublicKey")
+    raise BadKey(f"a key of the kind {kind}, and {USED}")
+
+
+def public_of(key: Value) -> Public | None:
+    """The public key of `cryptography` for a key in exactly the form of `key_of`. None for any other."""
+    from spki_verify import public_of as public_of_text
+    return public_of_text(canonical(key))
+
+
+def kind_of(key: Value) -> str:
+    """What a key is, for people to read."""
+    match key:
+        case [_, [b"ecc", [b"curve", b"Ed25519"], *_]]:
+            return "Ed25519"
+        case [_, [b"ecc", [b"curve", bytes() as curve], *_]]:
+            return f"ECDSA {curve.decode(errors='replace')}"
+        case [_, [b"rsa", [b"n", bytes() as modulus], *_]]:
+            return f"RSA {int.from_bytes(modulus, 'big').bit_length()}"
+        case [_, [bytes() as algorithm, *_]]:
+            return f"of the algorithm {algorithm.decode(errors='replace')}"
+    return "of no kind that is known"
+
+
+# ---- signatures
+
+
+def value_of_octets(kind: str, octets: bytes) -> Value:
+    """The value of a signature of Ed25519, or of RSA."""
+    if kind == ED25519:
+        return [b"sig-val", [b"eddsa", [b"r", octets[:HALF]], [b"s", octets[HALF:]]]]
+    return [b"sig-val", [b"rsa", [b"s", octets]]]
+
+
+def value_of_numbers(r: int, s: int) -> Value:
+    """The value of a signature of ECDSA."""
+    return [b"sig-val", [b"ecdsa", [b"r", r.to_bytes(HALF, "big")], [b"s", s.to_bytes(HALF, "big")]]]
+
+
+class FileSigner:
+    """A private key of a file."""
+
+    def __init__(self, private: Private) -> None:
+        self.private, self.key = private, key_of(private.public_key())
+
+    def sign(self, message: bytes) -> Value:
+        """The value of a signature of these octets."""
+        from cryptography.hazmat.primitives.asymmetric import ec, ed25519, padding, utils
+        from cryptography.hazmat.primitives.hashes import SHA256
+        if isinstance(self.private, ed25519.Ed25519PrivateKey):
+            return value_of_octets(ED25519, self.private.sign(message))
+        if isinstance(self.private, ec.EllipticCurvePrivateKey):
+            return value_of_numbers(*utils.decode_dss_signature(self.private.sign(message, ec.ECDSA(SHA256()))))
+        return value_of_octets(RSA, self.private.sign(message, padding.PKCS1v15(), SHA256()))
+
+
+def verifies(key: Value, message: bytes, value: Value) -> bool:
+    """Whether a value is a signature of a message by an SPKI key."""
+    return verify(canonical(key), message, canonical(value))
+
+
+def verify(key: bytes, message: bytes, value: bytes) -> bool:
+    """The same of canonical forms, as a guard of the module `spki` asks for it."""
+    from spki_verify import verify as verify_texts
+    return verify_texts(key, message, value)
+
+
+# ---- files
+
+
+def is_private(octets: bytes) -> bool:
+    """Whether the octets of a file have a private key."""
+    is_pem = any(it.endswith(b"PRIVATE KEY") for it in PEM.findall(octets))
+    return is_pem or octets.startswith(b"PuTTY-User-Key-File") or octets.lstrip().startswith(PRIVATE)
+
+
+def is_key_file(octets: bytes) -> bool:
+    """Whether the octets of a file are a key in another form than an S-expression."""
+    return not is_text(octets) and (PEM.search(octets) is not None or OPENSSH.search(octets) is not None)
+
+
+def is_text(octets: bytes) -> bool:
+    """Whether the octets of a file begin as an S-expression that is no private key."""
+    return octets.lstrip().startswith((b"(", b"{")) and not octets.lstrip().startswith(PRIVATE)
+
+
+def read_public(octets: bytes, asking: Asking, number: int | None = None) -> Value:
+    """The public key of the octets of a file: OpenSSH, PEM or S-expression, public or private. Of several it is the one with this number.
+    Raises BadKey or Wrong."""
+    if is_private(octets):
+        octets = public_part(octets) or openssh_line(read_private(octets, asking).public_key())
+    found = pieces_of(octets)
+    if number is None and len(found) > 1:
+        raise BadKey(f"{len(found)} keys are in this file; --key N takes the one with this number, and `spki-cert key --key N` writes it")
+    if number is not None and not 1 <= number <= len(found):
+        raise BadKey(f"there is no key {number} in this file; it has {len(found)}")
+    one = found[(number or 1) - 1]
+    if is_text(one):
+        return key_of_text(one)
+    needs_no_word(foreign(one))
+    return key_of(public_in(one)) if OPENSSH.match(one) or PEM.search(one) else key_of_text(one)
+
+
+def pieces_of(octets: bytes) -> list[bytes]:
+    """The public keys of the octets of a file, each still as it is written."""
+    if is_text(octets):
+        return [octets]
+    begin = b"-----BEGIN "
+    return [line for line, _ in OPENSSH.findall(octets)] or [begin + it for it in octets.split(begin)[1:]] or [octets]
+
+
+def no_passphrase() -> bytes:
+    """No passphrase is asked for where a key is only looked at."""
+    raise BadKey(ENCRYPTED)
+
+
+def needs_no_word(why: str | None) -> None:
+    """Refuses what is known to be no key that is used."""
+    if why:
+        raise BadKey(why)
+
+
+def public_in(octets: bytes) -> object:
+    """The public key of one line of OpenSSH, or of one block of PEM."""
+    from cryptography.exceptions import UnsupportedAlgorithm
+    from cryptography.hazmat.primitives.serialization import load_pem_public_key
+    from cryptography.hazmat.primitives.serialization.ssh import load_ssh_public_key
+    try:
+        return load_pem_public_key(octets) if PEM.search(octets) else load_ssh_public_key(octets)
+    except UnsupportedAlgorithm:
+        raise BadKey(f"a key of the kind {octets.split()[0].decode(errors='replace')}, and {USED}") from None
+    except ValueError:
+        raise BadKey(f"no whole public key: was it copied to its end? It must be one line of OpenSSH or a block of PEM, and {USED}") from None
+
+
+def public_part(octets: bytes) -> bytes | None:
+    """The line of the public key that the file of a private key of OpenSSH has in clear. None if it is another file."""
+    if b"BEGIN OPENSSH" not in octets:
+        return None
+    body, at = b"", len(b"openssh-key-v1\0")
+    with contextlib.suppress(ValueError):
+        body = base64.b64decode(octets.partition(b"KEY-----")[2].partition(b"-----END")[0])
+    for _ in range(3):
+        at += 4 + int.from_bytes(body[at:at + 4], "big")
+    blob = body[at + 8:at + 8 + int.from_bytes(body[at + 4:at + 8], "big")]
+    kind = blob[4:4 + int.from_bytes(blob[:4], "big")]
+    if not re.fullmatch(rb"[\w@.-]+", kind):
+        raise BadKey("no whole private key of OpenSSH: was it copied to its end?")
+    return kind + b" " + base64.b64encode(blob)
+
+
+def key_of_text(octets: bytes) -> Value:
+    """The key of an S-expression. Raises Wrong if it is none."""
+    from .structures import read_key
+    node = value_in(octets)
+    read_key(node)
+    return node.value
+
+
+def read_private(octets: bytes, asking: Asking) -> Private:
+    """The private key of the octets of a file. `asking` gives the passphrase if it is encrypted. Raises BadKey."""
+    from cryptography.exceptions import UnsupportedAlgorithm
+    line, is_asked = public_part(octets), False
+    needs_no_word(foreign(line or octets))
+    try:
+        if octets.lstrip().startswith(b"("):
+            return private_of_text(octets)
+        try:
+            private = loaded(octets, None)
+        except (TypeError, ValueError) as why:
+            if isinstance(why, ValueError) and "password" not in str(why):
+                raise
+            if line and importlib.util.find_spec("bcrypt") is None:
+                raise BadKey(NEEDS_BCRYPT) from None
+            is_asked, private = True, loaded(octets, asking())
+    except (ValueError, TypeError, ArithmeticError, UnsupportedAlgorithm) as why:
+        raise BadKey(NEEDS_BCRYPT if "bcrypt" in str(why) else "this is not the passphrase of the key, or the file is damaged" if is_asked
+                     else f"no private key that can be read: was it copied to its end? And {USED}") from None
+    key_of(private.public_key())
+    return private
+
+
+def loaded(octets: bytes, passphrase: bytes | None) -> Private:
+    """The private key of PEM or of OpenSSH."""
+    from cryptography.hazmat.primitives.serialization import load_pem_private_key
+    from cryptography.hazmat.primitives.serialization.ssh import load_ssh_private_key
+    load: Any = load_ssh_private_key if b"BEGIN OPENSSH" in octets else load_pem_private_key
+    return cast("Private", load(octets, passphrase))
+
+
+def private_of_text(octets: bytes) -> Private:
+    """The private key of an S-expression, as libgcrypt has it. Raises BadKey or Wrong."""
+    from cryptography.hazmat.primitives.asymmetric import ec, ed25519, rsa
+    parts = Parser(octets).whole().value
+    match parts:
+        case [b"private-key", [b"ecc", [b"curve", b"Ed25519"], [b"flags", b"eddsa"], [b"q", _], [b"d", bytes() as secret]]]:
+            return ed25519.Ed25519PrivateKey.from_private_bytes(secret)
+        case [b"private-key", [b"ecc", [b"curve", b"NIST P-256"], [b"q", _], [b"d", bytes() as secret]]]:
+            return ec.derive_private_key(int.from_bytes(secret, "big"), ec.SECP256R1())
+        case [b"private-key", [b"rsa", [b"n", bytes() as modulus], [b"e", bytes() as exponent], [b"d", bytes() as secret],
+                               [b"p", bytes() as first], [b"q", bytes() as second], *_]]:
+            n, e, d, p, q = (int.from_bytes(it[:2 * MOST_OCTETS], "big") for it in (modulus, exponent, secret, first, second))
+            public = rsa.RSAPublicNumbers(e, n)
+            return rsa.RSAPrivateNumbers(p, q, d, d % (p - 1), d % (q - 1), rsa.rsa_crt_iqmp(p, q), public).private_key()
+    raise BadKey("a private key in a form that is not known")
+
+
+def new_private(kind: str) -> Private:
+    """A new private key."""
+    from cryptography.hazmat.primitives.asymmetric import ec, ed25519, rsa
+    if kind == ED25519:
+        return ed25519.Ed25519PrivateKey.generate()
+    return rsa.generate_private_key(65537, NEW_BITS) if kind == RSA else ec.generate_private_key(ec.SECP256R1())
+
+
+def file_of(private: Private, passphrase: bytes, is_pem: bool = False) -> bytes:
+    """The file of a private key, as OpenSSH has it or in PEM (PKCS#8). It is encrypted unless the passphrase is empty."""
+    from cryptography.exceptions import UnsupportedAlgorithm
+    from cryptography.hazmat.primitives.serialization import BestAvailableEncryption, Encoding, NoEncryption, PrivateFormat
+    encryption = BestAvailableEncryption(passphrase) if passphrase else NoEncryption()
+    try:
+        form = PrivateFormat.PKCS8 if is_pem else PrivateFormat.OpenSSH
+        return cast(bytes, cast(Any, private).private_bytes(Encoding.PEM, form, encryption))
+    except UnsupportedAlgorithm:
+        raise BadKey(f"{NEEDS_BCRYPT}; with --pem the new key is encrypted without it") from None
+
+
+def openssh_line(public: Public) -> bytes:
+    """A public key, as OpenSSH has it, without a comment."""
+    from cryptography.hazmat.primitives.serialization import Encoding, PublicFormat
+    return public.public_bytes(Encoding.OpenSSH, PublicFormat.OpenSSH)

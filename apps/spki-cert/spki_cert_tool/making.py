@@ -1,0 +1,167 @@
+"""Makes certificates and entries: what is asked for, what is probably a mistake, and the signed sequence."""
+from __future__ import annotations
+
+import os
+from collections.abc import Iterator
+from dataclasses import dataclass
+
+from .certificates import Keys, certificates_in, entries_of, headed, members, remarks_on_window, terms_of_entry
+from .files import Refused, now
+from .forms import Node
+from .keys import Signer, hash_of, is_named_by_itself, principal_of, verifies
+from .places import fault_of, place_shown, told, value_in
+from .sexp import Value, canonical, laid_out, on_one_line
+from .tag_words import contains, is_everything, lacks, remarks
+
+
+@dataclass(frozen=True)
+class Wish:
+    """What a certificate, or an entry of an access list, is to say."""
+
+    subject: Value
+    """A principal, or a name, which may be one of the issuer."""
+    name: bytes | None
+    """The name that the certificate defines, or None if it gives a right."""
+    tag: Node | None
+    tag_text: str
+    begins: bytes | None
+    ends: bytes | None
+    delegates: bool
+    comment: str
+
+
+def certificate_of(wish: Wish, key: Value) -> Value:
+    """The certificate of a wish by the holder of a key."""
+    issuer = principal_of(key)
+    return [b"cert", [b"issuer", [b"name", issuer, wish.name] if wish.name is not None else issuer], [b"subject", wish.subject], *fields_of(wish)]
+
+
+def entry_of(wish: Wish) -> Value:
+    """The entry of an access list for a wish."""
+    return [b"entry", wish.subject, *fields_of(wish)]
+
+
+def fields_of(wish: Wish) -> Iterator[Value]:
+    """The fields that certificates and entries have alike."""
+    if wish.delegates:
+        yield [b"propagate"]
+    if wish.tag is not None:
+        yield [b"tag", wish.tag.value]
+    for head, moment in ((b"not-before", wish.begins), (b"not-after", wish.ends)):
+        if moment is not None:
+            yield [head, moment]
+    if wish.comment:
+        yield [b"comment", os.fsencode(wish.comment)]
+
+
+def list_with(entry: Value, before: bytes) -> bytes:
+    """The text of an access list with an entry at its end. What is before the entry stays as it is, unless it is in braces."""
+    node = value_in(before)
+    text = text_of([b"acl", *members(node.value), entry])
+    if not before.lstrip().startswith(b"{"):
+        text = before[:node.end - 1].rstrip() + b"\n " + laid_out(entry, 1).encode() + b")\n"
+    needs_no_refusal("acl", text)
+    return text
+
+
+def signed_sequence(certificate: Value, signer: Signer, chain: Value | None) -> Value:
+    """The sequence of a chain and a certificate with its signature. A key that the certificate names by its hash is in it."""
+    octets = canonical(certificate)
+    value = signer.sign(octets)
+    if not verifies(signer.key, octets, value):
+        raise Refused("the signature that was made does not verify; nothing was written")
+    sequence = sequence_with(chain, signer.key, certificate, value)
+    needs_no_refusal("sequence", canonical(sequence))
+    return sequence
+
+
+def sequence_with(chain: Value | None, key: Value, certificate: Value, value: Value) -> Value:
+    """The sequence of a chain and a certificate with its signature."""
+    before = members(chain) if chain is not None else []
+    shown = [] if is_named_by_itself(key) or key in before else [key]
+    return [b"sequence", *before, *shown, certificate, [b"signature", hash_of(certificate), principal_of(key), value]]
+
+
+def list_without(subject: Value, before: bytes) -> tuple[bytes, int]:
+    """The text of an access list without the entries for a subject, and how many they were. What is around them stays as it is."""
+    if before.lstrip().startswith(b"{"):
+        before = text_of(value_in(before).value)
+    wanted, entries = terms_of_entry([b"entry", subject]), [it for it in value_in(before).members or [] if it.head == b"entry"]
+    terms = [terms_of_entry(it.value) for it in entries]
+    keys = Keys(it.principal for it in (wanted, *terms))
+    gone = [node for node, it in zip(entries, terms) if it.names == wanted.names and keys.are_one(it.principal, wanted.principal)]
+    for node in reversed(gone):
+        begin = len(before[:node.begin].rstrip())
+        before = before[:begin] + before[node.end:]
+    return before, len(gone)
+
+
+def needs_no_refusal(what: str, text: bytes) -> None:
+    """Refuses a text here that a service would refuse."""
+    found = fault_of(text, f"refused {what}")
+    if found[0] is not None:
+        raise Refused("a service would refuse this:", *told(f"the {what}", found))
+
+
+# ---- what is probably a mistake
+
+
+def warnings_of_certificate(wish: Wish, chain: Value | None, tries: list[Value]) -> Iterator[str]:
+    """What is probably a mistake in a certificate. It is made only if that is confirmed."""
+    if wish.ends is None:
+        yield "it has no end: give --days or --until; otherwise it counts until a service ends it by `spki-cert end`"
+    yield from warnings_of(wish, tries)
+    for each in certificates_in(chain) if chain is not None else []:
+        ends = each.terms.ends
+        if ends is not None and (wish.ends is None or wish.ends > ends):
+            yield f"item {each.number} of the chain ends earlier, on {ends.decode()}, and the right ends with it"
+        yield from (f"item {each.number} of the chain: {why}" for why in not_tried(each.terms.tag, tries))
+
+
+def warnings_of_list(made: Value, before: bytes) -> Iterator[str]:
+    """What is probably a mistake in an entry for a list that has others."""
+    entries, new = entries_of(value_in(before).value), terms_of_entry(made)
+    keys = Keys(it.principal for it in (*entries, new))
+    yield from (f"entry {number} of the list gives all of this already" for number, it in enumerate(entries, 1) if contains(it, new, keys))
+
+
+def warnings_of(wish: Wish, tries: list[Value]) -> Iterator[str]:
+    """The same of what certificates and entries have alike. An entry needs no end, since it can be removed from its list."""
+    yield from (why for _, why in remarks_on_window(wish.begins, wish.ends, now()))
+    principal = members(wish.subject)[0] if headed(wish.subject, b"name") else wish.subject
+    if headed(principal, b"hash") and members(principal)[0] == b"sha1":
+        yield "its subject is a hash by sha1, which names no key under the strict policy"
+    if wish.tag is not None:
+        yield from of_tag(wish.tag, wish.tag_text, tries)
+
+
+def of_tag(tag: Node, text: str, tries: list[Value]) -> Iterator[str]:
+    """What is probably a mistake in a tag."""
+    if is_everything(tag.value):
+        yield "its tag is `(*)`, which contains every request: narrow it, for example `(packages read)`, or keep it if that is meant"
+    for at, why in remarks(tag):
+        where, around = place_shown(text.encode(), None, at)
+        yield f"--tag, {where}: {why}\n{around}"
+    yield from not_tried(tag.value, tries)
+
+
+def not_tried(tag: Value | None, tries: list[Value]) -> Iterator[str]:
+    """The requests that a tag does not contain, and why."""
+    for request in tries:
+        why_not = lacks(tag, request) if tag is not None else None
+        if why_not:
+            yield f"its tag does not contain the request `{on_one_line(request)}`: {why_not}"
+
+
+def text_of(value: Value) -> bytes:
+    """A text of a value for people to read."""
+    return laid_out(value).encode() + b"\n"
+
+
+def named(principal: Value | None, names: list[str]) -> Value:
+    """A name of a key, or of the issuer if there is none, or the principal if there is no name."""
+    if headed(principal or b"", b"name") and names:
+        raise Refused("--to is a name already, so --named is one too many")
+    if principal is not None and not names:
+        return principal
+    return [b"name", *([principal] if principal is not None else []), *map(os.fsencode, names)]

@@ -1,0 +1,313 @@
+"""Finds where a text is refused, and why, and shows the place: line, column and the text around it.
+
+A text headed `case`, `intersect`, `accepted`, `acl`, `sequence` or `public-key` is read as that, another value only as an S-expression.
+"""
+from __future__ import annotations
+
+import re
+from collections.abc import Callable
+from functools import partial
+from typing import Optional
+
+from .forms import FORM_FAULTS, MOST_OCTETS, Node, Parser, Place, Wrong, meant, without_braces
+from .structures import Members, Reader, but_is, read_date, read_entry, read_item, read_key, read_row, read_version
+from .tags import read_request, read_tag
+
+WIDTH = 60
+PARTS = (b"acl", b"accepted", b"sequence", b"key", b"request", b"at")
+Found = tuple[Optional[Wrong], bytes, Optional[list[int]]]
+PEM_END = rb"-----.*?(?:-----END [A-Z0-9 ]+-----|\Z)"
+USED = "only Ed25519, RSA of 2048 bits or more and ECDSA with the curve P-256 are used; `spki-cert key new FILE` makes a key"
+# What is neither a key that is used nor an S-expression, and what can be done with it.
+FOREIGN = [
+    (rb"\A\xef\xbb\xbf", "a byte order mark is before the text; save the file as UTF-8 without one"),
+    (rb"\A(?:\xff\xfe|\xfe\xff|[ -~]\0|\0[ -~])", "this is UTF-16; save the file as UTF-8"),
+    (rb"\A\x30(?:[\x81-\x84]|.\x30.\x06|.\x02\x01)", "this is binary (DER); `openssl pkey -inform DER -in FILE` writes a private key in PEM, "
+     "with `-pubin` a public one, and `openssl x509 -inform DER -noout -pubkey -in FILE` the key of a certificate"),
+    (rb"-----BEGIN (?:X509 |TRUSTED )?CERTIFICATE" + PEM_END, "this is an X.509 certificate, and no key; "
+     "`openssl x509 -noout -pubkey -in FILE | spki-cert key -` writes its key as an S-expression"),
+    (rb"-----BEGIN (?:NEW )?CERTIFICATE REQUEST" + PEM_END, "this is a request for an X.509 certificate; "
+     "`openssl req -noout -pubkey -in FILE | spki-cert key -` writes its key as an S-expression"),
+    (rb"-----BEGIN PGP [A-Z ]+" + PEM_END, "this is of OpenPGP, whose keys are not used; `spki-cert key new FILE` makes a key"),
+    (rb"---- BEGIN SSH2 .*?(?:END SSH2[^\n]*|\Z)", "this is a key in the form of SSH2; `ssh-keygen -i -f FILE` writes it in the form of OpenSSH"),
+    (rb"\APuTTY-User-Key-File.*", "this is a key of PuTTY; `puttygen FILE -O private-openssh -o NEW` writes it in the form of OpenSSH"),
+    (rb"sk-(?:ssh|ecdsa)-[\w@.-]{1,64}\s{1,64}AAAA[^()\n]*", "this is a FIDO key of OpenSSH (sk-..), and such keys are not supported: "
+     "they do not sign a certificate itself; `spki-cert key new FILE` makes a key"),
+    (rb"(?:ssh|ecdsa)-[\w@.-]{1,64}-cert-v01@\S{1,64}\s{1,64}AAAA[^()\n]*",
+     "this is a certificate of OpenSSH, and no key; give the key that it is for, FILE.pub"),
+    (rb"ssh-dss\s{1,64}AAAA[^()\n]*", f"this is a key of DSA; {USED}"),
+    (rb"\A\s*\{\s*\"", "this is JSON, perhaps a JWK; keys are read in the form of OpenSSH, in PEM, or as S-expressions")]
+# Keys in a form that is no S-expression, where one is wanted.
+PASTED = [(pattern, f"this is {called}, and no S-expression; {wanted}") for pattern, called, wanted in [
+    (rb"(?:ssh-|ecdsa-)[\w@.-]{1,64}\s{1,64}AAAA[A-Za-z0-9+/=]*[^()\n]*", "a key as OpenSSH writes it", "`spki-cert key FILE` writes it as one"),
+    (rb"-----BEGIN [A-Z0-9 ]*PRIVATE KEY" + PEM_END, "a private key, which belongs into no list", "`spki-cert key FILE` writes the public one"),
+    (rb"-----BEGIN [A-Z0-9 ]+" + PEM_END, "a key in PEM", "`spki-cert key FILE` writes it as one")]]
+INSIDE = "; replace the whole `(public-key ..)` by that S-expression"
+EMPTY = {"acl": "an access list begins as `(acl)`, and `spki-cert entry --acl FILE` adds an entry",
+         "sequence": "`spki-cert sign` writes a certificate with its signature", "key": "`spki-cert key FILE` writes a key"}
+COMMENT = rb"[ \t]*(?:#[^#()]{0,40}[G-Zg-z][^#]*|//.*|--.*)\Z"
+BEGINS = rb"^\((?:acl|case|cert|entry|public-key|sequence)[\s()]"
+FLAGS = re.DOTALL | re.MULTILINE
+
+
+def foreign(text: bytes) -> str | None:
+    """What a text is that is neither a key that is used nor an S-expression. None if it is not known."""
+    return next((why for pattern, why in FOREIGN if re.match(pattern, text.lstrip(), FLAGS)), None)
+
+
+def name_foreign(text: bytes, wrong: Wrong) -> None:
+    """Says what is wrong if the place is in what is no S-expression."""
+    for pattern, why in [*FOREIGN, *PASTED]:
+        for found in re.finditer(pattern, text, FLAGS):
+            if found.start() <= wrong.at <= found.end():
+                is_inside = text[:found.start()].rstrip().endswith(b"(public-key")
+                wrong.shown_at, wrong.why = found.start(), why + (INSIDE if is_inside else "")
+                return
+    at = text.rfind(b"\n", 0, wrong.at) + 1
+    if re.match(COMMENT, text[at:].partition(b"\n")[0], FLAGS):
+        wrong.shown_at, wrong.why = at, "there are no comments, only the field `(comment \"..\")`; delete this line"
+        return
+    begins = re.search(BEGINS, text, FLAGS)
+    if begins and wrong.at < begins.start() and text[wrong.at:wrong.at + 1] != b";":
+        line = text.count(b"\n", 0, begins.start()) + 1
+        wrong.shown_at, wrong.why = 0, f"this is no S-expression; one begins on line {line}: delete what is before it, and what is behind its end"
+
+
+def part_of(name: str, read: Callable[[], object]) -> None:
+    """Reads a part. A fault gets the part's name in front."""
+    try:
+        read()
+    except Wrong as wrong:
+        is_of_tag = wrong.kind in ("EmptyList", "ListHead", "Hint", "UnknownStar", "RangeOrdering", "RangeLimit", "TooManyNodes")
+        wrong.kind = f"{name} {'Tag ' if is_of_tag and name.startswith(('acl', 'sequence')) else ''}{wrong.kind}"
+        raise
+
+
+def read_numbered(name: str, read: Reader, nodes: list[Node]) -> None:
+    for number, node in enumerate(nodes, 1):
+        read_one(name, number, read, node)
+
+
+def read_one(name: str, number: int, read: Reader, node: Node) -> None:
+    """Reads an entry, an item or a row. A fault gets the place where it begins."""
+    try:
+        part_of(f"{name} {number}", partial(read, node))
+    except Wrong as wrong:
+        word = {"acl": "entry", "sequence": "item"}.get(name, "row")
+        wrong.others.append((node.begin, f"{word} {number} begins here"))
+        raise
+
+
+def read_list(node: Node) -> None:
+    part_of("acl 0", lambda: Members(node, b"acl", "the access list"))
+    entries = node.rest
+    if entries and entries[0].head == b"version":
+        part_of("acl 0", partial(read_version, entries.pop(0)))
+    read_numbered("acl", read_entry, entries)
+
+
+def read_sequence(node: Node) -> None:
+    part_of("sequence 0", lambda: Members(node, b"sequence", "the sequence"))
+    waits: tuple[int, Node] | None = None
+    items = node.rest
+    for number, item in enumerate([*items, None], 1):
+        head = item.head if item else None
+        if waits and head not in (b"do", b"signature"):
+            number, certificate = waits
+            raise Wrong(f"sequence {number} UnsignedCert", certificate.begin, "no signature follows this certificate: the signature comes with "
+                        "the file that `spki-cert sign` wrote; take that whole file again from who signed it",
+                        [(item.begin, "this follows it")] if item else [(node.end - 1, "the sequence ends here")])
+        if item and not waits and head == b"signature":
+            raise Wrong(f"sequence {number} StraySignature", item.begin, "no certificate waits for this signature")
+        if item:
+            read_one("sequence", number, read_item, item)
+            waits = (number, item) if head == b"cert" else None if head == b"signature" else waits
+
+
+def read_case(node: Node) -> None:
+    read_outline(node)
+    acl, accepted, sequence, key, request, moment = node.rest[:6]
+    read_list(acl)
+    read_numbered("accepted", read_row, accepted.rest)
+    read_sequence(sequence)
+    for name, part in (("key", key), ("request", request), ("at", moment)):
+        READERS[name](part.rest[0])
+
+
+def read_outline(node: Node) -> None:
+    """The parts of a case, by their heads."""
+    part_of("case", lambda: Members(node, b"case", "the text"))
+    parts = node.rest
+    for place, head in enumerate(PARTS):
+        part = parts[place] if place < len(parts) else None
+        if part is None:
+            raise Wrong("case Shape", node.end - 1, f"the part `({head.decode()} ..)` is missing here")
+        if part.head != head:
+            order = ", ".join(it.decode() for it in PARTS)
+            raise Wrong("case Shape", part.begin, f"this part must be {but_is(part, head)}; the order is {order}")
+        if place > 2 and len(part.rest) != 1:
+            raise Wrong("case Shape", part.begin, f"`({head.decode()} ..)` has one member, and this has {len(part.rest)}")
+    read_policy(parts[len(PARTS):])
+
+
+def read_policy(nodes: list[Node]) -> None:
+    for place, member in enumerate(nodes):
+        policy = member.rest
+        if place or member.head != b"policy" or len(policy) != 1 or not policy[0].is_plain(b"strict"):
+            raise Wrong("case Shape", member.begin, "the moment is followed by `(policy strict)` or nothing" + (
+                "; for the open policy leave it out" if not place and member.head == b"policy" else meant(member.head, (b"policy",))))
+
+
+def read_intersect(node: Node) -> None:
+    part_of("intersect", lambda: Members(node, b"intersect", "the text"))
+    tags = node.rest
+    if len(tags) != 2:
+        raise Wrong("intersect Shape", node.begin, f"`(intersect A B)` has two tags, and this has {len(tags)} members")
+    for number, tag in enumerate(tags, 1):
+        part_of(f"tag {number}", partial(read_tag, tag, [0]))
+
+
+def read_rows(node: Node) -> None:
+    part_of("rows", lambda: Members(node, b"accepted", "the text"))
+    read_numbered("rows", read_row, node.rest)
+
+
+def reader_of(name: str, read: Reader) -> Reader:
+    """The reader of a part that is one value."""
+    return lambda node: part_of(name, partial(read, node))
+
+
+READERS: dict[str, Reader] = {
+    "case": read_case, "intersect": read_intersect, "rows": read_rows, "acl": read_list, "sequence": read_sequence,
+    "key": reader_of("key", read_key), "request": reader_of("request", read_request), "at": reader_of("at", read_date)}
+# What a text is by its head. A request and a moment have none.
+BY_HEAD = {b"case": "case", b"intersect": "intersect", b"accepted": "rows", b"acl": "acl", b"sequence": "sequence", b"public-key": "key"}
+# The words after `refused` that a text can have in addition to its own.
+WORDS = {"case": ("acl", "accepted", "sequence", "key", "request", "at"), "intersect": ("tag",)}
+# What a text is by a word that is no text's own.
+BY_WORD = {"accepted": "case", "tag": "intersect"}
+# The texts whose faults of form are named after them, as in `refused key Short`.
+NAMED = ("rows", "sequence", "key", "request", "at")
+
+
+def kind_of(node: Node, word: str) -> str | None:
+    """What a text is read as: by its head, or if no such text is refused by this word, by the word. None if neither says it."""
+    kind = BY_HEAD.get(node.head or b"")
+    if kind and (word in (kind, *WORDS.get(kind, ())) or word not in READERS and word not in BY_WORD):
+        return kind
+    return BY_WORD.get(word, word if word in READERS else None)
+
+
+def canonical_length(node: Node) -> int:
+    """How many octets the canonical form of a value has."""
+    if node.members is not None:
+        return 2 + sum(map(canonical_length, node.members))
+    strings = [it for it in (node.hint, node.body) if it is not None]
+    return sum(len(f"{len(it)}:") + len(it) for it in strings) + 2 * (node.hint is not None)
+
+
+def words_of(given: str) -> tuple[str, str]:
+    """The part that a refusal names, and the word after it, each empty if there is none."""
+    word, fault, *_ = *given.split()[1:3], "", ""
+    return word, fault
+
+
+def read_as(node: Node, given: str) -> None:
+    """Reads a value as what it is. Then its canonical form too is a text with a limit."""
+    word, fault = words_of(given)
+    if fault in FORM_FAULTS[1:]:
+        return
+    kind, length = kind_of(node, word), canonical_length(node)
+    if kind and length > MOST_OCTETS:
+        raise Wrong("TooLong", node.begin, f"the canonical form has {length:,} octets, and may have {MOST_OCTETS:,}")
+    if kind:
+        READERS[kind](node)
+
+
+def of_form(given: str) -> str:
+    """The word of a refusal for the form of a text: that of the part, if the refusal that is given has it."""
+    word, fault = words_of(given)
+    return word if word in NAMED and fault in FORM_FAULTS else "form"
+
+
+def fault_of(text: bytes, given: str = "") -> Found:
+    """What is wrong with a text, or None; the text in which its places are, and the places of that text's octets in the text."""
+    return read_text(text, given)[0]
+
+
+def read_text(text: bytes, given: str = "") -> tuple[Found, Node]:
+    """The same, and the value of the text, which is an empty list where the text has no form."""
+    node, inner, places = Node(0, members=[]), text, None
+    try:
+        inner, places, closing = without_braces(text)
+        node = Parser(inner, places is not None).whole()
+        if closing < len(text):
+            places, inner = None, text
+            raise Wrong("Trailing", closing, "the braces end before this octet; a text is one value")
+        read_as(node, given)
+    except Wrong as wrong:
+        if wrong.kind in FORM_FAULTS:
+            if places and wrong.kind != "TooDeep":
+                wrong.kind, wrong.why = "Bad", f"what is in the braces is no canonical form: {wrong.why}"
+            wrong.kind = f"{of_form(given)} {wrong.kind}"
+        if places is None:
+            name_foreign(text, wrong)
+        if not text.strip():
+            wrong.why = f"the file is empty; {EMPTY.get(words_of(given)[0], '; '.join(EMPTY.values()))}"
+        return (wrong, inner, places), node
+    return (None, inner, places), node
+
+
+def value_in(text: bytes) -> Node:
+    """The value of a text in any of the three forms, with its places. Raises Wrong with a place in the text."""
+    (wrong, _, places), node = read_text(text, "refused form Trailing")
+    if wrong is None:
+        return node
+    wrong.kind, wrong.at = wrong.kind.split()[-1], places[min(wrong.at, len(places) - 1)] if places else wrong.at
+    raise wrong
+
+
+def refusal(wrong: Wrong, places: list[int] | None) -> str:
+    """The line that the program writes."""
+    if wrong.kind.split()[-1] not in ("Bad", "Trailing"):
+        return f"refused {wrong.kind}"
+    return f"refused {wrong.kind} {places[-1] if places else wrong.at}"
+
+
+def line_and_column(text: bytes, at: int) -> tuple[int, int]:
+    return text.count(b"\n", 0, at) + 1, at - text.rfind(b"\n", 0, at)
+
+
+def place_shown(text: bytes, places: list[int] | None, at: int) -> tuple[str, str]:
+    """A place as line and column, with the text around it and a mark below."""
+    line, column = line_and_column(text, at)
+    starts, ends = at - column + 1, text.find(b"\n", at)
+    first, last = max(starts, at - WIDTH), min(len(text) if ends < 0 else ends, at + WIDTH)
+    front = "".join(printable(octet) for octet in text[first:at])
+    where = f"line {line}, column {column}, octet {at}"
+    if places:
+        where = f"octet {at} of the canonical form in the braces (octet {places[min(at, len(places) - 1)]} of the text)"
+    return where, f"    {front}{''.join(printable(octet) for octet in text[at:last])}\n    {' ' * len(front)}^"
+
+
+def places_of(wrong: Wrong) -> list[Place]:
+    """The places of a fault with their remarks, each place once. The last remark on a further place has the number of the item."""
+    first = wrong.at if wrong.shown_at is None else wrong.shown_at
+    others = {at: why for at, why in wrong.others if at != first}
+    return [(first, wrong.why), *others.items()]
+
+
+def printable(octet: int) -> str:
+    return chr(octet) if 32 <= octet < 127 else " " if octet in b"\t\n\r" else f"\\x{octet:02x}"
+
+
+def told(name: str, found: Found) -> list[str]:
+    """The lines that show a fault of a file: the refusal, and each place with the text around it."""
+    wrong, text, places = found
+    if wrong is None:
+        return []
+    lines = [f"{name}: {refusal(wrong, places)}"]
+    for at, why in places_of(wrong):
+        where, around = place_shown(text, places, at)
+        lines += [f"{where}: {why}", around]
+    return lines

@@ -1,0 +1,54 @@
+"""S-expressions as Python has them: a string is `bytes`, a string with a display hint a pair of `bytes`, a list a `list`."""
+from __future__ import annotations
+
+import base64
+import re
+from typing import Union
+
+Value = Union[bytes, "tuple[bytes, bytes]", "list[Value]"]
+
+WIDTH = 120
+TOKEN = re.compile(rb"[A-Za-z./_:*+=-][A-Za-z0-9./_:*+=-]*\Z")
+PRINTED = re.compile(rb"[ -~]*\Z")
+
+
+def read(octets: bytes) -> Value:
+    """The value of a canonical text. Raises Wrong if it is none."""
+    from .forms import Parser
+    return Parser(octets, True).whole().value
+
+
+def canonical(value: Value) -> bytes:
+    """The canonical text of a value."""
+    if isinstance(value, list):
+        return b"(" + b"".join(map(canonical, value)) + b")"
+    if isinstance(value, tuple):
+        return b"[" + canonical(value[0]) + b"]" + canonical(value[1])
+    return b"%d:%s" % (len(value), value)
+
+
+def spelled(octets: bytes) -> str:
+    """A string on one line: a token, in quotes, in hexadecimal up to 64 octets, else in base64."""
+    if TOKEN.match(octets):
+        return octets.decode()
+    if PRINTED.match(octets) and b'"' not in octets and b"\\" not in octets:
+        return f'"{octets.decode()}"'
+    return f"#{octets.hex()}#" if len(octets) <= 64 else f"|{base64.b64encode(octets).decode()}|"
+
+
+def on_one_line(value: Value) -> str:
+    if isinstance(value, list):
+        return f"({' '.join(map(on_one_line, value))})"
+    if isinstance(value, tuple):
+        return f"[{spelled(value[0])}]{spelled(value[1])}"
+    return spelled(value)
+
+
+def laid_out(value: Value, indent: int = 0) -> str:
+    """A text of a value with line breaks, for people to read. Whitespace is ignored in base64 and hexadecimal."""
+    line, margin, room = on_one_line(value), "\n" + " " * (indent + 1), WIDTH - indent
+    if len(line) > room and isinstance(value, list):
+        return "(" + margin.join(laid_out(member, indent + 1) for member in value) + ")"
+    if len(line) > room and line[0] in "|#":
+        return margin.join(line[start:start + room] for start in range(0, len(line), room))
+    return line

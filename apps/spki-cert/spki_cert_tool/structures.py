@@ -1,0 +1,254 @@
+"""Reads keys, hashes, names, entries, certificates and signatures: docs/FORMATS.md, "Keys, hashes, dates, entries, certificates"."""
+from __future__ import annotations
+
+import re
+from collections.abc import Callable
+
+from .forms import Node, Wrong, meant, shape, shown
+from .tags import read_tag
+
+MOMENT = re.compile(rb"\d{4}-(0[1-9]|1[0-2])-(0[1-9]|[12]\d|3[01])_([01]\d|2[0-3]):[0-5]\d:([0-5]\d|60)")
+DIGESTS = {b"sha1": 20, b"sha256": 32, b"sha512": 64}
+PRINCIPALS = (b"public-key", b"hash")
+LIMITS = (b"not-before", b"not-after")
+ENTRY_FIELDS = (*LIMITS, b"valid", b"tag", b"propagate", b"comment")
+CERTIFICATE_FIELDS = (*ENTRY_FIELDS, b"issuer", b"subject", b"version", b"display", b"issuer-info", b"subject-info")
+Reader = Callable[[Node], object]
+# What each field says, by its head, with the list of the field.
+Said = dict[bytes, tuple[Node, object]]
+
+
+def but_is(node: Node, *heads: bytes) -> str:
+    """Which heads a list must have, and what a value is instead."""
+    wanted = [f"`({head.decode()} ..)`" for head in heads]
+    is_instead = f"the string `{shown(node.body or b'')}`" if node.members is None else "a list without a word as its head"
+    if node.head is not None:
+        is_instead = f"`({shown(node.head)} ..)`"
+    return f"{', '.join(wanted[:-1])}{' or ' if wanted[1:] else ''}{wanted[-1]}, but is {is_instead}{meant(node.head, heads)}"
+
+
+class Members:
+    """The members of a list after its head, taken from the left."""
+
+    def __init__(self, node: Node, head: bytes, what: str) -> None:
+        if node.head != head:
+            raise shape(node, f"{what} must be {but_is(node, head)}")
+        self.node, self.left = node, node.rest
+
+    def next(self, what: str) -> Node:
+        if not self.left:
+            raise Wrong("Shape", self.node.end - 1, f"{what} is missing here", [(self.node.begin, "in the list that begins here")])
+        return self.left.pop(0)
+
+    def end(self) -> None:
+        if self.left:
+            head = (self.node.head or b"").decode(errors="replace")
+            raise shape(self.left[0], f"this is one member too many in `({head} ..)`", [(self.node.begin, "which begins here")])
+
+
+def read_key(node: Node) -> None:
+    members = Members(node, b"public-key", "a key")
+    inner = members.next("(ALGORITHM PART ..)")
+    if inner.head is None:
+        raise shape(inner, "a key contains a list that begins with the name of an algorithm")
+    if members.left and members.left[0].head == b"uri":
+        raise Wrong("KeyUris", members.left[0].begin, "a key has no `(uri ..)` here")
+    members.end()
+
+
+def read_algorithm(node: Node) -> bytes:
+    if node.members is not None:
+        raise shape(node, "the algorithm of a hash is a string")
+    if node.hint is not None or node.body not in DIGESTS:
+        without = ", without a display hint" if node.hint is not None else ""
+        raise Wrong("HashAlg", node.begin, f"the algorithm is sha1, sha256 or sha512{without}{meant(node.body, DIGESTS)}")
+    return node.body or b""
+
+
+def read_hash(node: Node) -> bytes:
+    members = Members(node, b"hash", "a hash")
+    algorithm = read_algorithm(members.next("the algorithm"))
+    digest = members.next("the digest")
+    if not digest.is_plain():
+        raise shape(digest, "the digest is a string without a display hint")
+    if len(digest.body or b"") != DIGESTS[algorithm]:
+        said = f"a digest by {algorithm.decode()} has {DIGESTS[algorithm]} octets, and this has {len(digest.body or b'')}"
+        raise Wrong("DigestLength", digest.begin, f"{said}; write it as #HEXADECIMAL#")
+    if members.left and members.left[0].head == b"uri":
+        members.left.pop(0)
+    members.end()
+    return algorithm
+
+
+def read_principal(node: Node) -> None:
+    if node.head not in PRINCIPALS:
+        raise shape(node, f"a principal must be {but_is(node, *PRINCIPALS)}")
+    if node.head == b"public-key":
+        read_key(node)
+    else:
+        read_hash(node)
+
+
+def read_name(node: Node) -> tuple[bool, int]:
+    """Whether a name has a principal, and how many strings."""
+    members = Members(node, b"name", "a name")
+    has_principal = bool(members.left) and members.left[0].members is not None
+    if has_principal:
+        read_principal(members.next("the principal"))
+    names = [members.next("a name's string"), *members.left]
+    for name in names:
+        if not name.is_plain():
+            raise shape(name, "a name consists of strings without display hints")
+    return has_principal, len(names)
+
+
+def read_subject(node: Node) -> bool:
+    """Whether a subject has a principal of its own."""
+    for head, kind in ((b"k-of-n", "Threshold"), (b"keyholder", "Keyholder")):
+        if node.head == head:
+            raise Wrong(kind, node.begin, f"a subject `({head.decode()} ..)` is not supported")
+    if node.head == b"name":
+        return read_name(node)[0]
+    if node.head not in PRINCIPALS:
+        raise shape(node, f"a subject must be {but_is(node, *PRINCIPALS, b'name')}")
+    read_principal(node)
+    return True
+
+
+def read_date(node: Node) -> None:
+    if not node.is_plain() or not MOMENT.fullmatch(node.body or b""):
+        raise Wrong("BadDate", node.begin, 'a date is a string YYYY-MM-DD_HH:MM:SS in quotes, in UTC')
+
+
+def read_version(node: Node) -> None:
+    members = Members(node, b"version", "a version")
+    number = members.next("the version's string")
+    if number.members is not None:
+        raise shape(number, "a version is a string")
+    if not number.is_plain(b"0"):
+        raise Wrong("UnknownVersion", number.begin, "the version is 0")
+    members.end()
+
+
+def read_issuer(node: Node) -> bool:
+    """Whether a certificate with this issuer defines a name."""
+    if node.head != b"name":
+        read_principal(node)
+        return False
+    has_principal, count = read_name(node)
+    if not has_principal or count != 1:
+        raise shape(node, "an issuer is a principal, or `(name PRINCIPAL n)` with one string")
+    return True
+
+
+def only_member(read: Callable[[Node], object]) -> Reader:
+    """The reader of a field with one member."""
+    def reader(node: Node) -> object:
+        members = Members(node, node.head or b"", "a field")
+        said = read(members.next("the member of this field"))
+        members.end()
+        return said
+    return reader
+
+
+FIELDS: dict[bytes, Reader] = {
+    b"not-before": only_member(read_date), b"not-after": only_member(read_date), b"tag": only_member(lambda node: read_tag(node, [0])),
+    b"issuer": only_member(read_issuer), b"subject": only_member(read_subject), b"version": read_version,
+    b"propagate": lambda node: Members(node, b"propagate", "a field").end(),
+    b"valid": lambda node: read_fields(node, node.rest, LIMITS)}
+
+
+def no_field(node: Node, allowed: tuple[bytes, ...]) -> str:
+    """The remark on a value that is no field here."""
+    if node.head is not None:
+        return f"`{shown(node.head)}` is no field here{meant(node.head, allowed)}"
+    word = shown(node.body or b"") if node.body in allowed else "tag"
+    return f"a field is in parentheses and begins with a word, as `({word} ..)`"
+
+
+def read_fields(owner: Node, nodes: list[Node], allowed: tuple[bytes, ...]) -> Said:
+    """What each field says, by its head, with the place of its list."""
+    said: Said = {}
+    for node in nodes:
+        head = node.head
+        if head == b"online":
+            raise Wrong("Online", node.begin, "an online test is not supported; give a short validity by `(not-after ..)`")
+        if head is None or head not in allowed:
+            raise shape(node, no_field(node, allowed))
+        if head in said:
+            both = f"one `(tag (* set A B))` contains both, or write a second `({shown(owner.head or b'')} ..)`"
+            raise shape(node, f"the field `{head.decode()}` is here a second time: {both if head == b'tag' else 'remove one of them'}",
+                        [(said[head][0].begin, "the first one"), (owner.begin, "in the list that begins here")])
+        said[head] = node, FIELDS.get(head, lambda _: None)(node)
+    return said
+
+
+def needed(owner: Node, said: Said, *heads: bytes) -> None:
+    for head in heads:
+        if head not in said:
+            raise shape(owner, f"the field `({head.decode()} ..)` is missing in the list that begins here")
+
+
+def one_validity(said: Said) -> None:
+    for head in LIMITS:
+        if b"valid" in said and head in said:
+            raise shape(said[head][0], f"`{head.decode()}` is given directly, and there is `(valid ..)` too", [(said[b'valid'][0].begin, "here")])
+
+
+def read_entry(node: Node) -> None:
+    members = Members(node, b"entry", "an entry")
+    subject = members.next("the subject")
+    if not read_subject(subject):
+        raise Wrong("RelativeInEntry", subject.begin, "a name in an entry needs the key that defines it: `(name KEY n ..)`")
+    said = read_fields(node, members.left, ENTRY_FIELDS)
+    needed(node, said, b"tag")
+    one_validity(said)
+
+
+def read_certificate(node: Node) -> None:
+    said = read_fields(node, Members(node, b"cert", "a certificate").left, CERTIFICATE_FIELDS)
+    needed(node, said, b"issuer", b"subject")
+    if said[b"issuer"][1]:
+        for head in (b"tag", b"propagate"):
+            if head in said:
+                raise shape(said[head][0], f"its issuer is a name, so it defines a name and must have no `{head.decode()}`: remove the "
+                            f"`{head.decode()}`, or write the key alone as issuer", [(said[b"issuer"][0].begin, "its issuer is a name")])
+    else:
+        needed(node, said, b"tag")
+    one_validity(said)
+
+
+def read_signature(node: Node) -> None:
+    members = Members(node, b"signature", "a signature")
+    read_hash(members.next("the hash"))
+    read_principal(members.next("the principal"))
+    members.next("the value")
+    members.end()
+
+
+def read_operation(node: Node) -> None:
+    members = Members(node, b"do", "an operation")
+    if not members.left or not members.left[0].is_plain(b"hash"):
+        raise Wrong("UnknownOp", node.begin, "the only operation is `(do hash ALGORITHM)`")
+    members.next("hash")
+    read_algorithm(members.next("the algorithm"))
+    members.end()
+
+
+ITEMS: dict[bytes, Reader] = {b"public-key": read_key, b"do": read_operation, b"cert": read_certificate, b"signature": read_signature}
+
+
+def read_item(node: Node) -> None:
+    if node.head is None or node.head not in ITEMS:
+        raise shape(node, f"an item must be {but_is(node, *ITEMS)}")
+    ITEMS[node.head](node)
+
+
+def read_row(node: Node) -> None:
+    members = Members(node, b"by", "a row")
+    read_key(members.next("the key"))
+    digest = members.next("the hash")
+    if read_hash(digest) != b"sha256":
+        raise Wrong("HashAlg", digest.begin, "the hash of a row is by sha256")
+    members.next("the value of the signature")
+    members.end()

@@ -1,0 +1,161 @@
+"""Why a tag does not contain a request, and what in a tag is probably a mistake."""
+from __future__ import annotations
+
+import re
+from collections.abc import Iterator
+
+from .certificates import Keys, Terms, headed, members, string_of
+from .forms import Node, Place
+from .sexp import Value, on_one_line
+from .structures import MOMENT
+
+TIME = re.compile(rb"([01]\d|2[0-3]):[0-5]\d:([0-5]\d|60)")
+FORMS = {b"alpha": re.compile(rb".*", re.DOTALL), b"time": TIME, b"date": MOMENT}
+ACTIONS = {b"read", b"write", b"get", b"put", b"post", b"delete", b"list", b"create", b"update", b"execute", b"admin", b"push", b"pull"}
+STARLESS = (b"set", b"prefix", b"range")
+
+
+def lacks(tag: Value, request: Value, place: str = "the request") -> str | None:
+    """Why a tag does not contain a request: the first member that differs. None if it contains it."""
+    if headed(tag, b"*"):
+        return lacks_star(tag, request, place)
+    if not isinstance(tag, list):
+        return None if tag == request else f"{place} is `{on_one_line(request)}`, and the tag has `{on_one_line(tag)}`"
+    if not isinstance(request, list):
+        return f"{place} is the string `{on_one_line(request)}`, and the tag has the list `{on_one_line(tag)}`"
+    for number, member in enumerate(tag, 1):
+        if number > len(request):
+            return f"{place} has {len(request)} members, and the tag at least {len(tag)}: `{on_one_line(member)}` is asked for as member {number}"
+        said = lacks(member, request[number - 1], f"member {number} of {place}")
+        if said:
+            return said
+    return None
+
+
+def lacks_star(tag: Value, request: Value, place: str) -> str | None:
+    """The same of a tag that begins with the star."""
+    word, behind = (members(tag) or [b""])[0], members(tag)[1:]
+    if len(members(tag)) == 0:
+        return None
+    if word == b"set":
+        said = [lacks(member, request, place) for member in behind]
+        if None in said:
+            return None
+        return said[0] if len(said) == 1 else f"{place} is `{on_one_line(request)}`, and no member of `{on_one_line(tag)}` contains it"
+    if isinstance(request, bytes) and (request.startswith(string_of(behind[0]) or b"") if word == b"prefix" else is_in_range(behind, request)):
+        return None
+    return f"{place} is `{on_one_line(request)}`, and the tag has `{on_one_line(tag)}`"
+
+
+def is_in_range(behind: list[Value], request: bytes) -> bool:
+    """Whether a string is in a range, of which the ordering and the limits are given."""
+    ordering, limits = string_of(behind[0]) or b"", [string_of(it) or b"" for it in behind[1:]]
+    given = dict(zip(limits[::2], limits[1::2]))
+    return FORMS[ordering].fullmatch(request) is not None and all(holds(word, request, limit) for word, limit in given.items())
+
+
+def holds(word: bytes, request: bytes, limit: bytes) -> bool:
+    """Whether a string is on the right side of a limit."""
+    return {b"g": request > limit, b"ge": request >= limit, b"l": request < limit, b"le": request <= limit}[word]
+
+
+def covers(wide: Value, narrow: Value) -> bool:
+    """Whether a tag contains all that another one contains. Of two ranges it is said only if they are equal."""
+    if wide == narrow or wide == [b"*"]:
+        return True
+    if headed(narrow, b"*") and members(narrow)[:1] == [b"set"]:
+        return all(covers(wide, it) for it in members(narrow)[1:])
+    if not headed(wide, b"*"):
+        are_lists = isinstance(wide, list) and isinstance(narrow, list) and len(narrow) >= len(wide)
+        return are_lists and not headed(narrow, b"*") and all(map(covers, members([b"", *wide]), members([b"", *narrow])))
+    if members(wide)[0] == b"set":
+        return any(covers(it, narrow) for it in members(wide)[1:])
+    if headed(narrow, b"*"):
+        return members(narrow)[:1] == members(wide)[:1] == [b"prefix"] and lacks_star(wide, members(narrow)[1], "") is None
+    return isinstance(narrow, bytes) and lacks_star(wide, narrow, "") is None
+
+
+def contains(wide: Terms, narrow: Terms, keys: Keys) -> bool:
+    """Whether an entry gives all that another one gives."""
+    is_for = wide.names == narrow.names and keys.are_one(wide.principal, narrow.principal) and wide.delegates >= narrow.delegates
+    is_as_long = (wide.begins or b"") <= (narrow.begins or b"") and (wide.ends or b"~") >= (narrow.ends or b"~")
+    return is_for and is_as_long and covers(wide.tag or b"", narrow.tag or b"")
+
+
+# ---- what is probably a mistake
+
+
+def remarks(node: Node, is_outermost: bool = True) -> Iterator[Place]:
+    """What in a tag is probably a mistake, each with its place. The tag is one that can be read."""
+    if node.members is None:
+        yield from of_string(node)
+        return
+    head, rest = node.members[0].body or b"", node.members[1:]
+    if head == b"*":
+        yield from of_star(node, rest)
+        return
+    words = [member.body for member in node.members]
+    if head[:1] == b"*" and head[1:] in STARLESS:
+        word = head[1:].decode()
+        yield node.begin, f"`(*{word} ..)` is a list that begins with the string `*{word}`; with a space behind the star it is `(* {word} ..)`"
+    elif head in STARLESS:
+        yield node.begin, f"`({head.decode()} ..)` is a list that begins with this word; with a star it is `(* {head.decode()} ..)`"
+    elif None not in words and len(words) > 1 and (not is_outermost or ACTIONS.issuperset(word or b"" for word in words)):
+        text = on_one_line(node.value)
+        yield node.begin, f"`{text}` contains only lists that begin so; what contains each of these words is `(* set {text[1:]}`"
+    for member in rest:
+        yield from remarks(member, False)
+
+
+def of_string(node: Node) -> Iterator[Place]:
+    """Remarks on a string."""
+    body = node.body or b""
+    front = re.match(rb"[^*?]*", body)
+    if b"*" in body or body.endswith(b"?"):
+        begin = on_one_line(front[0]) if front else ""
+        yield node.begin, f"a string is no pattern: `{on_one_line(body)}` contains only itself; what begins so is `(* prefix {begin})`"
+    elif found := re.search(rb"[\s()]", body):
+        what = "parentheses" if found[0] in b"()" else "a space"
+        yield node.begin, f"this is one string with {what} in it; without its quotes it is several values"
+    elif body == b"":
+        yield node.begin, "this string is empty, and contains only the empty string"
+
+
+def of_star(node: Node, rest: list[Node]) -> Iterator[Place]:
+    """Remarks on a set, a prefix or a range."""
+    word = rest[0].body if rest else None
+    if word == b"set":
+        if len(rest) == 1:
+            yield node.begin, "an empty set contains no request"
+        for member in rest[1:]:
+            yield from remarks(member, False)
+    elif word == b"prefix":
+        yield from of_prefix(node, rest[1].body or b"")
+    elif word == b"range":
+        yield from of_range(node, rest[1].body or b"", [it.body or b"" for it in rest[2:]])
+
+
+def of_prefix(node: Node, body: bytes) -> Iterator[Place]:
+    if body == b"":
+        yield node.begin, "each string begins with the empty string"
+    elif b"*" in body:
+        begin = on_one_line(body.split(b"*")[0])
+        yield node.begin, f"a prefix is no pattern, and ends before what may follow: without the star it is `(* prefix {begin})`"
+    elif b"/" in body and not body.endswith(b"/") and b"." not in body.rsplit(b"/", 1)[1]:
+        text = on_one_line(body)
+        yield node.begin, f"`{text}` is also the beginning of `{text}-other`; the prefix of a folder ends with `/`"
+
+
+def of_range(node: Node, ordering: bytes, limits: list[bytes]) -> Iterator[Place]:
+    given = dict(zip(limits[::2], limits[1::2]))
+    low, up = given.get(b"g", given.get(b"ge")), given.get(b"l", given.get(b"le"))
+    for limit in filter(None, (low, up)):
+        if not FORMS[ordering].fullmatch(limit):
+            yield node.begin, f"the limit `{on_one_line(limit)}` is no {ordering.decode()} as requests have them"
+    if low is not None and up is not None and (low > up or low == up and (b"g" in given or b"l" in given)):
+        yield node.begin, "no string is between these limits"
+
+
+def is_everything(tag: Value) -> bool:
+    """Whether a tag is `(*)`, also in a set."""
+    return tag == [b"*"] or headed(tag, b"*") and members(tag)[:1] == [b"set"] and any(map(is_everything, members(tag)[1:]))

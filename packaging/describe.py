@@ -1,0 +1,160 @@
+#!/usr/bin/env python3
+"""Writes what packages.sh puts beside and into the packages: the changelog in Debian's form, and the list of what is inside in SPDX 2.3.
+
+SOURCE_DATE_EPOCH is the time of both. Usage: packaging/describe.py changelog MAINTAINER
+       packaging/describe.py contents MAINTAINER PACKAGE.deb ..
+"""
+from __future__ import annotations
+
+import hashlib
+import io
+import json
+import os
+import re
+import subprocess
+import sys
+import tarfile
+import textwrap
+from collections.abc import Iterator
+from datetime import datetime, timezone
+from email.utils import format_datetime
+
+TOP = os.path.dirname(os.path.dirname(os.path.realpath(__file__)))
+SECTION = re.compile(r"^## (\d+\.\d+\.\d+), (.*)$", re.MULTILINE)
+DATE = re.compile(r"\d{4}-\d\d-\d\d")
+WIDTH = 78
+# What a program or a library says of itself: the logic by which the toolchain has proved it, and the version of Go whose libraries it has.
+LINKED = {"rattle-logic": re.compile(rb"rattle logic=([0-9a-f]{64})"), "go": re.compile(rb"\xff Go buildinf:.{19}go([\d.]+)", re.DOTALL)}
+Row = dict[str, object]
+
+
+def text_of(name: str) -> str:
+    """The text of a file of the repository."""
+    with open(os.path.join(TOP, name), encoding="utf-8") as file:
+        return file.read()
+
+
+def moment() -> datetime:
+    """The time of the sources."""
+    return datetime.fromtimestamp(int(os.environ["SOURCE_DATE_EPOCH"]), timezone.utc)
+
+
+# ---- the changelog
+
+
+def releases(text: str, version: str) -> Iterator[tuple[str, str, str]]:
+    """The releases of CHANGELOG.md, the newest first: version, date, text. What has no date was not released: it is in the release of the present
+    version."""
+    _, *parts = SECTION.split(text)
+    sections = [*zip(parts[0::3], parts[1::3], parts[2::3])]
+    present = [part for number, date, part in sections if not DATE.fullmatch(date) or number == version]
+    yield version, next((date for number, date, _ in sections if number == version), ""), "".join(present)
+    yield from (section for section in sections if DATE.fullmatch(section[1]) and section[0] != version)
+
+
+def items(text: str) -> Iterator[str]:
+    """The paragraphs and the items of lists in a section, each on one line."""
+    for part in re.split(r"\n\s*\n|\n(?=- )", text):
+        if part.strip():
+            yield " ".join(part.strip().removeprefix("- ").split()).replace("**", "")
+
+
+def changelog(maintainer: str) -> str:
+    """The changelog in Debian's form."""
+    entries = []
+    for version, date, text in releases(text_of("CHANGELOG.md"), text_of("VERSION").strip()):
+        when = datetime.fromisoformat(date).replace(tzinfo=timezone.utc) if DATE.fullmatch(date) else moment()
+        lines = [textwrap.fill(it, WIDTH, initial_indent="  * ", subsequent_indent="    ", break_on_hyphens=False) for it in items(text)]
+        entries.append("\n".join([f"spki ({version}) unstable; urgency=medium\n", *lines, f"\n -- {maintainer}  {format_datetime(when)}\n"]))
+    return "\n".join(entries)
+
+
+# ---- what is inside
+
+
+def digests(octets: bytes, *names: str) -> list[Row]:
+    """The digests of some octets, as SPDX has them."""
+    return [{"algorithm": name.upper(), "checksumValue": hashlib.new(name, octets).hexdigest()} for name in names]
+
+
+def files_in(package: str) -> Iterator[tuple[str, bytes]]:
+    """The files of a Debian package, by their paths."""
+    packed = subprocess.run(["dpkg-deb", "--fsys-tarfile", package], stdout=subprocess.PIPE, check=True).stdout
+    with tarfile.open(fileobj=io.BytesIO(packed)) as archive:
+        for member in archive:
+            file = archive.extractfile(member) if member.isfile() else None
+            if file is not None:
+                yield member.name, file.read()
+
+
+def fields_of(package: str) -> dict[str, str]:
+    """The fields of a package that are lines."""
+    said = subprocess.run(["dpkg-deb", "-f", package, "Package", "Version", "Architecture", "Description"], stdout=subprocess.PIPE, check=True,
+                          text=True).stdout
+    return dict(line.split(": ", 1) for line in said.splitlines() if not line.startswith(" "))
+
+
+def described(package: str, maintainer: str) -> tuple[Row, list[Row], set[tuple[str, str]]]:
+    """A package and its files, as SPDX has them, and what is linked into them."""
+    with open(package, "rb") as file:
+        octets = file.read()
+    fields = fields_of(package)
+    name = f"SPDXRef-{fields['Package']}-{fields['Architecture']}"
+    files: list[Row] = []
+    sums, there = [], [*files_in(package)]
+    for number, (path, content) in enumerate(there, 1):
+        files.append({"SPDXID": f"{name}-{number}", "fileName": path, "checksums": digests(content, "sha1", "sha256"),
+                      "licenseConcluded": "NOASSERTION", "copyrightText": "NOASSERTION"})
+        sums.append(hashlib.sha1(content).hexdigest())
+    whole = {"SPDXID": name, "name": fields["Package"], "versionInfo": fields["Version"], "packageFileName": os.path.basename(package),
+             "summary": fields["Description"], "supplier": f"Person: {maintainer.replace(' <', ' (').replace('>', ')')}",
+             "downloadLocation": "NOASSERTION", "filesAnalyzed": True,
+             "packageVerificationCode": {"packageVerificationCodeValue": hashlib.sha1("".join(sorted(sums)).encode()).hexdigest()},
+             "checksums": digests(octets, "sha256"), "licenseConcluded": "NOASSERTION", "licenseDeclared": "NOASSERTION",
+             "copyrightText": "NOASSERTION"}
+    return whole, files, linked_into([content for _, content in there])
+
+
+def related(one: object, how: str, other: object) -> Row:
+    """A relationship of two elements, as SPDX has it."""
+    return {"spdxElementId": one, "relationshipType": how, "relatedSpdxElement": other}
+
+
+def linked_into(contents_of_files: list[bytes]) -> set[tuple[str, str]]:
+    """What is linked into the programs and libraries of a package, by names and versions."""
+    return {(name, found.decode()) for octets in contents_of_files for name, pattern in LINKED.items() for found in pattern.findall(octets)}
+
+
+def outside(name: str, version: str) -> Row:
+    """What is not of this repository and is linked into packages, as SPDX has it."""
+    return {"SPDXID": f"SPDXRef-{name}-{version}", "name": name, "versionInfo": version, "supplier": "NOASSERTION", "downloadLocation": "NOASSERTION",
+            "filesAnalyzed": False, "licenseConcluded": "NOASSERTION", "licenseDeclared": "NOASSERTION", "copyrightText": "NOASSERTION"}
+
+
+def contents(maintainer: str, paths: list[str]) -> str:
+    """The list of what is inside the packages."""
+    made = [described(path, maintainer) for path in paths]
+    relations = [related("SPDXRef-DOCUMENT", "DESCRIBES", it["SPDXID"]) for it, _, _ in made]
+    relations += [related(it["SPDXID"], "CONTAINS", file["SPDXID"]) for it, files, _ in made for file in files]
+    relations += [related(it["SPDXID"], "STATIC_LINK", outside(*other)["SPDXID"]) for it, _, linked in made for other in sorted(linked)]
+    packages = [it for it, _, _ in made] + [outside(*other) for other in sorted({other for _, _, linked in made for other in linked})]
+    version, digest = text_of("VERSION").strip(), hashlib.sha256(json.dumps(packages).encode()).hexdigest()
+    whole = {"spdxVersion": "SPDX-2.3", "dataLicense": "CC0-1.0", "SPDXID": "SPDXRef-DOCUMENT", "name": f"spki-{version}",
+             "documentNamespace": f"https://spdx.org/spdxdocs/spki-{version}-{digest}",
+             "creationInfo": {"created": f"{moment():%Y-%m-%dT%H:%M:%SZ}", "creators": ["Tool: packages.sh", str(packages[0]["supplier"])]},
+             "packages": packages, "files": [file for _, files, _ in made for file in files], "relationships": relations}
+    return json.dumps(whole, indent=1) + "\n"
+
+
+def main() -> None:
+    match sys.argv[1:]:
+        case ["changelog", maintainer]:
+            print(changelog(maintainer), end="")
+        case ["contents", maintainer, *paths] if paths:
+            print(contents(maintainer, paths), end="")
+        case _:
+            sys.exit(__doc__)
+
+
+if __name__ == "__main__":
+    main()
