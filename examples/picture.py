@@ -16,7 +16,7 @@ import sys
 
 sys.path.append(os.path.join(os.path.dirname(os.path.abspath(__file__)), "..", "tests"))
 from support import given_program, read, run  # noqa: E402
-from spki_cert_tool.drawing import WIDTH, dot_of, drawing_of_case  # noqa: E402
+from spki_cert_tool.drawing import WIDTH, drawing_of_case  # noqa: E402
 
 REASON = re.compile(r"^(?:entry (\d+) )?(?:item (\d+) )?(\w+)$", re.MULTILINE)
 Reason = collections.namedtuple("Reason", "entry item word")
@@ -38,6 +38,22 @@ def drawn(program, path, width=WIDTH):
     case = read(run(program, "canonical", text)[1])
     reasons = [Reason(*(int(number) if number else None for number in numbers), word) for *numbers, word in REASON.findall(lines.decode())]
     return drawing_of_case(case, reasons, reduced, width=width)
+
+
+def quoted(lines):
+    """Lines as a string of dot."""
+    return '"' + "\\n".join(line.replace("\\", "\\\\").replace('"', '\\"') for line in lines) + '"'
+
+
+def dot_of(drawing):
+    """A picture for Graphviz."""
+    names = {identity: f"n{place}" for place, identity in enumerate(drawing.shapes)}
+    yield from ("digraph chain {", "  rankdir=LR;", "  node [shape=ellipse, fontsize=11];", "  edge [fontsize=10];")
+    for identity, shape in drawing.shapes.items():
+        yield f"  {names[identity]} [label={quoted(shape.lines)}{f', shape=box, color={shape.colour}' if shape.colour else ''}];"
+    for it in drawing.arrows:
+        yield f"  {names[it.begin]} -> {names[it.end]} [label={quoted(it.lines)}, color={it.colour}, fontcolor={it.colour}];"
+    yield "}"
 
 
 def main():

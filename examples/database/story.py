@@ -27,8 +27,8 @@ import postgres  # noqa: E402
 import spki  # noqa: E402
 import sqlite  # noqa: E402
 from run import Pair, signed  # noqa: E402
+from login import Login, message  # noqa: E402
 from spki_cert_tool.keys import ED25519, RSA  # noqa: E402
-from spki_cert_tool.login import Login, message  # noqa: E402
 from spki_cert_tool.sexp import canonical  # noqa: E402
 from spki_verify import verify  # noqa: E402
 

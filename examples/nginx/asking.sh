@@ -1,11 +1,11 @@
 # What the example and docs/OPERATING.md ask by, in the folder of the example. PORT is where nginx listens.
 
-# asks WHO METHOD PATH [OPTION OF CURL ..]: prints the status
+# asks WHO METHOD PATH [OPTION OF CURL ..]: prints the status. `nobody` has no key.
 asks() {
     who=$1 method=$2 path=$3
     shift 3
-    status=$(curl -s -o tmp/answer -w '%{http_code}' --cacert ca/ca.crt --cert "keys/$who.crt" --key "keys/$who" -X "$method" "$@" \
-        "https://localhost:$PORT$path")
+    [ "$who" = nobody ] || set -- --cert "keys/$who.crt" --key "keys/$who" "$@"
+    status=$(curl -s -o tmp/answer -w '%{http_code}' --cacert ca/ca.crt -X "$method" "$@" "https://localhost:$PORT$path")
     echo "$who $method $path: $status"
 }
 

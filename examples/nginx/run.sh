@@ -6,7 +6,7 @@
 # Usage: examples/nginx/run.sh [stay]
 set -eu
 here=$(dirname "$(realpath "$0")") top=$(realpath "$(dirname "$0")/../..") PORT=${PORT:-8443}
-PATH=$top/cert:$PATH:/usr/sbin
+PATH=$top/apps/spki-cert:$PATH:/usr/sbin
 for tool in nginx curl openssl; do
     command -v "$tool" > /dev/null || { echo "$tool is missing (Debian: $tool)" >&2; exit 1; }
 done
@@ -21,16 +21,19 @@ trap 'exit 1' INT TERM
 
 if [ -z "${SPKI_AUTHD:-}" ]; then
     SPKI_AUTHD=$room/spki-authd
-    (cd "$top/spki-authd" && go build -o "$SPKI_AUTHD" .)
+    (cd "$top/apps/spki-authd" && go build -o "$SPKI_AUTHD" .)
 fi
 "$here/setup.sh" "$room" "$PORT"
 cd "$room"
-"$SPKI_AUTHD" -config etc/authd.json >> log/authd.log 2>> log/authd-events.log &
-echo $! > run/authd.pid
-until [ -S run/socket ]; do
-    kill -0 "$(cat run/authd.pid)" 2> /dev/null || { cat log/authd-events.log >&2; exit 1; }
-    sleep 0.1
-done
+start_daemon() {
+    "$SPKI_AUTHD" -config etc/authd.json >> log/authd.log 2>> log/authd-events.log &
+    echo $! > run/authd.pid
+    until [ -S run/socket ]; do
+        kill -0 "$(cat run/authd.pid)" 2> /dev/null || { cat log/authd-events.log >&2; exit 1; }
+        sleep 0.1
+    done
+}
+start_daemon
 if [ "$(id -u)" = 0 ]; then as_user='user root;'; else as_user=''; fi
 nginx -p "$room" -c etc/loopback.conf -e log/error.log -g "$as_user" &
 nginx=$!
@@ -40,6 +43,12 @@ until curl -s -o tmp/answer --cacert ca/ca.crt "https://localhost:$PORT/"; do
 done
 
 . "$here/asking.sh"
+echo '# The first check: without a key nothing is granted, and without the daemon nothing to anybody.'
+asks nobody GET /web/index.html
+kill "$(cat run/authd.pid)"
+wait "$(cat run/authd.pid)" || true
+asks ann GET /web/index.html
+start_daemon
 echo '# The list has an entry for Ann: she reads and writes below /web/, and nowhere else. Ben has no entry.'
 asks ann GET /web/index.html
 asks ann PUT /web/new.txt --data-binary 'a new file'
@@ -61,6 +70,6 @@ asks eve GET /web/new.txt -H "$(shows to-ben)"
 if [ "${1:-}" = stay ]; then
     echo "# nginx is at https://localhost:$PORT until you press Ctrl-C. The logs are in $room/log."
     echo '# To do what docs/OPERATING.md says, enter this in another shell:'
-    echo "cd $room; PORT=$PORT EXAMPLE=$here PATH=$top/cert:$(dirname "$SPKI_AUTHD"):\$PATH"
+    echo "cd $room; PORT=$PORT EXAMPLE=$here PATH=$top/apps/spki-cert:$(dirname "$SPKI_AUTHD"):\$PATH"
     wait
 fi

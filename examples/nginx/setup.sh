@@ -7,9 +7,11 @@ here=$(dirname "$(realpath "$0")")
 room=$(realpath "$1") port=$2
 cd "$room"
 umask 022
+# (what is made is not said)
+exec > /dev/null
 mkdir ca etc files files/web files/web/out files/secret keys log run tmp
 echo '<p>the web</p>' > files/web/index.html
-echo 'main' > files/web/out/main.js
+echo 'main();' > files/web/out/main.js
 echo 'a plan' > files/secret/plan.txt
 
 # The server's certificate is signed by a CA, so that clients know the server.
@@ -27,11 +29,12 @@ done
 # Ann leads the web: she reads and writes there, and may let others. A robot writes what it builds. The list ends no right by itself.
 spki-cert entry --to keys/ann.pub --propagate --tag '(files (* set read write) (* prefix /web/))' --comment 'ann, the web' --acl etc/acl.sexp
 spki-cert entry --to keys/robot.pub --tag '(files write (* prefix /web/out/))' --comment 'robot, builds of the web' --acl etc/acl.sexp
-echo '# SHA-256 of certificates that no longer count' > etc/ended
+# No certificate has ended. The last line has their number, and the SHA-256 of the lines before it.
+echo "end 0 $(sha256sum < /dev/null | cut -c 1-64)" > etc/ended
 
 cp "$here/loopback.conf" etc
 for file in files.conf authd.json; do
     sed -e "s#/etc/spki-files#$room/etc#; s#/etc/spki-authd#$room/etc#; s#/run/spki-authd#$room/run#; s#/srv/files#$room/files#" \
-        -e "s#/var/log/nginx#$room/log#; s#listen 443 ssl#listen 127.0.0.1:$port ssl#; s#files.example.org#localhost#" \
+        -e "s#/var/log/nginx#$room/log#; s#/var/log/spki-authd#$room/log#; s#listen 443 ssl#listen 127.0.0.1:$port ssl#; s#files.example.org#localhost#" \
         "$here/$file" > "etc/$file"
 done

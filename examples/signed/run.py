@@ -18,10 +18,10 @@ import sys
 import tempfile
 
 import tools
+from login import Login, message
 from service import MOST_CERTIFICATES, MOST_SHOWN, ask
 from spki_cert_tool import sexp
 from spki_cert_tool.keys import ED25519, P256, RSA, FileSigner, hash_of, new_private, principal_of
-from spki_cert_tool.login import Login, message
 from spki_cert_tool.sexp import laid_out, on_one_line, read
 from tools import canonical, spki
 

@@ -45,7 +45,7 @@ def ask(access_list, sequence, login, words, moment):
     ONLY STATUS 0 IS A YES. The access list and the moment are the service's own. The sequence, which is octets, and each word of
     the request may be from outside.
 
-    THE KEY IS THE ONE THAT THE ASKER HAS SHOWN TO HOLD, BY A LOGIN (spki_cert_tool/login.py). NEVER TAKE A KEY THAT WAS ONLY SENT: whoever sends
+    THE KEY IS THE ONE THAT THE ASKER HAS SHOWN TO HOLD, BY A LOGIN (login.py). NEVER TAKE A KEY THAT WAS ONLY SENT: whoever sends
     Alice's key would have Alice's rights.
 
     The case is asked without rows first. If the sequence is none, this is the refusal, and its signatures are not looked at. An

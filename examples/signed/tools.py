@@ -8,7 +8,7 @@ TOP = os.path.join(os.path.dirname(os.path.abspath(__file__)), "..", "..")
 SPKI = os.path.join(TOP, "crates", "spki", "out", "spki")
 # How long `spki` may run.
 SECONDS = 10
-sys.path += [os.path.join(TOP, "cert"), os.path.join(TOP, "bindings", "python")]
+sys.path += [os.path.join(TOP, "apps", "spki-cert"), os.path.join(TOP, "bindings", "python")]
 if importlib.util.find_spec("cryptography") is None:
     print("cryptography is not there (Debian: python3-cryptography), so nothing is tried\n0 passed, 0 failed")
     sys.exit(0)

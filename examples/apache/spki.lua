@@ -1,0 +1,39 @@
+-- /etc/apache2/spki.lua: asks spki-authd before each request. Debian's lua-socket is needed. Whatever goes wrong here is 503 or 500.
+local unix = require "socket.unix"
+
+-- A header line, or nothing where there is no value. A value with the end of a line could begin another header.
+local function line(name, value)
+    if not value or value == "" then return "" end
+    if value:find("[%c]") then error("a control character in " .. name) end
+    return name .. ": " .. value .. "\r\n"
+end
+
+-- The answer of the daemon: its status, and what it says of a yes.
+local function asked(r)
+    local certificate = (r:ssl_var_lookup("SSL_CLIENT_CERT") or ""):gsub("%-%-%-%-%-[A-Z ]+%-%-%-%-%-", ""):gsub("%s", "")
+    local client = assert(unix())
+    client:settimeout(5)
+    assert(client:connect("/run/spki-authd/socket"))
+    assert(client:send("GET / HTTP/1.0\r\n" .. line("X-Original-Method", r.method) .. line("X-Original-URI", r.unparsed_uri)
+        .. line("X-Original-Host", r.hostname) .. line("X-Real-IP", r.useragent_ip)
+        .. line("X-Client-Cert", certificate) .. line("X-Request-Id", r.log_id) .. line("Authorization", r.headers_in["Authorization"])
+        .. line("X-Spki-Sequence", r.headers_in["X-Spki-Sequence"]) .. "\r\n"))
+    local answer = assert(client:receive("*a"))
+    client:close()
+    local header = assert(answer:match("^(HTTP/1%.[01] .-\r\n)\r\n"), "no whole answer")
+    return header:match("^HTTP/1%.[01] (%d%d%d) "), header:match("\r\nX%-Spki%-Answer: (%a+)\r\n")
+end
+
+-- Two locks: the hook of access, and that of fixups, which is the last before a file is served. `Satisfy Any` and subrequests skip the first one, and
+-- another module's script may end the second. What the first has granted is not asked again.
+function decide(r)
+    if r.notes["spki_answer"] == "yes" then return apache2.DECLINED end
+    local is_there, status, answer = pcall(asked, r)
+    if is_there and status == "200" and answer == "yes" then
+        r.notes["spki_answer"] = "yes"
+        return apache2.DECLINED
+    end
+    if is_there and status and status:sub(1, 1) == "4" then return status == "401" and 401 or 403 end
+    r:err("spki-authd: " .. tostring(status))
+    return 503
+end

@@ -1,0 +1,29 @@
+-- /etc/haproxy/spki.lua: asks spki-authd about a request, and sets txn.spki_answer to what it says. Where it says nothing, nothing is set.
+
+-- All values of a header, as the client has sent them.
+local function values(headers, name)
+    local found = {}
+    for place = 0, #(headers[name] or {}) do
+        if headers[name] and headers[name][place] then found[#found + 1] = headers[name][place] end
+    end
+    return #found > 0 and found or nil
+end
+
+-- (`sf` and `sc` give an empty text where there is no certificate; `c:base64` of nil would give eight zero octets)
+core.register_action("spki", { "http-req" }, function(txn)
+    local headers = txn.http:req_get_headers()
+    local answer = core.httpclient():get{ url = "http://spki-authd/", dst = "unix@/run/spki-authd/socket", timeout = 5000, headers = {
+        ["x-original-method"] = { txn.sf:method() }, ["x-original-uri"] = { txn.sf:pathq() }, ["x-request-id"] = { txn.sf:unique_id() },
+        ["x-original-host"] = { txn.sf:req_fhdr("host") }, ["x-real-ip"] = { txn.sf:src() },
+        ["x-client-cert"] = { txn.sc:base64(txn.sf:ssl_c_der()) },
+        ["authorization"] = values(headers, "authorization"), ["x-spki-sequence"] = values(headers, "x-spki-sequence") } }
+    local said = answer and answer.headers and answer.headers["x-spki-answer"]
+    local is_yes = said and answer.status == 200 and said[0] == "yes" and said[1] == nil
+    if is_yes then
+        txn:set_var("txn.spki_answer", "yes")
+    elseif answer and answer.status == 401 then
+        txn:set_var("txn.spki_answer", "unauthenticated")
+    elseif said and answer.status < 500 then
+        txn:set_var("txn.spki_answer", "no")
+    end
+end, 0)
