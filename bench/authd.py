@@ -4,14 +4,15 @@
 The list has 10,000 entries. Each request shows three certificates by Ed25519. The signatures of nine requests of ten were verified before, and
 those of the tenth were not: the caches are too small for them.
 
-- Requests a second through nginx with `auth_request`, beside nginx alone, and asked directly. The daemon must reach half of the handler's
-  through nginx. Without nginx this is left out, and the run fails.
+- Requests a second through nginx with `auth_request`, beside nginx alone. The daemon must reach 0.55 of the handler's.
 - The processor time of a request.
 - The 99th percentile of the time at half of that load.
 - Under load, with a reload each second: wrong answers, and the resident memory.
 - The same for a short time with Go's race detector.
 
-Needs wrk, Go and `cryptography` (Debian: wrk, golang-go, python3-cryptography). Build the library first (crates/spki_c/archive.py).
+SYNC=each or SYNC=never has the daemon write its log of grants to the disk before each grant, or not at all. Otherwise it does so each second.
+
+Needs nginx, wrk, Go and `cryptography` (Debian: nginx, wrk, golang-go, python3-cryptography). Build the library first (crates/spki_c/archive.py).
 Usage: bench/authd.py [--seconds N] [--soak N] [LIBRARY]
 """
 import argparse
@@ -28,7 +29,8 @@ sys.path.append(os.path.join(os.path.dirname(os.path.abspath(__file__)), "..", "
 from support import LIBRARY  # noqa: E402
 
 CONNECTIONS = 32
-LEAST_RATIO, MOST_P99, MOST_GROWTH = 0.5, 10.0, 1.10
+WAYS = "nginx alone", "nginx and handler", "nginx and daemon"
+LEAST_RATIO, MOST_P99, MOST_GROWTH = 0.55, 10.0, 1.10
 RACE_SECONDS = 10
 # The share of a soak after which the memory is compared: what is first used, such as the heap, has grown by then.
 SETTLED = 0.25
@@ -44,13 +46,10 @@ def arguments():
 
 def measured(site, seconds):
     """The figures of each way to ask, taken one after the other, twice, of which the better one counts."""
-    ways = [("handler, directly", site.yes, True), ("daemon, directly", site.authd, True)]
-    if shutil.which("nginx"):
-        ways += [(name, port, False) for name, port in zip(("nginx alone", "nginx and handler", "nginx and daemon"), site.nginx)]
     found = {}
     for _ in range(2):
-        for name, port, is_direct in ways:
-            met = site.load(port, seconds, CONNECTIONS, is_direct)
+        for name, port in zip(WAYS, site.nginx):
+            met = site.load(port, seconds, CONNECTIONS)
             if name not in found or met.rate > found[name].rate:
                 found[name] = met
     for name, met in found.items():
@@ -60,17 +59,17 @@ def measured(site, seconds):
 
 def processor_time(site, daemon, seconds):
     """The processor time of a request in the handler and in the daemon, in µs. Other programs change it less than they change a rate."""
-    for name, process, port in (("handler", site.handler, site.yes), ("daemon", daemon, site.authd)):
+    for name, process, port in (("handler", site.handler, site.nginx[1]), ("daemon", daemon, site.nginx[2])):
         before = processor_seconds(process)
-        met = site.load(port, seconds, CONNECTIONS, True)
+        met = site.load(port, seconds, CONNECTIONS)
         print(f"{name}: {(processor_seconds(process) - before) / met.requests * 1e6:.0f} µs of processor time a request", flush=True)
 
 
 def at_half(site, seconds, full):
-    """The figures at about half of the load: each connection waits before each request."""
+    """The figures at about half of the load: each connection waits before each request, some time that is drawn."""
     connections = 4 * CONNECTIONS
     delay = round(1000 * connections / (full.rate / 2))
-    met = site.load(site.authd, seconds, connections, True, delay)
+    met = site.load(site.nginx[2], seconds, connections, delay)
     print(f"{'daemon, half load':<20}{met}", flush=True)
     return met
 
@@ -78,7 +77,7 @@ def at_half(site, seconds, full):
 def soaked(site, process, seconds):
     """The figures under load with a reload each second, and the resident memory after each reload."""
     found = []
-    load = threading.Thread(target=lambda: found.append(site.load(site.authd, seconds, CONNECTIONS, True)))
+    load = threading.Thread(target=lambda: found.append(site.load(site.nginx[2], seconds, CONNECTIONS)))
     load.start()
     memory = []
     while load.is_alive():
@@ -99,7 +98,7 @@ def growth(memory):
 def run_raced(site):
     """What is wrong under load with the race detector."""
     site.build("-race")
-    process = site.start_daemon()
+    process = site.start_all()
     met, _ = soaked(site, process, RACE_SECONDS)
     site.end()
     print(f"{'race detector':<20}{met}, status {process.returncode}", flush=True)
@@ -113,16 +112,13 @@ def faults_of(site, asked):
     process = site.start_all()
     figures = measured(site, asked.seconds)
     processor_time(site, process, asked.seconds)
-    half = at_half(site, asked.seconds, figures["daemon, directly"])
+    half = at_half(site, asked.seconds, figures["nginx and daemon"])
     soak, memory = soaked(site, process, asked.soak)
     site.end()
     print(f"{f'{asked.soak} s of reloads':<20}{soak}; {memory[0] / 1024:.0f} MiB at first, {max(memory) / 1024:.0f} at most, "
           f"{memory[-1] / 1024:.0f} at last, grown by {growth(memory):.3f} since it settled", flush=True)
-    ways = [("daemon, directly", "handler, directly"), ("nginx and daemon", "nginx and handler")]
-    ratios = {name: figures[name].rate / figures[beside].rate for name, beside in ways if name in figures}
-    for name, ratio in ratios.items():
-        print(f"{name}: {ratio:.2f} of the handler's requests", flush=True)
-    judged = ratios.get("nginx and daemon", 0)
+    judged = figures["nginx and daemon"].rate / figures["nginx and handler"].rate
+    print(f"nginx and daemon: {judged:.2f} of the handler's requests", flush=True)
     wrong = [f"nginx and daemon: {judged:.2f}, under {LEAST_RATIO} of the handler's requests"] if judged < LEAST_RATIO else []
     wrong += [f"p99 over {MOST_P99} ms"] if half.p99 > MOST_P99 else []
     wrong += ["the memory grows"] if growth(memory) > MOST_GROWTH else []
@@ -132,7 +128,7 @@ def faults_of(site, asked):
 
 def main():
     asked = arguments()
-    if not (shutil.which("wrk") and shutil.which("go")):
+    if not all(map(shutil.which, ("nginx", "wrk", "go"))):
         print("spki-authd is left out\n0 passed, 0 failed")
         return 0
     with tempfile.TemporaryDirectory() as room:

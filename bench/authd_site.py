@@ -5,7 +5,6 @@ import contextlib
 import json
 import os
 import re
-import shutil
 import signal
 import socket
 import subprocess
@@ -23,15 +22,16 @@ from spki_cert_tool.keys import FileSigner, hash_of, new_private  # noqa: E402
 ENTRIES, HOT, COLD = 10_000, 100, 6_000
 # The cache has room for the certificates of the hot chains, and for few of the cold ones. So do the 1,000 sequences that the daemon keeps.
 CACHE = 2_000
-SECRET = "0123456789abcdef" * 4
-PORTS = 5
+# When the daemon writes its log of grants to the disk: `each`, `seconds` or `never`.
+SYNC = os.environ.get("SYNC", "seconds")
+PORTS = 3
 SECONDS_TO_START = 30
 LUA = """local shown, hot = {}, %d
 for line in io.lines("%s") do shown[#shown + 1] = "SPKI " .. line end
 local turn, cold = 0, 0
 function setup(thread) thread:set("seed", math.random(1, #shown)) end
 function init(args) cold = seed end
-function delay() return %d end
+function delay() return math.random(0, %d) end
 function request()
     turn = turn + 1
     local place = turn %% hot + 1
@@ -39,7 +39,7 @@ function request()
         cold = cold %% (#shown - hot) + 1
         place = hot + cold
     end
-    return wrk.format("GET", "/web/index.html", {["Authorization"] = shown[place]%s})
+    return wrk.format("GET", "/web/index.html", {["Authorization"] = shown[place]})
 end
 function done(summary, latency, requests)
     local errors = summary.errors
@@ -47,21 +47,21 @@ function done(summary, latency, requests)
                         errors.connect + errors.read + errors.write + errors.status + errors.timeout))
 end
 """
-NGINX = """daemon off; error_log {room}/nginx.log warn; pid {room}/nginx.pid; worker_processes 2;
+NGINX = """daemon off; {as_user} error_log {room}/nginx.log warn; pid {room}/nginx.pid; worker_processes 2;
 events {{ worker_connections 1024; }}
 http {{
     access_log off;
     large_client_header_buffers 4 80k;
     client_body_temp_path {room}/body; proxy_temp_path {room}/proxy; fastcgi_temp_path {room}/f; uwsgi_temp_path {room}/u; scgi_temp_path {room}/s;
-    upstream yes {{ server 127.0.0.1:{yes}; keepalive 64; }}
-    upstream authd {{ server 127.0.0.1:{authd}; keepalive 64; }}
+    upstream yes {{ server unix:{room}/yes.socket; keepalive 64; }}
+    upstream authd {{ server unix:{room}/authd.socket; keepalive 64; }}
 {servers}
 }}
 """
 SERVER = """    server {{ listen 127.0.0.1:{port}; root {room}; {ask}
         location = /auth {{ internal; proxy_pass http://{name}; proxy_http_version 1.1; proxy_set_header Connection ""; proxy_pass_request_body off;
             proxy_set_header Content-Length ""; proxy_set_header X-Original-Method $request_method; proxy_set_header X-Original-URI $request_uri;
-            proxy_set_header X-Spki-Secret {secret}; proxy_set_header X-Client-Cert "{certificate}"; }} }}
+            proxy_set_header X-Original-Host $host; proxy_set_header X-Client-Cert "{certificate}"; }} }}
 """
 
 
@@ -79,6 +79,19 @@ class Figures:
         return f"{self.rate:>9,.0f} requests/s, p50 {self.p50:.2f} ms, p99 {self.p99:.2f} ms, {self.errors} errors"
 
 
+def connected(at):
+    """A connection to a port of loopback, or to a Unix socket."""
+    if isinstance(at, int):
+        return socket.create_connection(("127.0.0.1", at))
+    client = socket.socket(socket.AF_UNIX)
+    try:
+        client.connect(at)
+    except OSError:
+        client.close()
+        raise
+    return client
+
+
 def free_ports(count):
     """Ports of loopback that nobody has."""
     with contextlib.ExitStack() as stack:
@@ -91,10 +104,9 @@ class Site:
 
     def __init__(self, room, library):
         self.room, self.library, self.running = room, library, []
-        self.yes, self.authd, *self.nginx = free_ports(PORTS)
+        self.nginx = free_ports(PORTS)
         os.chmod(room, 0o755)
         self.write("web/index.html", "<p>hello</p>\n" * 100)
-        self.write("secret", f"{SECRET}\n", 0o600)
         self.make_certificates()
 
     def path(self, name):
@@ -144,16 +156,16 @@ class Site:
         """The path of the daemon's configuration."""
         rules = [{"prefix": "/", "methods": {"GET": "read"}, "request": ["files", "{method}", "{path}"]}]
         return self.write("config.json", json.dumps({
-            "listen": f"127.0.0.1:{self.authd}", "secret_file": self.path("secret"), "server": "nginx", "list": self.list, "requests": rules,
-            "cache": CACHE}))
+            "listen": f"unix:{self.path('authd.socket')}", "server": "nginx", "list": self.list, "requests": rules, "cache": CACHE,
+            "log": self.path("grants.log"), "log_sync": SYNC}))
 
-    def start(self, *words, port):
-        """Starts a program that listens on a port."""
+    def start(self, *words, at):
+        """Starts a program that listens on a port of loopback, or on a Unix socket."""
         with open(self.path(f"{os.path.basename(words[0])}.out"), "ab") as out:
             process = subprocess.Popen(words, stdin=subprocess.DEVNULL, stdout=out, stderr=out)
         self.running.append(process)
         for _ in range(SECONDS_TO_START * 20):
-            with contextlib.suppress(OSError), socket.create_connection(("127.0.0.1", port)):
+            with contextlib.suppress(OSError), connected(at):
                 return process
             time.sleep(0.05)
         sys.exit(f"{words[0]} does not listen: {self.said(words[0])}")
@@ -165,18 +177,20 @@ class Site:
 
     def start_daemon(self):
         """Starts the daemon."""
-        return self.start(self.program, "-config", self.config(), port=self.authd)
+        return self.start(self.program, "-config", self.config(), at=self.path("authd.socket"))
 
     def start_all(self):
         """Starts all programs, and returns the daemon."""
         daemon = self.start_daemon()
-        self.handler = self.start(self.path("yes"), f"127.0.0.1:{self.yes}", port=self.yes)
-        if shutil.which("nginx"):
-            asks = [("", "yes"), ("auth_request /auth;", "yes"), ("auth_request /auth;", "authd")]
-            servers = "".join(SERVER.format(port=port, room=self.room, ask=ask, name=name, secret=SECRET, certificate=self.certificate)
-                              for port, (ask, name) in zip(self.nginx, asks))
-            path = self.write("nginx.conf", NGINX.format(room=self.room, yes=self.yes, authd=self.authd, servers=servers))
-            self.start("nginx", "-p", self.room, "-c", path, "-e", self.path("nginx.log"), port=self.nginx[0])
+        with contextlib.suppress(FileNotFoundError):
+            os.remove(self.path("yes.socket"))
+        self.handler = self.start(self.path("yes"), self.path("yes.socket"), at=self.path("yes.socket"))
+        asks = [("", "yes"), ("auth_request /auth;", "yes"), ("auth_request /auth;", "authd")]
+        servers = "".join(SERVER.format(port=port, room=self.room, ask=ask, name=name, certificate=self.certificate)
+                          for port, (ask, name) in zip(self.nginx, asks))
+        as_user = "user root;" if os.getuid() == 0 else ""
+        path = self.write("nginx.conf", NGINX.format(room=self.room, servers=servers, as_user=as_user))
+        self.start("nginx", "-p", self.room, "-c", path, "-e", self.path("nginx.log"), at=self.nginx[0])
         return daemon
 
     def end(self):
@@ -188,11 +202,9 @@ class Site:
 
     # ---- load
 
-    def load(self, port, seconds, connections, is_direct, delay=0):
-        """What wrk measures at a port. A direct request has the headers that nginx would set."""
-        direct = {"X-Original-Method": "GET", "X-Original-URI": "/web/index.html", "X-Client-Cert": self.certificate, "X-Spki-Secret": SECRET}
-        more = "".join(f', ["{name}"] = "{value}"' for name, value in direct.items()) if is_direct else ""
-        script = self.write("load.lua", LUA % (HOT, self.path("shown"), delay, more))
+    def load(self, port, seconds, connections, delay=0):
+        """What wrk measures at a port."""
+        script = self.write("load.lua", LUA % (HOT, self.path("shown"), 2 * delay))
         words = ["wrk", "-t", "2", "-c", str(connections), "-d", f"{seconds}s", "--timeout", "10s", "-s", script, f"http://127.0.0.1:{port}"]
         return Figures(subprocess.run(words, stdout=subprocess.PIPE, stderr=subprocess.STDOUT, text=True).stdout)
 

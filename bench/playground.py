@@ -1,5 +1,5 @@
 #!/usr/bin/env python3
-"""Times the page `tools/playground` in Chromium: from a keystroke to the answer on the page, for the story of the guide and for a question of
+"""Times the page `apps/playground` in Chromium: from a keystroke to the answer on the page, for the story of the guide and for a question of
 about 50,000 octets, and the first paint. The exit status is 1 if a limit is exceeded.
 
 Build the program first (`rt run` in crates/spki). The library decides where crates/spki_c/out has it. Needs Chromium with Selenium (Debian:

@@ -1,5 +1,5 @@
 /* A guard and a question, read from a file that `service.py` writes: the access list, the sequence, the key, the request and the moment,
- * each as its number of octets on a line and the octets. Every signature counts as verified. For the benches' programs. */
+ * each as its number of octets on a line and the octets. Every signature is marked as valid. For the benches' programs. */
 #ifndef QUESTION_H
 #define QUESTION_H
 
@@ -8,7 +8,7 @@
 #include <stdlib.h>
 #include <string.h>
 
-enum { PARTS = 5, MOST_LISTED = 65536 };
+enum { PARTS = 5 };
 
 static const struct spki_limits highest = SPKI_HIGHEST_LIMITS;
 
@@ -17,8 +17,8 @@ struct held {
     struct spki_question question;
     spki_guard *guard;
     spki_asked *asked;
-    unsigned char *verified, *buffer;
-    size_t count, room;
+    unsigned char *buffer;
+    size_t room;
 };
 
 static struct spki_text read_text(FILE *file)
@@ -42,26 +42,25 @@ static spki_guard *open_guard(struct spki_text list, const struct spki_limits *l
     return guard;
 }
 
-/* Opens the question and lists the signatures, as a service does before it verifies them. */
+/* Opens the question, lists the signatures and marks them, as a service does that finds all of them valid. */
 static enum spki_status list_signed(struct held *held)
 {
     struct spki_signed signature;
     size_t needed;
     spki_asked_close(held->asked);
     enum spki_status status = spki_guard_ask(held->guard, &held->question, &held->asked, held->buffer, held->room, &needed);
-    held->count = 0;
-    while (spki_asked_signature(held->asked, held->count, &signature) == SPKI_DONE)
-        held->count++;
+    for (size_t place = 0; spki_asked_signature(held->asked, place, &signature) == SPKI_DONE; place++)
+        spki_asked_mark(held->asked, place);
     return status;
 }
 
 /* A call that answers an opened question. */
-typedef enum spki_status wish(const spki_asked *, const unsigned char *, size_t, void *, size_t, size_t *);
+typedef enum spki_status wish(const spki_asked *, void *, size_t, size_t *);
 
 static enum spki_status answered(struct held *held, wish *call)
 {
     size_t needed;
-    return call(held->asked, held->verified, held->count, held->buffer, held->room, &needed);
+    return call(held->asked, held->buffer, held->room, &needed);
 }
 
 static enum spki_status decided(struct held *held)
@@ -83,8 +82,6 @@ static struct held held_in(const char *path, const struct spki_limits *limits)
     fclose(file);
     held.guard = open_guard(held.list, limits);
     held.buffer = malloc(held.room);
-    held.verified = malloc(MOST_LISTED);
-    memset(held.verified, 1, MOST_LISTED);
     return held;
 }
 

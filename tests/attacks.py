@@ -2,12 +2,44 @@
 the content of a file.
 
 In the octets, {ann} is Ann's certificate as nginx passes it, {key} the hash of her key, and {ben} the sequence by which Ann lets Ben read /web/.
-The others are sequences that give nothing: see `sequences` in test_nginx.py. A line that ends in \\n ends in \\r\\n where it is sent."""
+The others are sequences that give nothing: see attackers.py. A line that ends in \\n ends in \\r\\n where it is sent."""
+import re
 from collections.abc import Iterator
-from typing import Optional
+from typing import NamedTuple, Optional
 
 # What is tried, by whom (None: without a certificate for TLS), and the octets.
-Attack = tuple[str, Optional[str], bytes]
+Plain = tuple[str, Optional[str], bytes]
+# The statuses that a row may have. What is malformed, or too long, the web server may also refuse by itself, in its own way, or without an answer
+# (0). What is not there may be 404. The last ones are those where nothing has decided.
+DENIED = {401, 403}
+MALFORMED = DENIED | {0, 100, 400, 405, 413, 414, 421, 422, 431, 501, 505}
+TOO_LONG, ABSENT, UNCLEAR = MALFORMED | {500, 503}, DENIED | {404}, MALFORMED | {404}
+WITHOUT_DAEMON = {500, 502, 503}
+# What must come where it is not that of its group.
+MUST = {
+    "a folded line, by Eve": MALFORMED, "a space before the colon, by Eve": MALFORMED,
+    "a header of 100 KiB": TOO_LONG, "a sequence over 64 KiB": TOO_LONG,
+    **{f"the method {name!r}": MALFORMED for name in ("TRACE", "CONNECT", "get", "PUT\t", "G\0T")},
+    **{name: MALFORMED for name in ("HTTP/0.9", "HTTP/1.0 without a host", "HTTP/3.7", "no version that is known", "another protocol")},
+    **{f"the path {name!r}": ABSENT for name in (b"/web/INDEX.HTML", b"/.spki-authd", b"/web/link/plan.txt")},
+    **{name: {401} for name in ("no certificate for TLS", "Ben's certificates by no key", "the server's header without TLS's certificate")},
+    "a certificate for TLS that has ended": MALFORMED}
+# What some server grants by right: its own page says so. Only the key of a certificate for TLS counts, and nginx and Apache refuse one that has ended
+# by themselves. Caddy follows links.
+ENDED, LINK = "a certificate for TLS that has ended", "the path b'/web/link/plan.txt'"
+GRANTED = {("caddy", ENDED), ("haproxy", ENDED), ("caddy", LINK)}
+PLAIN_PATH = re.compile(r"/[\w./?=~-]*")
+
+
+class Attack(NamedTuple):
+    """A row: what is tried, by whom, what is sent, and the statuses of which one must come."""
+
+    what: str
+    who: Optional[str]
+    octets: bytes
+    must: set[int]
+
+
 WEB, PLAN = "/web/index.html", "/secret/plan.txt"
 
 
@@ -21,7 +53,7 @@ def raw(text: str) -> bytes:
     return text.replace("\n", "\r\n").encode("latin-1")
 
 
-def of_headers() -> Iterator[Attack]:
+def of_headers() -> Iterator[Plain]:
     """A client sends what only the web server may say."""
     for what, *lines in [
             ("Ann's certificate in the server's header", "X-Client-Cert: {ann}"),
@@ -43,7 +75,7 @@ def of_headers() -> Iterator[Attack]:
     yield "the server's header without TLS's certificate", None, request(WEB, "X-Client-Cert: {ann}")
 
 
-def doubled() -> Iterator[Attack]:
+def doubled() -> Iterator[Plain]:
     """Headers twice, two requests in one, and lines that are no header."""
     shown, basic = "Authorization: SPKI {ben}", "Authorization: Basic YW5uOmFubg=="
     yield "two headers with certificates, the first of another scheme", "ben", request(WEB, basic, shown)
@@ -67,7 +99,7 @@ def doubled() -> Iterator[Attack]:
     yield "a carriage return in a header", "eve", request(WEB, "X-A: b\rX-Client-Cert: {ann}")
     yield "a zero octet in a header", "eve", request(WEB, "X-A: b\0X-Client-Cert: {ann}")
     yield "two hosts", "eve", request(WEB, "Host: files.example.org")
-    yield "no host", "ann", raw(f"GET {WEB} HTTP/1.1\nConnection: close\n\n")
+    yield "no host", "eve", raw(f"GET {WEB} HTTP/1.1\nConnection: close\n\n")
     yield "a header of 100 KiB", "ann", request(WEB, f"X-Spki-Sequence: {'a' * 102400}")
     yield "a sequence over 64 KiB", "ben", request(WEB, f"Authorization: SPKI {{{'A' * 68000}}}")
     yield "the whole address as path", "eve", request(f"https://localhost{WEB}")
@@ -75,16 +107,17 @@ def doubled() -> Iterator[Attack]:
     yield "a body that is announced", "ben", request(WEB, "Expect: 100-continue", shown, method="PUT", body="ben")
 
 
-def of_methods() -> Iterator[Attack]:
+def of_methods() -> Iterator[Plain]:
     """Methods that the configuration has no word for, and versions."""
-    for method in ("POST", "PATCH", "OPTIONS", "TRACE", "CONNECT", "PROPFIND", "MKCOL", "get", "GETX", "PUT\t", "G\0T"):
+    for method in ("POST", "PATCH", "OPTIONS", "TRACE", "CONNECT", "PROPFIND", "MKCOL", "get", "GETX", "G\0T"):
         yield f"the method {method!r}", "ann", request(WEB, method=method, body="x" if method == "POST" else "")
+    yield "the method 'PUT\\t'", "ben", request(WEB, "Authorization: SPKI {ben}", method="PUT\t", body="ben")
     for method in ("MOVE", "COPY"):
         yield f"the method {method} out of Ann's folder", "ann", request(WEB, "Destination: https://localhost/secret/plan.txt", method=method)
     yield "HTTP/0.9", "eve", raw(f"GET {WEB}\n")
     yield "HTTP/1.0 without a host", "eve", raw(f"GET {WEB} HTTP/1.0\n\n")
-    yield "HTTP/3.7", "ann", request(WEB, version="HTTP/3.7")
-    yield "no version that is known", "ann", request(WEB, version="HTTP/x")
+    yield "HTTP/3.7", "eve", request(WEB, version="HTTP/3.7")
+    yield "no version that is known", "eve", request(WEB, version="HTTP/x")
     yield "another protocol", "ann", b"\x16\x03\x01\x02\x00\x01\x00"
     yield "writing with a right to read", "ben", request(WEB, "Authorization: SPKI {ben}", method="PUT", body="ben")
     yield "deleting with a right to read", "ben", request(WEB, "Authorization: SPKI {ben}", method="DELETE")
@@ -113,13 +146,13 @@ PATHS = [
     "/web/" + "a/" * 2100 + "x", "/web/~ann/../../secret/plan.txt", "/web/index.html:$DATA", "/web/.../secret/plan.txt"]
 
 
-def of_paths() -> Iterator[Attack]:
+def of_paths() -> Iterator[Plain]:
     """Ann, who may read /web/ alone, asks for what is not there by a path that begins so, or for one whose meaning is not clear."""
     for path in PATHS:
         yield f"the path {path.encode('latin-1')[:40]!r}", "ann", request(path)
 
 
-def of_certificates() -> Iterator[Attack]:
+def of_certificates() -> Iterator[Plain]:
     """Certificates of others, changed ones, and keys that are not held."""
     yield "no certificate for TLS", None, request(WEB)
     yield "Ben's certificates by no key", None, request(WEB, "Authorization: SPKI {ben}")
@@ -135,7 +168,7 @@ def of_certificates() -> Iterator[Attack]:
             ("signer", "Ben's signature under a certificate in Ann's name"),
             ("secret", "a right that Ann does not have"),
             ("other", "a certificate for another file"), ("name", "a name without its right"), ("unsigned", "a certificate without its signature"),
-            ("none", "a sequence of nothing"), ("many", "17 certificates"), ("key", "a key in place of a sequence"),
+            ("none", "a sequence of nothing"), ("many", "17 certificates"), ("bare", "a key in place of a sequence"),
             ("deep", "65 lists in one another")]:
         yield what, "ben", request(WEB, f"Authorization: SPKI {{{name}}}")
     yield "a right that may not be passed on", "eve", request(WEB, "Authorization: SPKI {passed}")
@@ -144,6 +177,17 @@ def of_certificates() -> Iterator[Attack]:
         yield f"in the header {what}", "ben", request(WEB, f"Authorization: SPKI {value}")
 
 
+def of_group(attacks: Iterator[Plain], must: set[int]) -> Iterator[Attack]:
+    for what, who, octets in attacks:
+        yield Attack(what, who, octets, MUST.get(what, must))
+
+
 def all_of_them() -> Iterator[Attack]:
-    for attacks in (of_headers, doubled, of_methods, of_paths, of_certificates):
-        yield from attacks()
+    """Each row. A path that has more than plain characters, or leaves its folder, may be refused by the server itself."""
+    yield from of_group(of_headers(), DENIED)
+    yield from of_group(doubled(), MALFORMED)
+    yield from of_group(of_methods(), DENIED)
+    for path, each in zip(PATHS, of_paths()):
+        is_plain = PLAIN_PATH.fullmatch(path) and ".." not in path
+        yield from of_group(iter([each]), DENIED if is_plain else UNCLEAR)
+    yield from of_group(of_certificates(), DENIED)

@@ -10,8 +10,8 @@ commas between them are a row each. Texts and answers are written as in `tables/
                                     authorization, or the cause of a stop
     decide, explain, judge ..       a case, and a verifier: rows, or `all`, or `broken`, which is out of memory
     Guard::read, Asked::decide ..   a list, its policy, the most octets and nodes; a sequence, a key, a request, a moment; a verifier or marks
-    answer_question                 the same, with what is asked for behind the first four; then questions of five texts each
-    answer_opened, Opened::signed   one question, which is opened: with what is asked for, and without it
+    answer_opened                   a guard's four texts, what is asked for, then questions of five texts each, the last being marks
+    Opened::signed, Opened::decide_by, Opened::is_possible   one question, which is opened, without what is asked for
     Guard::ask                      the first four; a key, seconds, and the strings of a request
     first_member, grants ..         what the callers in `test_callers` take: `crates/test_one_call/src/callers.rt` says it
     run                             a command, a text; of the reader and of the writer: the octets of each call, the room, what follows

@@ -1,6 +1,7 @@
-/* Asks a guard that is held from C as `spki.h` says: right and wrong marks, misuse, small buffers, two guards at once, buffers that change
- * once a question is opened, guards that are closed before their questions or beside them, refused memory, and several threads on one guard and on one
- * question. Is linked with --wrap=malloc and --wrap=realloc. Ends with 99 where a call does otherwise, with a line on standard error.
+/* Asks a guard that is held from C as `spki.h` says: marks of one client and of two, misuse, small buffers, two guards at once, buffers
+ * that change once a question is opened, guards that are closed before their questions or beside them, refused memory, and several threads on one
+ * guard and on one question. Is linked with --wrap=malloc and --wrap=realloc. Ends with 99 where a call does otherwise, with a line on standard
+ * error.
  *
  * Usage: cguard THREADS REFUSALS LIST SEQUENCE KEY     each of the last three is a text */
 #include "cguard.h"
@@ -31,27 +32,89 @@ static void delegation(const char *list, const char *sequence, const char *key)
     spki_guard *guard = opened(list, SPKI_OPEN);
     struct spki_question question = {.size = sizeof question, .sequence = text(sequence), .key = text(key), .request = text("(ftp)"),
                                      .seconds = &moment};
-    unsigned char marks[2] = {1, 1};
     spki_asked *asked = asked_of(guard, &question);
     expect(spki_guard_entries(guard) == 1, "another number of entries");
     lists(asked);
     spki_asked_close(asked);
-    decides(guard, &question, marks, 1, SPKI_YES, "yes entry 1\n");
-    marks[0] = 0;
-    decides(guard, &question, marks, 1, SPKI_NO, "no\n");
-    marks[0] = 2;
-    decides(guard, &question, marks, 1, SPKI_NO, "no\n");
-    marks[0] = 255;
-    decides(guard, &question, marks, 1, SPKI_NO, "no\n");
-    decides(guard, &question, marks, 0, SPKI_MISUSED, "");
-    decides(guard, &question, marks, 2, SPKI_MISUSED, "");
+    decides(guard, &question, 1, SPKI_YES, "yes entry 1\n");
+    decides(guard, &question, 0, SPKI_NO, "no\n");
     question.key = text("(public-key (test c))");
-    marks[0] = 1;
-    decides(guard, &question, marks, 1, SPKI_NO, "no\n");
+    asked = asked_of(guard, &question);
+    expect(!spki_asked_possible(asked), "a right for another key is possible");
+    spki_asked_close(asked);
+    decides(guard, &question, 1, SPKI_NO, "no\n");
     question.key = text("(public-key (test c)))");
-    decides(guard, &question, marks, 1, SPKI_REFUSED, "refused key Trailing 21\n");
+    decides(guard, &question, 1, SPKI_REFUSED, "refused key Trailing 21\n");
     question.sequence = text("(sequence x)");
-    decides(guard, &question, marks, 1, SPKI_REFUSED, "refused sequence 1 Shape\n");
+    decides(guard, &question, 1, SPKI_REFUSED, "refused sequence 1 Shape\n");
+    spki_guard_close(guard);
+}
+
+/* What some callers have for a verdict is no place: -255, 0x101, and what is not 0 though a truth value would be 1. Nothing is marked by it. */
+static void places(const char *list, const char *sequence, const char *key)
+{
+    static const size_t none[] = {1, 2, 255, 0x101, (size_t)-1, (size_t)-255, SIZE_MAX / 2 + 1};
+    spki_guard *guard = opened(list, SPKI_OPEN);
+    struct spki_question question = {.size = sizeof question, .sequence = text(sequence), .key = text(key), .request = text("(ftp)"),
+                                     .seconds = &moment};
+    spki_asked *asked = asked_of(guard, &question);
+    for (size_t at = 0; at < sizeof none / sizeof *none; at++) {
+        expect(spki_asked_mark(asked, none[at]) == SPKI_MISUSED, "a place that the question does not have is marked");
+        expect(!spki_asked_granted(asked) && spki_asked_possible(asked), "a mark that is misuse changes the answer");
+    }
+    is_refused = 0;
+    until_refusal = 1;
+    for (int turn = 0; turn < 2; turn++)
+        expect(spki_asked_mark(asked, 0) == SPKI_DONE && spki_asked_granted(asked), "a mark that does not count");
+    until_refusal = 0;
+    expect(!is_refused, "a mark or a truth value needs memory");
+    for (size_t at = 0; at < sizeof none / sizeof *none; at++)
+        expect(spki_asked_mark(asked, none[at]) == SPKI_MISUSED && spki_asked_granted(asked), "a mark is taken back");
+    spki_asked_close(asked);
+    spki_guard_close(guard);
+}
+
+/* Two clients at once: b shows what a has signed, and c a certificate in the name of a whose signature is not valid. A mark for one question
+ * grants nothing to the other. */
+static void two_clients(const char *list, const char *sequence, const char *key)
+{
+    static const char forged[] = "(sequence (cert (issuer (public-key (test a))) (subject (public-key (test c))) (tag (*))) (signature (hash sha256 "
+                                 "#b0c7e53153c3b09dad60263b3b4738aa1ae756cc4642305bcf4fdc4114ff0d5d#) (public-key (test a)) forged))";
+    spki_guard *guard = opened(list, SPKI_OPEN);
+    struct spki_question first = {.size = sizeof first, .sequence = text(sequence), .key = text(key), .request = text("(ftp)"), .seconds = &moment};
+    struct spki_question second = first;
+    second.sequence = text(forged);
+    second.key = text("(public-key (test c))");
+    spki_asked *good = asked_of(guard, &first), *bad = asked_of(guard, &second), *again = asked_of(guard, &first);
+    expect(spki_asked_count(bad) == 1 && spki_asked_possible(bad), "a forged certificate is not listed");
+    expect(spki_asked_mark(good, 0) == SPKI_DONE, "no mark");
+    expect(spki_asked_granted(good) && !spki_asked_granted(bad) && !spki_asked_granted(again), "a mark counts for another question");
+    spki_asked_close(good);
+    expect(!spki_asked_granted(bad) && !spki_asked_granted(again), "a mark outlives its question");
+    spki_asked_close(again);
+    spki_asked_close(bad);
+    spki_guard_close(guard);
+}
+
+#define OWN \
+    "(cert (issuer (public-key (test a))) (subject (public-key (test a))) (propagate) (tag (*))) (signature (hash sha256 " \
+    "#b26a73c3cdcb26bbb71fa21531b5b6a1745fc316ddfcf53862a174f5dccebfb6#) (public-key (test a)) sig)"
+
+/* Two equal signatures are two places. Only both marks are a yes. */
+static void equal_signatures(const char *list)
+{
+    spki_guard *guard = opened(list, SPKI_OPEN);
+    struct spki_question question = {.size = sizeof question, .sequence = text("(sequence " OWN " " OWN ")"),
+                                     .key = text("(public-key (test a))"), .request = text("(ftp)"), .seconds = &moment};
+    for (size_t place = 0; place < 2; place++) {
+        unsigned char line[64];
+        size_t needed;
+        spki_asked *asked = asked_of(guard, &question);
+        expect(spki_asked_count(asked) == 2, "equal signatures are one");
+        expect(spki_asked_mark(asked, place) == SPKI_DONE && decided(asked, line, sizeof line, &needed) == SPKI_NO, "one mark counts for two");
+        expect(spki_asked_mark(asked, 1 - place) == SPKI_DONE && decided(asked, line, sizeof line, &needed) == SPKI_YES, "two marks are a no");
+        spki_asked_close(asked);
+    }
     spki_guard_close(guard);
 }
 
@@ -72,22 +135,24 @@ static void one_question(const char *list, const char *sequence, const char *key
     struct spki_question empty = {.size = sizeof empty, .sequence = text("(sequence)"), .key = text(key), .request = text("(ftp)"),
                                   .seconds = &moment};
     spki_asked *asked = asked_of(guard, &question), *none = asked_of(guard, &empty), *elsewhere = asked_of(other, &question);
-    unsigned char marks[1] = {1}, line[256];
+    unsigned char line[256];
     size_t needed;
     memset(rooms, 'x', sizeof rooms);
     spki_guard_close(guard);
     spki_guard_close(other);
     lists(asked);
     for (int turn = 0; turn < 3; turn++) {
-        marks[0] = turn != 1;
-        expect(spki_asked_decide(asked, marks, 1, line, sizeof line, &needed) == (turn == 1 ? SPKI_NO : SPKI_YES), "another decision");
-        expect(spki_asked_explain(asked, marks, 1, line, sizeof line, &needed) == SPKI_DONE
-               && is(line, needed, turn == 1 ? "item 1 NotAccepted\n" : "entry 1 grants\n"), "another explanation");
-        expect(spki_asked_reduce(asked, marks, 1, line, sizeof line, &needed) == SPKI_DONE && needed > 5, "another reduction");
+        expect(!turn || spki_asked_mark(asked, 0) == SPKI_DONE, "no mark");
+        expect(decided(asked, line, sizeof line, &needed) == (turn ? SPKI_YES : SPKI_NO), "another decision");
+        expect(spki_asked_explain(asked, line, sizeof line, &needed) == SPKI_DONE
+               && is(line, needed, turn ? "entry 1 grants\n" : "item 1 NotAccepted\n"), "another explanation");
+        expect(spki_asked_reduce(asked, line, sizeof line, &needed) == SPKI_DONE && needed > 5, "another reduction");
     }
-    expect(!spki_asked_count(none) && spki_asked_decide(none, marks, 1, line, sizeof line, &needed) == SPKI_MISUSED, "marks of another");
-    expect(spki_asked_decide(elsewhere, marks, 1, line, sizeof line, &needed) == SPKI_NO, "marks of another guard");
-    expect(spki_asked_decide(asked, marks, 1, line, 3, &needed) == SPKI_TOO_SMALL && needed == 12, "a small buffer");
+    expect(!spki_asked_count(none) && spki_asked_mark(none, 0) == SPKI_MISUSED, "a mark of no signature");
+    expect(spki_asked_mark(elsewhere, 0) == SPKI_DONE && decided(elsewhere, line, sizeof line, &needed) == SPKI_NO
+           && !spki_asked_possible(elsewhere), "marks of another guard");
+    memset(line, 'y', sizeof line);
+    expect(spki_asked_decide(asked, line, 3, &needed) == SPKI_TOO_SMALL && needed == 12 && !memcmp(line, "\0yyy", 4), "a small buffer");
     spki_asked_close(none);
     spki_asked_close(elsewhere);
     spki_asked_close(asked);
@@ -104,44 +169,44 @@ static void strings(void)
     spki_asked *asked;
     unsigned char buffer[128];
     size_t needed;
-    decides(guard, &question, NULL, 0, SPKI_YES, "yes entry 1\n");
-    decides(other, &question, NULL, 0, SPKI_NO, "no\n");
+    decides(guard, &question, 0, SPKI_YES, "yes entry 1\n");
+    decides(other, &question, 0, SPKI_NO, "no\n");
     question.seconds = NULL;
     question.moment = text("19:2024-01-01_00:00:00");
-    decides(guard, &question, NULL, 0, SPKI_YES, "yes entry 1\n");
+    decides(guard, &question, 0, SPKI_YES, "yes entry 1\n");
     question.seconds = &moment;
-    decides(guard, &question, NULL, 0, SPKI_MISUSED, "");
+    decides(guard, &question, 0, SPKI_MISUSED, "");
     question.seconds = NULL;
     question.moment = text("19:2024-13-01_00:00:00");
-    decides(guard, &question, NULL, 0, SPKI_REFUSED, "refused at BadDate\n");
+    decides(guard, &question, 0, SPKI_REFUSED, "refused at BadDate\n");
     question.seconds = &moment;
     question.moment.length = 0;
     question.request = text("x");
-    decides(guard, &question, NULL, 0, SPKI_MISUSED, "");
+    decides(guard, &question, 0, SPKI_MISUSED, "");
     question.request.length = 0;
     words[1] = text("/cache/team1/a.o read");
     words[2] = text("write");
-    decides(guard, &question, NULL, 0, SPKI_NO, "no\n");
+    decides(guard, &question, 0, SPKI_NO, "no\n");
     words[1] = text("/cache/team1/a.o)) (x");
     words[2] = text("read");
-    decides(guard, &question, NULL, 0, SPKI_YES, "yes entry 1\n");
+    decides(guard, &question, 0, SPKI_YES, "yes entry 1\n");
     words[1] = text("/cache/team1/a.o4:read");
     words[2] = (struct spki_text){NULL, 0};
-    decides(guard, &question, NULL, 0, SPKI_NO, "no\n");
+    decides(guard, &question, 0, SPKI_NO, "no\n");
     words[2] = (struct spki_text){NULL, 1};
-    decides(guard, &question, NULL, 0, SPKI_MISUSED, "");
+    decides(guard, &question, 0, SPKI_MISUSED, "");
     question.word_count = 0;
     expect(spki_guard_ask(guard, &question, &asked, buffer, sizeof buffer, &needed) == SPKI_REFUSED && !asked
            && needed > 16 && !memcmp(buffer, "refused request ", 16), "a request of no string");
     question.word_count = 3;
     words[1].length = SPKI_MOST_OCTETS + 1;
     words[2] = text("read");
-    decides(guard, &question, NULL, 0, SPKI_REFUSED, "refused question TooLong\n");
+    decides(guard, &question, 0, SPKI_REFUSED, "refused question TooLong\n");
     words[1] = text("/cache/team1/a.o");
     asked = asked_of(guard, &question);
-    expect(spki_asked_explain(asked, NULL, 0, buffer, sizeof buffer, &needed) == SPKI_DONE && is(buffer, needed, "entry 1 grants\n"),
+    expect(spki_asked_explain(asked, buffer, sizeof buffer, &needed) == SPKI_DONE && is(buffer, needed, "entry 1 grants\n"),
            "another explanation");
-    expect(spki_asked_reduce(asked, NULL, 0, buffer, sizeof buffer, &needed) == SPKI_DONE
+    expect(spki_asked_reduce(asked, buffer, sizeof buffer, &needed) == SPKI_DONE
            && needed > 15 && !memcmp(buffer, "entry 1 (five (", 15), "another reduction");
     spki_asked_close(asked);
     spki_guard_close(other);
@@ -182,27 +247,28 @@ static void refused_questions(void)
     spki_asked *asked = (spki_asked *)&until_refusal;
     low.octets = 10;
     expect(spki_guard_open("(acl)", 5, SPKI_STRICT, &low, &guard, NULL, 0, NULL) == SPKI_DONE && !spki_guard_entries(guard), "low limits");
-    decides(guard, &question, NULL, 0, SPKI_REFUSED, "refused sequence Short\n");
+    decides(guard, &question, 0, SPKI_REFUSED, "refused sequence Short\n");
     question.sequence = text("(sequence) ");
-    decides(guard, &question, NULL, 0, SPKI_REFUSED, "refused question TooLong\n");
-    decides(NULL, &question, NULL, 0, SPKI_MISUSED, "");
-    decides(guard, NULL, NULL, 0, SPKI_MISUSED, "");
+    decides(guard, &question, 0, SPKI_REFUSED, "refused question TooLong\n");
+    decides(NULL, &question, 0, SPKI_MISUSED, "");
+    decides(guard, NULL, 0, SPKI_MISUSED, "");
     expect(spki_guard_ask(guard, &question, NULL, buffer, sizeof buffer, NULL) == SPKI_MISUSED, "no place for a question");
     expect(spki_guard_ask(guard, &question, &asked, NULL, 1, NULL) == SPKI_MISUSED && !asked, "a null buffer with a length");
     question.key.length = 1;
-    decides(guard, &question, NULL, 0, SPKI_MISUSED, "");
+    decides(guard, &question, 0, SPKI_MISUSED, "");
     question.key.length = 0;
     question.word_count = 1;
-    decides(guard, &question, NULL, 0, SPKI_MISUSED, "");
+    decides(guard, &question, 0, SPKI_MISUSED, "");
     question.words = &question.key;
     question.word_count = (size_t)-1;
-    decides(guard, &question, NULL, 0, SPKI_MISUSED, "");
+    decides(guard, &question, 0, SPKI_MISUSED, "");
     question.words = NULL;
     question.word_count = 0;
     question.size--;
-    decides(guard, &question, NULL, 0, SPKI_MISUSED, "");
+    decides(guard, &question, 0, SPKI_MISUSED, "");
     expect(!spki_asked_count(NULL) && spki_asked_signature(NULL, 0, &signature) == SPKI_MISUSED && !signature.key.octets, "no question");
-    expect(spki_asked_decide(NULL, NULL, 0, buffer, sizeof buffer, NULL) == SPKI_MISUSED, "a decision of no question");
+    expect(spki_asked_decide(NULL, buffer, sizeof buffer, NULL) == SPKI_MISUSED && !spki_asked_granted(NULL) && !spki_asked_possible(NULL)
+           && spki_asked_mark(NULL, 0) == SPKI_MISUSED, "a decision of no question");
     spki_asked_close(NULL);
     spki_guard_close(guard);
 }
@@ -217,13 +283,13 @@ static void usual_limits(void)
     spki_guard *guard = opened("(acl (entry (public-key (test b)) (tag (*))))", SPKI_STRICT);
     for (size_t place = 0; place < 65; place++)
         words[place] = text("x");
-    decides(guard, &question, NULL, 0, SPKI_YES, "yes entry 1\n");
+    decides(guard, &question, 0, SPKI_YES, "yes entry 1\n");
     question.word_count = 65;
-    decides(guard, &question, NULL, 0, SPKI_REFUSED, "refused question TooManyWords\n");
+    decides(guard, &question, 0, SPKI_REFUSED, "refused question TooManyWords\n");
     question.word_count = 1;
     memset(long_key, ' ', sizeof long_key);
     question.key = (struct spki_text){long_key, sizeof long_key};
-    decides(guard, &question, NULL, 0, SPKI_REFUSED, "refused question TooLong\n");
+    decides(guard, &question, 0, SPKI_REFUSED, "refused question TooLong\n");
     spki_guard_close(guard);
 }
 
@@ -271,9 +337,9 @@ static void strings_without_memory(size_t most)
 static enum spki_status answered_by(int call, const spki_asked *asked, unsigned char *line, size_t length, size_t *needed)
 {
     switch (call) {
-    case 0: return spki_asked_decide(asked, NULL, 0, line, length, needed);
-    case 1: return spki_asked_explain(asked, NULL, 0, line, length, needed);
-    default: return spki_asked_reduce(asked, NULL, 0, line, length, needed);
+    case 0: return spki_asked_decide(asked, line, length, needed);
+    case 1: return spki_asked_explain(asked, line, length, needed);
+    default: return spki_asked_reduce(asked, line, length, needed);
     }
 }
 
@@ -343,8 +409,8 @@ static void *asks(void *given)
     unsigned char line[64];
     size_t needed;
     for (int turn = 0; turn < TURNS; turn++) {
-        decides(shared->guard, &question, NULL, 0, SPKI_YES, "yes entry 2\n");
-        expect(spki_asked_decide(shared->asked, NULL, 0, line, sizeof line, &needed) == SPKI_YES && is(line, needed, "yes entry 2\n"),
+        decides(shared->guard, &question, 0, SPKI_YES, "yes entry 2\n");
+        expect(decided(shared->asked, line, sizeof line, &needed) == SPKI_YES && is(line, needed, "yes entry 2\n"),
                "another answer to a shared question");
     }
     return NULL;
@@ -375,7 +441,7 @@ static void *ends(void *given)
     unsigned char line[64];
     size_t needed;
     for (int turn = 0; turn < TURNS; turn++)
-        expect(spki_asked_decide(asked, NULL, 0, line, sizeof line, &needed) == SPKI_YES && is(line, needed, "yes entry 1\n"),
+        expect(decided(asked, line, sizeof line, &needed) == SPKI_YES && is(line, needed, "yes entry 1\n"),
                "another answer beside the end of the guard");
     spki_asked_close(asked);
     return NULL;
@@ -400,6 +466,9 @@ int main(int count, char **words)
     expect(count == 6, "usage: cguard THREADS REFUSALS LIST SEQUENCE KEY");
     expect(!strcmp(spki_version(), SPKI_VERSION), "another version");
     delegation(words[3], words[4], words[5]);
+    places(words[3], words[4], words[5]);
+    two_clients(words[3], words[4], words[5]);
+    equal_signatures(words[3]);
     one_question(words[3], words[4], words[5]);
     strings();
     refused_lists();

@@ -72,17 +72,27 @@ static spki_asked *asked_of(const spki_guard *guard, const struct spki_question 
     return asked;
 }
 
-/* Opens a question and decides it, and compares the status and the line. */
-static void decides(const spki_guard *guard, const struct spki_question *question, const unsigned char *verified, size_t count,
-                    enum spki_status status, const char *line)
+/* Decides an opened question. The calls that return a truth value must say the same. */
+static enum spki_status decided(const spki_asked *asked, unsigned char *buffer, size_t length, size_t *needed)
+{
+    enum spki_status met = spki_asked_decide(asked, buffer, length, needed);
+    expect(spki_asked_granted(asked) == (met == SPKI_YES), "a yes that is none, or none that is one");
+    expect(spki_asked_possible(asked) || met != SPKI_YES, "a yes that is not possible");
+    return met;
+}
+
+/* Opens a question, marks the first signatures, as many as `marks` says, decides it, and compares the status and the line. */
+static void decides(const spki_guard *guard, const struct spki_question *question, size_t marks, enum spki_status status, const char *line)
 {
     unsigned char buffer[64];
     spki_asked *asked = (spki_asked *)&until_refusal;
     size_t needed = 12345;
     enum spki_status met = spki_guard_ask(guard, question, &asked, buffer, sizeof buffer, &needed);
     expect((met == SPKI_DONE) == (asked != NULL), "a question without a handle, or a handle without a question");
+    for (size_t place = 0; asked && place < marks; place++)
+        expect(spki_asked_mark(asked, place) == SPKI_DONE, "a signature that cannot be marked");
     if (met == SPKI_DONE)
-        met = spki_asked_decide(asked, verified, count, buffer, sizeof buffer, &needed);
+        met = decided(asked, buffer, sizeof buffer, &needed);
     spki_asked_close(asked);
     expect(met == status, line);
     expect(is(buffer, needed, line), line);

@@ -94,6 +94,10 @@ static void ask_with(const struct question *it, size_t size)
         broken("another status");
     if (written && memcmp(buffer, it->answer, written))
         broken("another answer");
+    if (!written && size && *buffer)
+        broken("a line of an earlier call is left where no answer is written");
+    if (!written && size)
+        written = 1;
     if (!are(buffer + written, size - written, UNTOUCHED))
         broken("the buffer is written where no answer stands");
     if (!are(block, CANARIES, CANARY) || !are(buffer + size, CANARIES, CANARY))
@@ -160,17 +164,23 @@ static void ask_side_by_side(size_t count)
     pthread_attr_destroy(&small);
 }
 
+/* A command that does not exist. The first octet of the buffer is 0 then. */
+static void misuse_of(unsigned command, unsigned char *buffer, size_t size)
+{
+    size_t needed = 12345;
+    memset(buffer, UNTOUCHED, size);
+    if (spki_answer((enum spki_command)command, "1:a", 3, buffer, size, &needed) != SPKI_MISUSED || needed)
+        broken("an unknown command is answered");
+    if (*buffer || !are(buffer + 1, size - 1, UNTOUCHED))
+        broken("misuse leaves a line, or writes to the buffer");
+}
+
 static void misuse(void)
 {
     unsigned char buffer[64];
     size_t needed = 12345;
-    memset(buffer, UNTOUCHED, sizeof buffer);
-    for (unsigned command = 7; command; command *= 2) {
-        needed = 12345;
-        if (spki_answer((enum spki_command)command, "1:a", 3, buffer, sizeof buffer, &needed) != SPKI_MISUSED || needed)
-            broken("an unknown command is answered");
-    }
-    needed = 12345;
+    for (unsigned command = 7; command; command *= 2)
+        misuse_of(command, buffer, sizeof buffer);
     if (spki_answer(SPKI_CHECK, NULL, 1, buffer, sizeof buffer, &needed) != SPKI_MISUSED || needed)
         broken("a null text with a length");
     if (spki_answer(SPKI_CHECK, "1:a", 3, NULL, 64, NULL) != SPKI_MISUSED)
@@ -182,8 +192,8 @@ static void misuse(void)
         || spki_check_accepted("", 0, NULL, 1, buffer, sizeof buffer, NULL) != SPKI_MISUSED
         || spki_check_accepted("", 0, "", 0, NULL, 1, NULL) != SPKI_MISUSED)
         broken("null pointers with lengths");
-    if (!are(buffer, sizeof buffer, UNTOUCHED))
-        broken("misuse writes to the buffer");
+    if (*buffer || !are(buffer + 1, sizeof buffer - 1, UNTOUCHED))
+        broken("misuse leaves a line, or writes to the buffer");
 }
 
 /* One question, if there is one. A text without octets is a null pointer. */

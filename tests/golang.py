@@ -6,7 +6,7 @@ import subprocess
 
 from support import TESTS, TOP
 
-MODULE, DAEMON = os.path.join(TOP, "bindings", "go"), os.path.join(TOP, "spki-authd")
+MODULE, DAEMON = os.path.join(TOP, "bindings", "go"), os.path.join(TOP, "apps", "spki-authd")
 HEADERS = os.path.join(TOP, "crates", "spki_c")
 SECONDS = 1800
 

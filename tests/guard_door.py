@@ -1,7 +1,7 @@
 """The calls for guards of the library for C programs, by ctypes: a question is asked in two steps, as a service does."""
 import ctypes
 import hashlib
-from ctypes import POINTER, Structure, byref, c_char_p, c_int64, c_size_t, c_uint32, c_void_p
+from ctypes import POINTER, Structure, byref, c_bool, c_char_p, c_int64, c_size_t, c_uint32, c_void_p
 from dataclasses import astuple
 from typing import Any
 
@@ -9,13 +9,15 @@ from generators.guards import GuardQuestion
 from model import case as cases
 from model import forms, guard
 from model.answers import Answer
-from model.calls import DONE, MISUSED, TOO_SMALL
+from model.calls import DONE, GRANTED, MISUSED, TOO_SMALL
 from model.guard import Parts, Signed, answer
 from model.values import Atom
 
 ROOM = 64
 # so many structures have more octets than an array can have
 MANY = 2**60
+# as a place: what -255 is as an unsigned number
+FAR = 2**64 - 255 - 16
 At = tuple[Any, Any]
 
 
@@ -56,35 +58,45 @@ def rows_of(question: GuardQuestion) -> list[cases.Row]:
 
 def model_answer(question: GuardQuestion) -> tuple[Answer, list[Signed]]:
     """What the model answers."""
+    wish = question.command.removeprefix("guard ")
+    return answer(wish, question.acl, parts_of(question), rows_of(question), question.policy, question.limits, question.oddity)
+
+
+def parts_of(question: GuardQuestion) -> Parts:
+    """The parts of a question as the model takes them."""
     request: bytes | tuple[bytes, ...] = question.request if question.strings is None else question.strings
     moment: bytes | int = question.moment if question.seconds is None else question.seconds
-    wish = question.command.removeprefix("guard ")
-    return answer(wish, question.acl, Parts(question.sequence, question.key, request, moment), rows_of(question), question.policy,
-                  question.limits, question.oddity)
+    return Parts(question.sequence, question.key, request, moment)
 
 
 class GuardDoor:
     """The calls for guards, of a library that is loaded."""
 
     def __init__(self, loaded: ctypes.CDLL) -> None:
+        self.truths: tuple[bool, ...] = ()
+        """Whether the last decision is a yes, and whether it can be one, as the library says."""
         needed = POINTER(c_size_t)
         self.open, self.close, self.entries = loaded.spki_guard_open, loaded.spki_guard_close, loaded.spki_guard_entries
         self.ask, self.count, self.signature = loaded.spki_guard_ask, loaded.spki_asked_count, loaded.spki_asked_signature
-        self.close_asked = loaded.spki_asked_close
+        self.close_asked, self.mark = loaded.spki_asked_close, loaded.spki_asked_mark
+        self.granted, self.possible = loaded.spki_asked_granted, loaded.spki_asked_possible
         self.by_wish = {wish: getattr(loaded, f"spki_asked_{wish}") for wish in ("decide", "explain", "reduce")}
         self.open.argtypes = [c_char_p, c_size_t, c_uint32, POINTER(Limits), POINTER(c_void_p), c_void_p, c_size_t, needed]
         self.ask.argtypes = [c_void_p, POINTER(Asked), POINTER(c_void_p), c_void_p, c_size_t, needed]
-        self.signature.argtypes = [c_void_p, c_size_t, POINTER(Listed)]
+        self.signature.argtypes, self.mark.argtypes = [c_void_p, c_size_t, POINTER(Listed)], [c_void_p, c_size_t]
         for call in (self.close, self.close_asked):
             call.argtypes, call.restype = [c_void_p], None
         for call in (self.entries, self.count):
             call.argtypes, call.restype = [c_void_p], c_size_t
+        for call in (self.granted, self.possible):
+            call.argtypes, call.restype = [c_void_p], c_bool
         for call in self.by_wish.values():
-            call.argtypes = [c_void_p, c_char_p, c_size_t, c_void_p, c_size_t, needed]
+            call.argtypes = [c_void_p, c_void_p, c_size_t, needed]
 
     def answers(self, question: GuardQuestion, wanted: tuple[Answer, list[Signed]]) -> str | None:
         """What is wrong with the answer or with what the verifier is asked of, None if nothing is."""
         handle, asked = c_void_p(), c_void_p()
+        self.truths = ()
         try:
             met, listed = self.answered(question, handle, asked)
         finally:
@@ -93,9 +105,15 @@ class GuardDoor:
         said, signed = wanted
         if met != said:
             return f"the guard answers {met[0]} {met[1][:300]!r}"
+        if self.truths and self.truths != self.wanted_truths(question, met):
+            return f"whether it is granted and whether it is possible are said to be {self.truths}"
         if listed is None or met[0] == MISUSED or listed == signed:
             return None
         return f"the guard lists {len(listed)} signatures, or others than the model"
+
+    def wanted_truths(self, question: GuardQuestion, met: Answer) -> tuple[bool, ...]:
+        """Whether a decision is a yes, and whether the model says that it can be one."""
+        return met[0] == GRANTED, guard.is_possible(question.acl, parts_of(question), question.policy, question.limits)
 
     def keeps_back(self, question: GuardQuestion) -> str | None:
         """What is wrong where there is too little room by one, None if nothing is."""
@@ -119,16 +137,28 @@ class GuardDoor:
         status, line = self.asked(question, handle, asked, ROOM)
         if status != DONE:
             return (status, line), None
+        if odd == guard.ANSWERED[2]:
+            return self.answer(question, handle), None
         self.close(handle)
         handle.value = None
         if odd in guard.LISTED:
             at, place = (None, byref(Listed())) if odd == "a signature of no question" else (asked, None)
             return (self.signature(at, 0, place), b""), None
         listed = self.listed(asked)
-        marks = marks_of(question, listed)
-        if odd == guard.OTHER_MARKS:
-            marks = marks[:-1] if marks and len(question.acl) % 2 else marks + b"\1"
-        return self.answer(question, None if odd == "no opened question" else asked, marks), listed
+        if odd in guard.MARKED:
+            past, far, _ = guard.MARKED
+            return (self.mark(None if odd not in (past, far) else asked, len(listed) if odd == past else FAR + len(listed)), b""), listed
+        self.mark_all(question, asked, listed)
+        said = self.answer(question, None if odd == "no opened question" else asked)
+        if question.command == "guard decide" and odd not in guard.ANSWERED:
+            self.truths = self.granted(asked), self.possible(asked)
+        return said, listed
+
+    def mark_all(self, question: GuardQuestion, asked: c_void_p, listed: list[Signed]) -> None:
+        """Marks the signatures that a row accepts. A mark past them has no effect."""
+        for place, is_valid in enumerate([*valid_of(question, listed), True]):
+            if is_valid:
+                self.mark(asked, place)
 
     def opened(self, question: GuardQuestion, handle: c_void_p, room: int) -> Answer:
         """What `spki_guard_open` answers, with a buffer of this room."""
@@ -163,17 +193,15 @@ class GuardDoor:
                 return []
         return [] if self.signature(asked, len(found), byref(Listed())) == DONE else found
 
-    def answer(self, question: GuardQuestion, asked: c_void_p | None, marks: bytes) -> Answer:
-        """What a call answers to a question with these marks."""
+    def answer(self, question: GuardQuestion, asked: c_void_p | None) -> Answer:
+        """What a call answers to a question by its marks."""
         call, odd, needed = self.by_wish[question.command.removeprefix("guard ")], question.oddity, c_size_t()
-        if odd == "marks that are null with a count":
-            return call(asked, None, len(marks) + 1, None, 0, byref(needed)), b""
         if odd == "a buffer that is null with a length":
-            return call(asked, marks, len(marks), None, 1, byref(needed)), b""
-        status = call(asked, marks, len(marks), None, 0, byref(needed))
+            return call(asked, None, 1, byref(needed)), b""
+        status = call(asked, None, 0, byref(needed))
         octets = ctypes.create_string_buffer(needed.value + 1)
         if status == TOO_SMALL:
-            status = call(asked, marks, len(marks), octets, needed.value, None if odd == "needed" else byref(needed))
+            status = call(asked, octets, needed.value, None if odd == "needed" else byref(needed))
         return status, octets.raw[:needed.value]
 
     def is_kept_back(self, question: GuardQuestion, handle: c_void_p, asked: c_void_p) -> bool:
@@ -186,10 +214,10 @@ class GuardDoor:
         if status != DONE:
             status, said = self.asked(question, handle, c_void_p(), len(line) - 1)
             return (status, said) == (guard.kept_back("the line of a refused question"), len(line) * b"\0")
-        marks = marks_of(question, self.listed(asked))
-        _, said = self.answer(question, asked, marks)
+        self.mark_all(question, asked, self.listed(asked))
+        _, said = self.answer(question, asked)
         octets, needed = ctypes.create_string_buffer(len(said)), c_size_t()
-        status = self.by_wish[question.command.removeprefix("guard ")](asked, marks, len(marks), octets, len(said) - 1, byref(needed))
+        status = self.by_wish[question.command.removeprefix("guard ")](asked, octets, len(said) - 1, byref(needed))
         return (status, needed.value, octets.raw) == (guard.kept_back("an answer"), len(said), len(said) * b"\0")
 
 
@@ -233,8 +261,7 @@ def asked_of(question: GuardQuestion) -> Asked:
     return asked
 
 
-def marks_of(question: GuardQuestion, listed: list[Signed]) -> bytes:
-    """1 for each signature that a row accepts, another number for each other."""
+def valid_of(question: GuardQuestion, listed: list[Signed]) -> list[bool]:
+    """Of each signature whether a row accepts it."""
     rows = {(row.key.octets, row.digest, row.value) for row in rows_of(question)}
-    return bytes(1 if (key, hashlib.sha256(message).digest(), value) in rows else 2 * (place % 2)
-                 for place, (key, message, value) in enumerate(listed))
+    return [(key, hashlib.sha256(message).digest(), value) in rows for key, message, value in listed]

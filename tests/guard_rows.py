@@ -152,7 +152,7 @@ def parts_of(text: bytes) -> list[bytes]:
 def answer_of(wish: str, parts: list[bytes], rows: bytes) -> tuple[guard.Answer, list[guard.Signed]]:
     """What the model answers to the parts of a case, and the signatures that it lists."""
     asked = guard.Parts(*parts[1:5])
-    said, listed = guard.answer(wish, parts[0], asked, cases.read_rows(forms.read(rows)), int(parts[5] == b"strict"), guard.USUAL, "")
+    said, listed = guard.answer(wish, parts[0], asked, cases.read_rows(forms.read(rows)), int(parts[5] == b"open"), guard.USUAL, "")
     return said, listed
 
 
@@ -215,11 +215,13 @@ def of_question(place: str, wish: str, parts: list[bytes], rows: bytes, said: by
     if wish == "reduce":
         yield CallRow(f"{place} reduce_into", "Asked::reduce_into", (*at, *asked, marks), in_debug(wish, said))
     verdict = b"Done" if is_done(said) else b"No"
-    for way, call in (("in lines", "answer_question"), ("opened, in lines", "answer_opened")):
-        yield CallRow(f"{place} {wish} {way}", call, (*at, wish.encode(), *asked, marks), verdict + b" " + said)
+    yield CallRow(f"{place} {wish} in lines", "answer_opened", (*at, wish.encode(), *asked, marks), verdict + b" " + said)
     if wish == "decide":
-        for call in ("answer_question", "answer_opened"):
-            yield CallRow(f"{place} other marks: {call}", call, (*at, b"decide", *asked, marks + b"1"), b"other marks")
+        is_possible = guard.is_possible(parts[0], guard.Parts(*asked), int(parts[5] == b"open"), guard.USUAL)
+        for call in ("Asked::is_possible", "Opened::is_possible"):
+            for given in sorted({marks, b""}):
+                yield CallRow(f"{place} {call}, {len(given)} marks", call, (*at, *asked, given), b"yes" if is_possible else b"no")
+        yield CallRow(f"{place} other marks", "answer_opened", (*at, b"decide", *asked, marks + b"1"), b"other marks")
         yield CallRow(f"{place} opened", "Opened::decide_by", (*at, *asked, marks), in_debug(wish, said))
         yield CallRow(f"{place} signed", "Opened::signed", (*at, *asked), b"".join(part + b"\n" for one in listed for part in one))
 

@@ -1,7 +1,7 @@
 /* Makes each call of `spki.h` with each of its arguments null with a length, too long, or of another size, which must be misuse that changes
- * nothing, with a handle of the other kind, and with what may be null. What no call can see is the caller's duty: a handle that was closed, or
- * is of another library. Is linked with --wrap=malloc and --wrap=realloc. Ends with 99 where a call does otherwise, with a line on standard
- * error. */
+ * nothing but the first octet of a buffer, with a handle of the other kind, and with what may be null. What no call can see is the caller's duty:
+ * a handle that was closed, or is of another library. Is linked with --wrap=malloc and --wrap=realloc. Ends with 99 where a call does otherwise,
+ * with a line on standard error. */
 #include "cguard.h"
 
 enum { UNTOUCHED = 0x5a };
@@ -11,7 +11,7 @@ enum { UNTOUCHED = 0x5a };
 static const struct spki_text wrong[] = {{NULL, 1}, {NULL, TOO_LONG}, {"x", TOO_LONG}, {"x", SIZE_MAX}};
 enum { WRONG = sizeof wrong / sizeof *wrong };
 
-static unsigned char buffer[64], marks[256];
+static unsigned char buffer[64];
 static size_t needed;
 static spki_guard *guard;
 static spki_asked *asked;
@@ -20,12 +20,21 @@ static spki_asked *asked;
 static spki_guard *no_guard;
 static spki_asked *no_asked;
 
-static void misused(enum spki_status status, const char *what)
+/* A call that has no buffer, or cannot write to it. */
+static void misused_apart(enum spki_status status, const char *what)
 {
     expect(status == SPKI_MISUSED && !needed, what);
     for (size_t place = 0; place < sizeof buffer; place++)
         expect(buffer[place] == UNTOUCHED, what);
     needed = 12345;
+}
+
+/* A call that has a buffer, in which no line of an earlier call is left. */
+static void misused(enum spki_status status, const char *what)
+{
+    expect(!buffer[0], what);
+    buffer[0] = UNTOUCHED;
+    misused_apart(status, what);
 }
 
 static void opens_no_guard(enum spki_status status, const char *what)
@@ -55,7 +64,7 @@ static struct spki_question granted(void)
     return question;
 }
 
-/* The texts and the marks of each call. */
+/* The texts of each call. */
 static void wrong_texts(struct spki_text it)
 {
     const void *octets = &it;
@@ -63,10 +72,7 @@ static void wrong_texts(struct spki_text it)
     misused(spki_answer(SPKI_CHECK, it.octets, it.length, BUFFER), "spki_answer: text");
     misused(spki_check_accepted(it.octets, it.length, "x", 1, BUFFER), "spki_check_accepted: text");
     misused(spki_check_accepted("x", 1, it.octets, it.length, BUFFER), "spki_check_accepted: rows");
-    misused(spki_asked_decide(asked, it.octets, it.length, BUFFER), "spki_asked_decide: verified");
-    misused(spki_asked_explain(asked, it.octets, it.length, BUFFER), "spki_asked_explain: verified");
-    misused(spki_asked_reduce(asked, it.octets, it.length, BUFFER), "spki_asked_reduce: verified");
-    misused(spki_string(it.octets, it.length, NULL, 0, &octets, &needed), "spki_string: text");
+    misused_apart(spki_string(it.octets, it.length, NULL, 0, &octets, &needed), "spki_string: text");
     expect(!octets, "spki_string: text");
 }
 
@@ -96,13 +102,16 @@ static void wrong_buffers(struct spki_text it)
 {
     struct spki_question question = granted();
     void *to = it.octets ? buffer : NULL;
-    opens_no_guard(spki_guard_open("(acl)", 5, SPKI_STRICT, NULL, &no_guard, to, it.length, &needed), "spki_guard_open: buffer");
-    opens_no_question(spki_guard_ask(guard, &question, &no_asked, to, it.length, &needed), "spki_guard_ask: buffer");
-    misused(spki_answer(SPKI_CHECK, "x", 1, to, it.length, &needed), "spki_answer: buffer");
-    misused(spki_check_accepted("x", 1, "x", 1, to, it.length, &needed), "spki_check_accepted: buffer");
-    misused(spki_asked_decide(asked, NULL, 0, to, it.length, &needed), "spki_asked_decide: buffer");
-    misused(spki_asked_explain(asked, NULL, 0, to, it.length, &needed), "spki_asked_explain: buffer");
-    misused(spki_asked_reduce(asked, NULL, 0, to, it.length, &needed), "spki_asked_reduce: buffer");
+    misused_apart(spki_guard_open("(acl)", 5, SPKI_STRICT, NULL, &no_guard, to, it.length, &needed), "spki_guard_open: buffer");
+    misused_apart(spki_guard_ask(guard, &question, &no_asked, to, it.length, &needed), "spki_guard_ask: buffer");
+    expect(!no_guard && !no_asked, "a handle of a call that has no buffer");
+    no_guard = guard;
+    no_asked = asked;
+    misused_apart(spki_answer(SPKI_CHECK, "x", 1, to, it.length, &needed), "spki_answer: buffer");
+    misused_apart(spki_check_accepted("x", 1, "x", 1, to, it.length, &needed), "spki_check_accepted: buffer");
+    misused_apart(spki_asked_decide(asked, to, it.length, &needed), "spki_asked_decide: buffer");
+    misused_apart(spki_asked_explain(asked, to, it.length, &needed), "spki_asked_explain: buffer");
+    misused_apart(spki_asked_reduce(asked, to, it.length, &needed), "spki_asked_reduce: buffer");
 }
 
 static void wrong_sizes(void)
@@ -124,7 +133,7 @@ static void wrong_sizes(void)
     }
 }
 
-/* Numbers that have no meaning: commands, policies, counts of marks, paths that are too long. */
+/* Numbers that have no meaning: commands, policies, places of signatures, paths that are too long. */
 static void wrong_numbers(void)
 {
     static const size_t path[1];
@@ -134,13 +143,10 @@ static void wrong_numbers(void)
         misused(spki_answer((enum spki_command)numbers[place], "x", 1, BUFFER), "spki_answer: command");
         opens_no_guard(spki_guard_open("(acl)", 5, (enum spki_policy)numbers[place], NULL, &no_guard, BUFFER), "spki_guard_open: policy");
     }
-    for (size_t count = 1; count <= sizeof marks; count *= 2) {
-        misused(spki_asked_decide(asked, marks, count, BUFFER), "spki_asked_decide: count");
-        misused(spki_asked_explain(asked, marks, count, BUFFER), "spki_asked_explain: count");
-        misused(spki_asked_reduce(asked, marks, count, BUFFER), "spki_asked_reduce: count");
-    }
-    misused(spki_string("1:a", 3, path, TOO_LONG / sizeof *path, &octets, &needed), "spki_string: depth");
-    misused(spki_string("1:a", 3, NULL, 1, &octets, &needed), "spki_string: path");
+    for (size_t place = 1; place; place *= 2)
+        expect(spki_asked_mark(asked, place - 1) == SPKI_MISUSED && spki_asked_mark(asked, 0 - place) == SPKI_MISUSED, "spki_asked_mark: place");
+    misused_apart(spki_string("1:a", 3, path, TOO_LONG / sizeof *path, &octets, &needed), "spki_string: depth");
+    misused_apart(spki_string("1:a", 3, NULL, 1, &octets, &needed), "spki_string: path");
     expect(!octets, "spki_string: path");
 }
 
@@ -154,14 +160,15 @@ static void nulls(void)
     opens_no_question(spki_guard_ask(NULL, &question, &no_asked, BUFFER), "spki_guard_ask: guard");
     misused_question(NULL, "spki_guard_ask: question");
     misused(spki_guard_ask(guard, &question, NULL, BUFFER), "spki_guard_ask: asked");
-    misused(spki_asked_decide(NULL, NULL, 0, BUFFER), "spki_asked_decide: asked");
-    misused(spki_asked_explain(NULL, NULL, 0, BUFFER), "spki_asked_explain: asked");
-    misused(spki_asked_reduce(NULL, NULL, 0, BUFFER), "spki_asked_reduce: asked");
-    misused(spki_string("1:a", 3, NULL, 0, NULL, &needed), "spki_string: octets");
+    misused(spki_asked_decide(NULL, BUFFER), "spki_asked_decide: asked");
+    misused(spki_asked_explain(NULL, BUFFER), "spki_asked_explain: asked");
+    misused(spki_asked_reduce(NULL, BUFFER), "spki_asked_reduce: asked");
+    misused_apart(spki_string("1:a", 3, NULL, 0, NULL, &needed), "spki_string: octets");
     expect(spki_asked_signature(asked, 0, NULL) == SPKI_MISUSED, "spki_asked_signature: signature");
     expect(spki_asked_signature(NULL, 0, &signature) == SPKI_MISUSED && !signature.key.octets && !signature.octets.length,
            "spki_asked_signature: asked");
     expect(!spki_guard_entries(NULL) && !spki_asked_count(NULL), "the count of nothing");
+    expect(!spki_asked_granted(NULL) && !spki_asked_possible(NULL) && spki_asked_mark(NULL, 0) == SPKI_MISUSED, "a mark and a yes of nothing");
     spki_guard_close(NULL);
     spki_asked_close(NULL);
     twice.moment = text("19:2024-01-01_00:00:00");
@@ -180,11 +187,17 @@ static void other_kinds(void)
     struct spki_signed signature;
     memset(&signature, 1, sizeof signature);
     opens_no_question(spki_guard_ask(no_such_guard, &question, &no_asked, BUFFER), "spki_guard_ask: a question");
-    misused(spki_asked_decide(no_such_question, NULL, 0, BUFFER), "spki_asked_decide: a guard");
-    misused(spki_asked_explain(no_such_question, NULL, 0, BUFFER), "spki_asked_explain: a guard");
-    misused(spki_asked_reduce(no_such_question, NULL, 0, BUFFER), "spki_asked_reduce: a guard");
+    misused(spki_asked_decide(no_such_question, BUFFER), "spki_asked_decide: a guard");
+    misused(spki_asked_explain(no_such_question, BUFFER), "spki_asked_explain: a guard");
+    misused(spki_asked_reduce(no_such_question, BUFFER), "spki_asked_reduce: a guard");
+    expect(!spki_asked_granted(no_such_question) && !spki_asked_possible(no_such_question), "a yes of a guard");
+    for (size_t place = 0; place < 3; place++)
+        expect(spki_asked_mark(no_such_question, place) == SPKI_MISUSED, "spki_asked_mark: a guard");
     expect(spki_asked_signature(no_such_question, 0, &signature) == SPKI_MISUSED && !signature.key.octets, "spki_asked_signature: a guard");
     expect(!spki_guard_entries(no_such_guard) && !spki_asked_count(no_such_question), "the counts of another kind");
+    spki_guard_close(no_such_guard);
+    spki_asked_close(no_such_question);
+    expect(spki_guard_entries(guard) == 1 && spki_asked_granted(asked), "a close of another kind");
 }
 
 /* What may be null: what has no octets, `needed`, limits. */
@@ -202,8 +215,8 @@ static void allowed(void)
     question.word_count = 1;
     question.request = empty;
     expect(spki_guard_ask(guard, &question, &opened_question, NULL, 0, NULL) == SPKI_DONE && opened_question, "a string without octets");
-    expect(spki_asked_decide(opened_question, NULL, 0, NULL, 0, NULL) == SPKI_TOO_SMALL, "a decision without a buffer");
-    expect(spki_asked_decide(opened_question, marks, 0, buffer, sizeof buffer, NULL) == SPKI_YES, "no marks with an address");
+    expect(spki_asked_decide(opened_question, NULL, 0, NULL) == SPKI_TOO_SMALL, "a decision without a buffer");
+    expect(spki_asked_decide(opened_question, buffer, sizeof buffer, NULL) == SPKI_YES, "a decision without a length");
     spki_asked_close(opened_question);
     expect(spki_answer(SPKI_CANONICAL, NULL, 0, NULL, 0, NULL) == SPKI_TOO_SMALL, "no text");
     expect(spki_check_accepted(NULL, 0, NULL, 0, NULL, 0, NULL) == SPKI_TOO_SMALL, "no case");
@@ -228,7 +241,7 @@ int main(void)
     nulls();
     other_kinds();
     allowed();
-    decides(guard, &question, NULL, 0, SPKI_YES, "yes entry 1\n");
+    decides(guard, &question, 0, SPKI_YES, "yes entry 1\n");
     spki_asked_close(asked);
     spki_guard_close(guard);
     return 0;

@@ -3,6 +3,7 @@
 import functools
 import glob
 import importlib.util
+import os
 import shutil
 import subprocess
 import unittest
@@ -24,6 +25,8 @@ class Need:
         """Whether this machine has it."""
         if self.name.endswith(".h"):
             return has_header(self.name)
+        if self.name == "unshare":
+            return may_hide()
         if self.name.startswith("import "):
             return importlib.util.find_spec(self.name.removeprefix("import ")) is not None
         return bool(glob.glob(self.name) if "/" in self.name else shutil.which(self.name))
@@ -62,9 +65,22 @@ NEEDS = [Need(*words) for words in [
     ("openssl", "openssl", "the keys of OpenSSL in `spki-cert`, the verifier in Rust, and the manual's example with real keys, from OpenSSL 3.0 on"),
     ("openssl/evp.h", "libssl-dev", "the service in C, and the verifier in C by OpenSSL"),
     ("nginx", "nginx", "the example behind nginx, and what docs/OPERATING.md says"),
+    ("caddy", "caddy", "attacks on `spki-authd` behind Caddy"),
+    ("haproxy", "haproxy", "attacks on `spki-authd` behind HAProxy"),
+    ("apache2", "apache2", "attacks on `spki-authd` behind Apache"),
+    ("/usr/lib/*/lua/5.3/socket/unix.so", "lua-socket", "attacks on `spki-authd` behind Apache"),
     ("curl", "curl", "the example behind nginx, and what docs/OPERATING.md says"),
+    ("systemd-analyze", "systemd", "the units of `spki-authd`, as systemd reads them"),
+    ("systemd-socket-activate", "systemd", "`spki-authd` with a socket that systemd opens"),
+    ("unshare", "util-linux", "the queue of `spki-authd` where /proc is hidden"),
+    ("setpriv", "util-linux", "`spki-authd` as another user"),
+    ("prlimit", "util-linux", "`spki-authd` on a full disk"),
+    ("ss", "iproute2", "the queue of `spki-authd` where /proc is hidden"),
     ("/usr/lib/postgresql/*/bin/initdb", "postgresql", "entries in PostgreSQL"),
     ("dpkg-deb", "dpkg", "the Debian packages"),
+    ("dpkg-parsechangelog", "dpkg-dev", "the changelog of the Debian packages, as dpkg reads it"),
+    ("lintian", "lintian", "what lintian says of the Debian packages"),
+    ("mmdebstrap", "mmdebstrap", "in `.ci/deep` the commands of the pages on machines that have what a page names, by Debian's servers"),
     ("man", "man-db", "the warnings of the manual"),
     ("dot", "graphviz", "reading the pictures that are drawn"),
     ("sexp-conv", "nettle-bin", "the keys of lsh; in `.ci/deep` the comparison with nettle"),
@@ -73,9 +89,9 @@ NEEDS = [Need(*words) for words in [
     ("pycodestyle", "pycodestyle", "the layout of the scripts in Python"),
     ("mypy", "mypy", "the types of the scripts and of the Python module"),
     ("codespell", "codespell", "the spelling, which only `.ci/deep` checks"),
-    ("chromium", "chromium", "the page `tools/playground` in a browser"),
-    ("chromedriver", "chromium-driver", "the page `tools/playground` in a browser"),
-    ("/usr/lib/python3/dist-packages/selenium", "python3-selenium", "the page `tools/playground` in a browser"),
+    ("chromium", "chromium", "the page `apps/playground` in a browser"),
+    ("chromedriver", "chromium-driver", "the page `apps/playground` in a browser"),
+    ("/usr/lib/python3/dist-packages/selenium", "python3-selenium", "the page `apps/playground` in a browser"),
 ]]
 BY_NAME = {need.name: need for need in NEEDS}
 # What the library for C is built with, that for ARM, and what fuzzes.
@@ -86,6 +102,18 @@ INITDB = "/usr/lib/postgresql/*/bin/initdb"
 # Where Debian has its modules for Python, which another Python than Debian's does not look through.
 DEBIAN = "/usr/lib/python3/dist-packages"
 BROWSER = ("chromium", "chromedriver", f"{DEBIAN}/selenium")
+
+
+# A mount namespace and a process namespace of its own, in which /proc can be another one. Who is not root needs a user namespace for that.
+APART = ["unshare", *["--map-root-user"] * bool(os.getuid()), "--mount", "--pid", "--fork", "--kill-child", "--mount-proc"]
+# What hides all of /proc but the processes there, as ProcSubset=pid does.
+HIDES = "mount -t proc -o subset=pid proc /proc && ! [ -e /proc/sys ]"
+
+
+@functools.cache
+def may_hide() -> bool:
+    """Whether unshare is there and may make a /proc that hides what is no process."""
+    return bool(shutil.which("unshare")) and not subprocess.run([*APART, "sh", "-c", HIDES], stderr=subprocess.DEVNULL).returncode
 
 
 @functools.cache

@@ -71,14 +71,60 @@ static int opened()
     spki::asked asked = guard->ask({text, key, words, now});
     text.assign(text.size(), ' ');
     guard.reset();
-    const spki::asked moved = std::move(asked);
+    spki::asked moved = std::move(asked);
     CHECK(moved.size() == 1);
     const spki_signed it = moved.signature(0);
     CHECK(spki::view_of(it.key) == "(10:public-key(4:test1:a))" && spki::view_of(it.value) == "3:sig" && spki::view_of(it.octets) == "sig");
-    CHECK(moved.decide({1}) && moved.decide({1}) && !moved.decide({0}));
-    CHECK(moved.explain({1}) == "entry 1 grants\n" && moved.explain({0}) == "item 1 NotAccepted\n");
-    CHECK(moved.reduce({1}) == "entry 1 (five (subject (public-key (test b))) (tag (*)))\n");
-    CHECK(is_misuse([&] { moved.decide({1, 1}); }));
+    CHECK(!moved.decide() && moved.explain() == "item 1 NotAccepted\n");
+    for (std::size_t place : {std::size_t(1), std::size_t(0x101), std::size_t(-1), std::size_t(-255)})
+        CHECK(is_misuse([&] { moved.mark(place); }) && !moved.decide());
+    moved.mark(0);
+    CHECK(moved.decide() && moved.decide() && moved.explain() == "entry 1 grants\n");
+    CHECK(moved.reduce() == "entry 1 (five (subject (public-key (test b))) (tag (*)))\n");
+    return 0;
+}
+
+// Two clients at once: c shows a certificate in the name of a, whose signature is not valid. A mark for b grants nothing to c.
+static int two_clients()
+{
+    const std::string forged = "(sequence (cert (issuer (public-key (test a))) (subject (public-key (test c))) (tag (*)))"
+                               "(signature (hash sha256 #b0c7e53153c3b09dad60263b3b4738aa1ae756cc4642305bcf4fdc4114ff0d5d#)"
+                               " (public-key (test a)) forged))";
+    spki::guard guard(list);
+    spki::asked good = guard.ask({shown, key, words, now}), bad = guard.ask({forged, "(public-key (test c))", words, now});
+    good.verify(is_sig);
+    bad.verify(is_sig);
+    CHECK(good.decide() && !bad.decide());
+    std::swap(good, bad);
+    CHECK(bad.decide() && !good.decide());
+    return 0;
+}
+
+// Two equal signatures are two places.
+static int equal_signatures()
+{
+    const std::string own = "(cert (issuer (public-key (test a))) (subject (public-key (test a))) (propagate) (tag (*)))"
+                            "(signature (hash sha256 #b26a73c3cdcb26bbb71fa21531b5b6a1745fc316ddfcf53862a174f5dccebfb6#) (public-key (test a)) sig)";
+    spki::guard guard(list);
+    for (std::size_t place : {0, 1}) {
+        spki::asked asked = guard.ask({"(sequence " + own + own + ")", "(public-key (test a))", words, now});
+        CHECK(asked.size() == 2);
+        asked.mark(place);
+        CHECK(!asked.decide());
+        asked.mark(1 - place);
+        CHECK(asked.decide());
+    }
+    return 0;
+}
+
+// Nothing is verified where no signature could help.
+static int impossible()
+{
+    spki::guard guard(list);
+    int calls = 0;
+    const auto counted = [&](auto, auto, auto) { return ++calls > 0; };
+    CHECK(!guard.decide({shown, "(public-key (test c))", words, now}, counted) && calls == 0);
+    CHECK(guard.decide({shown, key, words, now}, counted) && calls == 1);
     return 0;
 }
 
@@ -88,12 +134,13 @@ static int given_away()
     spki::guard guard(list);
     spki::asked asked = guard.ask({shown, key, words, now});
     const spki::asked other = std::move(asked);
-    CHECK(asked.size() == 0 && asked.marks(is_sig).empty());
-    CHECK(is_misuse([&] { asked.signature(0); }) && is_misuse([&] { asked.decide({}); }));
-    CHECK(is_misuse([&] { asked.explain({}); }) && is_misuse([&] { asked.reduce({}); }));
+    asked.verify(is_sig);
+    CHECK(asked.size() == 0 && !asked.decide());
+    CHECK(is_misuse([&] { asked.signature(0); }) && is_misuse([&] { asked.mark(0); }));
+    CHECK(is_misuse([&] { asked.explain(); }) && is_misuse([&] { asked.reduce(); }));
     const spki::guard last = std::move(guard);
     CHECK(guard.entries() == 0 && last.entries() == 1);
-    CHECK(is_misuse([&] { guard.ask({shown, key, words, now}); }) && is_misuse([&] { guard.decide({shown, key, words, now}, is_sig); }));
+    CHECK(is_misuse([&] { guard.ask({shown, key, words, now}); }) && is_misuse([&] { (void)guard.decide({shown, key, words, now}, is_sig); }));
     return 0;
 }
 
@@ -123,18 +170,23 @@ static int literals()
 static int threads()
 {
     auto guard = std::make_unique<spki::guard>(list);
-    const spki::asked shared = guard->ask({shown, key, words, now});
+    spki::asked marked = guard->ask({shown, key, words, now});
+    marked.verify(is_sig);
+    const spki::asked shared = std::move(marked);
     std::array<int, 4> granted{};
     std::vector<std::thread> asking, ending;
     for (int &count : granted)
         asking.emplace_back([&] {
             for (int turn = 0; turn < 20; turn++)
-                count += guard->decide({shown, key, words, now}, is_sig) && shared.decide({1}) ? 1 : 0;
+                count += guard->decide({shown, key, words, now}, is_sig) && shared.decide() ? 1 : 0;
         });
     for (std::thread &thread : asking)
         thread.join();
     for (int &count : granted)
-        ending.emplace_back([&count, own = guard->ask({shown, key, words, now})] { count += own.decide({1}) ? 1 : 0; });
+        ending.emplace_back([&count, own = guard->ask({shown, key, words, now})]() mutable {
+            own.verify(is_sig);
+            count += own.decide() ? 1 : 0;
+        });
     guard.reset();
     for (std::thread &thread : ending)
         thread.join();
@@ -145,5 +197,5 @@ static int threads()
 
 int main()
 {
-    return decisions() || opened() || given_away() || refusals() || literals() || threads();
+    return decisions() || opened() || two_clients() || equal_signatures() || impossible() || given_away() || refusals() || literals() || threads();
 }

@@ -61,7 +61,7 @@ def of_refused_part(place: str, texts: list[bytes], part: str, item: int | None,
     fault, said = (fault, said) if part == "Sequence" else (kind, TEXT_OF[kind])
     line = f"sequence {item}" if part == "Sequence" else part.lower()
     yield CallRow(place, "Asked::decide", (*at, *texts[1:], b"all"), f"Ask({name}({fault})): {PART[part]}: {said}".encode())
-    yield CallRow(f"{place}, line", "answer_question", (*at, b"decide", *texts[1:], b""), f"Refused refused {line} {words}\n".encode())
+    yield CallRow(f"{place}, line", "answer_opened", (*at, b"decide", *texts[1:], b""), f"Refused refused {line} {words}\n".encode())
 
 
 # ---- requests by strings, and moments in seconds
@@ -157,8 +157,7 @@ def of_counts() -> Iterator[CallRow]:
         no = b"Refused refused question TooMany%s\n" % refusal.encode() if refusal else b"No no\n"
         for octets, said in ((b"usual", no), (b"", b"No no\n")):
             given = (listed, b"strict", octets, b"", b"decide", *asked_for, b"1" * count)
-            for call in ("answer_opened", "answer_question"):
-                yield CallRow(f"calls/limits:{count} certificates, {strings} strings, {octets.decode()} {call}", call, given, said)
+            yield CallRow(f"calls/limits:{count} certificates, {strings} strings, {octets.decode()}", "answer_opened", given, said)
 
 
 def sets_case() -> bytes:

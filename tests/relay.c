@@ -17,8 +17,8 @@ typedef void (*any)(void);
 /* In the order of CALLS in relayed.py. */
 static const any calls[] = {
     NULL, (any)spki_answer, (any)spki_check_accepted, (any)spki_guard_open, (any)spki_guard_close, (any)spki_guard_entries,
-    (any)spki_guard_ask, (any)spki_asked_count, (any)spki_asked_signature, (any)spki_asked_decide, (any)spki_asked_explain,
-    (any)spki_asked_reduce, (any)spki_asked_close, (any)spki_string};
+    (any)spki_guard_ask, (any)spki_asked_count, (any)spki_asked_signature, (any)spki_asked_mark, (any)spki_asked_granted,
+    (any)spki_asked_possible, (any)spki_asked_decide, (any)spki_asked_explain, (any)spki_asked_reduce, (any)spki_asked_close, (any)spki_string};
 
 static void take(void *octets, size_t length)
 {

@@ -6,15 +6,15 @@ import os
 import struct
 import subprocess
 from collections.abc import Callable
-from ctypes import Array, Structure, addressof, byref, c_int, c_size_t, c_void_p, sizeof, string_at
+from ctypes import Array, Structure, addressof, byref, c_bool, c_int, c_size_t, c_void_p, sizeof, string_at
 from typing import Any, BinaryIO, cast
 
 from guard_door import Asked, Listed, Text
 
 # In the order of `calls` in relay.c. The first copies memory.
 CALLS = ("memory", "spki_answer", "spki_check_accepted", "spki_guard_open", "spki_guard_close", "spki_guard_entries", "spki_guard_ask",
-         "spki_asked_count", "spki_asked_signature", "spki_asked_decide", "spki_asked_explain", "spki_asked_reduce", "spki_asked_close",
-         "spki_string")
+         "spki_asked_count", "spki_asked_signature", "spki_asked_mark", "spki_asked_granted", "spki_asked_possible", "spki_asked_decide",
+         "spki_asked_explain", "spki_asked_reduce", "spki_asked_close", "spki_string")
 ARGUMENTS = 8
 PARTS = ("sequence", "key", "request", "moment")
 # A longer text, or more strings, are misuse: no octet of them is read.
@@ -110,6 +110,8 @@ class Call:
                 self.relayed.fetch(value)
             elif isinstance(value, c_void_p):
                 value.value = here(value.value, request, blocks)
+        # (a truth value is one octet of what is returned)
+        returned = returned & 0xff if self.restype is c_bool else returned
         return None if self.restype is None else self.restype(returned).value
 
 

@@ -1,6 +1,8 @@
 """The example of nginx and spki-authd, set up in an empty folder and started on a port of loopback, for the tests that ask it."""
 import contextlib
+import fcntl
 import os
+import shutil
 import signal
 import socket
 import ssl
@@ -12,7 +14,7 @@ from collections.abc import Callable, Iterator
 
 import built
 import golang
-from support import TOP
+from support import TESTS, TOP
 
 EXAMPLE = os.path.join(TOP, "examples", "nginx")
 NEEDS = ("nginx", "go", "openssl", "curl", "import cryptography")
@@ -22,12 +24,17 @@ SECONDS = 600
 
 def path_of_commands() -> str:
     """The path in which `spki-cert` and nginx are."""
-    return os.pathsep.join([os.path.join(TOP, "cert"), os.environ["PATH"], "/usr/sbin"])
+    return os.pathsep.join([os.path.join(TOP, "apps", "spki-cert"), os.environ["PATH"], "/usr/sbin"])
 
 
 def daemon_built(folder: str) -> str:
-    """The daemon, built over the library that is tested."""
-    return golang.build_daemon(built.library(), os.path.join(folder, "spki-authd"))
+    """The daemon, built over the library that is tested. It is kept, and linked again only if something has changed."""
+    kept, program = os.path.join(TESTS, "out", "spki-authd"), os.path.join(folder, "spki-authd")
+    os.makedirs(os.path.dirname(kept), exist_ok=True)
+    with open(f"{kept}.lock", "w", encoding="ascii") as lock:
+        fcntl.flock(lock, fcntl.LOCK_EX)
+        shutil.copy(golang.build_daemon(built.library(), kept), program)
+    return program
 
 
 def free_port() -> int:
@@ -47,16 +54,21 @@ def waits_for(what: str, is_so: Callable[[], bool]) -> None:
 
 
 class Site:
-    """A folder with nginx and the daemon, both started."""
+    """A folder with nginx and the daemon, both started. `web_servers.py` has other web servers."""
 
     def __init__(self) -> None:
         self.room = tempfile.mkdtemp(prefix="site-")
         self.port = free_port()
+        self.contexts: dict[str | None, ssl.SSLContext] = {}
         self.settings = {**os.environ, "PATH": path_of_commands(), "PORT": str(self.port), "SPKI_LIBRARY": built.shared()}
         self.program = daemon_built(tempfile.mkdtemp(prefix="daemon-"))
         self.sh(os.path.join(EXAMPLE, "setup.sh"), self.room, str(self.port))
+        self.prepare()
         self.start_daemon()
-        self.start_nginx()
+        self.start_server()
+
+    def prepare(self) -> None:
+        """What is written before the programs start."""
 
     def at(self, name: str) -> str:
         return os.path.join(self.room, name)
@@ -79,7 +91,7 @@ class Site:
 
     def cert(self, *words: str) -> str:
         """What `spki-cert` writes."""
-        return self.sh(sys.executable, os.path.join(TOP, "cert", "spki-cert"), *words)
+        return self.sh(sys.executable, os.path.join(TOP, "apps", "spki-cert", "spki-cert"), *words)
 
     # ---- the programs
 
@@ -97,18 +109,32 @@ class Site:
             raise AssertionError(f"the daemon ended: {self.text('log/authd-events.log')}")
         return False
 
-    def start_nginx(self) -> None:
+    def command(self) -> list[str]:
+        """The command that starts the web server."""
         as_user = "user root;" if os.getuid() == 0 else ""
-        words = ["nginx", "-p", self.room, "-c", "etc/loopback.conf", "-e", "log/error.log", "-g", as_user]
-        self.nginx = subprocess.Popen(words, env=self.settings, stdout=subprocess.DEVNULL, stderr=subprocess.DEVNULL)
-        waits_for("nginx listens", self.nginx_listens)
+        return ["nginx", "-p", self.room, "-c", "etc/loopback.conf", "-e", "log/error.log", "-g", as_user]
 
-    def nginx_listens(self) -> bool:
+    def start_server(self) -> None:
+        with open(self.at("log/server.log"), "ab") as log:
+            self.server = subprocess.Popen(self.command(), env=self.settings, cwd=self.room, stdout=log, stderr=log)
+        waits_for("the web server listens", self.server_listens)
+
+    def stop_daemon(self) -> None:
+        self.daemon.terminate()
+        self.daemon.wait()
+
+    def restart_server(self) -> None:
+        """Starts the web server again, with the configuration that is there now."""
+        self.server.terminate()
+        self.server.wait()
+        self.start_server()
+
+    def server_listens(self) -> bool:
         with socket.socket() as client, contextlib.suppress(OSError):
             client.connect(("127.0.0.1", self.port))
             return True
-        if self.nginx.poll() is not None:
-            raise AssertionError(f"nginx ended: {self.text('log/error.log')}")
+        if self.server.poll() is not None:
+            raise AssertionError(f"the web server ended: {self.text('log/server.log')}")
         return False
 
     def reload(self) -> str:
@@ -120,7 +146,7 @@ class Site:
 
     def end(self) -> None:
         """Ends both programs, and removes the folders."""
-        for each in (self.nginx, self.daemon):
+        for each in (self.server, self.daemon):
             each.terminate()
             each.wait()
         for folder in (self.room, os.path.dirname(self.program)):
@@ -130,11 +156,12 @@ class Site:
 
     def context(self, who: str | None) -> ssl.SSLContext:
         """The side of TLS of a client, by the names of its certificate and key, as `ann`, or `ann.crt ann`; of None it has none."""
-        context = ssl.create_default_context(cafile=self.at("ca/ca.crt"))
-        if who is not None:
-            certificate, _, key = who.partition(" ")
-            context.load_cert_chain(self.at(f"keys/{certificate if key else certificate + '.crt'}"), self.at(f"keys/{key or certificate}"))
-        return context
+        if who not in self.contexts:
+            self.contexts[who] = context = ssl.create_default_context(cafile=self.at("ca/ca.crt"))
+            if who is not None:
+                certificate, _, key = who.partition(" ")
+                context.load_cert_chain(self.at(f"keys/{certificate if key else certificate + '.crt'}"), self.at(f"keys/{key or certificate}"))
+        return self.contexts[who]
 
     @contextlib.contextmanager
     def connected(self, who: str | None) -> Iterator[ssl.SSLSocket]:

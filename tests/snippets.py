@@ -30,7 +30,7 @@ static void ask(const char *list, size_t list_length, struct spki_text sequence,
     spki_guard *guard;
     spki_asked *asked;
     struct spki_signed it;
-    unsigned char verified[16], line[128];
+    unsigned char line[128];
     size_t place = 0;
 SNIPPET
     spki_guard_close(guard);
@@ -127,7 +127,7 @@ module snippet
 
 go 1.19
 
-require conguraki/spki v0.1.0
+require conguraki/spki v0.2.0
 
 replace conguraki/spki => {module}
 """

@@ -1,6 +1,6 @@
 """What the scripts of tests/, bench/ and examples/ share: where the programs are, how one is run, and how S-expressions are written.
 
-A service that takes over `examples/signed/` does not need this module: `tools.py` there and `cert/spki_cert_tool/` stand by themselves.
+A service that takes over `examples/signed/` does not need this module: `tools.py` there and `apps/spki-cert/spki_cert_tool/` stand by themselves.
 """
 import base64
 import importlib.machinery
@@ -16,7 +16,7 @@ from typing import Any
 
 TOP = os.path.realpath(os.path.join(os.path.dirname(os.path.abspath(__file__)), ".."))
 TESTS, BENCH, EXAMPLES = (os.path.join(TOP, name) for name in ("tests", "bench", "examples"))
-sys.path += [os.path.join(TOP, "cert"), os.path.join(TOP, "bindings", "python")]
+sys.path += [os.path.join(TOP, "apps", "spki-cert"), os.path.join(TOP, "bindings", "python")]
 from spki_cert_tool import sexp  # noqa: E402
 from spki_cert_tool.sexp import canonical, on_one_line  # noqa: E402
 

@@ -20,6 +20,7 @@ import subprocess
 import sys
 import tempfile
 import unittest
+import zipfile
 from collections.abc import Iterator
 from concurrent.futures import ThreadPoolExecutor
 from datetime import datetime, timezone
@@ -84,10 +85,11 @@ def words_of(request):
 
 
 def seconds_of(moment):
-    """The seconds of a moment that the calendar has, or None."""
+    """The seconds of a moment that the calendar has, from 1970 on, or None."""
     try:
         date = datetime.strptime(moment.decode(), "%Y-%m-%d_%H:%M:%S")
-        return int(date.replace(tzinfo=timezone.utc).timestamp())
+        seconds = int(date.replace(tzinfo=timezone.utc).timestamp())
+        return seconds if seconds >= 0 else None
     except (AttributeError, UnicodeDecodeError, ValueError):
         return None
 
@@ -142,7 +144,7 @@ def answered_by_python(spki, asked):
 
     request = {"text" if isinstance(asked.request, bytes) else "words": asked.request}
     question = spki.Question(asked.sequence, asked.key, moment=asked.moment, **request)
-    policy = spki.Policy.STRICT if asked.is_strict else spki.Policy.OPEN
+    policy = spki.Policy.STRICT if asked.is_strict else spki.Policy.ALLOW_SHA1
     try:
         with spki.Guard(asked.access_list, policy, spki.Limits.highest()) as guard:
             answer = getattr(guard, asked.command)(question, verify)
@@ -199,7 +201,8 @@ class Version(unittest.TestCase):
                "crates/spki_c/spki.h": r'^#define SPKI_VERSION "(.*)"$'}
         found = {path: re.search(line, text_of(path), re.MULTILINE)[1] for path, line in met.items()}
         self.assertEqual(found, dict.fromkeys(met, text_of("VERSION").strip()))
-        called = {"bindings/rust/spki-sys/src/lib.rs": r'VERSION: &str = "(.*)";$', "bindings/python/spki/_library.py": r'^VERSION = "(.*)"$'}
+        called = {"bindings/rust/spki-sys/src/lib.rs": r'VERSION: &str = "(.*)";$', "bindings/python/spki/_library.py": r'^VERSION = "(.*)"$',
+                  "bindings/rust/spki-sys/build.rs": r'^const FIRST: &str = "(.*)";$'}
         found = {path: re.search(line, text_of(path), re.MULTILINE)[1] for path, line in called.items()}
         self.assertEqual(found, dict.fromkeys(called, text_of("VERSION").rpartition(".")[0]))
 
@@ -257,7 +260,8 @@ class InPython(Binding):
 
     @needs.needs("mypy")
     def test_types(self):
-        words = ["mypy", "--strict", "--cache-dir", os.devnull, "spki", "spki_verify", os.path.join("examples", "decide.py")]
+        words = ["mypy", "--strict", "--cache-dir", os.devnull, "spki", "spki_verify",
+                 *(os.path.join("examples", name) for name in ("decide.py", "asynchronous.py"))]
         done = subprocess.run(words, cwd=PYTHON, timeout=SECONDS, capture_output=True, text=True)
         self.assertEqual(done.returncode, 0, done.stdout)
 
@@ -271,6 +275,10 @@ class InPython(Binding):
     @needs.needs("import cryptography")
     def test_example(self):
         self.decides(sys.executable, os.path.join(PYTHON, "examples", "decide.py"))
+
+    @needs.needs("import cryptography")
+    def test_asynchronous_example(self):
+        self.decides(sys.executable, os.path.join(PYTHON, "examples", "asynchronous.py"))
 
     @needs.needs("import pip", "import setuptools", "import wheel")
     def test_pip(self):
@@ -288,6 +296,27 @@ class InPython(Binding):
             self.assertEqual(answer, (0, f"{folder}/__init__.py 0 {folder}/libspki_c.so\n"))
             status, said = output_of(sys.executable, *words[:-1], source, seconds=SECONDS, env={**settings, "SPKI_LIBRARY": "/nowhere.so"})
             self.assertEqual((status != 0, "/nowhere.so is not there" in said), (True, True), said)
+
+    @needs.needs("import pip", "import setuptools", "import wheel")
+    def test_wheel_of_an_sdist(self):
+        """An sdist is made without `wheel`. pip makes a wheel of it, with the library that a variable names by its whole path."""
+        with tempfile.TemporaryDirectory() as room:
+            source = os.path.join(room, "source")
+            shutil.copytree(PYTHON, source, ignore=shutil.ignore_patterns("build", "*.egg-info", "__pycache__"))
+            hidden = "import runpy, sys; sys.modules['wheel'] = sys.modules['wheel.bdist_wheel'] = None; sys.argv = ['setup.py', '-q', 'sdist']"
+            status, said = output_of(sys.executable, "-W", "ignore", "-c", f"{hidden}; runpy.run_path('setup.py')", cwd=source, seconds=SECONDS)
+            self.assertEqual(status, 0, said)
+            sdist, = glob.glob(os.path.join(source, "dist", "*.tar.gz"))
+            words = ["-m", "pip", "wheel", "-q", "--no-build-isolation", "--no-index", "--no-deps", "--wheel-dir", room, sdist]
+            for library, is_made, line in ((self.shared, True, ""), (os.path.relpath(self.shared), False, "SPKI_LIBRARY must be a whole path"),
+                                           ("/nowhere.so", False, "/nowhere.so is not there")):
+                status, said = output_of(sys.executable, *words, seconds=SECONDS, env={**os.environ, "SPKI_LIBRARY": library})
+                self.assertEqual((status == 0, line in said), (is_made, True), said)
+            wheel, = glob.glob(os.path.join(room, "*.whl"))
+            with zipfile.ZipFile(wheel) as file, open(self.shared, "rb") as library:
+                self.assertEqual(file.read("spki/libspki_c.so"), library.read())
+                about, = (name for name in file.namelist() if name.endswith("METADATA"))
+                self.assertIn("License: none yet", file.read(about).decode())
 
 
 @needs.needs("import cryptography")
@@ -333,7 +362,7 @@ class InCpp(Binding):
         """A verifier that returns a number is not compiled."""
         for answer, is_compiled in (("true", True), ("-1", False), ('"no"', False)):
             text = f"""#include <spki.hpp>
-                       bool asks(const spki::asked &asked) {{ return asked.marks([](auto, auto, auto) {{ return {answer}; }}).empty(); }}"""
+                       void asks(spki::asked &asked) {{ asked.verify([](auto, auto, auto) {{ return {answer}; }}); }}"""
             status, _ = output_of("g++", "-std=c++17", "-fsyntax-only", "-I", CRATE, "-x", "c++", "-", text=text, seconds=SECONDS)
             self.assertEqual(status == 0, is_compiled, answer)
 
@@ -351,6 +380,14 @@ class InRust(Binding):
     def test_crate(self):
         """The tests of the crate pass."""
         self.does("test", "--quiet", "--workspace")
+
+    def test_package(self):
+        """Both crates are packed and built from their packages, without a network."""
+        with tempfile.TemporaryDirectory() as room:
+            for name, *words in (["spki-sys"], ["spki", "--config", 'patch.crates-io.spki-sys.path="spki-sys"']):
+                self.does("package", "--quiet", "--allow-dirty", "--target-dir", room, "-p", name, *words)
+            packed = {os.path.basename(path) for path in glob.glob(os.path.join(room, "package", "*.crate"))}
+            self.assertEqual(packed, {f"{name}-{text_of('VERSION').strip()}.crate" for name in ("spki", "spki-sys")})
 
     def test_documents(self):
         self.does("doc", "--quiet", "--workspace", "--no-deps")
@@ -406,7 +443,7 @@ class InRust(Binding):
     def test_versions_of_pkg_config(self):
         """A library that pkg-config knows is linked if it has the version of the crate, and not if it has another one."""
         with tempfile.TemporaryDirectory() as room:
-            for version, is_built in ((text_of("VERSION").strip(), True), ("0.2.0", False), ("0.0.9", False)):
+            for version, is_built in ((text_of("VERSION").strip(), True), ("0.1.0", False), ("0.3.0", False), ("0.0.9", False)):
                 folder = os.path.join(room, version)
                 os.mkdir(folder)
                 with open(os.path.join(folder, "spki.pc"), "w", encoding="ascii") as file:

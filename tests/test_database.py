@@ -348,7 +348,7 @@ class Table:
         self.assertTrue(is_that_of_the_whole(self.opened(), 0, spki.Policy.STRICT))
 
     def test_open(self):
-        self.assertTrue(is_that_of_the_whole(self.opened(), 1, spki.Policy.OPEN))
+        self.assertTrue(is_that_of_the_whole(self.opened(), 1, spki.Policy.ALLOW_SHA1))
 
     def test_several_clients(self):
         self.assertTrue(clients_agree(self.opened))

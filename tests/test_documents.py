@@ -1,7 +1,7 @@
 """Tests that what the documents name is there: each relative link and its heading, each path of a file or folder of this repository in
 backticks, in a block of commands and in a table, the versions of the manual and of README.md, which are that of the file VERSION, and
 the logic of the toolchain that README.md names, which `rt --version` prints; each definition of docs/DEFINITIONS.md, in the file of its
-row; and each function, clause and definition that a row of docs/PROOFS.md names.
+row; and each function, clause and definition that a row of docs/PROOFS.md names. The pages have at most the octets that are meant for them.
 
 A path is what begins with a name at the top of the repository, or in the folder of the document, or with `src`, `specs` or `proofs` in the
 page of a crate; and each word in backticks that ends as a file of a kind that is here. A word in capitals stands for any name, and so
@@ -14,7 +14,9 @@ from collections.abc import Callable, Iterator
 
 from support import TOP, output_of, text_of
 
-PAGES = ["*.md", "docs/*.md", "examples/*.md", "spki-authd/*.md", "crates/*/CALLING.md"]
+PAGES = ["*.md", "docs/*.md", "examples/*.md", "apps/**/*.md", "crates/*/CALLING.md"]
+# The octets that README.md may have, and all pages of docs/ with the pages CALLING.md.
+MOST_OF_README, MOST_OF_PAGES = 16_384, 245_760
 LINK = re.compile(r"\]\(([^)\s]+)\)")
 TICKS = re.compile(r"`([^`\n]+)`")
 FENCED = re.compile(r"^```(\w*) ?(\S*)\n(.*?)^```$", re.MULTILINE | re.DOTALL)
@@ -130,9 +132,15 @@ class Documents(unittest.TestCase):
 
     def test_versions(self) -> None:
         version = text_of("VERSION").strip()
-        for page in ("docs/spki.1", "docs/spki-cert.1"):
+        for page in ("docs/spki.1", "docs/spki-cert.1", "docs/spki-authd.8"):
             self.assertIn(f'"Conguraki {version}"', text_of(page).splitlines()[0])
         self.assertIn(f"The version is {version}.", text_of("README.md"))
+
+    def test_lengths(self) -> None:
+        """A page that grows is read by nobody."""
+        lengths = {path: os.path.getsize(path) for pattern in PAGES for path in glob.glob(os.path.join(TOP, pattern), recursive=True)}
+        self.assertLessEqual(lengths[os.path.join(TOP, "README.md")], MOST_OF_README)
+        self.assertLess(sum(size for path, size in lengths.items() if "/docs/" in path or path.endswith("CALLING.md")), MOST_OF_PAGES)
 
     def test_toolchain(self) -> None:
         """README.md names a toolchain of the logic that `rt --version` prints. Kits of one logic prove the same."""
@@ -156,6 +164,6 @@ def made_test(page: str) -> Callable[[Documents], None]:
 
 
 NAMES = names_here()
-for path in sorted(path for pattern in PAGES for path in glob.glob(os.path.join(TOP, pattern))):
+for path in sorted(path for pattern in PAGES for path in glob.glob(os.path.join(TOP, pattern), recursive=True)):
     each = os.path.relpath(path, TOP)
     setattr(Documents, f"test_page:{each}", made_test(each))

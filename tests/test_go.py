@@ -2,6 +2,7 @@
 what the program is asked, as `test_bindings.py` asks the other bindings. The daemon is asked with keys and certificates that `spki-cert` and
 OpenSSL made. Among the long tests, headers and signatures are fuzzed for two minutes each."""
 import contextlib
+import hashlib
 import http.client
 import json
 import os
@@ -21,7 +22,7 @@ import needs
 import test_bindings
 from support import TESTS, TOP, canonical, read
 
-SPKI_CERT = os.path.join(TOP, "cert", "spki-cert")
+SPKI_CERT = os.path.join(TOP, "apps", "spki-cert", "spki-cert")
 FUZZED = [(golang.MODULE, "./verify", "FuzzSignature"),
           *((golang.DAEMON, ".", name) for name in ("FuzzConnection", "FuzzHeaders", "FuzzSequence", "FuzzPath"))]
 FUZZ_TIME = "120s"
@@ -59,6 +60,12 @@ class InGo(OfGo):
             done = subprocess.run(["go-staticcheck", "./..."], cwd=folder, stdout=subprocess.PIPE, stderr=subprocess.STDOUT, text=True, env=settings,
                                   timeout=golang.SECONDS)
             self.assertEqual((done.returncode, done.stdout), (0, ""))
+
+    def test_packages(self) -> None:
+        """The module has its path and its packages, and needs no other module."""
+        self.assertEqual(self.does(golang.MODULE, "list", "-m", "all"), b"conguraki/spki\n")
+        names = set(self.does(golang.MODULE, "list", "./...").decode().split())
+        self.assertLessEqual({"conguraki/spki/guard", "conguraki/spki/verify"}, names)
 
     def test_module(self) -> None:
         """The tests of the module pass, with the race detector and the strict checks of what is passed to C."""
@@ -138,6 +145,12 @@ class Person:
         return spki_cert("sign", "--by", self.path, "--to", to.public, "--tag", tag, "--days", "1", *more)
 
 
+def sealed(lines: str) -> str:
+    """The lines of a file of ended certificates, with their last line."""
+    count = sum(bool(line) and not line.startswith("#") for line in lines.splitlines())
+    return f"{lines}end {count} {hashlib.sha256(lines.encode()).hexdigest()}\n"
+
+
 def spki_cert(*words: str) -> bytes:
     """What `spki-cert` writes."""
     return subprocess.run([SPKI_CERT, *words], check=True, stdout=subprocess.PIPE, stdin=subprocess.DEVNULL).stdout
@@ -146,17 +159,18 @@ def spki_cert(*words: str) -> bytes:
 class Daemon:
     """A daemon that runs."""
 
-    def __init__(self, room: str, program: str, access_list: str) -> None:
-        self.list, self.ended, self.socket, self.log = (os.path.join(room, name) for name in ("acl", "ended", "socket", "log"))
+    def __init__(self, room: str, program: str, access_list: str, *before: str, **more: object) -> None:
+        self.program = program
+        self.list, self.ended, self.socket, self.log, self.grants = (os.path.join(room, name) for name in ("acl", "ended", "socket", "log", "grants"))
         self.write(self.list, access_list)
-        self.write(self.ended, "# none yet\n")
+        self.write(self.ended, sealed("# none yet\n"))
         rules = [{"prefix": "/", "methods": {"GET": "read", "PUT": "write"}, "request": ["files", "{method}", "{path}"]}]
-        config = {"listen": f"unix:{self.socket}", "socket_mode": "0600", "server": "nginx", "list": self.list, "ended": self.ended,
-                  "requests": rules}
+        config: dict[str, object] = {"listen": f"unix:{self.socket}", "socket_mode": "0600", "server": "nginx", "list": self.list,
+                                     "ended": self.ended, "log": self.grants, "requests": rules, **more}
         self.config = os.path.join(room, "config.json")
         self.write(self.config, json.dumps(config))
-        with open(self.log, "wb") as log:
-            self.process = subprocess.Popen([program, "-config", self.config], stdout=log, stderr=subprocess.PIPE)
+        with open(self.log, "ab") as log:
+            self.process = subprocess.Popen([*before, program, "-config", self.config], stdout=log, stderr=subprocess.PIPE)
         self.event = self.message()
 
     @staticmethod
@@ -174,6 +188,11 @@ class Daemon:
         self.process.send_signal(signal.SIGHUP)
         return self.message()
 
+    def does(self, *words: str) -> tuple[int, str, str]:
+        """The status of the program with these words, and what it writes."""
+        done = subprocess.run([self.program, *words, "-config", self.config], stdout=subprocess.PIPE, stderr=subprocess.PIPE, text=True, timeout=600)
+        return done.returncode, done.stdout, done.stderr
+
     def ask(self, who: Person, method: str, target: str, sequence: bytes = b"") -> http.client.HTTPResponse:
         """The answer to a request."""
         headers = {"X-Original-Method": method, "X-Original-URI": target, "X-Client-Cert": urllib.parse.quote(who.certificate)}
@@ -190,8 +209,8 @@ class Daemon:
             connection.close()
 
     def last(self) -> dict[str, object]:
-        """The last line of the log."""
-        with open(self.log, encoding="utf-8") as log:
+        """The last line of the log of grants."""
+        with open(self.grants, encoding="utf-8") as log:
             return dict(json.loads(log.readlines()[-1]))
 
 
@@ -249,7 +268,7 @@ class Served(OfGo):
                 self.assertEqual(daemon.ask(bob, "GET", "/web/a", shown).status, 200)
                 digests = daemon.last()["certificates"]
                 assert isinstance(digests, list)
-                daemon.write(daemon.ended, f"{digests[0]}  # Bob has left\n")
+                daemon.write(daemon.ended, sealed(f"{digests[0]} # Bob has left\n"))
                 daemon.write(daemon.list, "(acl (entry))")
                 message = daemon.reload()
                 self.assertEqual(message["event"], "reloaded not")

@@ -6,19 +6,14 @@ cannot be run until a command permits it. If examples/ has a file of this name, 
 
 In a block `console`, and in the manual's blocks, a line that begins with `$ ` is a command of the shell. A line with `> ` continues it.
 The lines up to the next command are what it should write. The commands of a page run unchanged, one after the other in one shell, with
-the program as `spki`, tools/locate as `locate` and cert/spki-cert as `spki-cert`, which has the built library. They run once in `sh`, and
+the program as `spki`, apps/locate as `locate` and apps/spki-cert/spki-cert as `spki-cert`, which has the built library. They run once in `sh`, and
 once in `bash`.
 
 An indented block below a paragraph that begins with `**C.**`, `**Rust.**`, `**Python.**` or `**Go.**` is a snippet: snippets.py compiles it and runs
-it. tests/test_cert.py runs the block of the first certificate. The line of another indented block is a command of the toolchain, `rt try`. It runs
-in this repository, where it takes about a minute. It is not run again while the crates below the program, the toolchain and what it reads are
-the same.
+it. The indented command `rt try` of README.md runs in this repository, where it takes about a minute. It is not run again while the crates below the
+program, the toolchain and what it reads are the same.
 
-These commands are left out:
-
-- Those in tables. They build, install, prove or test, and most take minutes to hours. tests/test_installed.py and tests/test_packaged.py
-  install. The scripts of the other rows are parts of `.ci/run` or `.ci/deep`.
-- Those of other pages, such as examples/README.md, which this test does not read."""
+tests/page_commands.py says which test runs the other commands and pages, and which commands no test runs."""
 import itertools
 import os
 import re
@@ -27,7 +22,7 @@ import subprocess
 import tempfile
 import textwrap
 import unittest
-from collections.abc import Callable, Iterable, Iterator
+from collections.abc import Callable, Iterable
 
 import built
 import building
@@ -79,7 +74,7 @@ def program_of(name):
 def steps_of_manual(page):
     """The manual's commands, from its blocks without filling."""
     for block in re.findall(r"^\.nf\n(.*?)^\.fi$", page, re.MULTILINE | re.DOTALL):
-        yield from commands(textwrap.dedent(block).replace("\\-", "-").replace("\\(aq", "'"))
+        yield from commands(textwrap.dedent(block).replace("\\-", "-").replace("\\(aq", "'").replace("\\(ga", "`"))
 
 
 def script(found):
@@ -97,7 +92,7 @@ def outputs_of(shell, found, program):
         for folder in ("bin", "work"):
             os.mkdir(os.path.join(room, folder))
         os.symlink(program, os.path.join(room, "bin", "spki"))
-        for folder, name in (("tools", "locate"), ("cert", "spki-cert")):
+        for folder, name in (("apps", "locate"), ("apps/spki-cert", "spki-cert")):
             os.symlink(os.path.abspath(os.path.join(TOP, folder, name)), os.path.join(room, "bin", name))
         path = os.path.join(room, "bin") + os.pathsep + os.environ["PATH"]
         done = subprocess.run([shell], input="".join(script(found)), cwd=os.path.join(room, "work"),
@@ -211,21 +206,14 @@ add_pages()
 
 
 class Indented(unittest.TestCase):
-    """The indented commands of README.md and of the guide."""
-
-    def commands(self) -> Iterator[str]:
-        """The commands of both pages."""
-        return (line for page in PAGES[:2] for line in commands_of(text_of(page)))
-
-    def test_all_are_known(self) -> None:
-        """Each has its answer in this file."""
-        self.assertEqual([line for line in self.commands() if line not in OF_TOOLCHAIN], [])
+    """The indented command of the toolchain in README.md."""
 
     def test_toolchain(self) -> None:
         """`rt try` prints what the page says. It is not run again on the same sources."""
         if building.kept().get("README.md's rt try") == sum_of_tried() and not built.IS_ANEW:
             return
-        for line in filter(OF_TOOLCHAIN.get, self.commands()):
+        for line in OF_TOOLCHAIN:
+            self.assertIn(line, commands_of(text_of("README.md")))
             done = subprocess.run(["sh", "-c", line], cwd=TOP, text=True, stdout=subprocess.PIPE, stderr=subprocess.PIPE,
                                   timeout=SECONDS_OF_TOOLCHAIN)
             self.assertEqual(done.stdout, OF_TOOLCHAIN[line], f"$ {line}\n{done.stderr[-1000:]}")

@@ -27,14 +27,14 @@ def found(pattern: str, text: str) -> str:
     return match[1] if match else ""
 
 
-def installed(program: str, library: str) -> tuple[tempfile.TemporaryDirectory, str]:
+def installed(program: str, library: str, **settings: str) -> tuple[tempfile.TemporaryDirectory, str]:
     """A folder with other files, to which install.sh has installed, and what it said."""
     prefix = tempfile.TemporaryDirectory()
     for place in OTHERS:
         os.makedirs(os.path.dirname(os.path.join(prefix.name, place)))
         with open(os.path.join(prefix.name, place), "w", encoding="ascii"):
             pass
-    status, said = output_of(os.path.join(TOP, "install.sh"), prefix.name, program, library)
+    status, said = output_of(os.path.join(TOP, "install.sh"), prefix.name, program, library, env={**os.environ, **settings})
     if status:
         raise AssertionError(f"install.sh ended with status {status}: {said}")
     return prefix, said
@@ -82,8 +82,8 @@ class Installed(built.OfLibrary):
     @needs.needs("cmake")
     def test_cmake(self) -> None:
         """CMake finds both libraries, of this version and of none with other first numbers."""
-        for target, version, is_found in (("spki::spki", "", True), ("spki::spki", "0.1", True), ("spki::static", "0.1.0", True),
-                                          ("spki::spki", "0.2", False), ("spki::spki", "0.1.1", False), ("spki::spki", "0.0.9", False)):
+        for target, version, is_found in (("spki::spki", "", True), ("spki::spki", "0.2", True), ("spki::static", "0.2.0", True),
+                                          ("spki::spki", "0.3", False), ("spki::spki", "0.2.1", False), ("spki::spki", "0.1.9", False)):
             with self.subTest(target=target, version=version), tempfile.TemporaryDirectory() as room:
                 with open(os.path.join(room, "CMakeLists.txt"), "w", encoding="ascii") as file:
                     file.write(f"cmake_minimum_required(VERSION 3.13)\nproject(linked C)\nfind_package(spki {version} REQUIRED)\n"
@@ -132,6 +132,8 @@ class Uninstalled(built.OfLibrary):
     """What is left when it was installed and uninstalled."""
 
     def test_files_left(self) -> None:
-        with installed(self.program, self.library)[0] as prefix:
-            status, said = output_of(os.path.join(TOP, "install.sh"), "--uninstall", prefix)
-            self.assertEqual((status, files_below(prefix)), (0, set(OTHERS)), said)
+        for folder in ("lib", "lib/x86_64-linux-gnu"):
+            with self.subTest(folder=folder), installed(self.program, self.library, LIBDIR=folder)[0] as prefix:
+                self.assertTrue(os.path.exists(os.path.join(prefix, folder, "libspki_c.so")))
+                status, said = output_of(os.path.join(TOP, "install.sh"), "--uninstall", prefix, env={**os.environ, "LIBDIR": folder})
+                self.assertEqual((status, files_below(prefix)), (0, set(OTHERS)), said)

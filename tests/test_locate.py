@@ -1,4 +1,4 @@
-"""Runs tools/locate on texts that are refused, and compares what it shows.
+"""Runs apps/locate on texts that are refused, and compares what it shows.
 
 First on texts with one mistake each: whole texts, and parts of a question to a guard. They are written out here with the place, by line
 and column, and with words of the remark that it should show. It must show each place once. Then on each row of the tables in `tables/`,
@@ -22,7 +22,7 @@ from model.answers import Refused, answer
 from rows import Row, rows_of
 from support import COMMANDS, TOP, loaded, tables_here
 
-PATH = os.path.join(TOP, "tools", "locate")
+PATH = os.path.join(TOP, "apps", "locate")
 GENERATED, SEED = 150, "locate"
 READ_AS = {"intersect": "refused tag", "check": "refused case", "explain": "refused case", "reduce": "refused case"}
 KEY = "(public-key (test a))"
@@ -50,7 +50,7 @@ MISTAKES = [
     ("(a\n (b c", "form Short", (2, 6), "not closed"),
     ('(a "b', "form Short", (1, 4), "string is not whole"),
     ("(9:abc)", "form Short", (1, 8), "9 octets"),
-    ("", "form Short", (1, 1), "no value"),
+    ("", "form Short", (1, 1), "the file is empty"),
     ("(" * 65, "form TooDeep", (1, 65), "65th list"),
     ("{KDE6YSk=", "form Short", (1, 10), "before `}`"),
     (with_field('(not-afer "2024-01-01_00:00:00")'), "sequence 3 Shape", (8, 2), "`not-after` meant"),

@@ -1,9 +1,8 @@
-"""Attacks the example of nginx and spki-authd, as it is set up: each attack of attacks.py, and lists that are changed under load, slow clients,
-and a daemon that is killed and started again. An attack passes if no status is 2xx, no file's content is sent, no file is changed, a log
-has a line more, and the daemon still answers.
+"""Tries the example of nginx and spki-authd, as it is set up, and among the ordinary lines of other sites: lists that are changed under load, slow
+clients, and a daemon that is killed and started again. test_attacks.py has the attacks.
 
 The example itself is run, as examples/nginx/run.sh runs it."""
-import base64
+import contextlib
 import json
 import os
 import re
@@ -15,31 +14,16 @@ import threading
 import unittest
 from typing import Any
 
-import attacks
 import needs
 import served
+from attackers import ASKED, DENIED, GRANTED, READ, UNDECIDED, Asked, Attackers, faults_of, in_braces, sequence, statuses
 from served import Site, waits_for
-from support import TESTS, output_of
-from spki_cert_tool.files import now, signer_at
-from spki_cert_tool.forms import Parser
+from test_go import sealed
 from spki_cert_tool.keys import digest_of
-from spki_cert_tool.making import Wish, certificate_of, signed_sequence
-from spki_cert_tool.sexp import Value, canonical
+from support import TESTS, output_of, text_of
 
-STATUS = re.compile(rb"^HTTP/1\.[01] (\d{3})", re.MULTILINE)
-CONTENTS = {"web/index.html": b"<p>the web</p>", "web/out/main.js": b"main", "secret/plan.txt": b"a plan"}
-LOGS = ("log/files.log", "log/error.log", "log/authd.log")
-READ = "(files read (* prefix /web/))"
+LOGS = ("log/files.log", "log/error.log", "log/authd.log", "log/grants.log")
 READERS, CHANGES = 4, 20
-
-
-def statuses(answer: bytes) -> list[int]:
-    return [int(found) for found in STATUS.findall(answer)]
-
-
-def in_braces(value: Any) -> str:
-    """A sequence, or octets that are none, as a header has it."""
-    return "{" + base64.b64encode(value if isinstance(value, bytes) else canonical(value)).decode() + "}"
 
 
 class OfSite(unittest.TestCase):
@@ -52,96 +36,22 @@ class OfSite(unittest.TestCase):
         cls.site = Site()
         cls.addClassCleanup(cls.site.end)
 
-    def sequence(self, by: str, to: str, tag: str, *, days: int = 9, begins: int = 0, chain: Value | None = None) -> Any:
-        """The sequence of a certificate, which may not be delegated."""
-        signer, key = (signer_at(self.site.at(f"keys/{who}")) for who in (by, to))
-        wish = Wish(key.key, None, Parser(tag.encode()).whole(), tag, now(begins), now(days), False, "")
-        return signed_sequence(certificate_of(wish, signer.key), signer, chain)
-
     def grants_ann(self) -> None:
         self.assertEqual(self.site.status("ann", "GET", "/web/index.html"), 200)
 
 
 @needs.needs(*served.NEEDS, *needs.LIBRARY)
 class Attacks(OfSite):
-    """Each attack."""
-
-    sent: dict[str, str]
-
-    @classmethod
-    def setUpClass(cls) -> None:
-        super().setUpClass()
-        cls.sent = cls("test_each").sequences()
-        cls("test_each").certificates_of_tls()
-        os.symlink("../secret", cls.site.at("files/web/link"))
-
-    def sequences(self) -> dict[str, str]:
-        """What attacks.py names, as headers have it."""
-        site = self.site
-        good = self.sequence("ann", "ben", READ)
-        text = canonical(good)
-        values: dict[str, Any] = {
-            "ben": good, "ended": self.sequence("ann", "ben", READ, days=-1, begins=-2), "early": self.sequence("ann", "ben", READ, begins=5),
-            "tag": text.replace(b"4:read", b"5:write"), "value": text[:-8] + bytes([text[-8] ^ 1]) + text[-7:],
-            "subject": text.replace(self.key("ben"), self.key("eve")), "own": self.sequence("ben", "ben", READ),
-            "signer": canonical(self.sequence("ben", "ben", READ)).replace(b"6:issuer" + self.key("ben"), b"6:issuer" + self.key("ann")),
-            "secret": self.sequence("ann", "ben", "(files read (* prefix /secret/))"),
-            "other": self.sequence("ann", "ben", "(files read /web/other)"),
-            "passed": self.sequence("ben", "eve", READ, chain=good), "unsigned": [b"sequence", good[1]], "none": [b"sequence"],
-            "many": [b"sequence", *good[1:] * 17], "key": self.key("ben"), "deep": b"(1:a" * 65 + b")" * 65, "name": self.name()}
-        certificate = "".join(re.findall(r"[^\n]+\n?", site.text("keys/ann.crt")))
-        ann = certificate.translate({ord(it): f"%{ord(it):02X}" for it in "\n +/=%"})
-        digest = digest_of(signer_at(site.at("keys/ann")).key).hex()
-        return {**{name: in_braces(value) for name, value in values.items()}, "ann": ann, "key": digest}
-
-    def key(self, who: str) -> bytes:
-        return canonical(signer_at(self.site.at(f"keys/{who}")).key)
-
-    def name(self) -> Value:
-        """A certificate by which Ann only calls Ben something."""
-        signer = signer_at(self.site.at("keys/ann"))
-        wish = Wish(signer_at(self.site.at("keys/ben")).key, b"readers", None, "", None, now(9), False, "")
-        return signed_sequence(certificate_of(wish, signer.key), signer, None)
-
-    def certificates_of_tls(self) -> None:
-        """Certificates for TLS that only attackers make."""
-        site, make = self.site, ("openssl", "req", "-x509", "-new")
-        site.sh(*make, "-key", "keys/eve", "-subj", "/CN=ann", "-days", "9", "-out", "keys/named-ann.crt")
-        site.write("keys/both.crt", site.text("keys/eve.crt") + site.text("keys/ann.crt"))
-        site.sh("openssl", "genpkey", "-algorithm", "EC", "-pkeyopt", "ec_paramgen_curve:P-384", "-out", "keys/p384")
-        site.sh(*make, "-key", "keys/p384", "-subj", "/CN=p384", "-days", "9", "-out", "keys/p384.crt")
-        site.sh("openssl", "req", "-new", "-key", "keys/ben", "-subj", "/CN=ben", "-out", "tmp/old.csr")
-        site.sh("openssl", "x509", "-req", "-in", "tmp/old.csr", "-key", "keys/ben", "-days", "-1", "-out", "keys/old.crt")
-
-    def filled(self, octets: bytes) -> bytes:
-        """The octets of an attack, with what they name."""
-        return re.sub(rb"\{(\w+)\}", lambda found: self.sent.get(found[1].decode(), found[0].decode()).encode(), octets)
+    """What the attacks of test_attacks.py are made of, and one that cannot be sent as octets."""
 
     def lines(self) -> int:
         return sum(self.site.text(name).count("\n") for name in LOGS)
 
-    def test_each(self) -> None:
-        for what, who, octets in attacks.all_of_them():
-            with self.subTest(what):
-                self.fails(who, self.filled(octets))
-        self.assertNotIn('"answer":"failed"', self.site.text("log/authd.log"))
-
-    def fails(self, who: str | None, octets: bytes) -> None:
-        """What is sent must get nothing, and leave a line in a log and all else as it is."""
-        before = self.lines()
-        answer = self.site.answer(who, octets)
-        self.assertEqual([it for it in statuses(answer) if it // 100 == 2], [], answer)
-        for name, content in CONTENTS.items():
-            self.assertNotIn(content, answer)
-            with open(self.site.at(f"files/{name}"), "rb") as file:
-                self.assertEqual(file.read().strip(), content)
-        waits_for("a line in a log", lambda: self.lines() > before)
-        self.grants_ann()
-
     def test_what_is_granted(self) -> None:
         """What attacks are made of grants where it is not an attack."""
-        self.assertEqual(self.site.status("ben", "GET", "/web/index.html?x=1", f"Authorization: SPKI {self.sent['ben']}"), 200)
-        self.assertEqual(self.site.status("ben", "HEAD", "/web/index.html", f"X-Spki-Sequence: {self.sent['ben']}"), 200)
+        sent = Attackers(self.site).sent
+        self.assertEqual(self.site.status("ben", "GET", "/web/index.html?x=1", f"Authorization: SPKI {sent['ben']}"), 200)
+        self.assertEqual(self.site.status("ben", "HEAD", "/web/index.html", f"X-Spki-Sequence: {sent['ben']}"), 200)
         self.assertEqual(self.site.status("ann", "GET", "/web/%69ndex.html"), 200)
 
     def test_foreign_certificate(self) -> None:
@@ -154,6 +64,138 @@ class Attacks(OfSite):
         self.assertIn("tls:", said)
         waits_for("a line in a log", lambda: self.lines() > before)
         self.grants_ann()
+
+
+SORRY = "/web/out/main.js"
+ERRORS = "500 502 503 504"
+CACHE = "proxy_cache_path {room}/tmp/cache keys_zone=site:1m; proxy_cache site; proxy_cache_valid any 1h; "
+# Ordinary lines of a site, by what they do: those of `http`, and those of the example's `server`.
+SITES: list[tuple[str, str, str]] = [
+    ("no more lines", "", ""),
+    ("error pages", f"error_page {ERRORS} = {SORRY};", ""),
+    ("error pages with 200", f"error_page {ERRORS} =200 {SORRY};", ""),
+    ("error pages with their status", f"error_page {ERRORS} {SORRY};", ""),
+    ("error pages in the server", "", f"error_page {ERRORS} = {SORRY};"),
+    ("error pages of denials", f"proxy_intercept_errors on; error_page 401 403 = {SORRY};", ""),
+    ("error pages of denials in the server", "proxy_intercept_errors on;", f"error_page 400 401 403 =200 {SORRY};"),
+    ("error pages of error pages", f"proxy_intercept_errors on; recursive_error_pages on; error_page 401 403 {ERRORS} =200 {SORRY};", ""),
+    ("an error page by a name", "proxy_intercept_errors on;",
+     f"error_page 401 403 {ERRORS} =200 @page; location @page {{ try_files {SORRY} =404; }}"),
+    ("an error page beside", "proxy_intercept_errors on;",
+     f"error_page 401 403 {ERRORS} =200 /page; location = /page {{ alias {{room}}/files{SORRY}; }}"),
+    ("an error page that is no file", "proxy_intercept_errors on;",
+     f"error_page 401 403 {ERRORS} =200 /page; location = /page {{ auth_request off; return 200 sorry; }}"),
+    ("a cache", CACHE + "proxy_ignore_headers Cache-Control Expires Set-Cookie Vary;", ""),
+    ("a cache by host", CACHE + "proxy_cache_key $host; proxy_ignore_headers Cache-Control Expires Set-Cookie Vary X-Accel-Expires;", ""),
+    ("a cache that outlives", CACHE + "proxy_ignore_headers Cache-Control; proxy_cache_use_stale error timeout http_500 http_503 http_403;", ""),
+    ("files of what was fetched", "proxy_store {room}/tmp/stored;", ""),
+    ("satisfy any", "satisfy any; allow all;", ""),
+    ("satisfy any for this machine", "satisfy any; allow 127.0.0.1; deny all;", ""),
+    ("retries", f"proxy_next_upstream error timeout http_403 http_500 http_503 non_idempotent; error_page {ERRORS} = {SORRY};", ""),
+    ("another method of asking", "proxy_method POST; proxy_pass_request_headers on;", ""),
+    ("lists of folders", "autoindex on; index index.html;", ""),
+    ("all methods of WebDAV", "dav_methods PUT DELETE MKCOL COPY MOVE;", ""),
+    ("files by their kind", "", "location ~* \\.(html|js|txt)$ { expires 1d; }"),
+    ("a folder of its own", "", "location /secret/ { root {room}/files; }"),
+    ("a folder inside", "", "location /web/ { location ~ html { expires 1d; } }"),
+    ("a choice of files", "", "location /secret/ { try_files $uri /web/index.html =404; }"),
+    ("an if", "", "location /secret/ { if ($request_method = GET) { expires 1d; } }"),
+    ("a folder that does not ask", "", "location /secret/ { auth_request off; }"),
+    ("a folder where any will do", "", "location /secret/ { satisfy any; allow all; }"),
+    ("open files that are kept", "open_file_cache max=100; open_file_cache_errors on; open_file_cache_valid 1h;", ""),
+]
+# Lines of one lock that are taken away, with what they keep out.
+LOCKS: list[tuple[str, str, str]] = [
+    ("error pages", f"proxy_intercept_errors on; error_page 401 403 {ERRORS} =200 {SORRY};", "(error_page 599 /|proxy_intercept_errors off);"),
+    ("satisfy any", "satisfy any; allow all;", "satisfy all;"),
+    ("nobody is asked", "", "auth_request /.spki-authd;")]
+
+
+@needs.needs(*served.NEEDS, *needs.LIBRARY)
+class Sites(OfSite):
+    """The example among the ordinary lines of other sites: none of them turns a denial into a grant, nor a daemon that does not answer."""
+
+    def setUp(self) -> None:
+        self.kept = {name: self.site.text(f"etc/{name}") for name in ("loopback.conf", "files.conf")}
+        self.addCleanup(lambda: self.sets("", ""))
+
+    def sets(self, of_all: str, of_server: str, without: str = "no such line") -> None:
+        """Starts nginx again with more lines, and without some."""
+        for name, place, lines in (("loopback.conf", "include files.conf;", of_all), ("files.conf", "server_name localhost;", of_server)):
+            more = lines.replace("{room}", self.site.room)
+            self.site.write(f"etc/{name}", re.sub(f"(?m)^ *{without}$", "", self.kept[name]).replace(place, f"{more}\n{place}", 1))
+        self.site.restart_server()
+
+    def get_nothing(self, asked: list[Asked], must: set[int]) -> None:
+        for each in asked:
+            self.assertEqual(faults_of(self.site, each, must), [])
+
+    def test_denied(self) -> None:
+        for name, of_all, of_server in SITES:
+            self.sets(of_all, of_server)
+            with self.subTest(name):
+                self.grants_ann()
+                self.get_nothing(ASKED, DENIED)
+                self.grants_ann()
+
+    def test_included(self) -> None:
+        """A file that Ann writes includes none that she may not read."""
+        self.sets("ssi on; ssi_types *;", "")
+        page = '<!--#include virtual="/secret/plan.txt" -->'
+        self.assertEqual(self.site.status("ann", "PUT", "/web/page.html", body=page), 201)
+        answer = self.site.answer("ann", b"GET /web/page.html HTTP/1.1\r\nHost: localhost\r\nConnection: close\r\n\r\n")
+        self.assertTrue(answer.endswith(page.encode()), answer)
+
+    def test_one_lock(self) -> None:
+        """Where the first lock is broken, the second holds: an answer of 200 that is not the daemon's finds no file."""
+        for name, of_all, line in LOCKS:
+            self.sets(of_all, "", without=line)
+            with self.subTest(name):
+                self.get_nothing([each for each in ASKED if each[2] != "/web/"], DENIED | UNDECIDED)
+
+    def test_daemon_stopped(self) -> None:
+        self.grants_ann()
+        self.site.stop_daemon()
+        self.addCleanup(self.site.start_daemon)
+        for name, of_all, of_server in SITES:
+            self.sets(of_all, of_server)
+            with self.subTest(name):
+                self.get_nothing([*ASKED, *GRANTED], DENIED - {401} | UNDECIDED)
+
+    def test_full_queue(self) -> None:
+        """Where the queue of the daemon's socket is full, nginx cannot ask, and nobody gets anything."""
+        self.sets(f"error_page {ERRORS} = {SORRY};", "")
+        self.grants_ann()
+        self.site.stop_daemon()
+        self.addCleanup(self.site.start_daemon)
+        with contextlib.ExitStack() as stack:
+            full = stack.enter_context(socket.socket(socket.AF_UNIX))
+            full.bind(self.site.at("run/socket"))
+            full.listen(0)
+            for _ in range(2):
+                waiting = stack.enter_context(socket.socket(socket.AF_UNIX))
+                waiting.setblocking(False)
+                with contextlib.suppress(BlockingIOError):
+                    waiting.connect(self.site.at("run/socket"))
+            self.get_nothing([*ASKED, *GRANTED], DENIED - {401} | UNDECIDED)
+
+
+class Numbers(unittest.TestCase):
+    """Numbers of the example that must fit others."""
+
+    def number(self, pattern: str) -> int:
+        """The only number at a place of the example."""
+        found, = re.findall(pattern, text_of("examples/nginx/files.conf"))
+        return int(found)
+
+    def test_idle_connections(self) -> None:
+        """The idle connections of 40 workers leave a quarter of the 1,024 places of a daemon to others."""
+        self.assertLessEqual(40 * self.number(r"keepalive (\d+);"), 768)
+
+    def test_rates(self) -> None:
+        """An address takes at most a tenth of a core: 18 ms a request with certificates, and 0.1 ms without."""
+        self.assertLessEqual(self.number(r"zone=spki_showing:\w+ rate=(\d+)r/s") * 0.018, 0.1)
+        self.assertLessEqual(self.number(r"zone=spki:\w+ rate=(\d+)r/s") * 0.0001, 0.01)
 
 
 @needs.needs(*served.NEEDS, *needs.LIBRARY)
@@ -231,13 +273,15 @@ class Changes(OfSite):
         self.grants_ann()
 
     def test_ended_certificates(self) -> None:
-        """A certificate whose digest is in the file counts no longer, and counts again when the file is empty."""
-        sequence = self.sequence("ann", "ben", READ)
-        shown, before = f"Authorization: SPKI {in_braces(sequence)}", self.site.text("etc/ended")
+        """A certificate whose digest is in the file counts no longer, and counts again when it is gone from the file, and that is wanted."""
+        shown_by_ben = sequence(self.site, "ann", "ben", READ)
+        shown, before = f"Authorization: SPKI {in_braces(shown_by_ben)}", self.site.text("etc/ended")
         self.assertEqual(self.site.status("ben", "GET", "/web/index.html", shown), 200)
-        for text, status in ((f"{digest_of(sequence[1]).hex()}\n", 403), ("no digest\n", 403), (before, 200)):
+        asks = (self.site.program, "-config", self.site.at("etc/authd.json"), "-reload")
+        for text, words, done, status in ((sealed(f"{digest_of(shown_by_ben[1]).hex()}\n"), (), 0, 403), ("no digest\n", (), 1, 403),
+                                          (before, (), 1, 403), (before, ("-fewer",), 0, 200)):
             self.site.write("etc/ended", text)
-            self.site.reload()
+            self.assertEqual(output_of(*asks, *words)[0], done)
             self.assertEqual(self.site.status("ben", "GET", "/web/index.html", shown), status)
 
 
@@ -246,8 +290,9 @@ class Limits(OfSite):
     """What clients see past the limits of nginx and of the daemon, and what the logs say."""
 
     def lines(self) -> list[dict[str, Any]]:
-        """The lines of the daemon's log."""
-        return [json.loads(line) for line in self.site.text("log/authd.log").splitlines()]
+        """The lines of both logs of the daemon, in the order of their times."""
+        lines = [json.loads(line) for name in ("authd", "grants") for line in self.site.text(f"log/{name}.log").splitlines()]
+        return sorted(lines, key=lambda line: str(line["time"]))
 
     def with_limits(self, **limits: int) -> None:
         """Starts the daemon again with other limits."""
@@ -266,6 +311,20 @@ class Limits(OfSite):
         met = statuses(answer)
         self.assertEqual((len(met), set(met)), (count, {200, 429}))
         self.assertEqual(len(self.lines()) - before, met.count(200))
+        self.grants_ann()
+
+    def test_rate_of_certificates(self) -> None:
+        """Who shows certificates has a lower rate, and the daemon is not asked past it."""
+        shown = f"Authorization: SPKI {in_braces(sequence(self.site, 'ann', 'ben', READ))}"
+        each, count = f"GET /web/index.html HTTP/1.1\r\nHost: localhost\r\n{shown}\r\n", 80
+        asked = f"{each}\r\n".encode() * (count - 1) + f"{each}Connection: close\r\n\r\n".encode()
+
+        def is_limited() -> bool:
+            before, met = len(self.lines()), statuses(self.site.answer_at_once("ben", asked))
+            self.assertEqual((len(met), len(self.lines()) - before), (count, met.count(200)))
+            return set(met) == {200, 429}
+        # (requests of the tests before may have used the rate up)
+        waits_for("a request within the rate", is_limited)
         self.grants_ann()
 
     def test_numbers_of_requests(self) -> None:
@@ -324,7 +383,8 @@ class Limits(OfSite):
 class Example(unittest.TestCase):
     """The one command of the example."""
 
-    ANSWERS = ["ann GET /web/index.html: 200", "ann PUT /web/new.txt: 201", "ann GET /web/new.txt: 200", "ann GET /secret/plan.txt: 401",
+    ANSWERS = ["nobody GET /web/index.html: 401", "ann GET /web/index.html: 500",
+               "ann GET /web/index.html: 200", "ann PUT /web/new.txt: 201", "ann GET /web/new.txt: 200", "ann GET /secret/plan.txt: 401",
                "ben GET /web/new.txt: 401", "robot PUT /web/out/main.js: 204", "robot GET /web/out/main.js: 401", "ben GET /web/new.txt: 200",
                "ben PUT /web/new.txt: 403", "ben GET /secret/plan.txt: 403", "eve GET /web/new.txt: 403"]
 

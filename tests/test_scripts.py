@@ -10,10 +10,10 @@ from support import TESTS, TOP
 MARK = "#!/usr/bin/env python3"
 LINE_LENGTH = 150
 # The folders whose modules are imported by their names alone, and the one whose modules have names that others have too.
-MODULES = ("tests", "examples", "examples/signed", "examples/database", "bindings/python", "bench", "cert")
-PAGE = "tools/playground"
+MODULES = ("tests", "examples", "examples/signed", "examples/database", "bindings/python", "bench", "apps/spki-cert")
+PAGE = "apps/playground"
 # The folders whose modules mypy reads apart from those of other folders.
-APART = ("tests", "bench", "tools", "cert", "bindings")
+APART = ("tests", "bench", "apps/playground", "apps/spki-cert", "bindings")
 
 
 def scripts() -> list[str]:
@@ -43,11 +43,10 @@ class Scripts(unittest.TestCase):
         """mypy accepts the types: in groups, since folders have modules of one name, and of each script without a suffix alone."""
         groups: dict[str, list[str]] = {}
         for path in scripts():
-            folder = path.split("/")[0]
-            group = path if not path.endswith(".py") else folder if folder in APART else "others"
+            group = path if not path.endswith(".py") else next((folder for folder in APART if path.startswith(f"{folder}/")), "others")
             groups.setdefault(group, []).append(path)
         for name, paths in groups.items():
-            settings = {**os.environ, "MYPYPATH": ":".join([*[PAGE] * (name == "tools"), *MODULES])}
+            settings = {**os.environ, "MYPYPATH": ":".join([*[PAGE] * (name == PAGE), *MODULES])}
             with self.subTest(name):
                 done = subprocess.run(["mypy", "--cache-dir", os.path.join(TESTS, "out", "mypy"), *paths], cwd=TOP, stdout=subprocess.PIPE,
                                       stderr=subprocess.STDOUT, text=True, env=settings)

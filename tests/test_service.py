@@ -19,8 +19,8 @@ needs.required("import cryptography")
 sys.path.insert(0, os.path.join(EXAMPLES, "signed"))
 import spki_verify  # noqa: E402
 import tools  # noqa: E402
+from login import message  # noqa: E402
 from run import PASTED, READ, SERVICE, WRITE, Story, changed_bit, signed, with_changed_bit, with_digest_of  # noqa: E402
-from spki_cert_tool.login import message  # noqa: E402
 
 FOLDER = os.path.join(EXAMPLES, "c")
 STRICT = ["cc", "-std=c11", "-Wall", "-Wextra", "-Wpedantic", "-Werror", "-O1", "-g"]

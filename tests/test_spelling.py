@@ -10,7 +10,7 @@ import needs
 from support import TESTS, TOP
 
 KINDS = (".md", ".1", ".py", ".rs", ".go", ".rt", ".h", ".c", ".sh")
-WITHOUT_END = ("tools/locate", "tests/run", ".ci/run", ".ci/deep")
+WITHOUT_END = ("apps/locate", "tests/run", ".ci/run", ".ci/deep")
 
 
 def files_here() -> Iterator[str]:

@@ -83,7 +83,8 @@ static struct answer done(call *calls, const void *with, size_t size)
     until_refusal = next_refusal = 0;
     written = answer.status == SPKI_TOO_SMALL ? 0 : answer.length;
     holds(answer.status == SPKI_TOO_SMALL ? answer.length > size : answer.length <= size, "another length is needed");
-    for (size_t place = written; place < size; place++)
+    holds(written || !size || !buffer[0], "a line of an earlier call is left where no answer is written");
+    for (size_t place = written ? written : 1; place < size; place++)
         holds(buffer[place] == UNTOUCHED, "the buffer is written where no answer stands");
     for (size_t place = 0; place < CANARIES; place++)
         holds(block[place] == CANARY && buffer[size + place] == CANARY, "the call writes past the buffer");
@@ -148,6 +149,11 @@ static enum spki_status answers_rows(const void *with, void *buffer, size_t leng
 {
     const struct of_text *it = with;
     return spki_check_accepted(it->text.octets, it->text.length, it->rows.octets, it->rows.length, buffer, length, needed);
+}
+
+static int equals(struct spki_text one, struct spki_text other)
+{
+    return one.length == other.length && !memcmp(one.octets, other.octets, one.length);
 }
 
 static struct spki_text lent(const struct text *text)
@@ -222,36 +228,53 @@ static enum spki_status asks(const void *with, void *buffer, size_t length, size
     return status;
 }
 
-/* An opened question, its marks, and the call that answers it. */
+/* An opened question, and the call that answers it. */
 struct of_asked {
-    const spki_asked *asked;
-    size_t count;
-    unsigned char marks[MOST_MARKS];
-    enum spki_status (*answers)(const spki_asked *, const unsigned char *, size_t, void *, size_t, size_t *);
+    spki_asked *asked;
+    enum spki_status (*answers)(const spki_asked *, void *, size_t, size_t *);
 };
 
 static enum spki_status answers_asked(const void *with, void *buffer, size_t length, size_t *needed)
 {
     const struct of_asked *it = with;
-    return it->answers(it->asked, it->marks, it->count, buffer, length, needed);
+    return it->answers(it->asked, buffer, length, needed);
 }
 
-/* Looks at the signatures of a question, marks them, and writes the rows of those that are marked. */
-static void mark(struct input *in, struct of_asked *with, struct text *rows)
+/* The first place that has a signature equal to that at a place. */
+static size_t first_equal(const spki_asked *asked, size_t place)
 {
+    struct spki_signed own, other;
+    size_t first = 0;
+    holds(spki_asked_signature(asked, place, &own) == SPKI_DONE, "no signature");
+    while (spki_asked_signature(asked, first, &other) == SPKI_DONE && !(equals(own.key, other.key) && equals(own.message, other.message)
+                                                                        && equals(own.value, other.value)))
+        first++;
+    return first;
+}
+
+/* Looks at the signatures of a question, marks some of them, equal ones alike, and writes the rows of those that are marked. Returns how many
+ * are not. */
+static size_t mark(struct input *in, spki_asked *asked, struct text *rows)
+{
+    static int marks[MOST_MARKS];
+    const size_t count = spki_asked_count(asked);
     struct spki_signed it;
+    size_t unmarked = 0;
     begin(rows, "accepted");
-    with->count = spki_asked_count(with->asked);
-    holds(with->count <= MOST_MARKS, "more signatures than certificates");
-    for (size_t place = 0; place < with->count; place++) {
+    holds(count <= MOST_MARKS, "more signatures than certificates");
+    for (size_t place = 0; place < count; place++) {
         struct text message = {0};
-        holds(spki_asked_signature(with->asked, place, &it) == SPKI_DONE, "no signature");
+        holds(spki_asked_signature(asked, place, &it) == SPKI_DONE, "no signature");
         find(in, it.key);
         find(in, it.message);
         find(in, it.value);
-        with->marks[place] = mostly(in, 1, 3) == 1;
-        if (!with->marks[place])
+        marks[place] = mostly(in, 1, 3) == 1;
+        marks[place] = marks[first_equal(asked, place)];
+        if (!marks[place]) {
+            unmarked++;
             continue;
+        }
+        holds(spki_asked_mark(asked, place) == SPKI_DONE, "a signature that cannot be marked");
         begin(rows, "by");
         put(rows, it.key.octets, it.key.length);
         put(&message, it.message.octets, it.message.length);
@@ -260,7 +283,9 @@ static void mark(struct input *in, struct of_asked *with, struct text *rows)
         end(rows);
     }
     end(rows);
-    holds(spki_asked_signature(with->asked, with->count, &it) == SPKI_NONE && !it.key.octets, "a signature too many");
+    holds(spki_asked_signature(asked, count, &it) == SPKI_NONE && !it.key.octets, "a signature too many");
+    holds(spki_asked_mark(asked, count) == SPKI_MISUSED, "a mark too many");
+    return unmarked;
 }
 
 /* The explanation must name the entry of the decision. */
@@ -326,28 +351,30 @@ static void compare(struct input *in, const struct parts *parts, const struct te
 }
 
 /* Answers an opened question by marks. */
-static void decide(struct input *in, const struct parts *parts, const spki_asked *asked, enum spki_policy policy)
+static void decide(struct input *in, const struct parts *parts, spki_asked *asked, enum spki_policy policy)
 {
     static struct text rows;
-    struct of_asked with = {.asked = asked, .answers = spki_asked_decide};
+    struct of_asked with = {asked, spki_asked_decide};
     struct answer decision, again;
+    const size_t count = spki_asked_count(asked);
+    const bool is_possible = spki_asked_possible(asked);
+    size_t unmarked;
     rows.length = 0;
-    mark(in, &with, &rows);
+    holds(!count || !spki_asked_granted(asked), "a grant without a valid signature");
+    unmarked = mark(in, asked, &rows);
     decision = answered(in, answers_asked, &with);
     holds(decision.status == SPKI_YES || is(&decision, "no\n"), "no decision");
+    holds(spki_asked_granted(asked) == (decision.status == SPKI_YES), "a yes that is none, or none that is one");
+    holds(decision.status == SPKI_NO || !unmarked, "a grant with a signature that is not valid");
+    holds(unmarked || is_possible == (decision.status == SPKI_YES), "all signatures are valid, and the answer is not the one that was possible");
+    holds(spki_asked_possible(asked) == is_possible, "a mark changes what is possible");
     compare(in, parts, &rows, policy, &decision);
     explain(in, &with, &decision);
     with.answers = spki_asked_decide;
     again = answered(in, answers_asked, &with);
     holds(are_same(&decision, &again), "another decision by the same marks");
     free(again.octets);
-    memset(with.marks, 0, sizeof with.marks);
-    again = answered(in, answers_asked, &with);
-    holds(again.status == SPKI_NO || !with.count, "a grant without a valid signature");
-    free(again.octets);
     free(decision.octets);
-    with.count++;
-    holds(spki_asked_decide(asked, with.marks, with.count, NULL, 0, NULL) == SPKI_MISUSED, "a mark too many");
 }
 
 /* The parts as a question, whose texts are copies that change once it is opened. */

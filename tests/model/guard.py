@@ -1,5 +1,6 @@
 """A guard: an access list that is read once, and questions whose parts are texts of their own (section "Questions to a guard")."""
 import datetime
+import hashlib
 from dataclasses import dataclass
 from typing import Any
 
@@ -25,16 +26,18 @@ GIVEN = Rows("question to a guard, given", [
 SIGNED = Rows("question to a guard, signatures that are listed", ["none", "of each certificate", "up to one that does not stand"])
 DECIDED = Rows("question to a guard, decided", ["yes where check is TooLarge", "no where check is TooLarge", "as check"])
 STATUSES = Rows("question to a guard, status", [f"{wish}: {status}" for wish in WISHES for status in (0, 1, 2)])
-# what is misuse when a guard is opened, when a question is opened, when a signature is asked for, when a question is answered
+# what is misuse when a guard is opened, when a question is opened, when a signature is asked for, when a question is answered, when a signature
+# is marked
 OPENED = ("no policy has this number", "a limit of octets above the highest", "a limit of nodes above the highest", "no place for the guard",
           "a list that is null with a length", "limits of another size")
 ASKED = ("no guard", "no question", "a part that is null with a length", "a part of a length over 2^63 - 1", "strings that are null with a count",
          "more strings than there are octets", "no place for the question", "a question of another size", "a request as a text and as strings",
          "a moment as a text and in seconds", "a buffer for a line that is null with a length")
 LISTED = ("no place for the signature", "a signature of no question")
-ANSWERED = ("marks that are null with a count", "a buffer that is null with a length", "no opened question")
-OTHER_MARKS = "another number of marks"
-MISUSES = Rows("question to a guard, status 5", [*OPENED, *ASKED, *LISTED, *ANSWERED, OTHER_MARKS])
+ANSWERED = ("a buffer that is null with a length", "no opened question", "a guard in place of an opened question")
+MARKED = ("a mark past the signatures", "a mark far past the signatures", "a mark of no opened question")
+MISUSES = Rows("question to a guard, status 5", [*OPENED, *ASKED, *LISTED, *ANSWERED, *MARKED])
+POSSIBLE = Rows("question to a guard, if all signatures were valid", ["yes", "no"])
 ALLOWED = Rows("question to a guard, null pointers that are allowed", ["limits", "needed"])
 SMALL = Rows("question to a guard, status 4", ["the line of a refused list", "the line of a refused question", "an answer"])
 FIRST_SECOND, LAST_SECOND = -62_167_219_200, 253_402_300_799
@@ -249,7 +252,7 @@ def answer(wish: str, list_text: bytes, asked: Parts, rows: list[Row], policy: i
             return misused(oddity)
         case = case_of(guard, asked, rows)
         listed = signed(case)
-        if oddity in (*LISTED, *ANSWERED, OTHER_MARKS):
+        if oddity in (*LISTED, *ANSWERED, *MARKED):
             return misused(oddity)
         with intersection.limited(limits.nodes, None if wish == "decide" else limits.work):
             status, said = WISHES[wish](case, case.rows)
@@ -264,3 +267,14 @@ def answer(wish: str, list_text: bytes, asked: Parts, rows: list[Row], policy: i
     if oddity in ALLOWED.counts:
         ALLOWED.used(oddity)
     return of_library(f"guard {wish}", (status, said)), listed
+
+
+def is_possible(list_text: bytes, asked: Parts, policy: int, limits: Limits) -> bool:
+    """Whether a question that is read would be granted if all its signatures were valid."""
+    guard = open_guard(list_text, policy == STRICT, limits)
+    case = case_of(guard, asked, [])
+    rows = [Row(structures.read_key(forms.read(key)), hashlib.sha256(message).digest(), value) for key, message, value in signed(case)]
+    with intersection.limited(limits.nodes, None):
+        is_granted = answers.decide(case, rows)[0] == answers.YES
+    POSSIBLE.used("yes" if is_granted else "no")
+    return is_granted

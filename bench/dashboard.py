@@ -1,0 +1,123 @@
+#!/usr/bin/env python3
+"""Draws docs/pictures/dashboard.svg from a run of spki-authd behind nginx, by what `spki-authd -metrics` says each second.
+
+The run is that of authd.py under half of its load: a list of 10,000 entries, and chains of three certificates. After a third the client's issuer is
+taken from the list, after two thirds the list is put back, and in between a reload is refused.
+
+Needs what authd.py needs. Usage: bench/dashboard.py [--seconds N] [LIBRARY]
+"""
+import argparse
+import os
+import re
+import subprocess
+import sys
+import tempfile
+import threading
+import time
+from xml.sax.saxutils import escape
+
+from authd_site import Site
+
+sys.path.append(os.path.join(os.path.dirname(os.path.abspath(__file__)), "..", "tests"))
+from support import LIBRARY, TOP  # noqa: E402
+
+PICTURE = os.path.join(TOP, "docs", "pictures", "dashboard.svg")
+CONNECTIONS, DELAY = 32, 4
+VALUE = re.compile(r"^spki_authd_(\w+)(?:\{(.*)\})? ([0-9.e+-]+)$", re.MULTILINE)
+WIDTH, HEIGHT, LEFT, TOP_OF_PANEL, ROW = 370, 150, 60, 40, 215
+COLOURS = "#1b6ca8", "#c0392b", "#7f8c8d", "#d68910"
+
+
+def metrics(site):
+    """The values of the metrics, by name and labels."""
+    said = subprocess.run([site.program, "-metrics", "-config", site.path("config.json")], stdout=subprocess.PIPE, text=True, check=True).stdout
+    return {(name, labels): float(value) for name, labels, value in VALUE.findall(said)}
+
+
+def changes(site, seconds):
+    """Takes the issuer from the list, has a broken list refused, and puts the list back."""
+    with open(site.list, "rb") as file:
+        whole = file.read()
+    without = whole[:whole.rindex(b"(5:entry")] + b")"
+    for text in (without, b"(3:acl", whole):
+        time.sleep(seconds / 4)
+        with open(site.list, "wb") as file:
+            file.write(text)
+        subprocess.run([site.program, "-reload", "-config", site.path("config.json")], stdout=subprocess.DEVNULL, stderr=subprocess.DEVNULL)
+
+
+def sampled(site, seconds):
+    """The metrics of each second of a run."""
+    threads = [threading.Thread(target=site.load, args=(site.nginx[2], seconds, CONNECTIONS, DELAY)),
+               threading.Thread(target=changes, args=(site, seconds))]
+    for each in threads:
+        each.start()
+    found = []
+    for _ in range(seconds):
+        found.append(metrics(site))
+        time.sleep(1)
+    for each in threads:
+        each.join()
+    return found
+
+
+def rates(samples, name, labels):
+    """By how much a counter grew in each second."""
+    values = [sum(value for key, value in sample.items() if key[0] == name and labels in key[1]) for sample in samples]
+    return [after - before for before, after in zip(values, values[1:])]
+
+
+def quantile(samples, share):
+    """The milliseconds below which a share of the answers of each second is."""
+    bounds = sorted({float(labels[4:-1]) for name, labels in samples[0] if name == "seconds_bucket" and "Inf" not in labels})
+    grown = [rates(samples, "seconds_bucket", f'le="{bound:g}"') for bound in bounds]
+    counts = rates(samples, "seconds_count", "")
+    return [next((bound * 1000 for bound, each in zip(bounds, grown) if each[at] >= share * count), bounds[-1] * 1000)
+            for at, count in enumerate(counts)]
+
+
+def panels(samples):
+    """The title of each panel, and its lines."""
+    yield "Answers a second", [(answer, rates(samples, "decisions_total", f'answer="{answer}"')) for answer in ("yes", "no", "failed")]
+    yield "Bound of 99 of 100 answers, ms", [("p99", quantile(samples, 0.99))]
+    yield "Signatures a second", [(how, rates(samples, "signatures_total", f'how="{how}"')) for how in ("known", "verified", "spared")]
+    gauges = (("entries in 1,000", "list_entries", 1000), ("last reload refused", "last_reload_refused", 1))
+    yield "List", [(title, [sample[name, ""] / unit for sample in samples[1:]]) for title, name, unit in gauges]
+
+
+def drawn(place, title, lines):
+    """A panel in SVG."""
+    left, top = LEFT + place % 2 * (WIDTH + 80), TOP_OF_PANEL + place // 2 * ROW
+    most = max(max(values) for _, values in lines) or 1
+    yield f'<text x="{left}" y="{top - 8}" font-weight="bold">{escape(title)}</text>'
+    yield f'<rect x="{left}" y="{top}" width="{WIDTH}" height="{HEIGHT}" fill="none" stroke="#999"/>'
+    yield f'<text x="{left - 6}" y="{top + 10}" text-anchor="end">{float(f"{most:.4g}"):,.10g}</text>'
+    yield f'<text x="{left - 6}" y="{top + HEIGHT}" text-anchor="end">0</text>'
+    for number, (name, values) in enumerate(lines):
+        step = WIDTH / max(1, len(values) - 1)
+        points = " ".join(f"{left + at * step:.1f},{top + HEIGHT - value / most * HEIGHT:.1f}" for at, value in enumerate(values))
+        yield f'<polyline points="{points}" fill="none" stroke="{COLOURS[number]}" stroke-width="1.5"/>'
+        yield f'<text x="{left + number * 130}" y="{top + HEIGHT + 16}" fill="{COLOURS[number]}">{escape(name)}</text>'
+
+
+def main():
+    asked = argparse.ArgumentParser(description=__doc__, formatter_class=argparse.RawDescriptionHelpFormatter)
+    asked.add_argument("--seconds", type=int, default=60)
+    asked.add_argument("library", nargs="?", default=LIBRARY)
+    given = asked.parse_args()
+    with tempfile.TemporaryDirectory() as room:
+        site = Site(room, os.path.abspath(given.library))
+        try:
+            site.build()
+            site.start_all()
+            samples = sampled(site, given.seconds)
+        finally:
+            site.end()
+    parts = [part for place, (title, lines) in enumerate(panels(samples)) for part in drawn(place, title, lines)]
+    with open(PICTURE, "w", encoding="utf-8") as file:
+        file.write('<svg xmlns="http://www.w3.org/2000/svg" width="900" height="450" font-family="sans-serif" font-size="12">\n'
+                   '<rect width="900" height="450" fill="white"/>\n' + "\n".join(parts) + "\n</svg>\n")
+
+
+if __name__ == "__main__":
+    main()
