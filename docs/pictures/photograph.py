@@ -1,5 +1,5 @@
 #!/usr/bin/env python3
-"""Takes the pictures of the page `tools/playground`, as docs/GUIDE.md and README.md show them:
+"""Takes the pictures of the page `apps/playground`, as docs/GUIDE.md and README.md show them:
 
 playground.png           the story of the guide
 playground-denial.png    Carol passes her right on to Bob
@@ -33,6 +33,7 @@ class Camera(InChromium):
                                     "it.dispatchEvent(new Event('change'))", str(example))
         self.until("return document.getElementById('span').textContent && document.getElementById('kind').textContent === arguments[0]",
                    "No" if example else "Yes")
+        self.until("return !document.getAnimations().length")
         path = os.path.join(HERE, f"{name}.png")
         self.browser.save_screenshot(path)
         subprocess.run(["pngquant", "--speed", "1", "--nofs", "--force", "--output", path, "48", path], check=True)
