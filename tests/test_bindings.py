@@ -139,11 +139,12 @@ def spelled(reasons):
 
 def answered_by_python(spki, asked):
     """What the module answers, as the program's lines."""
-    def verify(*signed):
-        return signed in asked.accepted
+    def verify(it):
+        return (it.key, it.message, it.value) in asked.accepted
 
     request = {"text" if isinstance(asked.request, bytes) else "words": asked.request}
-    question = spki.Question(asked.sequence, asked.key, moment=asked.moment, **request)
+    moment = asked.moment if isinstance(asked.moment, bytes) else datetime.fromtimestamp(asked.moment, timezone.utc)
+    question = spki.Question(asked.sequence, spki.ProvenKey.assume(asked.key), moment=moment, **request)
     policy = spki.Policy.STRICT if asked.is_strict else spki.Policy.ALLOW_SHA1
     try:
         with spki.Guard(asked.access_list, policy, spki.Limits.highest()) as guard:

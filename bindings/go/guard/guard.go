@@ -9,7 +9,7 @@
 //	...
 //	decision, err := list.Decide(guard.Question{
 //		Sequence: sequence,                            // from the client
-//		Key:      key,                                 // of the client, who has proved to hold it
+//		Key:      spki.AssumeKey(key),                 // of the client, who has proved to hold it, as by TLS; else spki.ProveKey
 //		Words:    []string{"packages", "read", path},  // what is asked for
 //		Time:     time.Now(),
 //	}, verify.Signature)
@@ -17,8 +17,7 @@
 //		// denied
 //	}
 //
-// The client must have proved that it holds the key, as by TLS or SSH. A public key is public: without a proof, each client that sends
-// Alice's key would have Alice's rights.
+// A decision holds for its moment alone: ask again for the next one.
 //
 // The library's decisions are proved. The lines of this module are tested and not proved.
 //
@@ -72,22 +71,20 @@ func (g *Guard) lock() (handle, error) {
 	return g.held.handle, nil
 }
 
-// A Verify says whether a value is a signature of a message by a key. The texts are in canonical form: the issuer's `(public-key ..)`, the
-// certificate, and the value of `(signature ..)`.
-type Verify func(key, message, value []byte) bool
+// A Verify says whether a signature is valid.
+type Verify func(signature Signature) bool
 
 // A VerifyContext is a Verify that may take time or fail, as one that asks another service. With an error it is not known whether the
 // signature is valid, and nothing is granted.
-type VerifyContext func(ctx context.Context, key, message, value []byte) (bool, error)
+type VerifyContext func(ctx context.Context, signature Signature) (bool, error)
 
 // Open reads an access list, `(acl entry ..)`, in any of the three forms of RFC 9804. The error is a *Refusal if the text is no access list,
 // and ErrMisused if a limit is over the highest or below zero.
 func Open(list []byte, policy Policy, limits Limits) (*Guard, error) {
-	given, err := limits.orUsual()
-	if err != nil {
+	if err := limits.check(); err != nil {
 		return nil, err
 	}
-	opened, err := open(list, policy, given)
+	opened, err := open(list, policy, limits)
 	if err != nil {
 		return nil, err
 	}
