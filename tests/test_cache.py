@@ -5,11 +5,15 @@ import subprocess
 import sys
 import tempfile
 import unittest
+from typing import TYPE_CHECKING
 
 import built
 import golang
 import needs
 from support import EXAMPLES, TOP, canonical
+
+if TYPE_CHECKING:
+    from spki_cert_tool.sexp import Value
 
 SECONDS = 1800
 CRATE, RUST, PYTHON = (os.path.join(TOP, *words) for words in (["crates", "spki_c"], ["bindings", "rust"], ["bindings", "python"]))
@@ -37,16 +41,18 @@ class Caches(built.OfLibrary):
         from spki_cert_tool import keys
         alice, bob, carol = (keys.FileSigner(keys.new_private(kind)) for kind in (keys.P256, keys.ED25519, keys.ED25519))
         issuer = keys.principal_of(alice.key)
-        prefix = [b"*", b"prefix", b"/builds/"]
-        acl = [b"acl", [b"entry", issuer, [b"propagate"], [b"tag", [b"cache"]]]]
-        certificate = [b"cert", [b"issuer", issuer], [b"subject", bob.key], [b"tag", [b"cache", [b"*", b"set", b"read", b"write"], prefix]]]
+        prefix: "Value" = [b"*", b"prefix", b"/builds/"]
+        acl: "Value" = [b"acl", [b"entry", issuer, [b"propagate"], [b"tag", [b"cache"]]]]
+        tag: "Value" = [b"tag", [b"cache", [b"*", b"set", b"read", b"write"], prefix]]
+        certificate: list["Value"] = [b"cert", [b"issuer", issuer], [b"subject", bob.key], tag]
         value, other = alice.sign(canonical(certificate)), alice.sign(canonical([*certificate, [b"propagate"]]))
         for name, holder, shown in (("bob", bob, value), ("carol", carol, value), ("forged", bob, other)):
-            sequence = [b"sequence", alice.key, certificate, [b"signature", keys.hash_of(certificate), issuer, shown]]
+            signature: "Value" = [b"signature", keys.hash_of(certificate), issuer, shown]
+            sequence: "Value" = [b"sequence", alice.key, certificate, signature]
             met = self.answers(words, name, acl, holder.key, sequence)
             self.assertEqual(met, [wanted if name == "bob" else "denied" for _, wanted in LINES], name)
 
-    def answers(self, words: tuple[str, ...], name: str, *parts: object) -> list[str]:
+    def answers(self, words: tuple[str, ...], name: str, *parts: "Value") -> list[str]:
         """What a cache in a folder of its own answers, of a list, a key and a sequence."""
         folder = os.path.join(self.room, name)
         os.makedirs(os.path.join(folder, "files", "builds"))

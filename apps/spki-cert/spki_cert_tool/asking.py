@@ -97,8 +97,8 @@ def guard_of(asked: Asked) -> Guard:
 def answer_of(guard: Guard, asked: Asked, sequence: Value) -> Answer:
     """The decision about a sequence, as a service would decide."""
     import spki
-    question: Question = spki.Question(canonical(sequence), spki.ProvenKey.assume(canonical(asked.key)), text=canonical(asked.request),
-                                        moment=canonical(asked.moment))
+    key = spki.ProvenKey.assume(canonical(asked.key))
+    question: Question = spki.Question(canonical(sequence), key, text=canonical(asked.request), moment=canonical(asked.moment))
     try:
         with guard.ask(question) as opened:
             opened.verify(lambda it: asked.verify(it.key, it.message, it.value))
