@@ -8,7 +8,7 @@ library and the shared one, each also under AddressSanitizer and under valgrind.
 allocations, and one guard from several threads. `misuse.c` makes each call with each argument wrong. They too use each library, also under
 AddressSanitizer, valgrind and helgrind. No allocation of the shared library fails, since it calls the C library itself.
 
-`later.c` gives spki.c structures of older and newer headers.
+`later.c` gives spki.c structures of older and newer headers. `swapped.c` changes a guard under threads.
 
 `fuzz/calls.c` makes the parts of questions from fuzzed octets and compares the answers: from the files of `fuzz/corpus/`, and in `.ci/deep` for
 ten minutes. There spki.c is under AddressSanitizer too.
@@ -343,6 +343,23 @@ class SharedUnderValgrind(OfC):
 
 class Guards(OfC):
     """`cguard.c` and `misuse.c`, with each library and under what looks for faults of memory."""
+
+
+class Swapped(OfC):
+    """`swapped.c`: a guard is changed while threads ask it, by a lock for reading and writing."""
+
+    def is_swapped(self, *by):
+        to = os.path.join(self.room, "swapped")
+        self.assertTrue(is_compiled("cc", *STRICT, "-o", to, os.path.join(TESTS, "swapped.c"), self.library), "swapped.c is not compiled")
+        done = subprocess.run([*by, to], stdout=subprocess.PIPE, stderr=subprocess.STDOUT, text=True, timeout=SECONDS)
+        self.assertEqual((done.returncode, done.stdout), (0, ""))
+
+    def test_threads(self):
+        self.is_swapped()
+
+    @needs.needs("valgrind")
+    def test_threads_under_helgrind(self):
+        self.is_swapped(*HELGRIND)
 
 
 @needs.needs(*needs.LIBRARY)

@@ -367,6 +367,33 @@ func TestUsualLimits(t *testing.T) {
 	}
 }
 
+// TestLogged logs a yes, a no and a refusal. A log that panics lets nothing be granted.
+func TestLogged(t *testing.T) {
+	var events []guard.Event
+	made := opened(t, list).Logged(func(event guard.Event) { events = append(events, event) })
+	refused := shown(1)
+	refused.Sequence = nil
+	for _, question := range []guard.Question{shown(1), shown(2), refused} {
+		decision, err := made.Decide(question, valid)
+		last := events[len(events)-1]
+		if last.Decision != decision || last.Err != err || last.Question.Time != question.Time || last.Took < 0 {
+			t.Errorf("%+v, %v, %v", last, decision, err)
+		}
+	}
+	if _, err := made.Require(context.Background(), shown(2), func(context.Context, guard.Signature) (bool, error) { return true, nil }); err == nil {
+		t.Error("a no is required")
+	}
+	if len(events) != 4 || !events[0].Decision.Granted() || events[1].Decision.Granted() || !errors.Is(events[2].Err, guard.ErrRefused) {
+		t.Errorf("%+v", events)
+	}
+	defer func() {
+		if recover() == nil {
+			t.Error("a panic of a log is lost")
+		}
+	}()
+	_, _ = made.Logged(func(guard.Event) { panic("the disk is full") }).Decide(shown(1), valid)
+}
+
 func TestLimitsOfZeroAreTheLibrarys(t *testing.T) {
 	made, err := guard.Open([]byte(list), guard.Strict, guard.Limits{Answer: 1000})
 	if err != nil {
