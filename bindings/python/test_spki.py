@@ -500,7 +500,7 @@ class Guards(unittest.TestCase):
             self.assertTrue(guard.decide(asked(), right))
             with self.assertRaises(spki.Refused) as met:
                 guard.explain(asked(), right)
-            self.assertEqual((met.exception.line, met.exception.part), ("refused TooLarge", ""))
+            self.assertEqual((met.exception.line, met.exception.part), ("refused TooLarge", None))
 
     def test_closing(self):
         with spki.Guard(LIST) as guard:
@@ -619,6 +619,19 @@ class Texts(unittest.TestCase):
                 opened.decide()
             with mock.patch.object(_library, "mark", return_value=status), self.assertRaises(RuntimeError):
                 opened.mark(0)
+
+
+class Words(unittest.TestCase):
+    def test_words_are_strings(self):
+        """A word of a line is a member, and equals its string: in a dictionary, in a text and after a pickle."""
+        for member, word in ((spki.Cause.TAG_LACKS, "TagLacks"), (spki.Cause.GRANTS, "grants"), (spki.Fault.BAD_DATE, "BadDate"),
+                             (spki.Part.AT, "at")):
+            self.assertIs(type(member)(word), member)
+            self.assertEqual(({word: 1}.get(member), f"{member}", str(member), member), (1, word, word, word))
+            self.assertIs(pickle.loads(pickle.dumps(member)), member)
+        self.assertIs(spki.Fault("NotYetKnown"), spki.Fault.OTHER)
+        refused = spki.Refused("refused Memory")
+        self.assertEqual((refused.part, refused.fault), (None, spki.Fault.MEMORY))
 
 
 class Libraries(unittest.TestCase):

@@ -208,8 +208,8 @@ typedef struct spki_guard spki_guard;
  *
  * SPKI_DONE: `*guard` is the guard, and `*needed` is 0. It must be closed by spki_guard_close. With every other status `*guard` is
  * null. SPKI_REFUSED: a line is in the buffer that begins with `refused form` or `refused acl`, or is `refused Memory`.
- * SPKI_TOO_SMALL: the line does not fit the buffer. SPKI_MISUSED: `guard` is null, there is no such policy, the limits have another size,
- * or one of them is over the highest. */
+ * SPKI_TOO_SMALL: the line does not fit the buffer. SPKI_MISUSED: `guard` is null, there is no such policy, the limits are not read
+ * by their size, or one of them is over the highest. */
 SPKI_RESULT enum spki_status spki_guard_open(const void *list, size_t list_length, enum spki_policy policy, const struct spki_limits *limits,
                                  spki_guard **guard, void *buffer, size_t buffer_length, size_t *needed);
 
@@ -251,8 +251,8 @@ struct spki_signed {
  * null. SPKI_REFUSED: the line says what is refused. `refused sequence Bad 5` is for what is no text of a value, and
  * `refused sequence 3 Shape` for a value that is no sequence. Other lines are `refused key ..`, `refused request ..`, `refused at ..`,
  * `refused question TooLong`, `refused question TooManyCertificates`, `refused question TooManyWords` and `refused Memory`.
- * SPKI_TOO_SMALL: the line does not fit the buffer. SPKI_MISUSED: a pointer is null, the question has another size, or it has a request
- * both as a text and as strings, or a moment both as a text and in seconds. */
+ * SPKI_TOO_SMALL: the line does not fit the buffer. SPKI_MISUSED: a pointer is null, the question is not read by its size, or it has a
+ * request both as a text and as strings, or a moment both as a text and in seconds. */
 SPKI_RESULT enum spki_status spki_guard_ask(const spki_guard *guard, const struct spki_question *question, spki_asked **asked, void *buffer,
                                 size_t buffer_length, size_t *needed);
 

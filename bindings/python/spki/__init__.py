@@ -44,10 +44,11 @@ from . import _library as of
 from ._library import library
 from ._values import (Denied, Explanation, Grant, Limits, NoDecision, NotProved, Policy, ProvenKey, Question, Reason, Reduction, Refused,
                       Scheme, Signature, Verify, answer_of, octets_of, whole)
+from ._words import Cause, Fault, Part
 
 __version__ = "0.2.0"
-__all__ = ["Asked", "Denied", "Explanation", "Grant", "Guard", "Limits", "NotProved", "Policy", "ProvenKey", "Question", "Reason", "Reduction",
-           "Refused", "Scheme", "Signature", "Verify", "advanced", "canonical", "string_at", "transport"]
+__all__ = ["Asked", "Cause", "Denied", "Explanation", "Fault", "Grant", "Guard", "Limits", "NotProved", "Part", "Policy", "ProvenKey", "Question",
+           "Reason", "Reduction", "Refused", "Scheme", "Signature", "Verify", "advanced", "canonical", "string_at", "transport"]
 
 _Opened = TypeVar("_Opened", bound="_Open")
 

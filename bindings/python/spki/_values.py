@@ -12,6 +12,7 @@ from datetime import datetime
 from typing import NamedTuple, NoReturn, Union
 
 from . import _library as of
+from ._words import Cause, Fault, Part
 
 FAULT = re.compile(r".*\b([A-Z]\w*)")
 REASON = re.compile(r"^(?:entry (\d+) )?(?:item (\d+) )?(\w+)$", re.MULTILINE)
@@ -32,16 +33,16 @@ class Refused(Exception):
         """The line without its line feed, as `refused sequence 3 Shape`."""
 
     @property
-    def part(self) -> str:
-        """What is refused: `acl`, `sequence`, `key`, `request`, `at`, `question` or `form`. Empty if the line names no part."""
+    def part(self) -> Part | None:
+        """What is refused. `None` if the line names no part."""
         words = self.line.split(" ")
-        return words[1] if len(words) > 2 else ""
+        return Part(words[1]) if len(words) > 2 else None
 
     @property
-    def fault(self) -> str:
-        """The name of the fault, as `Shape`, `Bad`, `EmptyList`, `TooLarge` or `Memory`."""
+    def fault(self) -> Fault:
+        """What is wrong."""
         found = FAULT.match(self.line)
-        return found[1] if found else ""
+        return Fault(found[1] if found else "")
 
 
 class Policy(enum.Enum):
@@ -264,8 +265,8 @@ class Reason(NamedTuple):
     """The number of the entry that the line is about, from 1. `None` if the certificate stops all entries."""
     item: int | None
     """The number of the certificate that stops it, among the items of the sequence, from 1."""
-    word: str
-    """`grants`, or the cause, such as `TagLacks`, `NoDelegation` or `NotAccepted`."""
+    word: Cause
+    """`Cause.GRANTS`, or what stops the request."""
 
 
 @dataclass(frozen=True)
@@ -281,7 +282,7 @@ class Explanation(NoDecision):
     def reasons(self) -> Iterator[Reason]:
         """The lines one by one. There is none if the access list is empty."""
         for entry, item, word in REASON.findall(self.text):
-            yield Reason(int(entry) if entry else None, int(item) if item else None, word)
+            yield Reason(int(entry) if entry else None, int(item) if item else None, Cause(word))
 
 
 @dataclass(frozen=True)
