@@ -18,11 +18,11 @@ uint32_t spki_c_guard_open(struct spki_text list, uint32_t policy, const struct 
     return SPKI_DONE;
 }
 
-uint32_t spki_c_guard_ask(struct handle *guard, struct parts *parts, struct spki_text *words, size_t word_count, const int64_t *seconds, size_t count,
-                          struct handle *asked, ANSWER)
+uint32_t spki_c_guard_ask(struct handle *guard, struct parts parts, const struct spki_text *words, size_t word_count, const int64_t *seconds,
+                          size_t count, struct handle *asked, ANSWER)
 {
     (void)guard, (void)words, (void)word_count, (void)seconds, (void)count, (void)buffer, (void)buffer_length, (void)needed;
-    parts_met = *parts;
+    parts_met = parts;
     asked->at = asked;
     return SPKI_DONE;
 }
