@@ -29,7 +29,7 @@ static void lists(const spki_asked *asked)
 /* The question of `examples/delegation.sexp`: key b shows what key a has signed, and asks for `(ftp)`. */
 static void delegation(const char *list, const char *sequence, const char *key)
 {
-    spki_guard *guard = opened(list, SPKI_OPEN);
+    spki_guard *guard = opened(list, SPKI_ALLOW_SHA1);
     struct spki_question question = {.size = sizeof question, .sequence = text(sequence), .key = text(key), .request = text("(ftp)"),
                                      .seconds = &moment};
     spki_asked *asked = asked_of(guard, &question);
@@ -54,7 +54,7 @@ static void delegation(const char *list, const char *sequence, const char *key)
 static void places(const char *list, const char *sequence, const char *key)
 {
     static const size_t none[] = {1, 2, 255, 0x101, (size_t)-1, (size_t)-255, SIZE_MAX / 2 + 1};
-    spki_guard *guard = opened(list, SPKI_OPEN);
+    spki_guard *guard = opened(list, SPKI_ALLOW_SHA1);
     struct spki_question question = {.size = sizeof question, .sequence = text(sequence), .key = text(key), .request = text("(ftp)"),
                                      .seconds = &moment};
     spki_asked *asked = asked_of(guard, &question);
@@ -101,7 +101,7 @@ static void two_clients(const char *list, const char *sequence, const char *key,
 {
     static const char forged[] = "(sequence (cert (issuer (public-key (test a))) (subject (public-key (test c))) (tag (*))) (signature (hash sha256 "
                                  "#b0c7e53153c3b09dad60263b3b4738aa1ae756cc4642305bcf4fdc4114ff0d5d#) (public-key (test a)) forged))";
-    struct client good = {opened(list, SPKI_OPEN), {.size = sizeof good.question, .sequence = text(sequence), .key = text(key),
+    struct client good = {opened(list, SPKI_ALLOW_SHA1), {.size = sizeof good.question, .sequence = text(sequence), .key = text(key),
                                                     .request = text("(ftp)"), .seconds = &moment}, true}, bad = good;
     bad.question.sequence = text(forged);
     bad.question.key = text("(public-key (test c))");
@@ -127,7 +127,7 @@ static void two_clients(const char *list, const char *sequence, const char *key,
 /* Two equal signatures are two places. Only both marks are a yes. */
 static void equal_signatures(const char *list)
 {
-    spki_guard *guard = opened(list, SPKI_OPEN);
+    spki_guard *guard = opened(list, SPKI_ALLOW_SHA1);
     struct spki_question question = {.size = sizeof question, .sequence = text("(sequence " OWN " " OWN ")"),
                                      .key = text("(public-key (test a))"), .request = text("(ftp)"), .seconds = &moment};
     for (size_t place = 0; place < 2; place++) {
@@ -153,7 +153,7 @@ static struct spki_text copied(const char *octets, char *room)
 static void one_question(const char *list, const char *sequence, const char *key)
 {
     char rooms[2][4096];
-    spki_guard *guard = opened(list, SPKI_OPEN), *other = opened("(acl)", SPKI_OPEN);
+    spki_guard *guard = opened(list, SPKI_ALLOW_SHA1), *other = opened("(acl)", SPKI_ALLOW_SHA1);
     struct spki_question question = {.size = sizeof question, .sequence = copied(sequence, rooms[0]), .key = copied(key, rooms[1]),
                                      .request = text("(ftp)"), .seconds = &moment};
     struct spki_question empty = {.size = sizeof empty, .sequence = text("(sequence)"), .key = text(key), .request = text("(ftp)"),
@@ -243,20 +243,20 @@ static void refused_lists(void)
     struct spki_limits high = SPKI_HIGHEST_LIMITS, unsized = SPKI_USUAL_LIMITS;
     unsigned char buffer[64];
     size_t needed = 12345;
-    expect(spki_guard_open("(acl x)", 7, SPKI_OPEN, NULL, &guard, buffer, sizeof buffer, &needed) == SPKI_REFUSED && !guard
+    expect(spki_guard_open("(acl x)", 7, SPKI_ALLOW_SHA1, NULL, &guard, buffer, sizeof buffer, &needed) == SPKI_REFUSED && !guard
            && is(buffer, needed, "refused acl 1 Shape\n"), "a list that is none");
-    expect(spki_guard_open("(acl x)", 7, SPKI_OPEN, NULL, &guard, buffer, 3, &needed) == SPKI_TOO_SMALL && needed == 20, "a small buffer");
-    expect(spki_guard_open(NULL, 0, SPKI_OPEN, NULL, &guard, buffer, sizeof buffer, &needed) == SPKI_REFUSED
+    expect(spki_guard_open("(acl x)", 7, SPKI_ALLOW_SHA1, NULL, &guard, buffer, 3, &needed) == SPKI_TOO_SMALL && needed == 20, "a small buffer");
+    expect(spki_guard_open(NULL, 0, SPKI_ALLOW_SHA1, NULL, &guard, buffer, sizeof buffer, &needed) == SPKI_REFUSED
            && is(buffer, needed, "refused form Short\n"), "no list");
     expect(spki_guard_open("(acl)", 5, (enum spki_policy)2, NULL, &guard, NULL, 0, &needed) == SPKI_MISUSED && !needed, "no such policy");
-    expect(spki_guard_open("(acl)", 5, SPKI_OPEN, NULL, NULL, NULL, 0, NULL) == SPKI_MISUSED, "no place for a guard");
-    expect(spki_guard_open(NULL, 5, SPKI_OPEN, NULL, &guard, NULL, 0, NULL) == SPKI_MISUSED && !guard, "a null list with a length");
-    expect(spki_guard_open("(acl)", 5, SPKI_OPEN, &high, &guard, NULL, 0, NULL) == SPKI_DONE && guard, "the highest limits");
+    expect(spki_guard_open("(acl)", 5, SPKI_ALLOW_SHA1, NULL, NULL, NULL, 0, NULL) == SPKI_MISUSED, "no place for a guard");
+    expect(spki_guard_open(NULL, 5, SPKI_ALLOW_SHA1, NULL, &guard, NULL, 0, NULL) == SPKI_MISUSED && !guard, "a null list with a length");
+    expect(spki_guard_open("(acl)", 5, SPKI_ALLOW_SHA1, &high, &guard, NULL, 0, NULL) == SPKI_DONE && guard, "the highest limits");
     spki_guard_close(guard);
     high.octets++;
-    expect(spki_guard_open("(acl)", 5, SPKI_OPEN, &high, &guard, NULL, 0, NULL) == SPKI_MISUSED && !guard, "a limit that is too high");
+    expect(spki_guard_open("(acl)", 5, SPKI_ALLOW_SHA1, &high, &guard, NULL, 0, NULL) == SPKI_MISUSED && !guard, "a limit that is too high");
     unsized.size = 0;
-    expect(spki_guard_open("(acl)", 5, SPKI_OPEN, &unsized, &guard, NULL, 0, NULL) == SPKI_MISUSED && !guard, "limits without a size");
+    expect(spki_guard_open("(acl)", 5, SPKI_ALLOW_SHA1, &unsized, &guard, NULL, 0, NULL) == SPKI_MISUSED && !guard, "limits without a size");
     expect(!spki_guard_entries(NULL), "no guard has entries");
     spki_guard_close(NULL);
 }
@@ -408,7 +408,7 @@ static void refused_memory(size_t most)
         enum spki_status status;
         is_refused = 0;
         until_refusal = request;
-        status = spki_guard_open(list, sizeof list - 1, SPKI_OPEN, NULL, &guard, line, sizeof line, &needed);
+        status = spki_guard_open(list, sizeof list - 1, SPKI_ALLOW_SHA1, NULL, &guard, line, sizeof line, &needed);
         until_refusal = 0;
         expect(is_refused ? status == SPKI_REFUSED && !guard && is(line, needed, "refused Memory\n") : status == SPKI_DONE && guard,
                "a list and no memory");
