@@ -54,12 +54,12 @@ def questions(count):
         chain = [held(place), *(key(f"link{link}") for link in range(3))] if turn % 2 else [held(place)]
         text = case([], [(certificate(issuer, subject), issuer) for issuer, subject in zip(chain, chain[1:])], asks=chain[-1])
         _, sequence, asker, request, moment = parts_of(text)
-        yield spki.Question(sequence, asker, text=request, moment=moment), place + 1
+        yield spki.Question(sequence, spki.ProvenKey.assume(asker), text=request, moment=moment), place + 1
 
 
 def seconds_of(service, asked, wanted):
     begun = time.perf_counter()
-    found = service.decide(asked, lambda *_: True)
+    found = service.decide(asked, lambda _: True)
     took = time.perf_counter() - begun
     if found != wanted:
         sys.exit(f"wrong answer: entry {found}, and not {wanted}")

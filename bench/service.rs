@@ -1,6 +1,6 @@
 //! Makes decisions through the crate `spki`, as `service.c` makes them in C by its way `ask`. The file that is given has the parts of a
 //! question, as `question.h` reads them, and then follows how many decisions. Every signature counts as verified.
-use spki::{Guard, Limits, Moment, Policy, Question, Request};
+use spki::{Guard, Limits, Moment, Policy, ProvenKey, Question, Request};
 
 /// The texts of a file: of each its number of octets on a line, and the octets.
 fn texts_in(mut rest: &[u8]) -> Vec<&[u8]> {
@@ -20,8 +20,9 @@ fn main() {
     let octets = std::fs::read(path).expect("the file");
     let texts = texts_in(&octets);
     let guard = Guard::read(texts[0], Policy::Strict, Limits::default()).expect("an access list");
-    let question = Question::new(texts[1], texts[2], Request::Text(texts[3]), Moment::Text(texts[4]));
+    let key = ProvenKey::assume(texts[2]);
+    let question = Question::new(texts[1], &key, Request::Text(texts[3]), Moment::Text(texts[4]));
     for _ in 0..calls {
-        assert!(guard.decide(&question, |_, _, _| true).is_ok());
+        assert!(guard.decide(&question, |_| true).is_ok());
     }
 }

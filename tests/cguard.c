@@ -29,7 +29,7 @@ static void lists(const spki_asked *asked)
 /* The question of `examples/delegation.sexp`: key b shows what key a has signed, and asks for `(ftp)`. */
 static void delegation(const char *list, const char *sequence, const char *key)
 {
-    spki_guard *guard = opened(list, SPKI_OPEN);
+    spki_guard *guard = opened(list, SPKI_ALLOW_SHA1);
     struct spki_question question = {.size = sizeof question, .sequence = text(sequence), .key = text(key), .request = text("(ftp)"),
                                      .seconds = &moment};
     spki_asked *asked = asked_of(guard, &question);
@@ -54,7 +54,7 @@ static void delegation(const char *list, const char *sequence, const char *key)
 static void places(const char *list, const char *sequence, const char *key)
 {
     static const size_t none[] = {1, 2, 255, 0x101, (size_t)-1, (size_t)-255, SIZE_MAX / 2 + 1};
-    spki_guard *guard = opened(list, SPKI_OPEN);
+    spki_guard *guard = opened(list, SPKI_ALLOW_SHA1);
     struct spki_question question = {.size = sizeof question, .sequence = text(sequence), .key = text(key), .request = text("(ftp)"),
                                      .seconds = &moment};
     spki_asked *asked = asked_of(guard, &question);
@@ -74,26 +74,50 @@ static void places(const char *list, const char *sequence, const char *key)
     spki_guard_close(guard);
 }
 
-/* Two clients at once: b shows what a has signed, and c a certificate in the name of a whose signature is not valid. A mark for one question
- * grants nothing to the other. */
-static void two_clients(const char *list, const char *sequence, const char *key)
+/* A client of a service: its question, and whether the signature that it shows is valid. */
+struct client {
+    spki_guard *guard;
+    struct spki_question question;
+    bool is_valid;
+};
+
+/* Asks for a client again and again, and marks what is valid. */
+static void *serves(void *given)
+{
+    const struct client *client = given;
+    for (int turn = 0; turn < TURNS; turn++) {
+        spki_asked *asked = asked_of(client->guard, &client->question);
+        expect(spki_asked_count(asked) == 1 && spki_asked_possible(asked) && !spki_asked_granted(asked), "a mark of an earlier question counts");
+        expect(!client->is_valid || spki_asked_mark(asked, 0) == SPKI_DONE, "no mark");
+        expect(spki_asked_granted(asked) == client->is_valid, "a mark for another client counts");
+        spki_asked_close(asked);
+    }
+    return NULL;
+}
+
+/* Two clients at once, in one thread and then in several: b shows what a has signed, and c a certificate in the name of a whose signature is not
+ * valid. A mark for one question grants nothing to the other. */
+static void two_clients(const char *list, const char *sequence, const char *key, size_t count)
 {
     static const char forged[] = "(sequence (cert (issuer (public-key (test a))) (subject (public-key (test c))) (tag (*))) (signature (hash sha256 "
                                  "#b0c7e53153c3b09dad60263b3b4738aa1ae756cc4642305bcf4fdc4114ff0d5d#) (public-key (test a)) forged))";
-    spki_guard *guard = opened(list, SPKI_OPEN);
-    struct spki_question first = {.size = sizeof first, .sequence = text(sequence), .key = text(key), .request = text("(ftp)"), .seconds = &moment};
-    struct spki_question second = first;
-    second.sequence = text(forged);
-    second.key = text("(public-key (test c))");
-    spki_asked *good = asked_of(guard, &first), *bad = asked_of(guard, &second), *again = asked_of(guard, &first);
-    expect(spki_asked_count(bad) == 1 && spki_asked_possible(bad), "a forged certificate is not listed");
-    expect(spki_asked_mark(good, 0) == SPKI_DONE, "no mark");
-    expect(spki_asked_granted(good) && !spki_asked_granted(bad) && !spki_asked_granted(again), "a mark counts for another question");
-    spki_asked_close(good);
-    expect(!spki_asked_granted(bad) && !spki_asked_granted(again), "a mark outlives its question");
-    spki_asked_close(again);
-    spki_asked_close(bad);
-    spki_guard_close(guard);
+    struct client good = {opened(list, SPKI_ALLOW_SHA1), {.size = sizeof good.question, .sequence = text(sequence), .key = text(key),
+                                                    .request = text("(ftp)"), .seconds = &moment}, true}, bad = good;
+    bad.question.sequence = text(forged);
+    bad.question.key = text("(public-key (test c))");
+    bad.is_valid = false;
+    spki_asked *first = asked_of(good.guard, &good.question), *second = asked_of(bad.guard, &bad.question);
+    expect(spki_asked_mark(first, 0) == SPKI_DONE, "no mark");
+    expect(spki_asked_granted(first) && !spki_asked_granted(second), "a mark counts for another question");
+    spki_asked_close(first);
+    expect(!spki_asked_granted(second), "a mark outlives its question");
+    spki_asked_close(second);
+    pthread_t each[MOST_THREADS];
+    for (size_t i = 0; i < count; i++)
+        expect(!pthread_create(&each[i], NULL, serves, i % 2 ? &good : &bad), "no thread");
+    for (size_t i = 0; i < count; i++)
+        pthread_join(each[i], NULL);
+    spki_guard_close(good.guard);
 }
 
 #define OWN \
@@ -103,7 +127,7 @@ static void two_clients(const char *list, const char *sequence, const char *key)
 /* Two equal signatures are two places. Only both marks are a yes. */
 static void equal_signatures(const char *list)
 {
-    spki_guard *guard = opened(list, SPKI_OPEN);
+    spki_guard *guard = opened(list, SPKI_ALLOW_SHA1);
     struct spki_question question = {.size = sizeof question, .sequence = text("(sequence " OWN " " OWN ")"),
                                      .key = text("(public-key (test a))"), .request = text("(ftp)"), .seconds = &moment};
     for (size_t place = 0; place < 2; place++) {
@@ -129,7 +153,7 @@ static struct spki_text copied(const char *octets, char *room)
 static void one_question(const char *list, const char *sequence, const char *key)
 {
     char rooms[2][4096];
-    spki_guard *guard = opened(list, SPKI_OPEN), *other = opened("(acl)", SPKI_OPEN);
+    spki_guard *guard = opened(list, SPKI_ALLOW_SHA1), *other = opened("(acl)", SPKI_ALLOW_SHA1);
     struct spki_question question = {.size = sizeof question, .sequence = copied(sequence, rooms[0]), .key = copied(key, rooms[1]),
                                      .request = text("(ftp)"), .seconds = &moment};
     struct spki_question empty = {.size = sizeof empty, .sequence = text("(sequence)"), .key = text(key), .request = text("(ftp)"),
@@ -219,20 +243,20 @@ static void refused_lists(void)
     struct spki_limits high = SPKI_HIGHEST_LIMITS, unsized = SPKI_USUAL_LIMITS;
     unsigned char buffer[64];
     size_t needed = 12345;
-    expect(spki_guard_open("(acl x)", 7, SPKI_OPEN, NULL, &guard, buffer, sizeof buffer, &needed) == SPKI_REFUSED && !guard
+    expect(spki_guard_open("(acl x)", 7, SPKI_ALLOW_SHA1, NULL, &guard, buffer, sizeof buffer, &needed) == SPKI_REFUSED && !guard
            && is(buffer, needed, "refused acl 1 Shape\n"), "a list that is none");
-    expect(spki_guard_open("(acl x)", 7, SPKI_OPEN, NULL, &guard, buffer, 3, &needed) == SPKI_TOO_SMALL && needed == 20, "a small buffer");
-    expect(spki_guard_open(NULL, 0, SPKI_OPEN, NULL, &guard, buffer, sizeof buffer, &needed) == SPKI_REFUSED
+    expect(spki_guard_open("(acl x)", 7, SPKI_ALLOW_SHA1, NULL, &guard, buffer, 3, &needed) == SPKI_TOO_SMALL && needed == 20, "a small buffer");
+    expect(spki_guard_open(NULL, 0, SPKI_ALLOW_SHA1, NULL, &guard, buffer, sizeof buffer, &needed) == SPKI_REFUSED
            && is(buffer, needed, "refused form Short\n"), "no list");
     expect(spki_guard_open("(acl)", 5, (enum spki_policy)2, NULL, &guard, NULL, 0, &needed) == SPKI_MISUSED && !needed, "no such policy");
-    expect(spki_guard_open("(acl)", 5, SPKI_OPEN, NULL, NULL, NULL, 0, NULL) == SPKI_MISUSED, "no place for a guard");
-    expect(spki_guard_open(NULL, 5, SPKI_OPEN, NULL, &guard, NULL, 0, NULL) == SPKI_MISUSED && !guard, "a null list with a length");
-    expect(spki_guard_open("(acl)", 5, SPKI_OPEN, &high, &guard, NULL, 0, NULL) == SPKI_DONE && guard, "the highest limits");
+    expect(spki_guard_open("(acl)", 5, SPKI_ALLOW_SHA1, NULL, NULL, NULL, 0, NULL) == SPKI_MISUSED, "no place for a guard");
+    expect(spki_guard_open(NULL, 5, SPKI_ALLOW_SHA1, NULL, &guard, NULL, 0, NULL) == SPKI_MISUSED && !guard, "a null list with a length");
+    expect(spki_guard_open("(acl)", 5, SPKI_ALLOW_SHA1, &high, &guard, NULL, 0, NULL) == SPKI_DONE && guard, "the highest limits");
     spki_guard_close(guard);
     high.octets++;
-    expect(spki_guard_open("(acl)", 5, SPKI_OPEN, &high, &guard, NULL, 0, NULL) == SPKI_MISUSED && !guard, "a limit that is too high");
+    expect(spki_guard_open("(acl)", 5, SPKI_ALLOW_SHA1, &high, &guard, NULL, 0, NULL) == SPKI_MISUSED && !guard, "a limit that is too high");
     unsized.size = 0;
-    expect(spki_guard_open("(acl)", 5, SPKI_OPEN, &unsized, &guard, NULL, 0, NULL) == SPKI_MISUSED && !guard, "limits without a size");
+    expect(spki_guard_open("(acl)", 5, SPKI_ALLOW_SHA1, &unsized, &guard, NULL, 0, NULL) == SPKI_MISUSED && !guard, "limits without a size");
     expect(!spki_guard_entries(NULL), "no guard has entries");
     spki_guard_close(NULL);
 }
@@ -384,7 +408,7 @@ static void refused_memory(size_t most)
         enum spki_status status;
         is_refused = 0;
         until_refusal = request;
-        status = spki_guard_open(list, sizeof list - 1, SPKI_OPEN, NULL, &guard, line, sizeof line, &needed);
+        status = spki_guard_open(list, sizeof list - 1, SPKI_ALLOW_SHA1, NULL, &guard, line, sizeof line, &needed);
         until_refusal = 0;
         expect(is_refused ? status == SPKI_REFUSED && !guard && is(line, needed, "refused Memory\n") : status == SPKI_DONE && guard,
                "a list and no memory");
@@ -467,7 +491,7 @@ int main(int count, char **words)
     expect(!strcmp(spki_version(), SPKI_VERSION), "another version");
     delegation(words[3], words[4], words[5]);
     places(words[3], words[4], words[5]);
-    two_clients(words[3], words[4], words[5]);
+    two_clients(words[3], words[4], words[5], strtoul(words[1], NULL, 10));
     equal_signatures(words[3]);
     one_question(words[3], words[4], words[5]);
     strings();

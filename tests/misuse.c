@@ -209,7 +209,7 @@ static void allowed(void)
     const void *octets;
     spki_guard *other = NULL;
     spki_asked *opened_question = NULL;
-    expect(spki_guard_open("(acl)", 5, SPKI_OPEN, NULL, &other, NULL, 0, NULL) == SPKI_DONE && other, "an open guard without a buffer");
+    expect(spki_guard_open("(acl)", 5, SPKI_ALLOW_SHA1, NULL, &other, NULL, 0, NULL) == SPKI_DONE && other, "an open guard without a buffer");
     spki_guard_close(other);
     question.words = &empty;
     question.word_count = 1;

@@ -20,13 +20,14 @@ static const std::string pair
     = "(cert (issuer (public-key (test a))) (subject (public-key (test b))) (tag (*)))"
       "(signature (hash sha256 #d71ecfb335b8e4b04cb035426566a94e817a12cfcfa4dbf5b704b6cd670c7ad2#) (public-key (test a)) sig)";
 static const std::string shown = "(sequence " + pair + ")";
-static const std::string key = "(public-key (test b))";
+static const spki::proven_key key = spki::proven_key::assume("(public-key (test b))");
+static const spki::proven_key other = spki::proven_key::assume("(public-key (test c))");
 static const std::array<std::string_view, 2> words = {"ftp", "host"};
-static const std::int64_t now = 1704067200;
+static const auto now = std::chrono::system_clock::from_time_t(1704067200);
 
-static bool is_sig(std::string_view, std::string_view, std::string_view value)
+static bool is_sig(const spki::signature &it)
 {
-    return value == "3:sig";
+    return it.value == "3:sig";
 }
 
 // The line of a refusal, or nothing.
@@ -56,9 +57,9 @@ static int decisions()
     spki::guard guard(list);
     CHECK(guard.entries() == 1);
     CHECK(guard.decide({shown, key, words, now}, is_sig));
-    CHECK(!guard.decide({shown, key, words, now}, [](auto, auto, auto) { return false; }));
+    CHECK(!guard.decide({shown, key, words, now}, [](auto) { return false; }));
     CHECK(!guard.decide({"(sequence)", key, words, now}, is_sig));
-    CHECK(!guard.decide({shown, "(public-key (test c))", words, now}, is_sig));
+    CHECK(!guard.decide({shown, other, words, now}, is_sig));
     static_assert(!std::is_convertible_v<spki::decision, bool> && !std::is_convertible_v<spki::decision, int>, "a decision is no number");
     static_assert(!std::is_copy_constructible_v<spki::guard> && !std::is_copy_constructible_v<spki::asked>, "a handle has one owner");
     return 0;
@@ -73,8 +74,8 @@ static int opened()
     guard.reset();
     spki::asked moved = std::move(asked);
     CHECK(moved.size() == 1);
-    const spki_signed it = moved.signature(0);
-    CHECK(spki::view_of(it.key) == "(10:public-key(4:test1:a))" && spki::view_of(it.value) == "3:sig" && spki::view_of(it.octets) == "sig");
+    const spki::signature it = moved.signature(0);
+    CHECK(it.key == "(10:public-key(4:test1:a))" && it.value == "3:sig" && it.octets == "sig");
     CHECK(!moved.decide() && moved.explain() == "item 1 NotAccepted\n");
     for (std::size_t place : {std::size_t(1), std::size_t(0x101), std::size_t(-1), std::size_t(-255)})
         CHECK(is_misuse([&] { moved.mark(place); }) && !moved.decide());
@@ -91,7 +92,7 @@ static int two_clients()
                                "(signature (hash sha256 #b0c7e53153c3b09dad60263b3b4738aa1ae756cc4642305bcf4fdc4114ff0d5d#)"
                                " (public-key (test a)) forged))";
     spki::guard guard(list);
-    spki::asked good = guard.ask({shown, key, words, now}), bad = guard.ask({forged, "(public-key (test c))", words, now});
+    spki::asked good = guard.ask({shown, key, words, now}), bad = guard.ask({forged, other, words, now});
     good.verify(is_sig);
     bad.verify(is_sig);
     CHECK(good.decide() && !bad.decide());
@@ -106,8 +107,9 @@ static int equal_signatures()
     const std::string own = "(cert (issuer (public-key (test a))) (subject (public-key (test a))) (propagate) (tag (*)))"
                             "(signature (hash sha256 #b26a73c3cdcb26bbb71fa21531b5b6a1745fc316ddfcf53862a174f5dccebfb6#) (public-key (test a)) sig)";
     spki::guard guard(list);
+    const std::string twice = "(sequence " + own + own + ")";
     for (std::size_t place : {0, 1}) {
-        spki::asked asked = guard.ask({"(sequence " + own + own + ")", "(public-key (test a))", words, now});
+        spki::asked asked = guard.ask({twice, spki::proven_key::assume("(public-key (test a))"), words, now});
         CHECK(asked.size() == 2);
         asked.mark(place);
         CHECK(!asked.decide());
@@ -122,8 +124,8 @@ static int impossible()
 {
     spki::guard guard(list);
     int calls = 0;
-    const auto counted = [&](auto, auto, auto) { return ++calls > 0; };
-    CHECK(!guard.decide({shown, "(public-key (test c))", words, now}, counted) && calls == 0);
+    const auto counted = [&](auto) { return ++calls > 0; };
+    CHECK(!guard.decide({shown, other, words, now}, counted) && calls == 0);
     CHECK(guard.decide({shown, key, words, now}, counted) && calls == 1);
     return 0;
 }
@@ -155,6 +157,20 @@ static int refusals()
     limits.octets = 64;
     spki::guard narrow(list, SPKI_STRICT, limits);
     CHECK(refusal([&] { narrow.ask({shown, key, words, now}); }) == "refused question TooLong");
+    return 0;
+}
+
+// A login proves its key. A certificate proves nothing about who shows it.
+static int logins()
+{
+    const spki::signature login = {"(public-key (test b))", "(5:login7:service5:nonce)", "3:sig", "sig"};
+    CHECK(spki::proven_key::by(login, is_sig)->text() == key.text());
+    CHECK(!spki::proven_key::by(login, [](auto) { return false; }));
+    spki::guard guard(list);
+    const spki::asked asked = guard.ask({shown, key, words, now});
+    CHECK(!spki::proven_key::by(asked.signature(0), is_sig));
+    CHECK(refusal([&] { guard.ask({shown, key, words, std::chrono::system_clock::from_time_t(0) - std::chrono::nanoseconds(1)}); })
+          == "refused at BadDate");
     return 0;
 }
 
@@ -197,5 +213,5 @@ static int threads()
 
 int main()
 {
-    return decisions() || opened() || two_clients() || equal_signatures() || impossible() || given_away() || refusals() || literals() || threads();
+    return decisions() || opened() || two_clients() || equal_signatures() || impossible() || given_away() || refusals() || logins() || literals() || threads();
 }

@@ -19,9 +19,9 @@ PROGRAMS = {
 #include <string.h>
 #include <time.h>
 
-static bool verifies(struct spki_text key, struct spki_text message, struct spki_text value)
+static bool verifies(const struct spki_signed *it)
 {
-    return key.length > 0 && message.length > 0 && value.length == 5 && memcmp(value.octets, "3:sig", 5) == 0;
+    return it->value.length == 5 && memcmp(it->value.octets, "3:sig", 5) == 0;
 }
 
 static void ask(const char *list, size_t list_length, struct spki_text sequence, struct spki_text key, const struct spki_text *words,
@@ -47,11 +47,11 @@ int main(int count, char **given)
 }
 """,
     "Rust": """
-use spki::{Guard, Limits, Policy, Question, Refusal, Request};
+use spki::{Guard, Limits, Policy, ProvenKey, Question, Refusal, Request, Signature};
 use std::time::SystemTime;
 
-fn verify(_key: &[u8], _message: &[u8], value: &[u8]) -> bool {
-    value == b"3:sig"
+fn verify(it: Signature) -> bool {
+    it.value == b"3:sig"
 }
 
 fn ask(list: &[u8], sequence: &[u8], key: &[u8], path: &[u8]) -> Result<bool, Refusal> {
@@ -68,13 +68,13 @@ fn main() {
     "Python": """
 import os
 import sys
-import time
+from datetime import datetime, timezone
 
 import spki
 
 
-def verify(key, message, value):
-    return value == b"3:sig"
+def verify(signature):
+    return signature.value == b"3:sig"
 
 
 def ask(access_list, sequence, key, path):
@@ -93,11 +93,12 @@ import (
     "os"
     "time"
 
+    "conguraki/spki"
     "conguraki/spki/guard"
 )
 
-func verify(_, _, value []byte) bool {
-    return bytes.Equal(value, []byte("3:sig"))
+func verify(it spki.Signature) bool {
+    return bytes.Equal(it.Value, []byte("3:sig"))
 }
 
 func ask(accessList, sequence, key []byte, path string) (bool, error) {

@@ -139,11 +139,12 @@ def spelled(reasons):
 
 def answered_by_python(spki, asked):
     """What the module answers, as the program's lines."""
-    def verify(*signed):
-        return signed in asked.accepted
+    def verify(it):
+        return (it.key, it.message, it.value) in asked.accepted
 
     request = {"text" if isinstance(asked.request, bytes) else "words": asked.request}
-    question = spki.Question(asked.sequence, asked.key, moment=asked.moment, **request)
+    moment = asked.moment if isinstance(asked.moment, bytes) else datetime.fromtimestamp(asked.moment, timezone.utc)
+    question = spki.Question(asked.sequence, spki.ProvenKey.assume(asked.key), moment=moment, **request)
     policy = spki.Policy.STRICT if asked.is_strict else spki.Policy.ALLOW_SHA1
     try:
         with spki.Guard(asked.access_list, policy, spki.Limits.highest()) as guard:
@@ -205,6 +206,32 @@ class Version(unittest.TestCase):
                   "bindings/rust/spki-sys/build.rs": r'^const FIRST: &str = "(.*)";$'}
         found = {path: re.search(line, text_of(path), re.MULTILINE)[1] for path, line in called.items()}
         self.assertEqual(found, dict.fromkeys(called, text_of("VERSION").rpartition(".")[0]))
+
+
+class Words(unittest.TestCase):
+    """The words and numbers that the bindings have of the library."""
+
+    def test_words(self):
+        """The crate and the package know the same words."""
+        rust, python = text_of("bindings/rust/src/words.rs"), text_of("bindings/python/spki/_words.py")
+        kinds = re.findall(r"^    (Cause|Fault|Part) \{\n(.*?)^    \}$", rust, re.MULTILINE | re.DOTALL)
+        found = {kind: re.findall(r"^        (\w+),$", members, re.MULTILINE) for kind, members in kinds}
+        self.assertEqual(len(found), 3)
+        for kind, words in found.items():
+            members = re.search(rf"^class {kind}\(_Word\):\n(.*?)(?=^class|\Z)", python, re.MULTILINE | re.DOTALL)[1]
+            self.assertEqual([word.lower() for word in re.findall(r'^    [A-Z_0-9]+ = "(\w+)"$', members, re.MULTILINE)],
+                             [word.lower() for word in [*words, "Other"]], kind)
+
+    def test_highest_limits(self):
+        """The most that limits may set is what the header has, and no binding writes the usual limits."""
+        header = dict(re.findall(r"^#define (SPKI_MOST_\w+) (\d+)$", text_of("crates/spki_c/spki.h"), re.MULTILINE))
+        rust = re.findall(r"^pub const (MOST_\w+): usize = ([\d_]+);$", text_of("bindings/rust/spki-sys/src/lib.rs"), re.MULTILINE)
+        self.assertEqual({f"SPKI_{name}": number.replace("_", "") for name, number in rust}, header)
+        python = re.search(r"^MOST_OCTETS, MOST_NODES, HIGHEST = ([\d_]+), ([\d_]+),", text_of("bindings/python/spki/_library.py"), re.MULTILINE)
+        self.assertEqual([number.replace("_", "") for number in python.groups()], list(header.values()))
+        for path in glob.glob(os.path.join(TOP, "bindings", "**", "*.[prg][yso]*"), recursive=True):
+            if "/out/" not in path and "test" not in path and "/examples/" not in path:
+                self.assertNotRegex(text_of(path), r"\b(65_?536|100_000)\b", path)
 
 
 @functools.cache

@@ -8,6 +8,8 @@ library and the shared one, each also under AddressSanitizer and under valgrind.
 allocations, and one guard from several threads. `misuse.c` makes each call with each argument wrong. They too use each library, also under
 AddressSanitizer, valgrind and helgrind. No allocation of the shared library fails, since it calls the C library itself.
 
+`later.c` gives spki.c structures of older and newer headers. `swapped.c` changes a guard under threads.
+
 `fuzz/calls.c` makes the parts of questions from fuzzed octets and compares the answers: from the files of `fuzz/corpus/`, and in `.ci/deep` for
 ten minutes. There spki.c is under AddressSanitizer too.
 
@@ -22,12 +24,13 @@ import re
 import shutil
 import subprocess
 import tempfile
+import unittest
 from concurrent.futures import ThreadPoolExecutor
 
 import built
 import needs
 from rows import rows_of
-from support import COMMANDS, EXAMPLES, ON_ARM, TESTS, TOP, canonical, is_compiled, read, run, tables_here
+from support import COMMANDS, EXAMPLES, ON_ARM, TESTS, TOP, canonical, is_compiled, read, run, tables_here, text_of
 
 CRATE = os.path.join(TOP, "crates", "spki_c")
 CHECK_ACCEPTED = 7
@@ -340,6 +343,59 @@ class SharedUnderValgrind(OfC):
 
 class Guards(OfC):
     """`cguard.c` and `misuse.c`, with each library and under what looks for faults of memory."""
+
+
+class Swapped(OfC):
+    """`swapped.c`: a guard is changed while threads ask it, by a lock for reading and writing."""
+
+    def is_swapped(self, *by):
+        to = os.path.join(self.room, "swapped")
+        self.assertTrue(is_compiled("cc", *STRICT, "-o", to, os.path.join(TESTS, "swapped.c"), self.library), "swapped.c is not compiled")
+        done = subprocess.run([*by, to], stdout=subprocess.PIPE, stderr=subprocess.STDOUT, text=True, timeout=SECONDS)
+        self.assertEqual((done.returncode, done.stdout), (0, ""))
+
+    def test_threads(self):
+        self.is_swapped()
+
+    @needs.needs("valgrind")
+    def test_threads_under_helgrind(self):
+        self.is_swapped(*HELGRIND)
+
+
+@needs.needs(*needs.LIBRARY)
+class Structures(unittest.TestCase):
+    """`later.c`: an spki.c that is given structures of other headers, and one of a later header."""
+
+    # What that header adds at the ends of two structures.
+    LATER = ((", 100000, 1048576}", ", 100000, 1048576, 0}"), ("SIZE_MAX, SIZE_MAX}", "SIZE_MAX, SIZE_MAX, 0}"),
+             ("the most octets of the answer */\n", "the most octets of the answer */\n    size_t later;\n"),
+             ("`moment` is empty then */\n", "`moment` is empty then */\n    const void *later;\n"))
+
+    def reads(self, *changes):
+        """spki.c with a header that is changed reads what it should."""
+        with tempfile.TemporaryDirectory() as room:
+            header = text_of(os.path.join("crates", "spki_c", "spki.h"))
+            for old, new in changes:
+                self.assertEqual(header.count(old), 1, old)
+                header = header.replace(old, new)
+            shutil.copy(os.path.join(CRATE, "spki.c"), room)
+            with open(os.path.join(room, "spki.h"), "w", encoding="ascii") as file:
+                file.write(header)
+            words = ["cc", *STRICT, *SANITIZED, f"-DLATER={int(bool(changes))}", "-I", room, "-o", os.path.join(room, "later")]
+            self.assertTrue(is_compiled(*words, os.path.join(TESTS, "later.c")), "later.c is not compiled")
+            done = subprocess.run([os.path.join(room, "later")], stdout=subprocess.PIPE, text=True, timeout=SECONDS)
+            self.assertEqual((done.returncode, done.stdout), (0, ""))
+
+    def test_of_other_headers(self):
+        self.reads()
+
+    def test_by_a_later_library(self):
+        self.reads(*self.LATER)
+
+
+if "is_read(" not in text_of(os.path.join("crates", "spki_c", "spki.c")):
+    # (spki.c demands structures of its own sizes)
+    del Structures
 
 
 @needs.needs(*needs.FUZZER)

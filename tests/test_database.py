@@ -48,13 +48,14 @@ def hash_of(value, algorithm="sha256"):
     return [b"hash", algorithm.encode(), hashlib.new(algorithm, canonical(value)).digest()]
 
 
-def is_right(key, message, value):
+def is_right(signature):
     """The verifier of these tests."""
-    return value == b"3:sig"
+    return signature.value == b"3:sig"
 
 
 def question(sequence, asker, request=REQUEST, moment=NOON):
-    return spki.Question(sequence if isinstance(sequence, bytes) else canonical(sequence), canonical(asker), words=request, moment=moment)
+    key = spki.ProvenKey.assume(canonical(asker))
+    return spki.Question(sequence if isinstance(sequence, bytes) else canonical(sequence), key, words=request, moment=moment)
 
 
 # ---- random lists and questions

@@ -404,8 +404,9 @@ class OfLibrary(Case):
     """The digests are those of what the library lists to be verified, which the daemon looks up."""
 
     def test_messages(self) -> None:
-        asks = ("import hashlib, sys, spki; guard = spki.Guard(b'(acl)'); key = spki.canonical(open(sys.argv[2], 'rb').read());"
-                "asked = guard.ask(spki.Question(open(sys.argv[1], 'rb').read(), key, words=(b'files',), moment=0));"
+        asks = ("import hashlib, sys, spki; guard = spki.Guard(b'(acl)');"
+                "key = spki.ProvenKey.assume(spki.canonical(open(sys.argv[2], 'rb').read()));"
+                "asked = guard.ask(spki.Question(open(sys.argv[1], 'rb').read(), key, words=(b'files',), moment=b'\"2026-03-01_12:00:00\"'));"
                 "print(*(hashlib.sha256(it.message).hexdigest() for it in asked.signatures()), sep='\\n')")
         self.write("key", self.run_here("key", "ann.pub")[1].encode())
         settings = {**os.environ, "SPKI_LIBRARY": built.shared(), "PYTHONPATH": os.path.join(TOP, "bindings", "python")}

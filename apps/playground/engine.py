@@ -119,7 +119,8 @@ class ByLibrary(Engine):
 
     def asked(self, question, answer):
         """What a function answers of the opened question. Raises `Refused`."""
-        parts = self.spki.Question(question.sequence, question.key, words=question.words, moment=question.at)
+        key = self.spki.ProvenKey.assume(question.key)
+        parts = self.spki.Question(question.sequence, key, words=question.words, moment=question.at)
         try:
             with self.guard(question.acl, question.is_strict).ask(parts) as asked:
                 return answer(asked)

@@ -34,7 +34,7 @@ func (c *cache) verifies(signed guard.Signature, message digest, verify guard.Ve
 	if _, wasKnown := c.valid.get(name); wasKnown {
 		return true, true
 	}
-	if !verify(signed.Key, signed.Message, signed.Value) {
+	if !verify(signed) {
 		return false, false
 	}
 	c.valid.add(name, struct{}{})

@@ -21,9 +21,9 @@ func numbered(number int) guard.Signature {
 
 func TestCacheKeepsValidSignatures(t *testing.T) {
 	made, calls := newCache(10), 0
-	verify := func(key, message, value []byte) bool {
+	verify := func(signed guard.Signature) bool {
 		calls++
-		return string(message) == "1"
+		return string(signed.Message) == "1"
 	}
 	for turn, wanted := range []bool{false, true, true} {
 		if isValid, wasKnown := verifies(made, numbered(1), verify); !isValid || wasKnown != wanted {
@@ -39,7 +39,7 @@ func TestCacheKeepsValidSignatures(t *testing.T) {
 }
 
 func TestCacheTellsPartsApart(t *testing.T) {
-	made, valid := newCache(10), func(key, message, value []byte) bool { return true }
+	made, valid := newCache(10), func(guard.Signature) bool { return true }
 	verifies(made, guard.Signature{Key: []byte("ab"), Message: []byte("c"), Value: []byte("d")}, valid)
 	for _, other := range []guard.Signature{
 		{Key: []byte("a"), Message: []byte("bc"), Value: []byte("d")}, {Key: []byte("ab"), Message: []byte("cd")}, {Key: []byte("abcd")},
@@ -52,7 +52,7 @@ func TestCacheTellsPartsApart(t *testing.T) {
 }
 
 func TestCacheIsBounded(t *testing.T) {
-	made, valid := newCache(100), func(key, message, value []byte) bool { return true }
+	made, valid := newCache(100), func(guard.Signature) bool { return true }
 	for number := 0; number < 1000; number++ {
 		verifies(made, numbered(number), valid)
 		if len(made.valid.old)+len(made.valid.young) > 100 {
@@ -77,7 +77,7 @@ func TestCacheInGoroutines(t *testing.T) {
 		go func() {
 			defer all.Done()
 			for number := 0; number < 500; number++ {
-				if isValid, _ := verifies(made, numbered(number%70), func(_, message, _ []byte) bool { return len(message) > 1 }); isValid != (number%70 > 9) {
+				if isValid, _ := verifies(made, numbered(number%70), func(it guard.Signature) bool { return len(it.Message) > 1 }); isValid != (number%70 > 9) {
 					t.Error(number)
 				}
 			}

@@ -9,6 +9,7 @@ import (
 	"net/url"
 	"strings"
 
+	"conguraki/spki"
 	"conguraki/spki/verify"
 )
 
@@ -36,9 +37,9 @@ type keys struct {
 	read *recent[string, client]
 }
 
-// A client is a key, and its SHA-256 digest as the log has it.
+// A client is a key, which TLS has proved to the web server, and its SHA-256 digest as the log has it.
 type client struct {
-	key  []byte
+	key  spki.ProvenKey
 	name string
 }
 
@@ -59,7 +60,7 @@ func (k *keys) of(text string) (client, error) {
 		return kept, nil
 	}
 	key, err := keyOf(text, k.form)
-	made := client{key, hexDigest(key)}
+	made := client{spki.AssumeKey(key), hexDigest(key)}
 	if err == nil && len(text) <= mostLength {
 		k.read.add(text, made)
 	}

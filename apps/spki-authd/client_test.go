@@ -81,8 +81,8 @@ func TestKindsOfKeys(t *testing.T) {
 func TestKeysAreKept(t *testing.T) {
 	made, alice := newKeys(escapedPEM), newPerson(t)
 	for turn := 0; turn < 2; turn++ {
-		if met, err := made.of(alice.escaped()); err != nil || string(met.key) != alice.key || met.name != hexDigest([]byte(alice.key)) {
-			t.Errorf("turn %d: %q, %v", turn, met, err)
+		if met, err := made.of(alice.escaped()); err != nil || met.key.Text() != alice.key || met.name != hexDigest([]byte(alice.key)) {
+			t.Errorf("turn %d: %v, %v", turn, met, err)
 		}
 		if _, err := made.of(alice.escaped() + "x"); err == nil {
 			t.Error("what is no certificate is kept")

@@ -42,7 +42,7 @@ type config struct {
 	needsHost bool
 }
 
-// The limits of the daemon. Zero is the usual limit.
+// The limits of the daemon. Zero is the usual limit: of the first three that of the library.
 type limits struct {
 	Octets       int `json:"octets"`
 	Certificates int `json:"certificates"`
@@ -65,7 +65,7 @@ const (
 )
 
 // usualLimits are taken for limits of zero. 40 workers of nginx that keep 16 connections each have 640, and there is room for others.
-var usualLimits = limits{Octets: 65_536, Certificates: 16, Words: 64, HeaderOctets: 131_072, PathOctets: 4096, Connections: 1024, Seconds: 5}
+var usualLimits = limits{HeaderOctets: 131_072, PathOctets: 4096, Connections: 1024, Seconds: 5}
 
 // readConfig reads and checks a configuration.
 func readConfig(path string) (*config, error) {

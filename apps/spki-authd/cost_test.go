@@ -4,6 +4,7 @@ import (
 	"strings"
 	"testing"
 
+	"conguraki/spki/guard"
 	"conguraki/spki/verify"
 )
 
@@ -11,9 +12,9 @@ import (
 func TestCostToStrangers(t *testing.T) {
 	s := newSite(t, "")
 	calls := 0
-	s.verify = func(key, message, value []byte) bool {
+	s.verify = func(signed guard.Signature) bool {
 		calls++
-		return verify.Signature(key, message, value)
+		return verify.Signature(signed)
 	}
 	bobs, carols := s.sequencesShown()
 	own := s.mallory.signed(s.mallory.certificate(s.mallory, prefix("read", "/web/"), propagates))
@@ -49,7 +50,7 @@ func TestCostToStrangers(t *testing.T) {
 func TestForgeryThatWouldBeGranted(t *testing.T) {
 	s := newSite(t, "")
 	calls := 0
-	s.verify = func(_, _, _ []byte) bool { calls++; return false }
+	s.verify = func(guard.Signature) bool { calls++; return false }
 	_, carols := s.sequencesShown()
 	for turn := 1; turn <= 2; turn++ {
 		if met := s.by(s.carol, "GET", "/web/docs/a/b", carols); met.StatusCode != 403 || calls != turn {

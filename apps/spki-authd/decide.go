@@ -78,7 +78,7 @@ func shownTarget(target string) string {
 }
 
 // judge asks the guard.
-func (d *decider) judge(made record, key []byte, path, sequence string) record {
+func (d *decider) judge(made record, key guard.ProvenKey, path, sequence string) record {
 	question := guard.Question{Key: key, Words: made.Request, Time: d.now()}
 	var decision guard.Decision
 	var err error

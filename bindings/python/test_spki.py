@@ -7,6 +7,7 @@ import asyncio
 import copy
 import ctypes
 import dataclasses
+import datetime as datetime_module
 import hashlib
 import multiprocessing
 import os
@@ -34,21 +35,23 @@ OWN = (b"(cert (issuer (public-key (test a))) (subject (public-key (test a))) (p
 FORGED = (b"(sequence (cert (issuer (public-key (test a))) (subject (public-key (test c))) (tag (*)))"
           b" (signature (hash sha256 #b0c7e53153c3b09dad60263b3b4738aa1ae756cc4642305bcf4fdc4114ff0d5d#) (public-key (test a)) forged))")
 KEY = b"(public-key (test b))"
-SIGNED = (b"(10:public-key(4:test1:a))", b"(4:cert(6:issuer(10:public-key(4:test1:a)))(7:subject(10:public-key(4:test1:b)))(3:tag(1:*)))", b"3:sig")
-NOW = 1_704_067_200  # 2024-01-01_00:00:00
+SIGNED = spki.Signature(key=b"(10:public-key(4:test1:a))", value=b"3:sig",
+                        message=b"(4:cert(6:issuer(10:public-key(4:test1:a)))(7:subject(10:public-key(4:test1:b)))(3:tag(1:*)))")
+NOW, EPOCH = (datetime(year, 1, 1, tzinfo=timezone.utc) for year in (2024, 1970))
+BEFORE = datetime(1969, 12, 31, 23, 59, 59, 999_999, timezone.utc)
 WORDS = (b"ftp", b"host")
 HIGHEST = spki.Limits.highest()
 
 
 def asked(sequence=SHOWN, key=KEY, words=WORDS, moment=NOW, text=None):
-    return spki.Question(sequence, key, words=words if text is None else None, text=text, moment=moment)
+    return spki.Question(sequence, spki.ProvenKey.assume(key), words=words if text is None else None, text=text, moment=moment)
 
 
-def right(*signed):
+def right(signature):
     return True
 
 
-def wrong(*signed):
+def wrong(signature):
     return False
 
 
@@ -65,7 +68,7 @@ class Verifiers(unittest.TestCase):
 
     def test_is_given_what_is_signed(self):
         calls = []
-        self.assertEqual(self.guard.decide(asked(), lambda *signed: calls.append(signed) is None), spki.Decision(1))
+        self.assertEqual(self.guard.decide(asked(), lambda it: calls.append(it) is None), spki.Grant(1))
         self.assertEqual(calls, [SIGNED])
 
     def test_answers_true_or_false(self):
@@ -73,10 +76,10 @@ class Verifiers(unittest.TestCase):
         for answer in (None, 1, 0, -255, 0x101, "yes", object(), [True]):
             for ask in (self.guard.decide, self.guard.explain, self.guard.reduce):
                 with self.assertRaises(TypeError):
-                    ask(asked(), lambda *signed: answer)
+                    ask(asked(), lambda it: answer)
 
     def test_that_is_a_coroutine_is_an_error(self):
-        async def verify(*signed):
+        async def verify(signature):
             return True
 
         with warnings.catch_warnings():
@@ -87,9 +90,9 @@ class Verifiers(unittest.TestCase):
     def test_is_not_called_behind_the_first_wrong_one(self):
         calls = []
 
-        def verify(*signed):
-            calls.append(signed[2])
-            return signed == SIGNED
+        def verify(signature):
+            calls.append(signature.value)
+            return signature == SIGNED
 
         question = asked(b"(sequence " + PAIR + PAIR.replace(b"sig)", b"wrong)") + PAIR + b")")
         self.assertEqual(list(self.guard.explain(question, verify).reasons()), [spki.Reason(None, 3, "NotAccepted")])
@@ -98,28 +101,28 @@ class Verifiers(unittest.TestCase):
     def test_what_it_raises_goes_on(self):
         for ask in (self.guard.decide, self.guard.explain, self.guard.reduce):
             with self.assertRaises(ZeroDivisionError):
-                ask(asked(), lambda *signed: 1 / 0)
+                ask(asked(), lambda it: 1 / 0)
 
     def test_is_called_for_each_of_many(self):
         calls = []
         guard = spki.Guard(LIST, limits=HIGHEST)
         question = asked(b"(sequence " + PAIR * 40 + b")")
-        explanation = guard.explain(question, lambda *signed: calls.append(signed) is None)
+        explanation = guard.explain(question, lambda it: calls.append(it) is None)
         self.assertEqual(calls, [SIGNED] * 40)
         self.assertEqual(list(explanation.reasons()), [spki.Reason(1, 3, "NotIssuer")])
         calls.clear()
-        self.assertTrue(guard.decide(asked(b"(sequence " + OWN * 39 + PAIR + b")"), lambda *signed: calls.append(signed) is None))
+        self.assertTrue(guard.decide(asked(b"(sequence " + OWN * 39 + PAIR + b")"), lambda it: calls.append(it) is None))
         self.assertEqual((len(calls), calls[-1]), (40, SIGNED))
 
     def test_is_not_called_in_vain(self):
         """No signature is verified for a decision where none could help. An explanation says what is wrong with the certificates."""
         for guard, question in ((self.guard, asked(b"(sequence " + PAIR * 2 + b")")), (spki.Guard(b"(acl)"), asked(FORGED))):
-            self.assertEqual(guard.decide(question, lambda *signed: 1 / 0), spki.Decision(None))
+            self.assertEqual(guard.decide(question, lambda it: 1 / 0), None)
             with self.assertRaises(ZeroDivisionError):
-                guard.explain(question, lambda *signed: 1 / 0)
+                guard.explain(question, lambda it: 1 / 0)
 
     def test_may_ask_the_guard_itself(self):
-        def verify(*signed):
+        def verify(signature):
             return bool(self.guard.decide(asked(), right))
 
         self.assertTrue(self.guard.decide(asked(), verify))
@@ -131,7 +134,8 @@ class Opened(unittest.TestCase):
 
     def test_signatures(self):
         with self.guard.ask(asked()) as opened:
-            self.assertEqual(opened.signatures(), [spki.Signature(*SIGNED, b"sig")])
+            self.assertEqual(opened.signatures(), [SIGNED])
+            self.assertEqual(SIGNED.octets, b"sig")
             self.assertEqual(len(opened), 1)
         with self.guard.ask(asked(SHOWN.replace(b" sig)", b" (sig-val x))"))) as opened:
             self.assertEqual([it.octets for it in opened.signatures()], [None])
@@ -139,17 +143,17 @@ class Opened(unittest.TestCase):
     def test_marks(self):
         with self.guard.ask(asked()) as opened:
             self.assertTrue(opened.is_possible)
-            self.assertEqual(opened.decide(), spki.Decision(None))
+            self.assertEqual(opened.decide(), None)
             for place in (1, -1, -255, 0x101, 2 ** 64, -2 ** 64):
                 with self.assertRaises(IndexError):
                     opened.mark(place)
             for place in (True, False, None, "0", b"\0", 0.0, [0]):
                 with self.assertRaises(TypeError):
                     opened.mark(place)
-            self.assertEqual(opened.decide(), spki.Decision(None))
+            self.assertEqual(opened.decide(), None)
             for _ in range(3):
                 opened.mark(0)
-                self.assertEqual(opened.decide(), spki.Decision(1))
+                self.assertEqual(opened.decide(), spki.Grant(1))
             for ask in (opened.decide, opened.explain, opened.reduce):
                 with self.assertRaises(TypeError):
                     ask([True])
@@ -159,10 +163,10 @@ class Opened(unittest.TestCase):
         good, bad = self.guard.ask(asked()), self.guard.ask(asked(FORGED, b"(public-key (test c))"))
         self.assertTrue(good.is_possible and bad.is_possible)
         for opened in (good, bad):
-            opened.verify(lambda *signed: signed[2] == b"3:sig")
-        self.assertEqual((good.decide(), bad.decide()), (spki.Decision(1), spki.Decision(None)))
+            opened.verify(lambda it: it.value == b"3:sig")
+        self.assertEqual((good.decide(), bad.decide()), (spki.Grant(1), None))
         again = self.guard.ask(asked())
-        self.assertEqual(again.decide(), spki.Decision(None))
+        self.assertEqual(again.decide(), None)
 
     def test_marks_are_of_one_place(self):
         """Two equal signatures are two places, and both marks are needed."""
@@ -170,22 +174,22 @@ class Opened(unittest.TestCase):
             opened = self.guard.ask(asked(b"(sequence " + OWN + OWN + b")", b"(public-key (test a))"))
             self.assertEqual(*opened.signatures())
             opened.mark(place)
-            self.assertEqual(opened.decide(), spki.Decision(None))
+            self.assertEqual(opened.decide(), None)
             opened.mark(1 - place)
-            self.assertEqual(opened.decide(), spki.Decision(1))
+            self.assertEqual(opened.decide(), spki.Grant(1))
 
     def test_a_verifier_that_fails_marks_nothing(self):
         with self.guard.ask(asked(b"(sequence " + OWN + OWN + b")", b"(public-key (test a))")) as opened:
             answers = iter((True,))
             with self.assertRaises(StopIteration):
-                opened.verify(lambda *signed: next(answers))
+                opened.verify(lambda it: next(answers))
             opened.mark(1)
-            self.assertEqual(opened.decide(), spki.Decision(None))
+            self.assertEqual(opened.decide(), None)
 
     def test_signatures_are_verified_elsewhere(self):
         async def verify(signature):
             await asyncio.sleep(0)
-            return signature[:3] == SIGNED
+            return signature == SIGNED
 
         async def decide():
             with self.guard.ask(asked()) as opened:
@@ -224,21 +228,20 @@ class Opened(unittest.TestCase):
                 call()
         opened.mark(0)
         self.assertEqual((self.guard.require(asked(), right), opened.require()), (1, 1))
-        self.assertFalse(spki.Decision(0))
 
     def test_equal_keys_are_one_object(self):
         opened, kept = spki.Guard(LIST, limits=HIGHEST).ask(asked(b"(sequence " + PAIR * 40 + b")")), []
         for listed in (opened.signatures(), list(opened)):
             self.assertEqual(({id(it.key) for it in listed}, len(listed)), ({id(listed[0].key)}, 40))
-        opened.verify(lambda key, message, value: kept.append(key) is None)
+        opened.verify(lambda it: kept.append(it.key) is None)
         self.assertEqual(({id(key) for key in kept}, len(kept)), ({id(kept[0])}, 40))
 
     def test_signatures_are_listed_one_by_one(self):
         opened, places = spki.Guard(LIST, limits=HIGHEST).ask(asked(b"(sequence " + PAIR * 40 + b")")), []
         signature = _library.signature
         with mock.patch.object(_library, "signature", lambda handle, place, at: places.append(place.value) or signature(handle, place, at)):
-            self.assertEqual((next(iter(opened))[:3], places), (SIGNED, [0]))
-            opened.verify(lambda *signed: len(places) < 4)
+            self.assertEqual((next(iter(opened)), places), (SIGNED, [0]))
+            opened.verify(lambda it: len(places) < 4)
         self.assertEqual(places, [0, 0, 1, 2])
 
 
@@ -261,7 +264,7 @@ class Copies(unittest.TestCase):
                 with self.subTest(f"{type(it).__name__}, call {place}"), self.assertRaisesRegex(TypeError, "read the list and ask again"):
                     call(it)
         other = spki.Guard(b"(acl)")
-        self.assertEqual((self.guard.decide(asked(), right), other.decide(asked(), right)), (spki.Decision(1), spki.Decision(None)))
+        self.assertEqual((self.guard.decide(asked(), right), other.decide(asked(), right)), (spki.Grant(1), None))
 
     def test_what_is_open_is_not_sent_to_a_process(self):
         for it in (self.guard, self.opened):
@@ -270,12 +273,13 @@ class Copies(unittest.TestCase):
                 process.start()
 
     def test_a_question_is_copied(self):
-        for question in (asked(), asked(text=b"(ftp host)", moment=b'"2024-01-01_00:00:00"'), asked(words=[]), asked(moment=-1)):
-            for made in (copy.copy(question), copy.deepcopy(question), pickle.loads(pickle.dumps(question)), eval(repr(question), vars(spki))):
+        for question in (asked(), asked(text=b"(ftp host)", moment=b'"2024-01-01_00:00:00"'), asked(words=[]), asked(moment=BEFORE)):
+            again = eval(repr(question), {**vars(spki), "datetime": datetime_module})
+            for made in (copy.copy(question), copy.deepcopy(question), pickle.loads(pickle.dumps(question)), again):
                 self.assertEqual((made, hash(made), repr(made)), (question, hash(question), repr(question)))
             self.assertNotEqual(question, asked(key=b"(public-key (test c))"))
         self.assertTrue(self.guard.decide(copy.deepcopy(asked()), right))
-        self.assertEqual(len({asked(), asked(words=list(WORDS)), asked(moment=NOW + 1)}), 2)
+        self.assertEqual(len({asked(), asked(words=list(WORDS)), asked(moment=NOW + timedelta(seconds=1))}), 2)
         self.assertNotEqual(asked(), None)
 
     def test_names(self):
@@ -306,7 +310,51 @@ class Copies(unittest.TestCase):
             finally:
                 os._exit(2)
         self.assertEqual(os.waitpid(child, 0)[1], 0)
-        self.assertEqual((self.guard.decide(asked(), right), self.opened.decide()), (spki.Decision(1), spki.Decision(None)))
+        self.assertEqual((self.guard.decide(asked(), right), self.opened.decide()), (spki.Grant(1), None))
+
+
+class Keys(unittest.TestCase):
+    """A question takes a key that is proved, and says so by its type."""
+
+    LOGIN = spki.Signature(key=spki.canonical(KEY), message=b"(5:login7:service5:nonce)", value=b"3:sig")
+
+    def test_a_login_proves_its_key(self):
+        seen = []
+        proven = spki.ProvenKey.by(self.LOGIN, lambda it: seen.append(it) is None)
+        self.assertEqual((seen, proven.text, proven), ([self.LOGIN], self.LOGIN.key, spki.ProvenKey.assume(self.LOGIN.key)))
+        with self.assertRaises(spki.NotProved):
+            spki.ProvenKey.by(self.LOGIN, wrong)
+        for answer in (None, 1, "yes"):
+            with self.assertRaises(TypeError):
+                spki.ProvenKey.by(self.LOGIN, lambda it: answer)
+
+    def test_a_certificate_proves_no_key(self):
+        """Whoever shows a certificate does not hold the key that has signed it."""
+        signature, = spki.Guard(LIST).ask(asked()).signatures()
+        with self.assertRaises(spki.NotProved):
+            spki.ProvenKey.by(signature, right)
+
+    def test_there_is_no_other_way(self):
+        key = spki.ProvenKey.assume(KEY)
+        for call in (spki.ProvenKey, lambda: spki.ProvenKey(KEY), lambda: spki.ProvenKey.assume("key")):
+            with self.assertRaises(TypeError):
+                call()
+        with self.assertRaises(AttributeError):
+            key._text = b"(public-key (test a))"
+        for made in (copy.copy(key), copy.deepcopy(key), pickle.loads(pickle.dumps(key)), eval(repr(key), vars(spki))):
+            self.assertEqual((made, hash(made), asked().key), (key, hash(key), key))
+        self.assertNotEqual(key, KEY)
+
+    def test_texts_have_names(self):
+        for given in ((b"key", b"message", b"value"), ()):
+            with self.assertRaises(TypeError):
+                spki.Signature(*given)
+
+    def test_schemes(self):
+        for key, scheme in [(b"(public-key (ecc (curve Ed25519) (flags eddsa) (q #00#)))", spki.Scheme.ED25519),
+                            (b"(public-key (rsa (n #00#) (e #010001#)))", spki.Scheme.RSA),
+                            (b'(public-key (ecc (curve "NIST P-256") (q #04#)))', spki.Scheme.P256), (KEY, None)]:
+            self.assertEqual(dataclasses.replace(SIGNED, key=spki.canonical(key)).scheme, scheme)
 
 
 class Parts(unittest.TestCase):
@@ -332,19 +380,18 @@ class Parts(unittest.TestCase):
 
     def test_moments(self):
         guard = spki.Guard(b'(acl (entry (public-key (test b)) (tag (*)) (not-before "1970-01-01_00:00:00")))')
-        for moment, is_granted in [(0, True), (253_402_300_799, True), (b'"1970-01-01_00:00:00"', True), (b'"1969-12-31_23:59:59"', False),
-                                   (datetime(1970, 1, 1, tzinfo=timezone.utc), True),
+        for moment, is_granted in [(EPOCH, True), (datetime.max.replace(tzinfo=timezone.utc), True), (b'"1970-01-01_00:00:00"', True),
+                                   (b'"1969-12-31_23:59:59"', False),
                                    (datetime(1970, 1, 1, 0, 59, tzinfo=timezone(timedelta(hours=-1))), True)]:
             self.assertEqual(bool(guard.decide(asked(b"(sequence)", moment=moment), right)), is_granted, moment)
         with self.assertRaises(TypeError):
             asked(moment=datetime(2024, 1, 1))
 
     def test_a_clock_that_failed(self):
-        """A right that has ended is not granted by a moment of -1, which a clock gives that failed, or by one past the year 9999."""
+        """A right that has ended is not granted by a time before 1970, as that of a clock that failed."""
         guard = spki.Guard(b'(acl (entry (public-key (test b)) (tag (*)) (not-after "1999-12-31_23:59:59")))')
-        self.assertTrue(guard.decide(asked(b"(sequence)", moment=0), right))
-        for moment in (-1, -2 ** 31, -62_167_219_200, -2 ** 63, -2 ** 64, 253_402_300_800, 2 ** 63 - 1, 2 ** 63, 2 ** 64, 2 ** 64 + 1,
-                       datetime(1969, 12, 31, 23, 59, 59, 999_999, timezone.utc)):
+        self.assertTrue(guard.decide(asked(b"(sequence)", moment=EPOCH), right))
+        for moment in (BEFORE, datetime.min.replace(tzinfo=timezone.utc), EPOCH.astimezone(timezone(timedelta(hours=9))) - timedelta(seconds=1)):
             for ask in (guard.decide, guard.explain, guard.reduce):
                 with self.assertRaises(spki.Refused, msg=moment) as met:
                     ask(asked(b"(sequence)", moment=moment), right)
@@ -357,7 +404,7 @@ class Parts(unittest.TestCase):
             (asked(b"(sequence (do))"), "refused sequence 1 UnknownOp", "UnknownOp"), (asked(key=KEY * 2), "refused key Trailing 21", "Trailing"),
             (asked(key=b"(public-key (test a) (uri))"), "refused key KeyUris", "KeyUris"),
             (asked(words=()), "refused request EmptyList", "EmptyList"), (asked(text=b"()"), "refused request EmptyList", "EmptyList"),
-            (asked(moment=2 ** 62), "refused at BadDate", "BadDate"), (asked(moment=b"now"), "refused at BadDate", "BadDate"),
+            (asked(moment=BEFORE), "refused at BadDate", "BadDate"), (asked(moment=b"now"), "refused at BadDate", "BadDate"),
         ]:
             for ask in (guard.decide, guard.explain, guard.reduce):
                 with self.assertRaises(spki.Refused, msg=line) as met:
@@ -367,9 +414,12 @@ class Parts(unittest.TestCase):
 
     def test_other_types_are_no_parts(self):
         for given in ({"sequence": "(sequence)"}, {"key": bytearray(KEY)}, {"words": "ftp"}, {"words": b"ftp"}, {"words": ("ftp",)}, {"words": 7},
-                      {"words": (bytearray(b"ftp"),)}, {"moment": 1.5}, {"moment": None}, {"moment": True}, {"text": "ftp"}):
+                      {"words": (bytearray(b"ftp"),)}, {"moment": 1.5}, {"moment": True}, {"moment": 1_704_067_200}, {"text": "ftp"}):
             with self.assertRaises(TypeError):
                 asked(**given)
+        for key in (KEY, None, SIGNED, spki.ProvenKey):
+            with self.assertRaises(TypeError):
+                spki.Question(SHOWN, key, words=WORDS, moment=NOW)
         for other in ("(acl)", 7, None, bytearray(b"(acl)")):
             for call in (spki.Guard, spki.canonical, spki.string_at):
                 with self.assertRaises(TypeError):
@@ -379,8 +429,9 @@ class Parts(unittest.TestCase):
 
     def test_a_question_keeps_its_octets(self):
         guard = spki.Guard(b"(acl (entry (public-key (test b)) (tag (w w10 w11 w12 w13))))")
-        questions = [spki.Question(b"(%s)" % b"sequence", b"(public-key (%s b))" % b"test", words=[b"w", *(b"w%d" % it for it in range(10, 14))],
-                                   moment=NOW + number) for number in range(200)]
+        questions = [spki.Question(b"(%s)" % b"sequence", spki.ProvenKey.assume(b"(public-key (%s b))" % b"test"),
+                                   words=[b"w", *(b"w%d" % it for it in range(10, 14))],
+                                   moment=NOW + timedelta(seconds=number)) for number in range(200)]
         garbage = [bytes(size % 64) for size in range(20_000)]
         self.assertTrue(all(guard.decide(question, right) for question in questions))
         self.assertEqual(len(garbage), 20_000)
@@ -388,7 +439,7 @@ class Parts(unittest.TestCase):
     def test_a_request_is_given_once(self):
         for given in ({}, {"words": WORDS, "text": b"(ftp)"}):
             with self.assertRaises(TypeError):
-                spki.Question(SHOWN, KEY, moment=NOW, **given)
+                spki.Question(SHOWN, spki.ProvenKey.assume(KEY), moment=NOW, **given)
 
     def test_lengths_are_those_of_the_octets(self):
         """A subclass of bytes may say another length than it has. Nothing beyond its octets is read."""
@@ -429,7 +480,7 @@ class Guards(unittest.TestCase):
                 spki.Guard(by_sha1, other)
 
     def test_limits(self):
-        for wrong in ({"octets": 1_048_577}, {"nodes": 1_000_001}, {"work": -1}, {"answer": 2 ** 64}, {"certificates": 2 ** 64 + 16}):
+        for wrong in ({"octets": 1_048_577}, {"nodes": 1_000_001}, {"work": -1}, {"octets": -1}, {"answer": 2 ** 64}, {"certificates": 2 ** 64 + 16}):
             with self.assertRaises(ValueError):
                 spki.Limits(**wrong)
         for wrong in ({"octets": 1.5}, {"words": "7"}, {"work": True}):
@@ -442,12 +493,14 @@ class Guards(unittest.TestCase):
             with self.assertRaises(spki.Refused) as met:
                 spki.Guard(LIST, limits=limits).decide(question, right)
             self.assertEqual(met.exception.line, line)
-        for limits in (spki.Limits(nodes=0), spki.Limits(work=0), spki.Limits(answer=5)):
-            guard = spki.Guard(LIST, limits=limits)
+        self.assertTrue(spki.Guard(LIST, limits=spki.Limits(octets=0, certificates=0, work=7)).decide(asked(), right))
+        for limits in (spki.Limits(nodes=1), spki.Limits(work=1), spki.Limits(answer=5)):
+            # (by a tag of three nodes)
+            guard = spki.Guard(LIST.replace(b"(*)", b"(ftp host)"), limits=limits)
             self.assertTrue(guard.decide(asked(), right))
             with self.assertRaises(spki.Refused) as met:
                 guard.explain(asked(), right)
-            self.assertEqual((met.exception.line, met.exception.part), ("refused TooLarge", ""))
+            self.assertEqual((met.exception.line, met.exception.part), ("refused TooLarge", None))
 
     def test_closing(self):
         with spki.Guard(LIST) as guard:
@@ -464,15 +517,15 @@ class Guards(unittest.TestCase):
 
     def test_closing_while_it_is_asked(self):
         guard = spki.Guard(LIST)
-        self.assertTrue(guard.decide(asked(), lambda *signed: guard.close() is None))
+        self.assertTrue(guard.decide(asked(), lambda it: guard.close() is None))
 
     def test_closing_in_another_thread(self):
         """Beside every call a guard and a question may be closed. A call answers as before, or raises ValueError."""
         calls = {"entries": lambda guard, opened: guard.entries == 1, "decide": lambda guard, opened: bool(guard.decide(asked(), right)),
-                 "count": lambda guard, opened: len(opened) == 1, "signatures": lambda guard, opened: opened.signatures()[0][:3] == SIGNED,
+                 "count": lambda guard, opened: len(opened) == 1, "signatures": lambda guard, opened: opened.signatures()[0] == SIGNED,
                  "verify": lambda guard, opened: opened.verify(right) is None, "ask": lambda guard, opened: len(guard.ask(asked())) == 1,
                  "mark": lambda guard, opened: opened.mark(0) is None, "is_possible": lambda guard, opened: opened.is_possible,
-                 "decide by marks": lambda guard, opened: opened.mark(0) is None and opened.decide() == spki.Decision(1),
+                 "decide by marks": lambda guard, opened: opened.mark(0) is None and opened.decide() == spki.Grant(1),
                  "explain": lambda guard, opened: str(guard.explain(asked(), right)) == "entry 1 grants",
                  "explain by marks": lambda guard, opened: opened.mark(0) is None and str(opened.explain()) == "entry 1 grants",
                  "reduce": lambda guard, opened: str(guard.reduce(asked(), right)).startswith("entry 1 "),
@@ -520,7 +573,7 @@ class Guards(unittest.TestCase):
             opened = guard.ask(asked())
             self.assertTrue(guard.decide(asked(), right))
             with self.assertRaises(ZeroDivisionError):
-                guard.decide(asked(), lambda *signed: 1 / 0)
+                guard.decide(asked(), lambda it: 1 / 0)
             guard.close()
             opened.close()
             opened.close()
@@ -566,6 +619,19 @@ class Texts(unittest.TestCase):
                 opened.decide()
             with mock.patch.object(_library, "mark", return_value=status), self.assertRaises(RuntimeError):
                 opened.mark(0)
+
+
+class Words(unittest.TestCase):
+    def test_words_are_strings(self):
+        """A word of a line is a member, and equals its string: in a dictionary, in a text and after a pickle."""
+        for member, word in ((spki.Cause.TAG_LACKS, "TagLacks"), (spki.Cause.GRANTS, "grants"), (spki.Fault.BAD_DATE, "BadDate"),
+                             (spki.Part.AT, "at")):
+            self.assertIs(type(member)(word), member)
+            self.assertEqual(({word: 1}.get(member), f"{member}", str(member), member), (1, word, word, word))
+            self.assertIs(pickle.loads(pickle.dumps(member)), member)
+        self.assertIs(spki.Fault("NotYetKnown"), spki.Fault.OTHER)
+        refused = spki.Refused("refused Memory")
+        self.assertEqual((refused.part, refused.fault), (None, spki.Fault.MEMORY))
 
 
 class Libraries(unittest.TestCase):

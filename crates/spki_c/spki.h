@@ -20,7 +20,7 @@
  *     for (place = 0; spki_asked_signature(asked, place, &signature) == SPKI_DONE; place++)
  *         if (is_signed(&signature))
  *             spki_asked_mark(asked, place);
- *     if (spki_asked_granted(asked)) ...                                  the only test of a yes
+ *     if (spki_asked_granted(asked)) ...                                  the only test of a yes, and for this moment alone
  *     spki_asked_close(asked);
  *
  * The other calls return one answer: the octets that the program `spki` writes for the case, and a status. For a case as one text:
@@ -58,7 +58,8 @@
  *   guard, or the reverse, is seen: the call is SPKI_MISUSED, a count is 0, a truth value false, and a close has no effect.
  * - While spki_asked_mark runs, no other call uses the question.
  * - A guard and an opened question are passed to another thread by a lock, by the start or end of a thread, or by a sequentially
- *   consistent atomic.
+ *   consistent atomic. To change a guard under threads, let each ask while it holds a lock for reading, and change the pointer while one
+ *   thread holds it for writing. Questions that are open stay open when their guard is closed.
  * - `malloc`, `realloc` and `free` of the program are those of one allocator. They align a block to each power of two up to 16 that
  *   divides its size, as those of every common C library do. If `malloc` returns null, the answer is `refused Memory`.
  * - No call is made in a signal handler, nor in a child that a process with several threads forked.
@@ -87,6 +88,9 @@
 #define SPKI_RESULT
 #endif
 
+/* What is defined here, and is no call of the library. */
+#define SPKI_INLINE(type) static inline type
+
 #ifdef __cplusplus
 extern "C" {
 #endif
@@ -113,6 +117,22 @@ enum spki_status {
     SPKI_NO_MEMORY = 8, /* spki_string, spki_asked_signature: an allocation failed. The other calls answer `refused Memory` then */
     SPKI_YES = 9        /* a decision: the request is granted. Only decisions return it */
 };
+
+/* The name of a status, for a log. No name is a decision. */
+SPKI_INLINE(const char *) spki_status_text(enum spki_status status)
+{
+    switch (status) {
+    case SPKI_NO: return "denied";
+    case SPKI_REFUSED: return "refused";
+    case SPKI_TOO_SMALL: return "the buffer is too small";
+    case SPKI_MISUSED: return "the call is misused";
+    case SPKI_DONE: return "done";
+    case SPKI_NONE: return "nothing is there";
+    case SPKI_NO_MEMORY: return "an allocation failed";
+    case SPKI_YES: return "granted";
+    }
+    return "no status";
+}
 
 /* Runs a command on a text. The answer is written to the front of the buffer, and the rest of the buffer is unchanged. If no answer is
  * written, the first octet of the buffer is 0, so no line of an earlier call is left there. `*needed` is the length of the answer. A text of
@@ -149,16 +169,20 @@ struct spki_text {
 #define SPKI_LITERAL(literal) ((struct spki_text){"" literal, sizeof(literal) - 1})
 #endif
 
+/* Structures. Set `size` to the size of the structure, and what is not used to 0. A structure of an older header is read as far as it goes: what
+ * it does not have is 0. One of a newer header is read if all that this library does not know is 0, and otherwise the call is SPKI_MISUSED. So
+ * is one whose size is no multiple of sizeof(size_t), or over 4,096. struct spki_text and struct spki_signed have no size, and never change. */
+
 enum spki_policy {
-    SPKI_STRICT = 0, /* hashes by SHA-1 name no key, like `(policy strict)` in a case */
-    SPKI_OPEN = 1    /* hashes of all algorithms name keys, as in a case without a policy */
+    SPKI_STRICT = 0,    /* hashes by SHA-1 name no key, like `(policy strict)` in a case */
+    SPKI_ALLOW_SHA1 = 1 /* hashes by SHA-1 name keys too, as in a case without a policy */
 };
 
-/* Limits of each question. A null pointer means 65,536 octets, 16 certificates, 64 strings, 1,000,000 nodes, 100,000 of work and
- * 1,048,576 octets of an answer. `nodes`, `work` and `answer` are for spki_asked_explain and _reduce: what exceeds one of them is
- * `refused TooLarge`. A decision computes no intersection. */
+/* Limits of each question. A null pointer, or a limit of 0, means the usual ones: 65,536 octets, 16 certificates, 64 strings, 1,000,000 nodes,
+ * 100,000 of work and 1,048,576 octets of an answer. `nodes`, `work` and `answer` are for spki_asked_explain and _reduce: what exceeds one of
+ * them is `refused TooLarge`. A decision computes no intersection. */
 struct spki_limits {
-    size_t size;         /* sizeof(struct spki_limits), by which the library knows the caller's header */
+    size_t size;         /* sizeof(struct spki_limits): "Structures" below */
     size_t octets;       /* the most octets of a question's texts together: more are `refused question TooLong` */
     size_t certificates; /* the most certificates of a sequence: more are `refused question TooManyCertificates` */
     size_t words;        /* the most strings of a request: more are `refused question TooManyWords` */
@@ -184,8 +208,8 @@ typedef struct spki_guard spki_guard;
  *
  * SPKI_DONE: `*guard` is the guard, and `*needed` is 0. It must be closed by spki_guard_close. With every other status `*guard` is
  * null. SPKI_REFUSED: a line is in the buffer that begins with `refused form` or `refused acl`, or is `refused Memory`.
- * SPKI_TOO_SMALL: the line does not fit the buffer. SPKI_MISUSED: `guard` is null, there is no such policy, the limits have another size,
- * or one of them is over the highest. */
+ * SPKI_TOO_SMALL: the line does not fit the buffer. SPKI_MISUSED: `guard` is null, there is no such policy, the limits are not read
+ * by their size, or one of them is over the highest. */
 SPKI_RESULT enum spki_status spki_guard_open(const void *list, size_t list_length, enum spki_policy policy, const struct spki_limits *limits,
                                  spki_guard **guard, void *buffer, size_t buffer_length, size_t *needed);
 
@@ -200,15 +224,16 @@ size_t spki_guard_entries(const spki_guard *guard);
 
 /* A question. Each part is one value in any of the three forms of RFC 9804, and is read separately. */
 struct spki_question {
-    size_t size;                   /* sizeof(struct spki_question), by which the library knows the caller's header */
+    size_t size;                   /* sizeof(struct spki_question): "Structures" above */
     struct spki_text sequence;     /* `(sequence ..)`: the certificates that are shown */
-    struct spki_text key;          /* `(public-key ..)` of a client who has proved to hold it */
+    struct spki_text key;          /* `(public-key ..)` of a client who has proved to hold it: nothing checks that here */
     struct spki_text request;      /* what is asked for, if `words` is null */
     const struct spki_text *words; /* what is asked for, by its strings, whose octets may be any: the list of them, or the string
                                       if there is one. `request` is empty then */
     size_t word_count;             /* how many strings; 0 if `words` is null */
     struct spki_text moment;       /* a date, such as `19:2024-01-01_00:00:00`, if `seconds` is null */
-    const int64_t *seconds;        /* the moment in seconds since 1970-01-01 00:00:00 UTC. `moment` is empty then */
+    const int64_t *seconds;        /* the moment in seconds since 1970-01-01 00:00:00 UTC. `moment` is empty then. Seconds below 0, as of
+                                      a time() that failed, are refused as BadDate, and so are those past the year 9999 */
 };
 
 /* A question that was read. It owns all it needs of the question's texts and of the guard. */
@@ -227,8 +252,8 @@ struct spki_signed {
  * null. SPKI_REFUSED: the line says what is refused. `refused sequence Bad 5` is for what is no text of a value, and
  * `refused sequence 3 Shape` for a value that is no sequence. Other lines are `refused key ..`, `refused request ..`, `refused at ..`,
  * `refused question TooLong`, `refused question TooManyCertificates`, `refused question TooManyWords` and `refused Memory`.
- * SPKI_TOO_SMALL: the line does not fit the buffer. SPKI_MISUSED: a pointer is null, the question has another size, or it has a request
- * both as a text and as strings, or a moment both as a text and in seconds. */
+ * SPKI_TOO_SMALL: the line does not fit the buffer. SPKI_MISUSED: a pointer is null, the question is not read by its size, or it has a
+ * request both as a text and as strings, or a moment both as a text and in seconds. */
 SPKI_RESULT enum spki_status spki_guard_ask(const spki_guard *guard, const struct spki_question *question, spki_asked **asked, void *buffer,
                                 size_t buffer_length, size_t *needed);
 

@@ -1,18 +1,21 @@
 /* Guards and opened questions from C++17, closed where their owners end. spki.h has the calls and the rules for callers.
  *
  *     spki::guard guard(list);                                           an access list that is read once; throws spki::refused
+ *     const spki::proven_key client = spki::proven_key::assume(key);     whom TLS has proved to hold it
  *     const std::string_view words[] = {"packages", "read", path};
- *     if (guard.decide({sequence, key, words, std::time(nullptr)}, verify)) ...
+ *     if (guard.decide({sequence, client, words, std::chrono::system_clock::now()}, verify)) ...
  *
- * `verify(key, message, value)` returns whether the value is a signature of the message by the key: a bool, and nothing that becomes one.
+ * `verify(signature)` returns whether a `spki::signature` is valid: a bool, and nothing that becomes one.
  * A thread that calls has 256 KiB of stack left. No call is made in a child that a process with several threads forked. */
 #ifndef SPKI_HPP
 #define SPKI_HPP
 
 #include "spki.h"
 
+#include <chrono>
 #include <cstring>
 #include <memory>
+#include <optional>
 #include <stdexcept>
 #include <string>
 #include <string_view>
@@ -37,22 +40,60 @@ inline std::string_view view_of(spki_text text) noexcept
     return {static_cast<const char *>(text.octets), text.length};
 }
 
-/* The usual limits, whose fields may be changed, and the highest. */
+/* The usual limits, whose fields may be changed, and the highest. A field of 0 is the usual limit. */
 inline constexpr spki_limits usual_limits = SPKI_USUAL_LIMITS;
 inline constexpr spki_limits highest_limits = SPKI_HIGHEST_LIMITS;
+
+/* A signature that is to be verified: whether `value` is one of `message` by `key`, all in canonical form. `octets` are those of a value that is
+ * one string. The texts last as long as the question. */
+struct signature {
+    std::string_view key, message, value, octets;
+};
+
+/* What a verifier answers: a bool, and nothing that becomes one. */
+template <typename Verify> bool is_valid(Verify &&verify, const signature &it)
+{
+    const auto answer = verify(it);
+    static_assert(std::is_same_v<decltype(answer), const bool>, "a verifier returns a bool: an int such as -1 is no answer");
+    return answer;
+}
+
+/* A key that a client has proved to hold. A public key is public: without a proof, each client that sends Alice's key would have Alice's rights. */
+class proven_key {
+public:
+    /* The key of a client that has proved to hold it elsewhere, as by TLS or SSH. Nothing checks that here: each client gets the rights of the
+     * key that is named. */
+    static proven_key assume(std::string_view key) { return proven_key(key); }
+
+    /* The key of a login: its message is a challenge that the service itself made, with a nonce that it takes once. Nothing if the signature is
+     * not valid, or its message is a certificate, which proves nothing about who shows it. */
+    template <typename Verify> [[nodiscard]] static std::optional<proven_key> by(const signature &login, Verify &&verify)
+    {
+        if (login.message.substr(0, 7) == "(4:cert" || !is_valid(verify, login))
+            return std::nullopt;
+        return proven_key(login.key);
+    }
+
+    std::string_view text() const noexcept { return *octets; }
+
+private:
+    explicit proven_key(std::string_view key) : octets(std::make_shared<const std::string>(key)) {}
+    std::shared_ptr<const std::string> octets;
+};
 
 /* What is asked. The texts are those of spki_question, and must last until `ask` or `decide` returns. `words` has the strings of the
  * request; an array, a vector or another container of std::string_view with `data` and `size` will do. */
 struct question {
     template <typename Words>
-    question(std::string_view sequence, std::string_view key, const Words &words, std::int64_t seconds) : seconds(seconds)
+    question(std::string_view sequence, proven_key key, const Words &words, std::chrono::system_clock::time_point now)
+        : key(std::move(key)), seconds(std::chrono::floor<std::chrono::seconds>(now).time_since_epoch().count())
     {
         for (std::string_view word : words)
             strings.push_back(text_of(word));
         // (a null address would mean that the request is a text)
         strings.push_back({nullptr, 0});
         asked.sequence = text_of(sequence);
-        asked.key = text_of(key);
+        asked.key = text_of(this->key.text());
     }
 
     spki_question lent() const noexcept
@@ -67,6 +108,7 @@ struct question {
 
 private:
     spki_question asked{};
+    proven_key key;
     std::vector<spki_text> strings;
     std::int64_t seconds;
 };
@@ -100,11 +142,11 @@ public:
     std::size_t size() const noexcept { return spki_asked_count(handle.get()); }
 
     /* The signature at a place. Its texts last as long as this object. */
-    spki_signed signature(std::size_t place) const
+    spki::signature signature(std::size_t place) const
     {
         spki_signed found;
         expect(spki_asked_signature(handle.get(), place, &found), "", 0, SPKI_DONE, SPKI_DONE);
-        return found;
+        return {view_of(found.key), view_of(found.message), view_of(found.value), view_of(found.octets)};
     }
 
     /* Says that the signature at a place is valid. Throws std::logic_error if there is none. */
@@ -116,14 +158,8 @@ public:
     /* Marks each signature that is valid, up to the first that is not. */
     template <typename Verify> void verify(Verify &&verify)
     {
-        for (std::size_t place = 0; place < size(); place++) {
-            const spki_signed it = signature(place);
-            const auto answer = verify(view_of(it.key), view_of(it.message), view_of(it.value));
-            static_assert(std::is_same_v<decltype(answer), const bool>, "a verifier returns a bool: an int such as -1 is no answer");
-            if (!answer)
-                break;
+        for (std::size_t place = 0; place < size() && is_valid(verify, signature(place)); place++)
             mark(place);
-        }
     }
 
     /* Whether the request is granted, if exactly the marked signatures are valid. */

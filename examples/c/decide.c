@@ -32,7 +32,7 @@ static bool is_granted(const spki_guard *guard, struct spki_text sequence, struc
         return false;
     const size_t count = spki_asked_possible(asked) ? spki_asked_count(asked) : 0;
     for (size_t place = 0; place < count && spki_asked_signature(asked, place, &signature) == SPKI_DONE; place++)
-        if (verifies(signature.key, signature.message, signature.value))
+        if (verifies(&signature))
             spki_asked_mark(asked, place);
     bool granted = spki_asked_granted(asked);
     spki_asked_close(asked);

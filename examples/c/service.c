@@ -130,7 +130,7 @@ static bool holds_key(struct spki_text parts[MOST_PARTS], size_t word_count, con
     if (!is_one_value(&parts[KEY], key) || !is_one_value(&parts[SIGNATURE], signature))
         return false;
     size_t length = write_challenge(challenge, nonce, parts + FIRST_WORD, word_count);
-    return verifies(parts[KEY], (struct spki_text){challenge, length}, parts[SIGNATURE]);
+    return verifies(&(struct spki_signed){.key = parts[KEY], .message = {challenge, length}, .value = parts[SIGNATURE]});
 }
 
 /* Writes an answer of the library, if there is one. */
@@ -155,7 +155,7 @@ static void decide(const struct service *service, const struct spki_question *qu
         return;
     }
     for (size_t place = 0; spki_asked_signature(asked, place, &signature) == SPKI_DONE; place++)
-        if (verifies(signature.key, signature.message, signature.value))
+        if (verifies(&signature))
             spki_asked_mark(asked, place);
     status = spki_asked_decide(asked, answer, room, &length);
     put(status, answer, length);

@@ -1,7 +1,8 @@
 /* A verifier of signatures in the forms of docs/FORMATS.md, "Keys and signatures of services": Ed25519, RSA by PKCS#1 v1.5 with SHA-256,
  * ECDSA with P-256 and SHA-256. A service takes this file along with verify_gcrypt.c (libgcrypt) or verify_openssl.c (OpenSSL's libcrypto).
  *
- *     verified[place] = verifies(signature.key, signature.message, signature.value);
+ *     if (verifies(&signature))
+ *         spki_asked_mark(asked, place);
  *
  * Key and value must have exactly these forms: a key in another form is another key. Points and numbers are tested before a library gets them,
  * as docs/FORMATS.md, "What a verifier tests first", has it: libraries differ in what they take, and some end the process. So both files
@@ -13,8 +14,8 @@
 #include <stdbool.h>
 #include <string.h>
 
-/* Whether a value is a signature of a message by a key, all in canonical form. Several threads may call at the same time. */
-bool verifies(struct spki_text key, struct spki_text message, struct spki_text value);
+/* Whether a signature is valid: `value` is one of `message` by `key`, all in canonical form. Several threads may call at the same time. */
+SPKI_RESULT bool verifies(const struct spki_signed *signature);
 
 /* ---- shared by the verifiers */
 

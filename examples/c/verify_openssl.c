@@ -96,16 +96,17 @@ static size_t signature_of(const struct verify_parts *parts, size_t size, unsign
     return size;
 }
 
-bool verifies(struct spki_text key, struct spki_text message, struct spki_text value)
+bool verifies(const struct spki_signed *signature)
 {
-    unsigned char signature[MOST_SIGNATURE];
-    struct verify_parts parts = verify_parts_of(key, value);
+    unsigned char octets[MOST_SIGNATURE];
+    struct spki_text message = signature->message;
+    struct verify_parts parts = verify_parts_of(signature->key, signature->value);
     EVP_PKEY *public = parts.kind == VERIFY_NONE || message.length == 0 ? NULL : key_of(&parts);
     const EVP_MD *digest = parts.kind == VERIFY_ED25519 ? NULL : EVP_sha256();
-    size_t length = public ? signature_of(&parts, (size_t)EVP_PKEY_get_size(public), signature) : 0;
+    size_t length = public ? signature_of(&parts, (size_t)EVP_PKEY_get_size(public), octets) : 0;
     EVP_MD_CTX *context = EVP_MD_CTX_new();
     bool right = length > 0 && context && EVP_DigestVerifyInit(context, NULL, digest, NULL, public) == 1
-                 && EVP_DigestVerify(context, signature, length, message.octets, message.length) == 1;
+                 && EVP_DigestVerify(context, octets, length, message.octets, message.length) == 1;
     EVP_MD_CTX_free(context);
     EVP_PKEY_free(public);
     return right;

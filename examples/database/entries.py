@@ -79,14 +79,14 @@ class Service:
         """The number of the first entry that grants the request. `None` if no entry does.
 
         Raises `spki.Refused` if a part of the question cannot be read, or the entries found have over 1 MiB together, and `Unavailable`
-        if the database does not answer. `verify(key, message, value)` is called once for each signature, in order, up to the first that is not
+        if the database does not answer. `verify(signature)` is called once for each signature, in order, up to the first that is not
         valid; and not at all if the entries found grant nothing, whatever is valid.
         """
         # A guard without entries reads the parts, and lists the signatures. If certificates are shown and none is listed, the first does not
         # stand, and no entry grants whichever are found.
         with self.no_entries.ask(question) as asked:
             first = next(iter(asked), None)
-        found = self.table.found(places_of(first.key if first else spki.canonical(question.key)))
+        found = self.table.found(places_of(first.key if first else spki.canonical(question.key.text)))
         with list_of([text for _, text in found], self.policy, self.limits) as guard:
             decision = guard.decide(question, verify)
         return found[decision.entry - 1][0] if decision else None

@@ -16,7 +16,7 @@ import contextlib
 import os
 import sys
 import tempfile
-import time
+from datetime import datetime, timezone
 
 HERE = os.path.dirname(os.path.abspath(__file__))
 TOP = os.path.join(HERE, "..", "..")
@@ -41,7 +41,7 @@ def logged_in(pair):
     """The key that the holder of a pair has shown to hold."""
     login = Login(SERVICE)
     login.answer(pair.text.encode(), pair.sign(message(SERVICE, login.nonce)))
-    return canonical(login.key)
+    return spki.ProvenKey.assume(canonical(login.key))
 
 
 @contextlib.contextmanager
@@ -66,7 +66,7 @@ def told(table):
     entry = entries.entry(alice.principal.encode(), RIGHTS, b"(propagate)")
 
     def asks(remark, pair, shown, words, wanted):
-        number = service.decide(spki.Question(shown, logged_in(pair), words=words, moment=int(time.time())), verify)
+        number = service.decide(spki.Question(shown, logged_in(pair), words=words, moment=datetime.now(timezone.utc)), verify)
         print(f"{remark}: {'no' if number is None else f'yes, by entry {number}'}{'' if number == wanted else '; WANTED OTHERWISE'}")
         return number == wanted
 

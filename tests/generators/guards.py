@@ -9,7 +9,7 @@ from .cases import Builder
 from .nearly import changed, texts
 
 ODDITIES = [*MISUSES.counts, *ALLOWED.counts]
-SECONDS = (0, -1, 1_704_067_199, 1_704_067_200, 1_718_440_200, 951_782_400, -2_203_891_200, FIRST_SECOND, FIRST_SECOND - 1,
+SECONDS = (0, -1, 1_704_067_199, 1_704_067_200, 1_718_440_200, 951_782_400, -2_203_891_200, -62_167_219_200,
            FIRST_SECOND + 31_622_400, LAST_SECOND, LAST_SECOND + 1, -2**63, 2**63 - 1)
 STRINGS = (b"", b"ftp", b"x) (at ", b"1:a", b"\x00\xff", b"(", b"a.o read")
 
@@ -50,12 +50,12 @@ def guard_question(rng: random.Random) -> GuardQuestion:
 
 
 def limits_for(wish: str, rng: random.Random) -> Limits:
-    """Limits, by chance some that are low."""
+    """Limits, by chance some that are low. One of 0 would be the usual one."""
     # with so few nodes the case of one decision in ten is too large, which the guard decides
     few, chance = (8, 0.4) if wish == "decide" else (60, 0.15)
-    return Limits(rng.randrange(1200) if rng.random() < 0.05 else USUAL.octets, rng.randrange(3) if rng.random() < 0.1 else USUAL.certificates,
-                  rng.randrange(4) if rng.random() < 0.1 else USUAL.words, rng.randrange(few) if rng.random() < chance else USUAL.nodes,
-                  rng.randrange(80) if rng.random() < 0.15 else USUAL.work, rng.randrange(120) if rng.random() < 0.1 else USUAL.answer)
+    return Limits(rng.randrange(1, 1200) if rng.random() < 0.05 else USUAL.octets, rng.randrange(1, 3) if rng.random() < 0.1 else USUAL.certificates,
+                  rng.randrange(1, 4) if rng.random() < 0.1 else USUAL.words, rng.randrange(1, few) if rng.random() < chance else USUAL.nodes,
+                  rng.randrange(1, 80) if rng.random() < 0.15 else USUAL.work, rng.randrange(1, 120) if rng.random() < 0.1 else USUAL.answer)
 
 
 def odd(question: GuardQuestion, rng: random.Random, oddity: str) -> GuardQuestion:

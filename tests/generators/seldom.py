@@ -150,7 +150,7 @@ def of_guards() -> Iterator[Maker]:
         question = guard_question(joined_lists(4, 4), wish)
         yield from (given(replace(question, limits=Limits(nodes=nodes))) for nodes in (15, 16))
         yield from (given(replace(question, limits=Limits(work=work))) for work in (15, 16))
-        yield from (given(replace(question, limits=Limits(answer=answer))) for answer in (0, 12, 15, 16, 17, 1000))
+        yield from (given(replace(question, limits=Limits(answer=answer))) for answer in (1, 12, 15, 16, 17, 1000))
         yield given(guard_question(joined_lists(1000, 1001), wish))
         yield from (given(replace(question, acl=acl)) for acl in (b"acl", b'(acl (version "1"))', b"(acl (version [0:]1:0))"))
         yield from (given(replace(question, sequence=sequence)) for sequence in (b"sequence", b"(sequences)", b"(sequence x)"))

@@ -97,12 +97,14 @@ def guard_of(asked: Asked) -> Guard:
 def answer_of(guard: Guard, asked: Asked, sequence: Value) -> Answer:
     """The decision about a sequence, as a service would decide."""
     import spki
-    question: Question = spki.Question(canonical(sequence), canonical(asked.key), text=canonical(asked.request), moment=canonical(asked.moment))
+    key = spki.ProvenKey.assume(canonical(asked.key))
+    question: Question = spki.Question(canonical(sequence), key, text=canonical(asked.request), moment=canonical(asked.moment))
     try:
         with guard.ask(question) as opened:
-            opened.verify(asked.verify)
+            opened.verify(lambda it: asked.verify(it.key, it.message, it.value))
             explanation: Explanation = opened.explain()
-            return Answer(sequence, opened.decide().entry, list(explanation.reasons()), opened.reduce().text.splitlines())
+            grant = opened.decide()
+            return Answer(sequence, grant.entry if grant else None, list(explanation.reasons()), opened.reduce().text.splitlines())
     except spki.Refused as why:
         raise Refused(f"a service would refuse the question: {why.line}") from None
 

@@ -156,9 +156,9 @@ def verifies(key: Value, message: bytes, value: Value) -> bool:
 
 
 def verify(key: bytes, message: bytes, value: bytes) -> bool:
-    """The same of canonical forms, as a guard of the module `spki` asks for it."""
-    from spki_verify import verify as verify_texts
-    return verify_texts(key, message, value)
+    """The same of canonical forms."""
+    from spki_verify import verify_texts
+    return verify_texts(key=key, message=message, value=value)
 
 
 # ---- files

@@ -4,6 +4,8 @@ import (
 	"context"
 	"runtime"
 	"sync"
+
+	"conguraki/spki"
 )
 
 // An Asked is a question that a guard has read, with the marks of its valid signatures. It owns all that it needs, may be answered any number of
@@ -43,10 +45,11 @@ func (a *Asked) lock() (opened, error) {
 	return a.held.handle, nil
 }
 
-// A Signature is to be verified: whether Value is a signature of Message by Key. The texts are in canonical form.
-type Signature struct {
-	Key, Message, Value []byte
-}
+// A Signature is to be verified, and a ProvenKey is the key of who asks: package spki has both.
+type (
+	Signature = spki.Signature
+	ProvenKey = spki.ProvenKey
+)
 
 // Count returns the number of signatures that the decision depends on.
 func (a *Asked) Count() int {
@@ -107,8 +110,8 @@ func (a *Asked) Mark(place int) error {
 
 // Verify marks each signature that is valid, in order, up to the first that is not. To explain a denial, verify also what is not possible.
 func (a *Asked) Verify(verify Verify) error {
-	return a.VerifyContext(context.Background(), func(_ context.Context, key, message, value []byte) (bool, error) {
-		return verify(key, message, value), nil
+	return a.VerifyContext(context.Background(), func(_ context.Context, signature Signature) (bool, error) {
+		return verify(signature), nil
 	})
 }
 
@@ -119,7 +122,7 @@ func (a *Asked) VerifyContext(ctx context.Context, verify VerifyContext) error {
 	err := a.Each(func(place int, signed Signature) bool {
 		isValid := false
 		if failed == nil {
-			isValid, failed = verify(ctx, signed.Key, signed.Message, signed.Value)
+			isValid, failed = verify(ctx, signed)
 		}
 		if failed == nil {
 			failed = ctx.Err()

@@ -9,7 +9,7 @@
 //	...
 //	decision, err := list.Decide(guard.Question{
 //		Sequence: sequence,                            // from the client
-//		Key:      key,                                 // of the client, who has proved to hold it
+//		Key:      spki.AssumeKey(key),                 // of the client, who has proved to hold it, as by TLS; else spki.ProveKey
 //		Words:    []string{"packages", "read", path},  // what is asked for
 //		Time:     time.Now(),
 //	}, verify.Signature)
@@ -17,8 +17,7 @@
 //		// denied
 //	}
 //
-// The client must have proved that it holds the key, as by TLS or SSH. A public key is public: without a proof, each client that sends
-// Alice's key would have Alice's rights.
+// A decision holds for its moment alone: ask again for the next one.
 //
 // The library's decisions are proved. The lines of this module are tested and not proved.
 //
@@ -31,6 +30,7 @@ import (
 	"fmt"
 	"runtime"
 	"sync"
+	"time"
 )
 
 // Version is the version of this module. It uses a library whose first two numbers are the same.
@@ -40,6 +40,22 @@ const Version = "0.2.0"
 // guard: what closes one closes both.
 type Guard struct {
 	held *heldGuard
+	log  func(Event)
+}
+
+// An Event is what a guard has decided, for a log. It grants nothing.
+type Event struct {
+	Question Question
+	Decision Decision
+	Err      error
+	// Took is the time from the call to the decision, with the verifier's.
+	Took time.Duration
+}
+
+// Logged returns the same guard, which calls a function after each Decide, DecideContext and Require, before they return. Calls may be under way
+// at the same time. If it panics, nothing is granted.
+func (g *Guard) Logged(log func(Event)) *Guard {
+	return &Guard{g.held, log}
 }
 
 // A heldGuard is what the copies of a Guard share. It is closed when none is left.
@@ -72,28 +88,26 @@ func (g *Guard) lock() (handle, error) {
 	return g.held.handle, nil
 }
 
-// A Verify says whether a value is a signature of a message by a key. The texts are in canonical form: the issuer's `(public-key ..)`, the
-// certificate, and the value of `(signature ..)`.
-type Verify func(key, message, value []byte) bool
+// A Verify says whether a signature is valid.
+type Verify func(signature Signature) bool
 
 // A VerifyContext is a Verify that may take time or fail, as one that asks another service. With an error it is not known whether the
 // signature is valid, and nothing is granted.
-type VerifyContext func(ctx context.Context, key, message, value []byte) (bool, error)
+type VerifyContext func(ctx context.Context, signature Signature) (bool, error)
 
 // Open reads an access list, `(acl entry ..)`, in any of the three forms of RFC 9804. The error is a *Refusal if the text is no access list,
 // and ErrMisused if a limit is over the highest or below zero.
 func Open(list []byte, policy Policy, limits Limits) (*Guard, error) {
-	given, err := limits.orUsual()
-	if err != nil {
+	if err := limits.check(); err != nil {
 		return nil, err
 	}
-	opened, err := open(list, policy, given)
+	opened, err := open(list, policy, limits)
 	if err != nil {
 		return nil, err
 	}
 	held := &heldGuard{handle: opened}
 	runtime.SetFinalizer(held, (*heldGuard).close)
-	return &Guard{held}, nil
+	return &Guard{held: held}, nil
 }
 
 // Close frees the memory of the guard, once the questions that it was asked are closed too. Nothing else depends on it. It may be called at
@@ -142,7 +156,22 @@ func (g *Guard) ask(question *Question) (Asked, error) {
 // Decide asks a question, verifies its signatures in order, up to the first that is not valid, and decides. Nothing is verified where the
 // request cannot be granted, whatever is valid. The error is that of Ask. With an error the decision is not a yes.
 func (g *Guard) Decide(question Question, verify Verify) (Decision, error) {
-	asked, err := g.ask(&question)
+	return g.told(question, func() (Decision, error) { return g.decide(&question, verify) })
+}
+
+// told decides, and calls the function of the log, if there is one.
+func (g *Guard) told(question Question, decide func() (Decision, error)) (Decision, error) {
+	if g.log == nil {
+		return decide()
+	}
+	begun := time.Now()
+	decision, err := decide()
+	g.log(Event{question, decision, err, time.Since(begun)})
+	return decision, err
+}
+
+func (g *Guard) decide(question *Question, verify Verify) (Decision, error) {
+	asked, err := g.ask(question)
 	if err != nil {
 		return Decision{}, err
 	}
@@ -159,7 +188,11 @@ func (g *Guard) Decide(question Question, verify Verify) (Decision, error) {
 // DecideContext is as Decide, with a verifier that may fail. The context is tested before each signature and before the decision. The error
 // is also that of the verifier or of the context.
 func (g *Guard) DecideContext(ctx context.Context, question Question, verify VerifyContext) (Decision, error) {
-	asked, err := g.ask(&question)
+	return g.told(question, func() (Decision, error) { return g.decideContext(ctx, &question, verify) })
+}
+
+func (g *Guard) decideContext(ctx context.Context, question *Question, verify VerifyContext) (Decision, error) {
+	asked, err := g.ask(question)
 	if err != nil {
 		return Decision{}, err
 	}

@@ -13,6 +13,7 @@ import (
 	"testing"
 	"time"
 
+	"conguraki/spki"
 	"conguraki/spki/guard"
 )
 
@@ -32,8 +33,8 @@ var signed = []string{
 // shown returns a question by b, who shows a certificate so many times.
 func shown(times int) guard.Question {
 	return guard.Question{
-		Sequence: []byte("(sequence " + strings.Repeat(pair, times) + ")"), Key: []byte("(public-key (test b))"), Words: []string{"ftp", "host"},
-		Time: time.Date(2024, 1, 1, 0, 0, 0, 0, time.UTC),
+		Sequence: []byte("(sequence " + strings.Repeat(pair, times) + ")"), Key: spki.AssumeKey([]byte("(public-key (test b))")),
+		Words: []string{"ftp", "host"}, Time: time.Date(2024, 1, 1, 0, 0, 0, 0, time.UTC),
 	}
 }
 
@@ -83,15 +84,15 @@ func granted(t testing.TB, asked *guard.Asked) bool {
 	return decision.Granted()
 }
 
-func valid(_, _, _ []byte) bool { return true }
+func valid(guard.Signature) bool { return true }
 
-func invalid(_, _, _ []byte) bool { return false }
+func invalid(guard.Signature) bool { return false }
 
 func TestVerifierIsGivenWhatIsSigned(t *testing.T) {
 	calls := 0
-	decision, err := opened(t, list).Decide(shown(1), func(key, message, value []byte) bool {
+	decision, err := opened(t, list).Decide(shown(1), func(it guard.Signature) bool {
 		calls++
-		return reflect.DeepEqual([]string{string(key), string(message), string(value)}, signed)
+		return reflect.DeepEqual([]string{string(it.Key), string(it.Message), string(it.Value)}, signed)
 	})
 	if err != nil || !decision.Granted() || decision.Entry() != 1 || calls != 1 || decision.String() != "yes entry 1" {
 		t.Errorf("%v, %v, %d calls", decision, err, calls)
@@ -123,9 +124,9 @@ func TestZeroIsNoYes(t *testing.T) {
 func TestVerifierStopsAtTheFirstWrongOne(t *testing.T) {
 	question, calls := shown(3), 0
 	question.Sequence = []byte("(sequence " + pair + strings.Replace(pair, "sig)", "wrong)", 1) + pair + ")")
-	explanation, err := opened(t, list).Explain(question, func(_, _, value []byte) bool {
+	explanation, err := opened(t, list).Explain(question, func(it guard.Signature) bool {
 		calls++
-		return string(value) == "3:sig"
+		return string(it.Value) == "3:sig"
 	})
 	wanted := []guard.Reason{{Item: 3, Word: "NotAccepted"}}
 	if err != nil || calls != 2 || !reflect.DeepEqual(explanation.Reasons(), wanted) || wanted[0].String() != explanation.String() {
@@ -154,10 +155,10 @@ func TestMarks(t *testing.T) {
 // TestMarksAreOfOneQuestion asks for two clients at once. What is marked for b grants nothing to c, who shows a forged certificate.
 func TestMarksAreOfOneQuestion(t *testing.T) {
 	made, question := opened(t, list), shown(0)
-	question.Sequence, question.Key = []byte("(sequence "+forged+")"), []byte("(public-key (test c))")
+	question.Sequence, question.Key = []byte("(sequence "+forged+")"), spki.AssumeKey([]byte("(public-key (test c))"))
 	good, bad, again := marked(t, made, shown(1)), marked(t, made, question), marked(t, made, shown(1))
 	for _, asked := range []*guard.Asked{good, bad} {
-		err := asked.Verify(func(_, _, value []byte) bool { return string(value) == "3:sig" })
+		err := asked.Verify(func(it guard.Signature) bool { return string(it.Value) == "3:sig" })
 		if err != nil || !asked.Possible() {
 			t.Error(err)
 		}
@@ -174,7 +175,7 @@ func TestMarksAreOfOneQuestion(t *testing.T) {
 // TestMarksAreOfOnePlace shows two equal certificates, of which both have to be marked.
 func TestMarksAreOfOnePlace(t *testing.T) {
 	question := shown(0)
-	question.Sequence, question.Key = []byte("(sequence "+own+own+")"), []byte("(public-key (test a))")
+	question.Sequence, question.Key = []byte("(sequence "+own+own+")"), spki.AssumeKey([]byte("(public-key (test a))"))
 	for place := 0; place < 2; place++ {
 		asked := marked(t, opened(t, list), question, place)
 		if granted(t, asked) || asked.Count() != 2 {
@@ -189,9 +190,9 @@ func TestMarksAreOfOnePlace(t *testing.T) {
 // TestVerifierThatFailsMarksNothing fails behind a valid signature.
 func TestVerifierThatFailsMarksNothing(t *testing.T) {
 	question, fault := shown(0), errors.New("no such key")
-	question.Sequence, question.Key = []byte("(sequence "+own+own+")"), []byte("(public-key (test a))")
+	question.Sequence, question.Key = []byte("(sequence "+own+own+")"), spki.AssumeKey([]byte("(public-key (test a))"))
 	asked, calls := marked(t, opened(t, list), question), 0
-	err := asked.VerifyContext(context.Background(), func(context.Context, []byte, []byte, []byte) (bool, error) {
+	err := asked.VerifyContext(context.Background(), func(context.Context, guard.Signature) (bool, error) {
 		calls++
 		return true, map[int]error{2: fault}[calls]
 	})
@@ -206,7 +207,7 @@ func TestVerifierThatFailsMarksNothing(t *testing.T) {
 // TestNothingIsVerifiedInVain asks where no signature could help. An explanation needs to know what is valid.
 func TestNothingIsVerifiedInVain(t *testing.T) {
 	calls := 0
-	counted := func(_, _, _ []byte) bool { calls++; return true }
+	counted := func(guard.Signature) bool { calls++; return true }
 	for list, question := range map[string]guard.Question{list: shown(2), "(acl)": shown(1)} {
 		made := opened(t, list)
 		if decision, err := made.Decide(question, counted); err != nil || decision.Granted() || calls != 0 {
@@ -227,7 +228,7 @@ func TestSignaturesAreOfTheSequence(t *testing.T) {
 		question.Sequence = []byte("(sequence " + text + ")")
 		var wanted []guard.Signature
 		for turn, change := range []func(){
-			func() {}, func() { question.Key = []byte("(public-key (test c))") }, func() { question.Words = []string{"x"} },
+			func() {}, func() { question.Key = spki.AssumeKey([]byte("(public-key (test c))")) }, func() { question.Words = []string{"x"} },
 			func() { question.Time = time.Date(1999, 1, 1, 0, 0, 0, 0, time.UTC) },
 		} {
 			change()
@@ -252,10 +253,8 @@ func TestSignaturesAreOfTheSequence(t *testing.T) {
 func TestQuestionIsCopied(t *testing.T) {
 	question := shown(1)
 	asked := marked(t, opened(t, list), question, 0)
-	for _, text := range [][]byte{question.Sequence, question.Key} {
-		for place := range text {
-			text[place] = 'x'
-		}
+	for place := range question.Sequence {
+		question.Sequence[place] = 'x'
 	}
 	question.Words[0] = ""
 	for turn := 0; turn < 2; turn++ {
@@ -296,7 +295,7 @@ func TestRefusals(t *testing.T) {
 	for line, change := range map[string]func(*guard.Question){
 		"refused sequence Trailing 11": func(q *guard.Question) { q.Sequence = []byte("(sequence) x") },
 		"refused sequence Short":       func(q *guard.Question) { q.Sequence = nil },
-		"refused key Short":            func(q *guard.Question) { q.Key = nil },
+		"refused key Short":            func(q *guard.Question) { q.Key = guard.ProvenKey{} },
 		"refused request EmptyList":    func(q *guard.Question) { q.Words = []string{} },
 		"refused request Short":        func(q *guard.Question) { q.Words = nil },
 		"refused at Short":             func(q *guard.Question) { q.Time = time.Time{} },
@@ -368,6 +367,47 @@ func TestUsualLimits(t *testing.T) {
 	}
 }
 
+// TestLogged logs a yes, a no and a refusal. A log that panics lets nothing be granted.
+func TestLogged(t *testing.T) {
+	var events []guard.Event
+	made := opened(t, list).Logged(func(event guard.Event) { events = append(events, event) })
+	refused := shown(1)
+	refused.Sequence = nil
+	for _, question := range []guard.Question{shown(1), shown(2), refused} {
+		decision, err := made.Decide(question, valid)
+		last := events[len(events)-1]
+		if last.Decision != decision || last.Err != err || last.Question.Time != question.Time || last.Took < 0 {
+			t.Errorf("%+v, %v, %v", last, decision, err)
+		}
+	}
+	if _, err := made.Require(context.Background(), shown(2), func(context.Context, guard.Signature) (bool, error) { return true, nil }); err == nil {
+		t.Error("a no is required")
+	}
+	if len(events) != 4 || !events[0].Decision.Granted() || events[1].Decision.Granted() || !errors.Is(events[2].Err, guard.ErrRefused) {
+		t.Errorf("%+v", events)
+	}
+	defer func() {
+		if recover() == nil {
+			t.Error("a panic of a log is lost")
+		}
+	}()
+	_, _ = made.Logged(func(guard.Event) { panic("the disk is full") }).Decide(shown(1), valid)
+}
+
+func TestLimitsOfZeroAreTheLibrarys(t *testing.T) {
+	made, err := guard.Open([]byte(list), guard.Strict, guard.Limits{Answer: 1000})
+	if err != nil {
+		t.Fatal(err)
+	}
+	defer made.Close()
+	if decision, err := made.Decide(shown(1), valid); err != nil || !decision.Granted() {
+		t.Errorf("%v, %v", decision, err)
+	}
+	if _, err := made.Decide(shown(17), valid); !errors.Is(err, guard.ErrTooLong) {
+		t.Error(err)
+	}
+}
+
 func TestLimitsBelowZero(t *testing.T) {
 	for _, limits := range []guard.Limits{
 		{Octets: -1}, {Certificates: -1}, {Words: -1}, {Nodes: -1}, {Work: -1}, {Answer: -1}, {Words: math.MinInt}, {Octets: 64, Answer: -64},
@@ -417,11 +457,11 @@ func TestVerifierThatFails(t *testing.T) {
 		granted bool
 		wanted  error
 	}{
-		"yes":                  {context.Background(), func(context.Context, []byte, []byte, []byte) (bool, error) { return true, nil }, true, nil},
-		"no":                   {context.Background(), func(context.Context, []byte, []byte, []byte) (bool, error) { return false, nil }, false, nil},
-		"an error":             {context.Background(), func(context.Context, []byte, []byte, []byte) (bool, error) { return false, away }, false, away},
-		"yes with an error":    {context.Background(), func(context.Context, []byte, []byte, []byte) (bool, error) { return true, away }, false, away},
-		"a context that ended": {stopped, func(context.Context, []byte, []byte, []byte) (bool, error) { return true, nil }, false, context.Canceled},
+		"yes":                  {context.Background(), func(context.Context, guard.Signature) (bool, error) { return true, nil }, true, nil},
+		"no":                   {context.Background(), func(context.Context, guard.Signature) (bool, error) { return false, nil }, false, nil},
+		"an error":             {context.Background(), func(context.Context, guard.Signature) (bool, error) { return false, away }, false, away},
+		"yes with an error":    {context.Background(), func(context.Context, guard.Signature) (bool, error) { return true, away }, false, away},
+		"a context that ended": {stopped, func(context.Context, guard.Signature) (bool, error) { return true, nil }, false, context.Canceled},
 	} {
 		decision, err := made.DecideContext(row.ctx, shown(1), row.verify)
 		if decision.Granted() != row.granted || !errors.Is(err, row.wanted) {
@@ -437,7 +477,7 @@ func TestVerifierThatFails(t *testing.T) {
 	ends, end := context.WithCancel(context.Background())
 	question, calls := shown(0), 0
 	question.Sequence = []byte("(sequence " + own + own + pair + ")")
-	decision, err := made.DecideContext(ends, question, func(context.Context, []byte, []byte, []byte) (bool, error) {
+	decision, err := made.DecideContext(ends, question, func(context.Context, guard.Signature) (bool, error) {
 		calls++
 		end()
 		return true, nil
@@ -474,7 +514,7 @@ func TestSignaturesAreCopiedOneByOne(t *testing.T) {
 	calls := 0
 	for name, decide := range map[string]func() error{
 		"all valid": func() error {
-			_, err := made.Explain(question, func(_, _, _ []byte) bool { calls++; return true })
+			_, err := made.Explain(question, func(guard.Signature) bool { calls++; return true })
 			return err
 		},
 		"all listed": func() error {
@@ -554,7 +594,7 @@ func TestPanicOfVerifier(t *testing.T) {
 				t.Error("the panic is gone")
 			}
 		}()
-		_, _ = made.Decide(shown(1), func(_, _, _ []byte) bool { panic("no such key") })
+		_, _ = made.Decide(shown(1), func(guard.Signature) bool { panic("no such key") })
 	}()
 	if decision, err := made.Decide(shown(1), valid); err != nil || !decision.Granted() {
 		t.Errorf("%v, %v", decision, err)
@@ -589,10 +629,10 @@ func Example() {
 	defer list.Close()
 	decision, err := list.Decide(guard.Question{
 		Sequence: []byte("(sequence)"),
-		Key:      []byte("(public-key (test bob))"),
+		Key:      spki.AssumeKey([]byte("(public-key (test bob))")),
 		Words:    []string{"packages", "read", "/manuals/cook.pdf"},
 		Time:     time.Date(2026, 3, 1, 12, 0, 0, 0, time.UTC),
-	}, func(key, message, value []byte) bool { return false })
+	}, func(guard.Signature) bool { return false })
 	fmt.Println(decision, err)
 	// Output: yes entry 1 <nil>
 }

@@ -35,6 +35,12 @@ type (
 // A wish says which answer to a question is asked for.
 type wish = C.enum_library_wish
 
+// The most that limits may set.
+const (
+	mostOctets = C.SPKI_MOST_OCTETS
+	mostNodes  = C.SPKI_MOST_NODES
+)
+
 const (
 	toDecide  wish = C.LIBRARY_DECIDE
 	toExplain wish = C.LIBRARY_EXPLAIN
@@ -47,6 +53,15 @@ func text(octets []byte) C.struct_spki_text {
 		return C.struct_spki_text{}
 	}
 	return C.struct_spki_text{octets: unsafe.Pointer(&octets[0]), length: C.size_t(len(octets))}
+}
+
+// textOf lends a text of Go's for one call.
+func textOf(octets string) C.struct_spki_text {
+	if len(octets) == 0 {
+		return C.struct_spki_text{}
+	}
+	// (a string begins with the address of its octets)
+	return C.struct_spki_text{octets: *(*unsafe.Pointer)(unsafe.Pointer(&octets)), length: C.size_t(len(octets))}
 }
 
 // octetsOf lends octets that belong to the library, for as long as the library keeps them.
@@ -63,7 +78,7 @@ func policyOf(policy Policy) C.enum_spki_policy {
 	case Strict:
 		return C.SPKI_STRICT
 	case AllowSHA1:
-		return C.SPKI_OPEN
+		return C.SPKI_ALLOW_SHA1
 	}
 	return ^C.enum_spki_policy(0)
 }
@@ -124,7 +139,7 @@ func entries(guard handle) int {
 func partsOf(question *Question) (C.struct_library_question, *C.size_t) {
 	joined, lengths := question.joined()
 	parts := C.struct_library_question{
-		sequence: text(question.Sequence), key: text(question.Key), request: text(question.Request), joined: text(joined),
+		sequence: text(question.Sequence), key: textOf(question.Key.Text()), request: text(question.Request), joined: text(joined),
 		moment: text(question.Moment), word_count: C.size_t(len(question.Words)),
 	}
 	if question.Words != nil {

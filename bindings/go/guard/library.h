@@ -20,8 +20,9 @@ struct library_question {
 static inline enum spki_status library_open(struct spki_text list, enum spki_policy policy, struct spki_limits limits, spki_guard **guard,
                                             void *buffer, size_t room, size_t *needed)
 {
+    bool is_set = limits.octets || limits.certificates || limits.words || limits.nodes || limits.work || limits.answer;
     limits.size = sizeof limits;
-    return spki_guard_open(list.octets, list.length, policy, &limits, guard, buffer, room, needed);
+    return spki_guard_open(list.octets, list.length, policy, is_set ? &limits : NULL, guard, buffer, room, needed);
 }
 
 /* Writes the line of a call before which an allocation failed. */

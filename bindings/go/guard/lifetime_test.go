@@ -97,7 +97,7 @@ func TestGoroutines(t *testing.T) {
 		go func(isValid bool) {
 			defer all.Done()
 			for turn := 0; turn < 200; turn++ {
-				decision, err := made.Decide(shown(1), func(_, _, _ []byte) bool { return isValid })
+				decision, err := made.Decide(shown(1), func(guard.Signature) bool { return isValid })
 				if err != nil || decision.Granted() != isValid {
 					t.Errorf("%v, %v", decision, err)
 				}

@@ -9,8 +9,8 @@ import (
 type Question struct {
 	// Sequence is what the client shows: certificates and signatures, `(sequence ..)`.
 	Sequence []byte
-	// Key is the client's key, `(public-key ..)`, which it has proved to hold.
-	Key []byte
+	// Key is the client's key, which it has proved to hold: spki.ProveKey or spki.AssumeKey makes it.
+	Key ProvenKey
 	// Words is the request by its strings, whose octets may be any: the list of them, or the string if there is one.
 	Words []string
 	// Request is the request as a text, if Words is nil.

@@ -15,18 +15,19 @@ import (
 	"crypto/ed25519"
 	"crypto/rsa"
 	"crypto/sha256"
+
+	"conguraki/spki"
 )
 
-// Signature says whether a value is a signature of a message by a key: by Ed25519, by RSA with PKCS#1 v1.5, or by ECDSA. The three texts are
-// in canonical form, as a guard lists them. It is a guard.Verify.
-func Signature(key, message, value []byte) bool {
-	return signature(key, message, value, pkcs1v15)
+// Signature says whether a signature is valid: by Ed25519, by RSA with PKCS#1 v1.5, or by ECDSA. It is a guard.Verify.
+func Signature(signed spki.Signature) bool {
+	return signature(signed, pkcs1v15)
 }
 
 // SignatureOrPSS is as Signature, but accepts RSA with PSS as well: with SHA-256 for the message and for the mask, and a salt of 32 octets.
 // The value of a signature does not say which of them it is.
-func SignatureOrPSS(key, message, value []byte) bool {
-	return signature(key, message, value, pkcs1v15) || signature(key, message, value, pss)
+func SignatureOrPSS(signed spki.Signature) bool {
+	return signature(signed, pkcs1v15) || signature(signed, pss)
 }
 
 // A scheme verifies a number by a key of RSA.
@@ -40,22 +41,22 @@ func pss(key *rsa.PublicKey, digest, value []byte) error {
 	return rsa.VerifyPSS(key, crypto.SHA256, digest, value, &rsa.PSSOptions{SaltLength: rsa.PSSSaltLengthEqualsHash})
 }
 
-// signature says whether a value is a signature of a message by a key.
-func signature(key, message, value []byte, scheme scheme) bool {
-	public, err := PublicOf(key)
-	if err != nil || len(message) == 0 {
+// signature says whether a signature is valid.
+func signature(signed spki.Signature, scheme scheme) bool {
+	public, err := PublicOf(signed.Key)
+	if err != nil || len(signed.Message) == 0 {
 		return false
 	}
-	digest := sha256.Sum256(message)
+	digest := sha256.Sum256(signed.Message)
 	switch public := public.(type) {
 	case ed25519.PublicKey:
-		octets, ok := ed25519Value(value)
-		return ok && ed25519.Verify(public, message, octets)
+		octets, ok := ed25519Value(signed.Value)
+		return ok && ed25519.Verify(public, signed.Message, octets)
 	case *rsa.PublicKey:
-		octets, ok := rsaValue(value, public)
+		octets, ok := rsaValue(signed.Value, public)
 		return ok && scheme(public, digest[:], octets) == nil
 	case *ecdsa.PublicKey:
-		r, s, ok := ecdsaValue(value)
+		r, s, ok := ecdsaValue(signed.Value)
 		return ok && ecdsa.Verify(public, digest[:], r, s)
 	}
 	return false

@@ -14,7 +14,14 @@ import (
 	"math/big"
 	"os"
 	"testing"
+
+	"conguraki/spki"
 )
+
+// isValid says what Signature does of three texts.
+func isValid(key, message, value []byte) bool {
+	return Signature(spki.Signature{Key: key, Message: message, Value: value})
+}
 
 // A signed is a certificate with its signature.
 type signed struct {
@@ -23,7 +30,7 @@ type signed struct {
 }
 
 func (s signed) verifies() bool {
-	return Signature(s.Key, s.Message, s.Value)
+	return isValid(s.Key, s.Message, s.Value)
 }
 
 // bySpkiCert returns certificates that `spki-cert sign` made, one by each kind of key.
@@ -65,12 +72,12 @@ func TestEachChangedOctet(t *testing.T) {
 func TestEachTruncation(t *testing.T) {
 	for _, row := range bySpkiCert(t) {
 		for length := range row.Key {
-			if Signature(row.Key[:length], row.Message, row.Value) {
+			if isValid(row.Key[:length], row.Message, row.Value) {
 				t.Errorf("%s: %d octets of the key suffice", row.Kind, length)
 			}
 		}
 		for length := range row.Value {
-			if Signature(row.Key, row.Message, row.Value[:length]) {
+			if isValid(row.Key, row.Message, row.Value[:length]) {
 				t.Errorf("%s: %d octets of the value suffice", row.Kind, length)
 			}
 		}
@@ -81,7 +88,7 @@ func TestSignaturesOfOthers(t *testing.T) {
 	rows := bySpkiCert(t)
 	for i, row := range rows {
 		for j, other := range rows {
-			if i != j && (Signature(row.Key, row.Message, other.Value) || Signature(other.Key, row.Message, row.Value)) {
+			if i != j && (isValid(row.Key, row.Message, other.Value) || isValid(other.Key, row.Message, row.Value)) {
 				t.Errorf("%s passes for %s", other.Kind, row.Kind)
 			}
 		}
@@ -98,7 +105,7 @@ func TestOtherTextsOfAKey(t *testing.T) {
 			bytes.Replace(row.Key, []byte("Ed25519"), []byte("ed25519"), 1),
 			bytes.Replace(row.Key, []byte("(1:e"), []byte("(1:f0:)(1:e"), 1),
 		} {
-			if !bytes.Equal(text, row.Key) && Signature(text, row.Message, row.Value) {
+			if !bytes.Equal(text, row.Key) && isValid(text, row.Message, row.Value) {
 				t.Errorf("%s: %.60q is taken for the key", row.Kind, text)
 			}
 		}
@@ -200,15 +207,15 @@ func TestPSS(t *testing.T) {
 			t.Fatal(err)
 		}
 		value := written(beforeRSA, octets, afterValue)
-		if got := SignatureOrPSS(key, message, value); got != (salt == rsa.PSSSaltLengthEqualsHash) {
+		if got := SignatureOrPSS(spki.Signature{Key: key, Message: message, Value: value}); got != (salt == rsa.PSSSaltLengthEqualsHash) {
 			t.Errorf("a salt of the length %d: %v", salt, got)
 		}
-		if Signature(key, message, value) {
+		if isValid(key, message, value) {
 			t.Error("Signature accepts PSS")
 		}
 	}
 	for _, row := range bySpkiCert(t) {
-		if !SignatureOrPSS(row.Key, row.Message, row.Value) {
+		if !SignatureOrPSS(spki.Signature{Key: row.Key, Message: row.Message, Value: row.Value}) {
 			t.Errorf("%s: SignatureOrPSS refuses what Signature accepts", row.Kind)
 		}
 	}
@@ -230,10 +237,10 @@ func TestFewerZerosInFront(t *testing.T) {
 		if octets[0] != 0 || octets[1] == 0 {
 			continue
 		}
-		if !Signature(key, message, written(beforeRSA, octets[1:], afterValue)) || Signature(key, message, written(beforeRSA, octets[2:], afterValue)) {
+		if !isValid(key, message, written(beforeRSA, octets[1:], afterValue)) || isValid(key, message, written(beforeRSA, octets[2:], afterValue)) {
 			t.Error("an octet 00 in front may be left out, and no other")
 		}
-		if !Signature(key, message, written(beforeRSA, append([]byte{0}, octets...), afterValue)) {
+		if !isValid(key, message, written(beforeRSA, append([]byte{0}, octets...), afterValue)) {
 			t.Error("a number may have more octets 00 in front")
 		}
 		return
@@ -247,7 +254,7 @@ func FuzzSignature(f *testing.F) {
 	}
 	rows := bySpkiCert(f)
 	f.Fuzz(func(t *testing.T, key, message, value []byte) {
-		if !Signature(key, message, value) {
+		if !isValid(key, message, value) {
 			return
 		}
 		for _, row := range rows {

@@ -6,21 +6,18 @@ Usage: asynchronous.py ACL SEQUENCE KEY WORD ..
 import asyncio
 import os
 import sys
-import time
+from datetime import datetime, timezone
 
 import spki
 import spki_verify
 
 
-async def is_granted(guard: spki.Guard, sequence: bytes, key: bytes, words: list[bytes], now: int) -> bool:
-    """Whether a request is granted.
-
-    THE CLIENT MUST HAVE PROVED THAT IT HOLDS THE KEY: a public key is public.
-    """
+async def is_granted(guard: spki.Guard, sequence: bytes, key: spki.ProvenKey, words: list[bytes], now: datetime) -> bool:
+    """Whether a request is granted."""
     question = spki.Question(sequence, key, words=words, moment=now)
     with guard.ask(question) as asked:
         signatures = asked.signatures() if asked.is_possible else []
-        verified = (asyncio.to_thread(spki_verify.verify, it.key, it.message, it.value) for it in signatures)
+        verified = (asyncio.to_thread(spki_verify.verify, it) for it in signatures)
         for place, is_valid in enumerate(await asyncio.gather(*verified)):
             if is_valid:
                 asked.mark(place)
@@ -37,7 +34,9 @@ async def main() -> None:
     access_list, sequence, key = texts
     with spki.Guard(access_list) as guard:
         words = [os.fsencode(word) for word in sys.argv[4:]]
-        print("granted" if await is_granted(guard, sequence, key, words, int(time.time())) else "denied")
+        # THE CLIENT MUST HAVE PROVED THAT IT HOLDS THE KEY: a public key is public.
+        client = spki.ProvenKey.assume(key)
+        print("granted" if await is_granted(guard, sequence, client, words, datetime.now(timezone.utc)) else "denied")
 
 
 if __name__ == "__main__":

@@ -8,17 +8,14 @@ forms of docs/FORMATS.md, which `spki-cert` writes. `spki_verify` verifies, by `
 """
 import os
 import sys
-import time
+from datetime import datetime, timezone
 
 import spki
 import spki_verify
 
 
-def is_granted(guard: spki.Guard, sequence: bytes, key: bytes, words: list[bytes], now: int) -> bool:
-    """Whether a request is granted. Each word is one string of it, whatever octets it has.
-
-    THE CLIENT MUST HAVE PROVED THAT IT HOLDS THE KEY: a public key is public.
-    """
+def is_granted(guard: spki.Guard, sequence: bytes, key: spki.ProvenKey, words: list[bytes], now: datetime) -> bool:
+    """Whether a request is granted. Each word is one string of it, whatever octets it has."""
     question = spki.Question(sequence, key, words=words, moment=now)
     return bool(guard.decide(question, spki_verify.verify))
 
@@ -33,7 +30,9 @@ def main() -> None:
     access_list, sequence, key = texts
     with spki.Guard(access_list) as guard:
         words = [os.fsencode(word) for word in sys.argv[4:]]
-        print("granted" if is_granted(guard, sequence, key, words, int(time.time())) else "denied")
+        # THE CLIENT MUST HAVE PROVED THAT IT HOLDS THE KEY: a public key is public.
+        client = spki.ProvenKey.assume(key)
+        print("granted" if is_granted(guard, sequence, client, words, datetime.now(timezone.utc)) else "denied")
 
 
 if __name__ == "__main__":

@@ -7,7 +7,7 @@ Exit status: 0 at the end of the input, 2 if the list or the words are wrong, 3 
 """
 import secrets
 import sys
-import time
+from datetime import datetime, timezone
 from typing import NoReturn
 
 import spki
@@ -46,20 +46,21 @@ def read_question() -> list[bytes]:
     return parts
 
 
-def holds_key(key: bytes, signature: bytes, nonce: bytes, words: list[bytes]) -> bool:
-    """Whether the client holds the key that it shows, and asks for this request."""
-    try:
-        return spki_verify.verify(spki.canonical(key), spki_verify.challenge(SERVICE, nonce, words), spki.canonical(signature))
-    except spki.Refused:
-        return False
+def proven(key: bytes, signature: bytes, nonce: bytes, words: list[bytes]) -> spki.ProvenKey:
+    """The key that the client shows, if it holds it and asks for this request. Raises `NotProved` or `Refused` otherwise."""
+    challenge = spki_verify.challenge(SERVICE, nonce, words)
+    login = spki.Signature(key=spki.canonical(key), message=challenge, value=spki.canonical(signature))
+    return spki.ProvenKey.by(login, spki_verify.verify)
 
 
 def answer(guard: spki.Guard, nonce: bytes, sequence: bytes, key: bytes, signature: bytes, *words: bytes) -> str:
     """The answer to a question."""
-    if not holds_key(key, signature, nonce, list(words)):
+    try:
+        client = proven(key, signature, nonce, list(words))
+    except (spki.NotProved, spki.Refused):
         return "refused: the client has not proved that it holds the key"
     try:
-        with guard.ask(spki.Question(sequence, key, words=words, moment=int(time.time()))) as asked:
+        with guard.ask(spki.Question(sequence, client, words=words, moment=datetime.now(timezone.utc))) as asked:
             asked.verify(spki_verify.verify)
             decision = asked.decide()
             return f"yes entry {decision.entry}" if decision else f"no\n{asked.explain()}"

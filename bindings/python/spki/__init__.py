@@ -2,20 +2,21 @@
 
 A service reads its access list once, into a `Guard`, and asks it a `Question` for each request:
 
-    import time
+    from datetime import datetime, timezone
     import spki
     from spki_verify import verify  # or a function of your own
 
     with spki.Guard(access_list) as guard:
-        question = spki.Question(sequence, key, words=(b"packages", b"read", path), moment=int(time.time()))
+        client = spki.ProvenKey.assume(key)  # which TLS has proved
+        question = spki.Question(sequence, client, words=(b"packages", b"read", path), moment=datetime.now(timezone.utc))
         if guard.decide(question, verify):
             ...
 
 The parts of a question come from different sources, so each is a separate text. It is one value in any of the three forms of RFC 9804. No
-octets of one part can become another part. The client must have proved that it holds the key. A public key is public: without a proof,
-each client that sends Alice's key would have Alice's rights. The moment is the time of the service's own clock.
+octets of one part can become another part. The client must have proved that it holds the key: `ProvenKey` says how. The moment is the time of
+the service's own clock. A decision holds for this moment alone: ask again for the next one.
 
-Only a `Decision` that grants is true, and `decide` never returns `None`: do not ask whether its answer is one. `require` raises `Denied` instead.
+`decide` returns a `Grant`, or `None` for a no. `require` raises `Denied` instead.
 Several threads may use one guard and one opened question. A thread that calls has 256 KiB of stack left: `threading.stack_size` must not be
 lower.
 
@@ -41,15 +42,14 @@ from typing import NoReturn, TypeVar, cast
 
 from . import _library as of
 from ._library import library
-from ._values import (Decision, Denied, Explanation, Limits, NoDecision, Policy, Question, Reason, Reduction, Refused, Signature, answer_of,
-                      octets_of, whole)
+from ._values import (Denied, Explanation, Grant, Limits, NoDecision, NotProved, Policy, ProvenKey, Question, Reason, Reduction, Refused,
+                      Scheme, Signature, Verify, answer_of, octets_of, whole)
+from ._words import Cause, Fault, Part
 
 __version__ = "0.2.0"
-__all__ = ["Asked", "Decision", "Denied", "Explanation", "Guard", "Limits", "Policy", "Question", "Reason", "Reduction", "Refused", "Signature",
-           "Verify", "advanced", "canonical", "string_at", "transport"]
+__all__ = ["Asked", "Cause", "Denied", "Explanation", "Fault", "Grant", "Guard", "Limits", "NotProved", "Part", "Policy", "ProvenKey", "Question",
+           "Reason", "Reduction", "Refused", "Scheme", "Signature", "Verify", "advanced", "canonical", "string_at", "transport"]
 
-# Whether a value is a signature of a message by a key. It answers `True` or `False`, and nothing else.
-Verify = Callable[[bytes, bytes, bytes], bool]
 _Opened = TypeVar("_Opened", bound="_Open")
 
 # The octets of a buffer that most answers fit in.
@@ -154,7 +154,7 @@ class Asked(_Open, NoDecision):
             _marked(handle, at)
 
     def verify(self, verify: Verify) -> None:
-        """Marks each signature of which `verify(key, message, value)` answers `True`, in order. It is not called after the first `False`. Raises
+        """Marks each signature of which `verify(signature)` answers `True`, in order. It is not called after the first `False`. Raises
         `TypeError` if it answers anything but `True` or `False`, such as a coroutine. To explain a denial, verify also where the request is not
         possible."""
         handle = self._held()
@@ -170,8 +170,8 @@ class Asked(_Open, NoDecision):
         with self._calls:
             return of.possible(handle)
 
-    def decide(self) -> Decision:
-        """Whether the request is granted, if exactly the marked signatures are valid. It may be asked any number of times."""
+    def decide(self) -> Grant | None:
+        """The grant, if exactly the marked signatures are valid. `None` is a no. It may be asked any number of times."""
         handle = self._held()
         with self._calls:
             return _decided(handle)
@@ -200,7 +200,7 @@ class Asked(_Open, NoDecision):
 class Guard(_Open):
     """An access list that is read once and asked often, also by several threads at the same time.
 
-    `decide`, `explain` and `reduce` open a question, call `verify(key, message, value)` for each signature that the answer depends on, in
+    `decide`, `explain` and `reduce` open a question, call `verify(signature)` for each signature that the answer depends on, in
     order up to the first `False`, and answer. `decide` does not call it where the request cannot be granted, whatever is valid. An exception
     that `verify` raises is passed on, and nothing is granted.
     """
@@ -210,7 +210,7 @@ class Guard(_Open):
         if not isinstance(policy, Policy) or not isinstance(limits, Limits):
             raise TypeError("a guard has a `Policy` and `Limits`")
         text, self._policy = octets_of(access_list), policy
-        values = of.Limits(ctypes.sizeof(of.Limits), *(getattr(limits, field.name) for field in fields(limits)))
+        values = of.Limits(ctypes.sizeof(of.Limits), *(getattr(limits, field.name) for field in fields(limits))) if limits != Limits() else None
         self._handle = handle = _GuardHandle()
         _expect(*_answered(library.spki_guard_open, text, len(text), policy.value, values, byref(handle)))
         self._entries: int = library.spki_guard_entries(handle)
@@ -228,8 +228,8 @@ class Guard(_Open):
         """Opens a question, whose signatures the caller marks. Raises `Refused` if a part of it cannot be read."""
         return Asked(self._held(), question)
 
-    def decide(self, question: Question, verify: Verify) -> Decision:
-        """Whether the question's request is granted. Raises `Refused` if a part of the question cannot be read."""
+    def decide(self, question: Question, verify: Verify) -> Grant | None:
+        """The grant of the question's request. `None` is a no. Raises `Refused` if a part of the question cannot be read."""
         # (the same as `ask`, `is_possible`, `verify` and `decide`, without an object for the question, which no other thread can close or mark)
         handle = c_void_p(_asked(self._held(), question))
         try:
@@ -370,8 +370,8 @@ def _signature(handle: c_void_p, place: int, keys: dict[bytes, bytes]) -> Signat
     room = _taken()
     numbers = _texts(handle, place, room)
     _spare.append(room)
-    key, message, value, octets = (of.memory[at:at + length] for at, length in zip(numbers[::2], numbers[1::2]))
-    return Signature(keys.setdefault(key, key), message, value, octets if numbers[6] else None)
+    key, message, value, _ = (of.memory[at:at + length] for at, length in zip(numbers[::2], numbers[1::2]))
+    return Signature(key=keys.setdefault(key, key), message=message, value=value)
 
 
 def _verified(handle: c_void_p, count: int, verify: Verify) -> int:
@@ -384,7 +384,7 @@ def _verified(handle: c_void_p, count: int, verify: Verify) -> int:
             if key != last:
                 # (a verifier that keeps keys keeps one of many equal ones)
                 last = key
-            answer = verify(last, memory[message:message + message_length], memory[value:value + value_length])
+            answer = verify(Signature(key=last, message=memory[message:message + message_length], value=memory[value:value + value_length]))
             if answer is not True:
                 answer_of(answer)
                 return place
@@ -400,7 +400,7 @@ def _marked(handle: c_void_p, place: int) -> None:
         raise _refused(status, b"")
 
 
-def _decided(handle: c_void_p) -> Decision:
+def _decided(handle: c_void_p) -> Grant | None:
     """The decision by the marks."""
     # (each line of a decision fits)
     room = _taken()
@@ -409,21 +409,21 @@ def _decided(handle: c_void_p) -> Decision:
     if status == of.YES:
         return _granted(line)
     if status == of.NO:
-        return Decision(None)
+        return None
     raise _refused(status, line)
 
 
-def _required(decision: Decision) -> int:
-    """The entry of a decision that grants."""
-    if not decision or decision.entry is None:
+def _required(grant: Grant | None) -> int:
+    """The entry of a grant."""
+    if grant is None:
         raise Denied
-    return decision.entry
+    return grant.entry
 
 
 @functools.lru_cache(1024)
-def _granted(line: bytes) -> Decision:
-    """The decision of a line, which does not change."""
-    return Decision(int(line[len("yes entry "):]))
+def _granted(line: bytes) -> Grant:
+    """The grant of a line, which does not change."""
+    return Grant(int(line[len("yes entry "):]))
 
 
 def _expect(status: int, answer: bytes) -> None:

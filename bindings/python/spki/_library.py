@@ -10,6 +10,8 @@ from typing import Protocol, cast
 
 NO, REFUSED, TOO_SMALL, DONE, NO_MEMORY, YES = 1, 2, 4, 6, 8, 9
 CANONICAL, ADVANCED, TRANSPORT = 0, 1, 2
+# The most that limits may set.
+MOST_OCTETS, MOST_NODES, HIGHEST = 1_048_576, 1_000_000, c_size_t(-1).value
 # The first two numbers of a library's version that this module can call.
 VERSION = "0.2"
 

@@ -6,18 +6,18 @@ import enum
 import math
 import re
 from collections.abc import Callable, Iterator, Sequence
-from ctypes import addressof, c_int64, c_size_t, c_void_p, pointer
+from ctypes import addressof, c_int64, c_void_p, pointer
 from dataclasses import dataclass, fields
 from datetime import datetime
-from typing import NamedTuple, Union
+from typing import NamedTuple, NoReturn, Union
 
 from . import _library as of
+from ._words import Cause, Fault, Part
 
 FAULT = re.compile(r".*\b([A-Z]\w*)")
 REASON = re.compile(r"^(?:entry (\d+) )?(?:item (\d+) )?(\w+)$", re.MULTILINE)
-MOST_OCTETS, MOST_NODES, HIGHEST = 1_048_576, 1_000_000, c_size_t(-1).value
-# The last second of the year 9999, and seconds that the library refuses as BadDate.
-LAST_SECOND, NO_SECONDS = 253_402_300_799, 2 ** 62
+# Seconds that the library refuses as BadDate.
+NO_SECONDS = 2 ** 62
 
 
 class Refused(Exception):
@@ -33,16 +33,16 @@ class Refused(Exception):
         """The line without its line feed, as `refused sequence 3 Shape`."""
 
     @property
-    def part(self) -> str:
-        """What is refused: `acl`, `sequence`, `key`, `request`, `at`, `question` or `form`. Empty if the line names no part."""
+    def part(self) -> Part | None:
+        """What is refused. `None` if the line names no part."""
         words = self.line.split(" ")
-        return words[1] if len(words) > 2 else ""
+        return Part(words[1]) if len(words) > 2 else None
 
     @property
-    def fault(self) -> str:
-        """The name of the fault, as `Shape`, `Bad`, `EmptyList`, `TooLarge` or `Memory`."""
+    def fault(self) -> Fault:
+        """What is wrong."""
         found = FAULT.match(self.line)
-        return found[1] if found else ""
+        return Fault(found[1] if found else "")
 
 
 class Policy(enum.Enum):
@@ -56,49 +56,139 @@ class Policy(enum.Enum):
 
 @dataclass(frozen=True, kw_only=True)
 class Limits:
-    """Limits on each question. `nodes`, `work` and `answer` are for `explain` and `reduce`."""
+    """Limits on each question. One of 0 is the library's own, which spki.h names: those are for questions of strangers. `nodes`, `work` and
+    `answer` are for `explain` and `reduce`."""
 
-    octets: int = 65_536
+    octets: int = 0
     """The most octets that the texts of a question may have together."""
-    certificates: int = 16
+    certificates: int = 0
     """The most certificates of a sequence."""
-    words: int = 64
+    words: int = 0
     """The most strings of a request."""
-    nodes: int = MOST_NODES
+    nodes: int = 0
     """The most nodes of one tag times nodes of another whose intersection is computed."""
-    work: int = 100_000
+    work: int = 0
     """The most of these products together, over all certificates and entries."""
-    answer: int = 1_048_576
+    answer: int = 0
     """The most octets of the lines."""
 
     def __post_init__(self) -> None:
         for field in fields(self):
-            most = {"octets": MOST_OCTETS, "nodes": MOST_NODES}.get(field.name, HIGHEST)
+            most = {"octets": of.MOST_OCTETS, "nodes": of.MOST_NODES}.get(field.name, of.HIGHEST)
             if not 0 <= whole(getattr(self, field.name)) <= most:
                 raise ValueError(f"the limit `{field.name}` is a number from 0 to {most:,}")
 
     @classmethod
     def highest(cls) -> Limits:
         """The highest limits. On some questions within them an explanation takes minutes."""
-        return cls(octets=MOST_OCTETS, certificates=HIGHEST, words=HIGHEST, nodes=MOST_NODES, work=HIGHEST, answer=HIGHEST)
+        most = of.HIGHEST
+        return cls(octets=of.MOST_OCTETS, certificates=most, words=most, nodes=of.MOST_NODES, work=most, answer=most)
+
+
+class Scheme(enum.Enum):
+    """How a signature is made, by the form of its key: docs/FORMATS.md, "Keys and signatures of services"."""
+
+    ED25519 = b"(10:public-key(3:ecc(5:curve7:Ed25519)(5:flags5:eddsa)"
+    RSA = b"(10:public-key(3:rsa("
+    """PKCS#1 v1.5 with SHA-256."""
+    P256 = b"(10:public-key(3:ecc(5:curve10:NIST P-256)"
+    """ECDSA with SHA-256."""
+
+
+@dataclass(frozen=True, kw_only=True)
+class Signature:
+    """A signature that is to be verified: whether `value` is one of `message` by `key`. The three are octets of canonical forms: of the issuer's
+    `(public-key ..)`, of the certificate, and of the value in `(signature ..)`."""
+
+    key: bytes
+    message: bytes
+    value: bytes
+
+    @property
+    def scheme(self) -> Scheme | None:
+        """How it is made, by the form of its key. `None` for a key of another form."""
+        return next((it for it in Scheme if self.key.startswith(it.value)), None)
+
+    @property
+    def octets(self) -> bytes | None:
+        """The octets of a value that is one string. `None` for a list."""
+        length, colon, octets = self.value.partition(b":")
+        return octets if colon and length.isdigit() else None
+
+
+# Whether a signature is valid. It answers `True` or `False`, and nothing else.
+Verify = Callable[[Signature], bool]
+
+
+class NotProved(Exception):
+    """A client has not proved that it holds a key."""
+
+
+class ProvenKey:
+    """A key that a client has proved to hold. A public key is public: without a proof, each client that sends Alice's key would have Alice's
+    rights. `by` makes one of a signature of the service's own challenge, and `assume` of a key that something else has proved."""
+
+    __slots__ = ("_text",)
+    _text: bytes
+
+    def __init__(self) -> None:
+        raise TypeError("a key is proved: use ProvenKey.by, or ProvenKey.assume if something else has proved it, such as TLS")
+
+    @classmethod
+    def assume(cls, key: bytes) -> ProvenKey:
+        """The key `(public-key ..)` of a client that has proved to hold it elsewhere, as by TLS or SSH. Nothing checks that here: each client
+        gets the rights of the key that is named."""
+        made = cls.__new__(cls)
+        object.__setattr__(made, "_text", octets_of(key))
+        return made
+
+    @classmethod
+    def by(cls, login: Signature, verify: Verify) -> ProvenKey:
+        """The key of a login: its message is a challenge that the service itself made, with a nonce that it takes once. Raises `NotProved` if
+        the signature is not valid, or its message is a certificate, which proves nothing about who shows it."""
+        if login.message.startswith(b"(4:cert") or not answer_of(verify(login)):
+            raise NotProved("the client has not proved that it holds the key")
+        return cls.assume(login.key)
+
+    @property
+    def text(self) -> bytes:
+        """The octets of the key."""
+        return self._text
+
+    def __setattr__(self, name: str, value: object) -> NoReturn:
+        raise AttributeError("a proven key does not change")
+
+    def __eq__(self, other: object) -> bool:
+        return isinstance(other, ProvenKey) and self._text == other._text
+
+    def __hash__(self) -> int:
+        return hash(self._text)
+
+    def __reduce__(self) -> tuple[Callable[[bytes], ProvenKey], tuple[bytes]]:
+        return ProvenKey.assume, (self._text,)
+
+    def __repr__(self) -> str:
+        return f"ProvenKey.assume({self._text!r})"
 
 
 class Question:
     """What is asked. It is made once and does not change: all its octets are kept. Questions with the same parts are equal, and a copy is made
     of the parts."""
 
-    def __init__(self, sequence: bytes, key: bytes, *, words: Sequence[bytes] | None = None, text: bytes | None = None,
-                 moment: bytes | int | datetime) -> None:
+    def __init__(self, sequence: bytes, key: ProvenKey, *, words: Sequence[bytes] | None = None, text: bytes | None = None,
+                 moment: datetime | bytes) -> None:
         """`sequence` has the certificates and signatures that the client shows. `key` is the client's key, which it has proved to hold.
 
         The request is given by `words`, its strings, each as octets that may come from the client: several strings are the list of them,
-        and one is the string itself. Or it is given by `text`, one value. `moment` is the time: the seconds since 1970-01-01 00:00:00 UTC, a
-        `datetime` with a time zone, or the text of a date. A number below 0 or past the year 9999 is refused as `BadDate` when it is asked.
+        and one is the string itself. Or it is given by `text`, one value. `moment` is the time of the service's own clock, a `datetime` with a
+        time zone, or the text of a date. A time before 1970 is refused as `BadDate` when it is asked.
         """
         if (words is None) == (text is None):
             raise TypeError("a request is given by `words` or by `text`, and not by both")
-        sequence, key = octets_of(sequence), octets_of(key)
-        self._given = given = of.Question(ctypes.sizeof(of.Question), of.Text(sequence, len(sequence)), of.Text(key, len(key)))
+        if not isinstance(key, ProvenKey):
+            raise TypeError(f"a question has a `ProvenKey`, and not {type(key).__name__}: use ProvenKey.by or ProvenKey.assume")
+        sequence, proven = octets_of(sequence), key.text
+        self._given = given = of.Question(ctypes.sizeof(of.Question), of.Text(sequence, len(sequence)), of.Text(proven, len(proven)))
         if text is not None:
             text = octets_of(text)
             given.request = of.Text(text, len(text))
@@ -113,14 +203,14 @@ class Question:
             moment = octets_of(moment)
             given.moment = of.Text(moment, len(moment))
         else:
-            moment = seconds_of(moment)
-            given.seconds = pointer(c_int64(moment if 0 <= moment <= LAST_SECOND else NO_SECONDS))
+            seconds = seconds_of(moment)
+            given.seconds = pointer(c_int64(seconds if seconds >= 0 else NO_SECONDS))
         self._parts = (sequence, key, words, text, moment)
         self._at = c_void_p(addressof(given))
 
     @property
-    def key(self) -> bytes:
-        """The client's key, as it was given."""
+    def key(self) -> ProvenKey:
+        """The client's key."""
         return self._parts[1]
 
     def __eq__(self, other: object) -> bool:
@@ -138,23 +228,12 @@ class Question:
         return f"Question({sequence!r}, {key!r}, {request}, moment={moment!r})"
 
 
-_Parts = tuple[bytes, bytes, Union[Sequence[bytes], None], Union[bytes, None], Union[bytes, int]]
+_Parts = tuple[bytes, ProvenKey, Union[Sequence[bytes], None], Union[bytes, None], Union[bytes, datetime]]
 
 
-def _question_of(sequence: bytes, key: bytes, words: Sequence[bytes] | None, text: bytes | None, moment: bytes | int) -> Question:
+def _question_of(sequence: bytes, key: ProvenKey, words: Sequence[bytes] | None, text: bytes | None, moment: bytes | datetime) -> Question:
     """A copy of a question, of its parts."""
     return Question(sequence, key, words=words, text=text, moment=moment)
-
-
-class Signature(NamedTuple):
-    """A signature that is to be verified: of a message, by a key, with a value. The three are octets of canonical forms: of the issuer's
-    `(public-key ..)`, of the certificate, and of the value in `(signature ..)`."""
-
-    key: bytes
-    message: bytes
-    value: bytes
-    octets: bytes | None
-    """The octets of a value that is one string. `None` for a list."""
 
 
 class NoDecision:
@@ -165,14 +244,11 @@ class NoDecision:
 
 
 @dataclass(frozen=True)
-class Decision:
-    """A decision, which is true where the request is granted."""
+class Grant:
+    """The request is granted. A no is `None`, and no `Grant`."""
 
-    entry: int | None
-    """The number of the first entry that grants the request, from 1. `None` if no entry does."""
-
-    def __bool__(self) -> bool:
-        return bool(self.entry)
+    entry: int
+    """The number of the first entry that grants the request, from 1."""
 
 
 class Denied(Exception):
@@ -189,8 +265,8 @@ class Reason(NamedTuple):
     """The number of the entry that the line is about, from 1. `None` if the certificate stops all entries."""
     item: int | None
     """The number of the certificate that stops it, among the items of the sequence, from 1."""
-    word: str
-    """`grants`, or the cause, such as `TagLacks`, `NoDelegation` or `NotAccepted`."""
+    word: Cause
+    """`Cause.GRANTS`, or what stops the request."""
 
 
 @dataclass(frozen=True)
@@ -206,7 +282,7 @@ class Explanation(NoDecision):
     def reasons(self) -> Iterator[Reason]:
         """The lines one by one. There is none if the access list is empty."""
         for entry, item, word in REASON.findall(self.text):
-            yield Reason(int(entry) if entry else None, int(item) if item else None, word)
+            yield Reason(int(entry) if entry else None, int(item) if item else None, Cause(word))
 
 
 @dataclass(frozen=True)
@@ -244,10 +320,10 @@ def whole(number: int) -> int:
     return int.__index__(number)
 
 
-def seconds_of(moment: int | datetime) -> int:
+def seconds_of(moment: datetime) -> int:
     """A moment in seconds: the one that it is in."""
     if not isinstance(moment, datetime):
-        return whole(moment)
+        raise TypeError(f"a moment is a `datetime` or the text of a date, and not {type(moment).__name__}: use datetime.now(timezone.utc)")
     if moment.tzinfo is None:
         raise TypeError("a `datetime` without a time zone is no moment: use datetime.now(timezone.utc)")
     return math.floor(moment.timestamp())

@@ -8,7 +8,7 @@ It needs neither the package `spki` nor the library. `spki-cert` verifies by it 
 from __future__ import annotations
 
 from collections.abc import Sequence
-from typing import Union
+from typing import Protocol, Union
 
 from cryptography.exceptions import InvalidSignature
 from cryptography.hazmat.primitives.asymmetric.ec import ECDSA, SECP256R1, EllipticCurvePublicKey
@@ -18,7 +18,7 @@ from cryptography.hazmat.primitives.asymmetric.rsa import RSAPublicKey, RSAPubli
 from cryptography.hazmat.primitives.asymmetric.utils import encode_dss_signature
 from cryptography.hazmat.primitives.hashes import SHA256
 
-__all__ = ["Public", "LEAST_BITS", "MOST_BITS", "MOST_EXPONENT_BITS", "challenge", "number", "public_of", "verify"]
+__all__ = ["Public", "Signed", "LEAST_BITS", "MOST_BITS", "MOST_EXPONENT_BITS", "challenge", "number", "public_of", "verify", "verify_texts"]
 
 Public = Union[Ed25519PublicKey, RSAPublicKey, EllipticCurvePublicKey]
 
@@ -38,8 +38,29 @@ P256_KEY = b"(10:public-key(3:ecc(5:curve10:NIST P-256)(1:q%)))"
 EDDSA, RSA, ECDSA_ = b"(7:sig-val(5:eddsa(1:r%)(1:s%)))", b"(7:sig-val(3:rsa(1:s%)))", b"(7:sig-val(5:ecdsa(1:r%)(1:s%)))"
 
 
-def verify(key: bytes, message: bytes, value: bytes) -> bool:
-    """Whether a value is a signature of a message by a key. Key and value are canonical texts; those of any other form are not valid."""
+class Signed(Protocol):
+    """A signature as `spki.Signature` has it: canonical texts."""
+
+    @property
+    def key(self) -> bytes:
+        """The key that has to have signed."""
+
+    @property
+    def message(self) -> bytes:
+        """What is signed."""
+
+    @property
+    def value(self) -> bytes:
+        """The value in `(signature ..)`."""
+
+
+def verify(signature: Signed) -> bool:
+    """Whether a signature is valid. Key and value are canonical texts; those of any other form are not valid."""
+    return verify_texts(key=signature.key, message=signature.message, value=signature.value)
+
+
+def verify_texts(*, key: bytes, message: bytes, value: bytes) -> bool:
+    """The same of three texts, each by its name."""
     public = public_of(key)
     try:
         return public is not None and message != b"" and _is_signed(public, message, value)

@@ -8,7 +8,10 @@
 //! - `text` or `seconds`, and a string
 //! - a list of what the verifier accepts, three strings each: a key, a message and a value
 
-use spki::{Denied, Grant, Guard, Limits, Moment, Policy, Question, Reason, Refusal, Request};
+use spki::{
+    Denied, Grant, Guard, Limits, Moment, Policy, ProvenKey, Question, Reason, Refusal, Request,
+    Signature,
+};
 use std::error::Error;
 use std::io::{self, Read, Write};
 
@@ -69,7 +72,8 @@ fn answer(input: &mut Input) -> Option<Result<String, Refusal>> {
         "text" => Moment::Text(&moment),
         _ => Moment::Seconds(String::from_utf8(moment).ok()?.parse().ok()?),
     };
-    let question = Question::new(&texts[1], &texts[2], request, moment);
+    let key = ProvenKey::assume(&texts[2]);
+    let question = Question::new(&texts[1], &key, request, moment);
     let policy = if policy == "strict" {
         Policy::Strict
     } else {
@@ -85,8 +89,10 @@ fn answer_to(
     question: &Question,
     accepted: &[Vec<u8>],
 ) -> Result<String, Refusal> {
-    let verify = |key: &[u8], message: &[u8], value: &[u8]| {
-        accepted.chunks(3).any(|row| row == [key, message, value])
+    let verify = |it: Signature| {
+        accepted
+            .chunks(3)
+            .any(|row| row == [it.key, it.message, it.value])
     };
     let guard = Guard::read(list, policy, Limits::highest())?;
     let mut asked = guard.ask(question)?;

@@ -9,17 +9,15 @@
 mod by_openssl;
 
 use by_openssl::Openssl;
-use spki::{Denied, Guard, Limits, Policy, Question, Request};
+use spki::{Denied, Guard, Limits, Policy, ProvenKey, Question, Request};
 use std::time::SystemTime;
 use std::{env, error::Error, fs, io};
 
 /// Ends well if a request is granted. Each word is one string of it, whatever octets it has.
-///
-/// THE CLIENT MUST HAVE PROVED THAT IT HOLDS THE KEY: a public key is public.
 fn require_grant(
     guard: &Guard,
     sequence: &[u8],
-    key: &[u8],
+    key: &ProvenKey<'_>,
     words: &[&[u8]],
 ) -> Result<(), Denied<io::Error>> {
     let question = Question::new(sequence, key, Request::Words(words), SystemTime::now());
@@ -34,7 +32,9 @@ fn main() -> Result<(), Box<dyn Error>> {
     };
     let words: Vec<&[u8]> = words.iter().map(|word| word.as_bytes()).collect();
     let guard = Guard::read(&fs::read(list)?, Policy::Strict, Limits::default())?;
-    match require_grant(&guard, &fs::read(sequence)?, &fs::read(key)?, &words) {
+    // THE CLIENT MUST HAVE PROVED THAT IT HOLDS THE KEY: a public key is public.
+    let client = ProvenKey::assume(fs::read(key)?);
+    match require_grant(&guard, &fs::read(sequence)?, &client, &words) {
         Ok(()) => println!("granted"),
         Err(Denied::No) => println!("denied"),
         Err(why) => return Err(why.into()),

@@ -8,7 +8,10 @@
 mod by_openssl;
 
 use by_openssl::Openssl;
-use spki::{Denied, Guard, Limits, Policy, Question, Refusal, Request, Verifier};
+use spki::{
+    Denied, Guard, Limits, NotProved, Policy, ProvenKey, Question, Refusal, Request, Signature,
+    Verifier,
+};
 use std::fs::File;
 use std::io::{self, stdin, BufRead, ErrorKind, Read};
 use std::process::ExitCode;
@@ -66,12 +69,22 @@ fn challenge(nonce: &[u8], words: &[&[u8]]) -> Vec<u8> {
     [&front, &request[..], b")"].concat()
 }
 
-/// Whether the client holds the key that it shows, and asks for this request.
-fn holds_key(key: &[u8], signature: &[u8], nonce: &[u8], words: &[&[u8]]) -> io::Result<bool> {
-    match (spki::canonical(key), spki::canonical(signature)) {
-        (Ok(key), Ok(value)) => Openssl.verify(&key, &challenge(nonce, words), &value),
-        _ => Ok(false),
-    }
+/// The key that the client shows, if it holds it and asks for this request.
+fn proven(
+    key: &[u8],
+    signature: &[u8],
+    nonce: &[u8],
+    words: &[&[u8]],
+) -> Result<ProvenKey<'static>, NotProved<io::Error>> {
+    let (Ok(key), Ok(value)) = (spki::canonical(key), spki::canonical(signature)) else {
+        return Err(NotProved::No);
+    };
+    let login = Signature {
+        key: &key,
+        message: &challenge(nonce, words),
+        value: &value,
+    };
+    ProvenKey::by(login, |it| Openssl.verify(it)).map(ProvenKey::into_owned)
 }
 
 /// The lines of the answer to a question.
@@ -81,7 +94,7 @@ fn answer(guard: &Guard, question: &Question) -> io::Result<Result<String, Refus
         Err(refusal) => return Ok(Err(refusal)),
     };
     asked
-        .verify(|key, message, value| Openssl.verify(key, message, value))
+        .verify(|it| Openssl.verify(it))
         .map_err(io::Error::other)?;
     Ok(match asked.decide() {
         Ok(grant) => Ok(format!("yes entry {}", grant.entry)),
@@ -101,11 +114,15 @@ fn answer_next(guard: &Guard, input: &mut impl BufRead) -> io::Result<()> {
         return Err(ErrorKind::InvalidData.into());
     };
     let words: Vec<&[u8]> = words.iter().map(Vec::as_slice).collect();
-    if !holds_key(key, signature, &nonce, &words)? {
-        println!("refused: the client has not proved that it holds the key");
-        return Ok(());
-    }
-    let question = Question::new(sequence, key, Request::Words(&words), SystemTime::now());
+    let client = match proven(key, signature, &nonce, &words) {
+        Ok(client) => client,
+        Err(NotProved::Verifier(why)) => return Err(why),
+        Err(why) => {
+            println!("refused: {why}");
+            return Ok(());
+        }
+    };
+    let question = Question::new(sequence, &client, Request::Words(&words), SystemTime::now());
     match answer(guard, &question)? {
         Ok(lines) => println!("{lines}"),
         Err(refusal) => println!("{refusal}"),

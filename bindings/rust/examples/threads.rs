@@ -1,6 +1,6 @@
 //! Threads that decide by one guard and one opened question. The last one to end closes the guard. `tests/test_bindings.py` runs it under helgrind.
 
-use spki::{Guard, Limits, Moment, Policy, Question, Request};
+use spki::{Guard, Limits, Moment, Policy, ProvenKey, Question, Request};
 use std::sync::Arc;
 use std::thread;
 
@@ -8,10 +8,10 @@ const LIST: &[u8] = b"(acl (entry (public-key (test b)) (tag (ftp))))";
 const THREADS: usize = 4;
 const TURNS: usize = 50;
 
-fn question() -> Question<'static> {
+fn question<'q>(key: &'q ProvenKey) -> Question<'q> {
     Question::new(
         b"(sequence)",
-        b"(public-key (test b))",
+        key,
         Request::Text(b"(ftp host)"),
         Moment::Seconds(1_704_067_200),
     )
@@ -19,8 +19,10 @@ fn question() -> Question<'static> {
 
 /// How often a question is granted, each time anew and once opened.
 fn granted(guard: &Guard) -> usize {
-    let asked = guard.ask(&question()).expect("a question");
-    let anew = |_: &usize| guard.decide(&question(), |_, _, _| true).is_ok();
+    let key = ProvenKey::assume(&b"(public-key (test b))"[..]);
+    let question = question(&key);
+    let asked = guard.ask(&question).expect("a question");
+    let anew = |_: &usize| guard.decide(&question, |_| true).is_ok();
     let opened = |_: &usize| asked.decide().is_ok();
     (0..TURNS).filter(anew).count() + (0..TURNS).filter(opened).count()
 }

@@ -6,7 +6,7 @@
 mod by_openssl;
 
 use by_openssl::Openssl;
-use spki::Verifier;
+use spki::{Signature, Verifier};
 use std::error::Error;
 use std::io::{self, Read};
 
@@ -27,7 +27,12 @@ fn main() -> Result<(), Box<dyn Error>> {
         rest = behind;
     }
     for it in strings.chunks_exact(3) {
-        print!("{}", u8::from(Openssl.verify(it[0], it[1], it[2])?));
+        let signature = Signature {
+            key: it[0],
+            message: it[1],
+            value: it[2],
+        };
+        print!("{}", u8::from(Openssl.verify(signature)?));
     }
     println!();
     Ok(())

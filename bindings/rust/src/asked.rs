@@ -3,6 +3,7 @@
 use crate::answer::{answered, line_of, with_line, Refusal};
 use crate::decision::{Denied, Grant, Verdict};
 use crate::explanation::Explanation;
+use crate::signature::Signature;
 use spki_sys as sys;
 use std::ffi::c_void;
 use std::fmt;
@@ -49,20 +50,6 @@ impl fmt::Debug for Asked {
             .field("signatures", &self.count)
             .finish_non_exhaustive()
     }
-}
-
-/// A signature that is to be verified. The texts are in canonical form.
-#[non_exhaustive]
-#[derive(Clone, Copy, Debug, PartialEq, Eq)]
-pub struct Signature<'a> {
-    /// The key that has to have signed: the issuer's `(public-key ..)`.
-    pub key: &'a [u8],
-    /// What is signed: the certificate.
-    pub message: &'a [u8],
-    /// The value in `(signature ..)`.
-    pub value: &'a [u8],
-    /// The octets of a value that is one string. `None` for a list.
-    pub octets: Option<&'a [u8]>,
 }
 
 impl Asked {
@@ -122,7 +109,6 @@ impl Asked {
             key: of(signed.key),
             message: of(signed.message),
             value: of(signed.value),
-            octets: (!signed.octets.octets.is_null()).then(|| of(signed.octets)),
         })
     }
 
@@ -154,12 +140,11 @@ impl Asked {
     /// The function failed, or an allocation did.
     pub fn verify<V, A>(&mut self, mut verify: V) -> Result<(), Denied<A::Error>>
     where
-        V: FnMut(&[u8], &[u8], &[u8]) -> A,
+        V: FnMut(Signature<'_>) -> A,
         A: Verdict,
     {
         for place in 0..self.count {
-            let it = self.signature(place)?;
-            let verdict = verify(it.key, it.message, it.value).verdict();
+            let verdict = verify(self.signature(place)?).verdict();
             if verdict.map_err(Denied::Verifier)? {
                 self.mark(place)?;
             } else {

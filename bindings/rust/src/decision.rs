@@ -1,6 +1,7 @@
 //! A decision: a grant, or why there is none.
 
 use crate::answer::Refusal;
+use crate::signature::Signature;
 use std::convert::Infallible;
 use std::error::Error;
 use std::fmt;
@@ -67,13 +68,12 @@ pub trait Verifier {
     /// Why it may fail to say that.
     type Error;
 
-    /// Whether a value is a signature of a message by a key. The three are canonical forms: of the issuer's `(public-key ..)`, of the
-    /// certificate, and of the value in `(signature ..)`.
+    /// Whether a signature is valid.
     ///
     /// # Errors
     ///
     /// It is not known whether the signature is valid. Then nothing is granted.
-    fn verify(&mut self, key: &[u8], message: &[u8], value: &[u8]) -> Result<bool, Self::Error>;
+    fn verify(&mut self, signature: Signature<'_>) -> Result<bool, Self::Error>;
 }
 
 /// What a verifying function returns: whether a signature is valid, or also that it failed.

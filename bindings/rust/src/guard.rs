@@ -5,15 +5,12 @@ use crate::asked::Asked;
 use crate::decision::{Denied, Grant, Verdict, Verifier};
 use crate::library;
 use crate::question::Question;
+use crate::signature::Signature;
 use spki_sys as sys;
 use std::ffi::c_int;
 use std::fmt;
 use std::mem::size_of;
 use std::ptr::{self, NonNull};
-
-/// The most octets of a question and the most nodes of an intersection.
-const MOST_OCTETS: usize = 1_048_576;
-const MOST_NODES: usize = 1_000_000;
 
 /// Which hashes name keys.
 #[non_exhaustive]
@@ -30,12 +27,12 @@ impl Policy {
     fn number(self) -> c_int {
         match self {
             Policy::Strict => sys::STRICT,
-            Policy::AllowSha1 => sys::OPEN,
+            Policy::AllowSha1 => sys::ALLOW_SHA1,
         }
     }
 }
 
-/// Limits on each question. [`Limits::default`] has those for questions of strangers.
+/// Limits on each question. One that is not set is the library's own, which `spki.h` names: those are for questions of strangers. So is one of 0.
 #[derive(Clone, Copy, Debug)]
 pub struct Limits {
     values: sys::Limits,
@@ -45,60 +42,69 @@ impl Limits {
     /// The highest limits. On some questions within them an explanation takes minutes.
     #[must_use]
     pub const fn highest() -> Limits {
+        let most = usize::MAX;
+        let all = Limits::none().octets(most).certificates(most).words(most);
+        all.nodes(most).work(most).answer(most)
+    }
+
+    /// No limit is set.
+    const fn none() -> Limits {
         Limits {
             values: sys::Limits {
                 size: size_of::<sys::Limits>(),
-                octets: MOST_OCTETS,
-                certificates: usize::MAX,
-                words: usize::MAX,
-                nodes: MOST_NODES,
-                work: usize::MAX,
-                answer: usize::MAX,
+                octets: 0,
+                certificates: 0,
+                words: 0,
+                nodes: 0,
+                work: 0,
+                answer: 0,
             },
         }
     }
 
-    /// The most octets that the texts of a question may have together: 65,536 by default. More than 1,048,576 means 1,048,576.
+    /// Whether no limit is set.
+    const fn is_none(&self) -> bool {
+        let of = &self.values;
+        of.octets | of.certificates | of.words | of.nodes | of.work | of.answer == 0
+    }
+
+    /// The most octets that the texts of a question may have together. More than the library's highest means that.
     #[must_use]
     pub const fn octets(mut self, most: usize) -> Limits {
-        self.values.octets = if most < MOST_OCTETS {
-            most
-        } else {
-            MOST_OCTETS
-        };
+        self.values.octets = at_most(most, sys::MOST_OCTETS);
         self
     }
 
-    /// The most certificates of a sequence: 16 by default.
+    /// The most certificates of a sequence.
     #[must_use]
     pub const fn certificates(mut self, most: usize) -> Limits {
         self.values.certificates = most;
         self
     }
 
-    /// The most strings of a request: 64 by default.
+    /// The most strings of a request.
     #[must_use]
     pub const fn words(mut self, most: usize) -> Limits {
         self.values.words = most;
         self
     }
 
-    /// The most nodes of one tag times nodes of another for which `explain` and `reduce` compute their intersection: 1,000,000 by default.
-    /// More means 1,000,000.
+    /// The most nodes of one tag times nodes of another for which `explain` and `reduce` compute their intersection. More than the library's
+    /// highest means that.
     #[must_use]
     pub const fn nodes(mut self, most: usize) -> Limits {
-        self.values.nodes = if most < MOST_NODES { most } else { MOST_NODES };
+        self.values.nodes = at_most(most, sys::MOST_NODES);
         self
     }
 
-    /// The most of these products together, over all certificates and entries: 100,000 by default.
+    /// The most of these products together, over all certificates and entries.
     #[must_use]
     pub const fn work(mut self, most: usize) -> Limits {
         self.values.work = most;
         self
     }
 
-    /// The most octets of the lines of `explain` and `reduce`: 1,048,576 by default.
+    /// The most octets of the lines of `explain` and `reduce`.
     #[must_use]
     pub const fn answer(mut self, most: usize) -> Limits {
         self.values.answer = most;
@@ -106,22 +112,26 @@ impl Limits {
     }
 }
 
+/// A number, or the highest one.
+const fn at_most(number: usize, highest: usize) -> usize {
+    if number < highest {
+        number
+    } else {
+        highest
+    }
+}
+
 impl Default for Limits {
     fn default() -> Limits {
-        Limits::highest()
-            .octets(65_536)
-            .certificates(16)
-            .words(64)
-            .work(100_000)
-            .answer(1_048_576)
+        Limits::none()
     }
 }
 
 /// An access list that is read once and asked often, also by several threads at the same time.
 ///
-/// [`decide`](Guard::decide) opens a question, calls `verify(key, message, value)` for each signature that the answer depends on, in order, and
-/// decides. Where the request cannot be granted, whatever is valid, it calls `verify` not at all. The three are octets of canonical forms: of the issuer's `(public-key ..)`, of the certificate, and of the value in
-/// `(signature ..)`. `verify` returns whether the value is a signature of the message by the key, as a `bool` or as a `Result`.
+/// [`decide`](Guard::decide) opens a question, calls `verify` with each [`Signature`] that the answer depends on, in order, and decides. Where the
+/// request cannot be granted, whatever is valid, it calls `verify` not at all. `verify` returns whether the signature is valid, as a `bool` or as a
+/// `Result`.
 ///
 /// A thread that calls has 256 KiB of stack left. No call is made in a child that a process with several threads forked.
 pub struct Guard {
@@ -164,14 +174,19 @@ impl Guard {
         let mut handle = ptr::null_mut();
         let call = |buffer, room, needed| {
             let (octets, length) = (list.as_ptr().cast(), list.len());
-            let (policy, limits) = (policy.number(), &limits.values);
+            let given: *const sys::Limits = if limits.is_none() {
+                ptr::null()
+            } else {
+                &limits.values
+            };
+            let policy = policy.number();
             // SAFETY: each pointer is to as many octets as its length says, or to one value of its type, and they do not overlap.
             unsafe {
                 sys::spki_guard_open(
                     octets,
                     length,
                     policy,
-                    limits,
+                    given,
                     &mut handle,
                     buffer,
                     room,
@@ -214,7 +229,7 @@ impl Guard {
     /// ```
     /// # use spki::{Denied, Grant, Guard, Question};
     /// fn serve(guard: &Guard, question: &Question) -> Result<(), Denied> {
-    ///     guard.decide(question, |_key, _message, _value| false)?;
+    ///     guard.decide(question, |_signature| false)?;
     ///     // the request is granted here
     ///     Ok(())
     /// }
@@ -225,7 +240,7 @@ impl Guard {
     /// No entry grants the request; a part of the question cannot be read, or exceeds a limit; the verifier failed; an allocation failed.
     pub fn decide<V, A>(&self, question: &Question, verify: V) -> Result<Grant, Denied<A::Error>>
     where
-        V: FnMut(&[u8], &[u8], &[u8]) -> A,
+        V: FnMut(Signature<'_>) -> A,
         A: Verdict,
     {
         let mut asked = self.ask(question)?;
@@ -245,9 +260,7 @@ impl Guard {
         question: &Question,
         verifier: &mut V,
     ) -> Result<Grant, Denied<V::Error>> {
-        self.decide(question, |key, message, value| {
-            verifier.verify(key, message, value)
-        })
+        self.decide(question, |signature| verifier.verify(signature))
     }
 }
 

@@ -4,10 +4,10 @@
 //!
 //! A service reads its access list once, into a [`Guard`], and asks it a [`Question`] for each request. The parts of a question come
 //! from different sources, so each is a separate text. The service verifies signatures by a crypto library of its choice, in a closure or by
-//! a [`Verifier`]. Only `Ok` is a yes: a no, a refusal and a verifier that fails are [`Denied`].
+//! a [`Verifier`]. A [`ProvenKey`] is the key of a client that has proved to hold it. Only `Ok` is a yes: a no, a refusal and a verifier that fails are [`Denied`].
 //!
 //! ```
-//! use spki::{Guard, Limits, Moment, Policy, Question, Request};
+//! use spki::{Guard, Limits, Moment, Policy, ProvenKey, Question, Request, Signature};
 //!
 //! // Alice may read and write builds, and may delegate that. She lets Carol read the web builds.
 //! let list = b"(acl (entry (public-key (test alice)) (propagate) (tag (packages (* set read write) (* prefix /builds/)))))";
@@ -17,12 +17,12 @@
 //!   (signature (hash sha256 #54c4054f7abf9d1682511152fbbbfda943e3cf2fdcd1aca9175f7f153341ed3c#)
 //!    (public-key (test alice)) signed-by-alice))";
 //! let guard = Guard::read(list, Policy::Strict, Limits::default())?;
-//! let key = b"(public-key (test carol))"; // Carol has proved to hold it, for example by TLS
+//! let key = ProvenKey::assume(&b"(public-key (test carol))"[..]); // Carol has proved to hold it, for example by TLS
 //! let request = Request::Words(&[b"packages", b"read", b"/builds/web/index.html"]);
 //! let now = Moment::Seconds(1_772_366_400); // the service's own clock: SystemTime::now()
-//! let question = Question::new(sequence, key, request, now);
+//! let question = Question::new(sequence, &key, request, now);
 //! // Call your crypto library here. The keys of this example are words, and so are their signatures.
-//! let verify = |_key: &[u8], _message: &[u8], value: &[u8]| value == b"15:signed-by-alice";
+//! let verify = |it: Signature| it.value == b"15:signed-by-alice";
 //! let grant = guard.decide(&question, verify)?;
 //! assert_eq!(grant.entry, 1);
 //! # Ok::<(), Box<dyn std::error::Error>>(())
@@ -42,15 +42,17 @@ mod explanation;
 mod guard;
 mod library;
 mod question;
+mod signature;
 mod text;
 mod words;
 
 pub use answer::Refusal;
-pub use asked::{Asked, Signature};
+pub use asked::Asked;
 pub use decision::{Denied, Grant, Verdict, Verifier};
 pub use explanation::{Explanation, Reason};
 pub use guard::{Guard, Limits, Policy};
 pub use library::library_version;
 pub use question::{Moment, Question, Request};
+pub use signature::{NotProved, ProvenKey, Scheme, Signature};
 pub use text::{advanced, canonical, string_at, transport};
 pub use words::{Cause, Fault, Part};

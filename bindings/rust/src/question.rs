@@ -1,5 +1,6 @@
 //! What is asked.
 
+use crate::signature::ProvenKey;
 use spki_sys as sys;
 use std::mem::size_of;
 use std::ptr;
@@ -18,9 +19,8 @@ const NO_SECONDS: i64 = 1 << 62;
 pub struct Question<'q> {
     /// The certificates and signatures that the client shows: `(sequence ..)`.
     pub sequence: &'q [u8],
-    /// The client's key, `(public-key ..)`. The client must have proved that it holds the key. A public key is public: without a
-    /// proof, each client that sends Alice's key would have Alice's rights.
-    pub key: &'q [u8],
+    /// The client's key, which it has proved to hold.
+    pub key: &'q ProvenKey<'q>,
     /// What the client wants to do.
     pub request: Request<'q>,
     /// The time of the service's own clock.
@@ -68,7 +68,7 @@ impl<'q> Question<'q> {
     #[must_use]
     pub fn new(
         sequence: &'q [u8],
-        key: &'q [u8],
+        key: &'q ProvenKey<'q>,
         request: Request<'q>,
         moment: impl Into<Moment<'q>>,
     ) -> Question<'q> {
@@ -112,7 +112,7 @@ impl<'q> Question<'q> {
         sys::Question {
             size: size_of::<sys::Question>(),
             sequence: sys::Text::of(self.sequence),
-            key: sys::Text::of(self.key),
+            key: sys::Text::of(self.key.text()),
             request,
             words,
             word_count,

@@ -2,8 +2,8 @@
 //! repository compares the answers to many questions with the program's.
 
 use spki::{
-    Asked, Cause, Denied, Explanation, Fault, Grant, Guard, Limits, Moment, Part, Policy, Question,
-    Refusal, Request,
+    Asked, Cause, Denied, Explanation, Fault, Grant, Guard, Limits, Moment, NotProved, Part,
+    Policy, ProvenKey, Question, Refusal, Request, Scheme, Signature,
 };
 use std::error::Error;
 use std::panic::{catch_unwind, AssertUnwindSafe};
@@ -12,11 +12,11 @@ use std::time::{Duration, UNIX_EPOCH};
 const LIST: &[u8] = b"(acl (entry (public-key (test a)) (propagate) (tag (*))))";
 const PAIR: &str = "(cert (issuer (public-key (test a))) (subject (public-key (test b))) (tag (*)))
     (signature (hash sha256 #d71ecfb335b8e4b04cb035426566a94e817a12cfcfa4dbf5b704b6cd670c7ad2#) (public-key (test a)) sig)";
-const SIGNED: [&[u8]; 3] = [
-    b"(10:public-key(4:test1:a))",
-    b"(4:cert(6:issuer(10:public-key(4:test1:a)))(7:subject(10:public-key(4:test1:b)))(3:tag(1:*)))",
-    b"3:sig",
-];
+const SIGNED: Signature = Signature {
+    key: b"(10:public-key(4:test1:a))",
+    message: b"(4:cert(6:issuer(10:public-key(4:test1:a)))(7:subject(10:public-key(4:test1:b)))(3:tag(1:*)))",
+    value: b"3:sig",
+};
 const KEY: &[u8] = b"(public-key (test b))";
 /// By which key a lets itself do everything: such a certificate may stand in front of another one, also twice.
 const OWN: &str = "(cert (issuer (public-key (test a))) (subject (public-key (test a))) (propagate) (tag (*)))
@@ -35,12 +35,12 @@ fn guard(list: &[u8]) -> Guard {
 
 /// A question that shows a sequence.
 fn shows(sequence: &[u8]) -> Question<'_> {
-    Question::new(sequence, KEY, WORDS, NOW)
+    Question::new(sequence, held(KEY), WORDS, NOW)
 }
 
 /// A question without certificates, for a request.
 fn requests(request: Request) -> Question {
-    Question::new(b"(sequence)", KEY, request, NOW)
+    Question::new(b"(sequence)", held(KEY), request, NOW)
 }
 
 /// A sequence of the same certificate so many times.
@@ -48,8 +48,13 @@ fn shown(times: usize) -> Vec<u8> {
     format!("(sequence {})", PAIR.repeat(times)).into()
 }
 
-fn right(_key: &[u8], _message: &[u8], _value: &[u8]) -> bool {
+fn right(_: Signature) -> bool {
     true
+}
+
+/// A key that is taken as proved.
+fn held(key: &'static [u8]) -> &'static ProvenKey<'static> {
+    Box::leak(Box::new(ProvenKey::assume(key)))
 }
 
 /// The line of a refusal.
@@ -70,12 +75,12 @@ fn lines(explanation: &Explanation) -> Vec<(Option<usize>, Option<usize>, &str)>
 fn a_verifier_is_given_what_is_signed() -> Outcome {
     let sequence = shown(1);
     let mut calls = 0;
-    let grant = guard(LIST).decide(&shows(&sequence), |key, message, value| {
+    let grant = guard(LIST).decide(&shows(&sequence), |signature| {
         calls += 1;
-        [key, message, value] == SIGNED
+        signature == SIGNED
     })?;
     assert_eq!((grant.entry, calls), (1, 1));
-    let denied = guard(LIST).decide(&shows(&sequence), |_, _, _| false);
+    let denied = guard(LIST).decide(&shows(&sequence), |_| false);
     assert_eq!(denied, Err(Denied::No));
     Ok(())
 }
@@ -87,9 +92,9 @@ fn a_verifier_is_not_called_behind_the_first_wrong_one() -> Outcome {
     let guard = guard(LIST);
     let mut asked = guard.ask(&shows(sequence.as_bytes()))?;
     let mut calls = 0;
-    asked.verify(|_, _, value| {
+    asked.verify(|it| {
         calls += 1;
-        value == b"3:sig"
+        it.value == b"3:sig"
     })?;
     assert_eq!(calls, 2);
     let explanation = asked.explain()?;
@@ -101,9 +106,9 @@ fn a_verifier_is_not_called_behind_the_first_wrong_one() -> Outcome {
 fn a_verifier_is_called_for_each_of_many() -> Outcome {
     let sequence = format!("(sequence {} {PAIR})", OWN.repeat(39));
     let mut calls = 0;
-    let grant = guard(LIST).decide(&shows(sequence.as_bytes()), |key, _, value| {
+    let grant = guard(LIST).decide(&shows(sequence.as_bytes()), |it| {
         calls += 1;
-        [key, value] == [SIGNED[0], SIGNED[2]]
+        (it.key, it.value) == (SIGNED.key, SIGNED.value)
     })?;
     assert_eq!((calls, grant.entry), (40, 1));
     Ok(())
@@ -114,7 +119,7 @@ fn a_verifier_is_called_for_each_of_many() -> Outcome {
 fn a_verifier_is_not_called_in_vain() {
     let sequence = shown(2);
     for (list, question) in [(LIST, shows(&sequence)), (b"(acl)", shows(FORGED))] {
-        let verify = |_: &[u8], _: &[u8], _: &[u8]| -> bool { panic!("a signature is verified") };
+        let verify = |_: Signature| -> bool { panic!("a signature is verified") };
         assert_eq!(guard(list).decide(&question, verify), Err(Denied::No));
     }
 }
@@ -125,10 +130,15 @@ fn marks_are_of_one_question() -> Outcome {
     let guard = guard(LIST);
     let sequence = shown(1);
     let mut good = guard.ask(&shows(&sequence))?;
-    let mut bad = guard.ask(&Question::new(FORGED, b"(public-key (test c))", WORDS, NOW))?;
+    let mut bad = guard.ask(&Question::new(
+        FORGED,
+        held(b"(public-key (test c))"),
+        WORDS,
+        NOW,
+    ))?;
     assert!(good.is_possible() && bad.is_possible());
     for asked in [&mut good, &mut bad] {
-        asked.verify(|_, _, value| value == b"3:sig")?;
+        asked.verify(|it| it.value == b"3:sig")?;
     }
     assert_eq!(
         (good.decide().is_ok(), bad.decide()),
@@ -148,7 +158,12 @@ fn marks_are_of_one_place() -> Outcome {
     let guard = guard(LIST);
     let sequence = format!("(sequence {OWN} {OWN})");
     for place in [0, 1] {
-        let question = Question::new(sequence.as_bytes(), b"(public-key (test a))", WORDS, NOW);
+        let question = Question::new(
+            sequence.as_bytes(),
+            held(b"(public-key (test a))"),
+            WORDS,
+            NOW,
+        );
         let mut asked = guard.ask(&question)?;
         assert_eq!(asked.signature(0), asked.signature(1));
         asked.mark(place)?;
@@ -186,7 +201,7 @@ fn other_numbers_are_no_places() -> Outcome {
 #[test]
 fn an_error_of_a_verifier_goes_on() {
     let sequence = shown(1);
-    let decide = |answer| guard(LIST).decide(&shows(&sequence), |_, _, _| answer);
+    let decide = |answer| guard(LIST).decide(&shows(&sequence), |_| answer);
     assert_eq!(
         decide(Err("no such key")),
         Err(Denied::Verifier("no such key"))
@@ -199,7 +214,7 @@ fn an_error_of_a_verifier_goes_on() {
 fn a_panic_of_a_verifier_goes_on() {
     let sequence = shown(1);
     let guard = guard(LIST);
-    let fail = |_: &[u8], _: &[u8], _: &[u8]| -> bool { panic!("no such key") };
+    let fail = |_: Signature| -> bool { panic!("no such key") };
     let ask = AssertUnwindSafe(|| guard.decide(&shows(&sequence), fail));
     assert!(catch_unwind(ask).is_err());
     assert!(guard.decide(&shows(&sequence), right).is_ok());
@@ -209,7 +224,7 @@ fn a_panic_of_a_verifier_goes_on() {
 #[test]
 fn a_question_mark_is_no_grant() {
     fn serve(guard: &Guard, question: &Question) -> Result<(), Denied> {
-        guard.decide(question, |_, _, _| false)?;
+        guard.decide(question, |_| false)?;
         Ok(())
     }
     let sequence = shown(1);
@@ -229,8 +244,8 @@ fn an_opened_question_needs_no_texts() -> Outcome {
     let mut asked = guard.ask(&shows(&sequence))?;
     sequence.fill(b' ');
     for signature in asked.signatures() {
-        assert_eq!([signature.key, signature.message, signature.value], SIGNED);
-        assert_eq!(signature.octets, Some(&b"sig"[..]));
+        assert_eq!(signature, SIGNED);
+        assert_eq!(signature.octets(), Some(&b"sig"[..]));
     }
     assert_eq!(asked.signatures().len(), 2);
     for place in 0..2 {
@@ -245,7 +260,10 @@ fn a_value_that_is_a_list_has_no_octets() -> Outcome {
     let sequence = PAIR.replace(" sig)", " (sig-val x))");
     let guard = guard(LIST);
     let asked = guard.ask(&shows(format!("(sequence {sequence})").as_bytes()))?;
-    let octets: Vec<_> = asked.signatures().map(|it| (it.value, it.octets)).collect();
+    let octets: Vec<_> = asked
+        .signatures()
+        .map(|it| (it.value, it.octets()))
+        .collect();
     assert_eq!(octets, [(&b"(7:sig-val1:x)"[..], None)]);
     Ok(())
 }
@@ -295,7 +313,7 @@ fn requests_and_moments_may_be_texts() {
     ];
     for (text, is_granted) in texts {
         let moment = Moment::Text(b"\"2024-01-01_00:00:00\"");
-        let question = Question::new(b"(sequence)", KEY, Request::Text(text), moment);
+        let question = Question::new(b"(sequence)", held(KEY), Request::Text(text), moment);
         assert_eq!(guard.decide(&question, right).is_ok(), is_granted);
     }
 }
@@ -321,7 +339,7 @@ fn a_moment_before_1970_or_past_9999_is_refused() {
     let ended =
         b"(acl (entry (public-key (test b)) (tag (*)) (not-after \"1999-12-31_23:59:59\")))";
     let guard = guard(ended);
-    let at = |seconds| Question::new(b"(sequence)", KEY, WORDS, Moment::Seconds(seconds));
+    let at = |seconds| Question::new(b"(sequence)", held(KEY), WORDS, Moment::Seconds(seconds));
     assert!(guard.decide(&at(0), right).is_ok());
     assert_eq!(guard.decide(&at(253_402_300_799), right), Err(Denied::No));
     for seconds in [
@@ -337,11 +355,52 @@ fn a_moment_before_1970_or_past_9999_is_refused() {
     }
     let before = Question::new(
         b"(sequence)",
-        KEY,
+        held(KEY),
         WORDS,
         UNIX_EPOCH - Duration::from_nanos(1),
     );
     assert_eq!(refused(guard.decide(&before, right)), "refused at BadDate");
+}
+
+#[test]
+fn a_login_proves_its_key() {
+    let login = |message| Signature {
+        key: KEY,
+        message,
+        value: b"3:sig",
+    };
+    let message = b"(5:login7:service5:nonce)";
+    let proven = ProvenKey::by(login(message), |it| it.key == KEY && it.message == message);
+    assert_eq!(proven.as_ref(), Ok(held(KEY)));
+    assert_eq!(proven.map(ProvenKey::into_owned), Ok(held(KEY).clone()));
+    assert_eq!(ProvenKey::by(login(message), |_| false), Err(NotProved::No));
+    let failed = ProvenKey::by(login(message), |_| Err("no such key"));
+    assert_eq!(failed, Err(NotProved::Verifier("no such key")));
+    // (whoever shows a certificate does not hold the key that has signed it)
+    assert_eq!(ProvenKey::by(SIGNED, right), Err(NotProved::No));
+}
+
+#[test]
+fn a_scheme_is_that_of_the_key() {
+    let rows: [(&[u8], Option<Scheme>); 4] = [
+        (
+            b"(public-key (ecc (curve Ed25519) (flags eddsa) (q #00#)))",
+            Some(Scheme::Ed25519),
+        ),
+        (
+            b"(public-key (rsa (n #00#) (e #010001#)))",
+            Some(Scheme::Rsa),
+        ),
+        (
+            b"(public-key (ecc (curve \"NIST P-256\") (q #04#)))",
+            Some(Scheme::P256),
+        ),
+        (KEY, None),
+    ];
+    for (key, scheme) in rows {
+        let key = &spki::canonical(key).expect("a key")[..];
+        assert_eq!(Signature { key, ..SIGNED }.scheme(), scheme);
+    }
 }
 
 /// A question is stored without its guard, and sent to another thread.
@@ -370,7 +429,7 @@ fn the_words_of_lines_are_types() -> Outcome {
     let explanation = asked.explain()?;
     let causes: Vec<_> = explanation.reasons().map(|it| it.cause).collect();
     assert_eq!(causes, [Cause::NotTheKey]);
-    let own = Question::new(b"(sequence)", b"(public-key (test a))", WORDS, NOW);
+    let own = Question::new(b"(sequence)", held(b"(public-key (test a))"), WORDS, NOW);
     let explanation = guard.ask(&own)?.explain()?;
     let causes: Vec<_> = explanation.reasons().map(|it| it.cause).collect();
     assert_eq!(causes, [Cause::Grants]);
@@ -412,9 +471,9 @@ fn refusals_name_the_part() {
         decided(requests(Request::Words(&[]))),
         "refused request EmptyList"
     );
-    let never = Question::new(b"(sequence)", KEY, WORDS, Moment::Seconds(i64::MIN));
+    let never = Question::new(b"(sequence)", held(KEY), WORDS, Moment::Seconds(i64::MIN));
     assert_eq!(decided(never), "refused at BadDate");
-    let nobody = Question::new(b"(sequence)", b"", WORDS, NOW);
+    let nobody = Question::new(b"(sequence)", held(b""), WORDS, NOW);
     assert_eq!(decided(nobody), "refused key Short");
 }
 
@@ -435,8 +494,13 @@ fn questions_have_limits() -> Outcome {
     let line = refused(decided(usual, &requests(Request::Words(&words))));
     assert_eq!(line, "refused question TooManyWords");
     assert!(decided(usual.octets(usize::MAX).nodes(usize::MAX), &shows(&one)).is_ok());
-    for limits in [usual.work(0), usual.nodes(0), usual.answer(5)] {
-        let guard = Guard::read(LIST, Policy::AllowSha1, limits)?;
+    assert!(decided(usual.octets(0).words(0), &shows(&one)).is_ok());
+    let line = refused(decided(usual.certificates(0).work(7), &shows(&many)));
+    assert_eq!(line, "refused question TooManyCertificates");
+    // (by a tag of three nodes)
+    let narrow = b"(acl (entry (public-key (test a)) (propagate) (tag (ftp host))))";
+    for limits in [usual.work(1), usual.nodes(1), usual.answer(5)] {
+        let guard = Guard::read(narrow, Policy::AllowSha1, limits)?;
         let mut asked = guard.ask(&shows(&one))?;
         asked.mark(0)?;
         assert!(asked.decide().is_ok());

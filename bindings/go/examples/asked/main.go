@@ -19,6 +19,7 @@ import (
 	"strings"
 	"time"
 
+	"conguraki/spki"
 	"conguraki/spki/guard"
 )
 
@@ -66,7 +67,8 @@ type task struct {
 // task reads the next question.
 func (i *input) task() task {
 	made := task{command: i.next(), policy: i.next(), list: i.next(), accepted: map[[3]string]bool{}}
-	made.question.Sequence, made.question.Key = []byte(i.next()), []byte(i.next())
+	made.question.Sequence = []byte(i.next())
+	made.question.Key = spki.AssumeKey([]byte(i.next()))
 	form, request := i.next(), i.list()
 	if form == "words" {
 		made.question.Words = request
@@ -98,8 +100,8 @@ func (t task) answer() (string, error) {
 		return "", err
 	}
 	defer list.Close()
-	verify := func(key, message, value []byte) bool {
-		return t.accepted[[3]string{string(key), string(message), string(value)}]
+	verify := func(signed spki.Signature) bool {
+		return t.accepted[[3]string{string(signed.Key), string(signed.Message), string(signed.Value)}]
 	}
 	switch t.command {
 	case "explain":

@@ -13,14 +13,13 @@ import (
 	"os"
 	"time"
 
+	"conguraki/spki"
 	"conguraki/spki/guard"
 	"conguraki/spki/verify"
 )
 
 // isGranted says whether a request is granted. Each word is one string of it, whatever octets it has.
-//
-// THE CLIENT MUST HAVE PROVED THAT IT HOLDS THE KEY: a public key is public.
-func isGranted(list *guard.Guard, sequence, key []byte, words []string, now time.Time) (bool, error) {
+func isGranted(list *guard.Guard, sequence []byte, key spki.ProvenKey, words []string, now time.Time) (bool, error) {
 	decision, err := list.Decide(guard.Question{Sequence: sequence, Key: key, Words: words, Time: now}, verify.Signature)
 	if err != nil {
 		return false, err
@@ -45,7 +44,8 @@ func run(given []string) error {
 		return err
 	}
 	defer list.Close()
-	granted, err := isGranted(list, texts[1], texts[2], given[3:], time.Now())
+	// THE CLIENT MUST HAVE PROVED THAT IT HOLDS THE KEY: a public key is public.
+	granted, err := isGranted(list, texts[1], spki.AssumeKey(texts[2]), given[3:], time.Now())
 	if err != nil {
 		return err
 	}

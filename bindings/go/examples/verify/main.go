@@ -10,6 +10,7 @@ import (
 	"io"
 	"os"
 
+	"conguraki/spki"
 	"conguraki/spki/verify"
 )
 
@@ -37,6 +38,7 @@ func main() {
 			}
 			strings[place] = octets
 		}
-		fmt.Fprint(out, map[bool]int{true: 1, false: 0}[verify.Signature(strings[0], strings[1], strings[2])])
+		signed := spki.Signature{Key: strings[0], Message: strings[1], Value: strings[2]}
+		fmt.Fprint(out, map[bool]int{true: 1, false: 0}[verify.Signature(signed)])
 	}
 }

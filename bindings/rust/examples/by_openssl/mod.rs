@@ -2,7 +2,7 @@
 //! Ed25519, RSA by PKCS#1 v1.5 with SHA-256, ECDSA with P-256 and SHA-256. A crate of cryptography takes less time. It replaces `Signed::verifies`.
 //! Points and numbers are tested first, as the same page has it: libraries differ in what they take.
 
-use spki::Verifier;
+use spki::{Signature, Verifier};
 use std::fs::{remove_dir_all, DirBuilder};
 use std::os::unix::fs::DirBuilderExt;
 use std::path::PathBuf;
@@ -49,10 +49,10 @@ pub struct Openssl;
 impl Verifier for Openssl {
     type Error = io::Error;
 
-    fn verify(&mut self, key: &[u8], message: &[u8], value: &[u8]) -> io::Result<bool> {
+    fn verify(&mut self, it: Signature<'_>) -> io::Result<bool> {
         // (the command takes no empty file, and no certificate is empty)
-        let signed = signed(key, value).filter(|_| !message.is_empty());
-        signed.map_or(Ok(false), |signed| signed.verifies(message))
+        let signed = signed(it.key, it.value).filter(|_| !it.message.is_empty());
+        signed.map_or(Ok(false), |signed| signed.verifies(it.message))
     }
 }
 

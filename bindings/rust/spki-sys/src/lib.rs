@@ -38,8 +38,13 @@ pub const TRANSPORT: c_int = 2;
 
 /// Hashes by SHA-1 name no key, `enum spki_policy`.
 pub const STRICT: c_int = 0;
-/// Hashes of all algorithms name keys.
-pub const OPEN: c_int = 1;
+/// Hashes by SHA-1 name keys too.
+pub const ALLOW_SHA1: c_int = 1;
+
+/// The most octets and nodes that limits may set.
+pub const MOST_OCTETS: usize = 1_048_576;
+#[allow(missing_docs)]
+pub const MOST_NODES: usize = 1_000_000;
 
 /// `struct spki_text`.
 #[repr(C)]

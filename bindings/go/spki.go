@@ -1,0 +1,79 @@
+// Package spki has the types that carry what was proved, without the library: what a verifier is given, and a key that a client has proved to hold.
+//
+// The package guard decides, and verify verifies.
+package spki
+
+import (
+	"bytes"
+	"errors"
+	"strings"
+)
+
+// A Signature is to be verified: whether Value is a signature of Message by Key. The texts are in canonical form: the issuer's `(public-key ..)`,
+// the certificate, and the value of `(signature ..)`. Name the fields where you make one.
+type Signature struct {
+	Key, Message, Value []byte
+}
+
+// A Scheme says how a signature is made.
+type Scheme int
+
+const (
+	// Unknown is a key of another form.
+	Unknown Scheme = iota
+	// Ed25519 is EdDSA.
+	Ed25519
+	// RSA is PKCS#1 v1.5 with SHA-256.
+	RSA
+	// P256 is ECDSA with SHA-256.
+	P256
+)
+
+// What the canonical texts of keys begin with.
+var schemes = map[Scheme]string{
+	Ed25519: "(10:public-key(3:ecc(5:curve7:Ed25519)(5:flags5:eddsa)", RSA: "(10:public-key(3:rsa(", P256: "(10:public-key(3:ecc(5:curve10:NIST P-256)",
+}
+
+// Scheme says how the signature is made, by the form of its key: docs/FORMATS.md, "Keys and signatures of services".
+func (s Signature) Scheme() Scheme {
+	for scheme, front := range schemes {
+		if bytes.HasPrefix(s.Key, []byte(front)) {
+			return scheme
+		}
+	}
+	return Unknown
+}
+
+// A ProvenKey is a key that a client has proved to hold. A public key is public: without a proof, each client that sends Alice's key would have
+// Alice's rights. Two are equal by == if their texts are. The zero value is no key, and a question with it is refused.
+type ProvenKey struct {
+	text string
+}
+
+// ErrNotProved is the error of ProveKey.
+var ErrNotProved = errors.New("the client has not proved that it holds the key")
+
+// AssumeKey returns the key `(public-key ..)` of a client that has proved to hold it elsewhere, as by TLS or SSH. Nothing checks that here: each
+// client gets the rights of the key that is named.
+func AssumeKey(key []byte) ProvenKey {
+	return ProvenKey{string(key)}
+}
+
+// ProveKey returns the key of a login: its message is a challenge that the service itself made, with a nonce that it takes once. The error is
+// ErrNotProved if the signature is not valid, or its message is a certificate, which proves nothing about who shows it.
+func ProveKey(login Signature, verify func(Signature) bool) (ProvenKey, error) {
+	if bytes.HasPrefix(login.Message, []byte("(4:cert")) || !verify(login) {
+		return ProvenKey{}, ErrNotProved
+	}
+	return AssumeKey(login.Key), nil
+}
+
+// Text returns the octets of the key.
+func (k ProvenKey) Text() string {
+	return k.text
+}
+
+// String returns the same, for a log.
+func (k ProvenKey) String() string {
+	return strings.ToValidUTF8(k.text, "?")
+}

@@ -1,0 +1,37 @@
+package spki_test
+
+import (
+	"errors"
+	"testing"
+
+	"conguraki/spki"
+)
+
+func login(message string) spki.Signature {
+	return spki.Signature{Key: []byte("(10:public-key(4:test1:b))"), Message: []byte(message), Value: []byte("3:sig")}
+}
+
+// TestProveKey makes a key of a login whose signature is valid. Whoever shows a certificate does not hold the key that has signed it.
+func TestProveKey(t *testing.T) {
+	for _, row := range []struct {
+		message string
+		isValid bool
+		proved  bool
+	}{{"(5:login7:service5:nonce)", true, true}, {"(5:login7:service5:nonce)", false, false}, {"(4:cert)", true, false}} {
+		key, err := spki.ProveKey(login(row.message), func(spki.Signature) bool { return row.isValid })
+		if row.proved != (err == nil) || row.proved != (key == spki.AssumeKey(login("").Key)) || !row.proved && !errors.Is(err, spki.ErrNotProved) {
+			t.Errorf("%+v: %v, %v", row, key, err)
+		}
+	}
+}
+
+func TestScheme(t *testing.T) {
+	for key, wanted := range map[string]spki.Scheme{
+		"(10:public-key(3:ecc(5:curve7:Ed25519)(5:flags5:eddsa)(1:q1:x)))": spki.Ed25519, "(10:public-key(3:rsa(1:n1:x)(1:e1:x)))": spki.RSA,
+		"(10:public-key(3:ecc(5:curve10:NIST P-256)(1:q1:x)))": spki.P256, "(10:public-key(4:test1:b))": spki.Unknown, "": spki.Unknown,
+	} {
+		if met := (spki.Signature{Key: []byte(key)}).Scheme(); met != wanted {
+			t.Errorf("%s: %d", key, met)
+		}
+	}
+}

@@ -1,0 +1,27 @@
+"""A build cache for one client, whose key TLS has proved. Usage: cache.py ACL FOLDER KEY SEQUENCE; then lines `read PATH` and `write PATH TEXT`."""
+import os
+import re
+import sys
+from datetime import datetime, timezone
+from pathlib import Path
+
+import spki
+import spki_verify
+
+if len(sys.argv) != 5:
+    sys.exit("usage: cache.py ACL FOLDER KEY SEQUENCE")
+access_list, folder, key, sequence = map(Path, sys.argv[1:])
+guard, client = spki.Guard(access_list.read_bytes()), spki.ProvenKey.assume(key.read_bytes())
+for line in map(os.fsdecode, sys.stdin.buffer):
+    action, path, text = (line.rstrip("\n").split(" ", 2) + ["", ""])[:3]
+    try:
+        words = [b"cache", *map(os.fsencode, (action, path))]
+        question = spki.Question(sequence.read_bytes(), client, words=words, moment=datetime.now(timezone.utc))
+        if action not in ("read", "write") or not re.fullmatch(r"(/(?!\.\.?(/|$))[^/]+)+", path) or not guard.decide(question, spki_verify.verify):
+            print("denied")
+        elif action == "write":
+            print("written", (folder / path[1:]).write_bytes(os.fsencode(text)))
+        else:
+            print((folder / path[1:]).read_text() if (folder / path[1:]).is_file() else "nothing is there")
+    except (OSError, ValueError, spki.Refused):
+        print("denied")

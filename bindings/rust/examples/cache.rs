@@ -1,0 +1,60 @@
+//! A build cache for one client, whose key TLS has proved. Usage: cache ACL FOLDER KEY SEQUENCE; then lines `read PATH` and `write PATH TEXT`.
+
+mod by_openssl;
+
+use by_openssl::Openssl;
+use spki::{Denied, Guard, Limits, Policy, ProvenKey, Question, Request};
+use std::time::SystemTime;
+use std::{env, error::Error, fs, io};
+
+/// Whether a path has one name only: no part of it is empty, `.` or `..`.
+fn is_normal(path: &str) -> bool {
+    let mut parts = path.split('/');
+    parts.next() == Some("")
+        && parts.clone().count() > 0
+        && parts.all(|it| !["", ".", ".."].contains(&it))
+}
+
+/// Ends well if the guard grants an action on a path.
+fn require(
+    guard: &Guard,
+    client: &ProvenKey,
+    sequence: &[u8],
+    action: &str,
+    path: &str,
+) -> Result<(), Denied<io::Error>> {
+    let words = [b"cache", action.as_bytes(), path.as_bytes()];
+    let question = Question::new(sequence, client, Request::Words(&words), SystemTime::now());
+    guard.decide_by(&question, &mut Openssl)?;
+    Ok(())
+}
+
+fn main() -> Result<(), Box<dyn Error>> {
+    let given: Vec<String> = env::args().collect();
+    let [_, list, folder, key, sequence] = &given[..] else {
+        return Err("usage: cache ACL FOLDER KEY SEQUENCE".into());
+    };
+    let guard = Guard::read(&fs::read(list)?, Policy::Strict, Limits::default())?;
+    let (client, sequence) = (ProvenKey::assume(fs::read(key)?), fs::read(sequence)?);
+    for line in io::stdin().lines() {
+        let line = line?;
+        let mut words = line.splitn(3, ' ').chain(["", ""]);
+        let [action, path, text] = [(); 3].map(|()| words.next().unwrap_or_default());
+        let file = format!("{folder}{path}");
+        if !["read", "write"].contains(&action)
+            || !is_normal(path)
+            || require(&guard, &client, &sequence, action, path).is_err()
+        {
+            println!("denied");
+        } else if action == "write" {
+            fs::write(file, text)?;
+            println!("written {}", text.len());
+        } else {
+            println!(
+                "{}",
+                fs::read_to_string(file).unwrap_or("nothing is there".into())
+            );
+        }
+    }
+    Ok(())
+}
