@@ -39,7 +39,7 @@ impl Text {
 }
 
 /// The texts of an array, with the octets that may be read. Err if one of them is not lent whole, or else if memory ran out.
-pub(crate) fn texts_of(
+pub(crate) fn texts_at(
     alloc: Global,
     places: &[TextPlace],
     readable: Readable,

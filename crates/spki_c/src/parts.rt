@@ -3,6 +3,7 @@
 use crate::text::Text;
 
 /// The parts of a question: `struct spki_question` without the strings of the request.
+#[derive(Drop)]
 #[repr(C)]
 pub struct Parts {
     /// The sequence.

@@ -18,7 +18,7 @@ use crate::box_pointer::BoxPointer;
 use crate::buffer::{hand_over, misused};
 use crate::content::Content;
 use crate::handle::{Handle, Lent};
-use crate::lent_texts::{TextsFault, texts_of};
+use crate::lent_texts::{TextsFault, texts_at};
 use crate::numbers::{DONE, MISUSED, NO_MEMORY, NONE, REFUSED, query_of, query_status};
 use crate::opening::open_parts;
 use crate::parts::Parts;
@@ -66,7 +66,7 @@ pub extern "C" fn spki_c_guard_ask(
     let Some(guard) = lent.content().guard() else {
         return misused(needed);
     };
-    let texts = match texts_of(alloc, words, readable) {
+    let texts = match texts_at(alloc, words, readable) {
         Ok(texts) => texts,
         Err(TextsFault::Unlent) => return misused(needed),
         Err(TextsFault::Memory) => {

@@ -2,7 +2,7 @@ use Rattle.std.proofs.Common.{◌≡◌, rules, sym, ap, ◌∙◌, ◌++◌, []
 use Rattle.spki_c.specs.declared.text.Text.{Text}
 use Rattle.spki_c.specs.Asking.{IsLent}
 use Rattle.spki_c.proofs.Reading.{next_at, others_at, taken_at, lent_at, unlent_at}
-use Rattle.spki_c.proofs.lent_texts.texts_of.Goals as goal
+use Rattle.spki_c.proofs.lent_texts.texts_at.Goals as goal
 
 pub next-text-requires : goal.next-text-requires
 next-text-requires c = next_at c.loop-place.readable.texts c.args.readable.texts c.args.places.now c.loop-place.place-index _ c.loop-place.invariant.0 c.requires c.loop-place-test.true

@@ -1,6 +1,6 @@
 use Rattle.std.proofs.Common.{◌≡◌, true, take, drop, All}
 use Rattle.spki_c.specs.Asking.{IsLent}
-use Rattle.spki_c.proofs.lent_texts.texts_of.Given as goal
+use Rattle.spki_c.proofs.lent_texts.texts_at.Given as goal
 
 abbrev pub invariant-loop-place : goal.invariant-loop-place
 invariant-loop-place l =
