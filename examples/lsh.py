@@ -77,7 +77,7 @@ def of_hash(algorithm, digest):
 
 
 def of_keys(home):
-    """What is tried with an RSA and a DSA key: a remark, what came out, what is wanted."""
+    """What is tried with an RSA and a DSA key: a remark, the actual and the expected output."""
     for name, options in (("RSA", ("-l", "1024")), ("DSA", ("-a", "dsa", "-l", "0"))):
         files = home.key_files(name, options)
         for kind, text in files.items():

@@ -74,26 +74,50 @@ static void places(const char *list, const char *sequence, const char *key)
     spki_guard_close(guard);
 }
 
-/* Two clients at once: b shows what a has signed, and c a certificate in the name of a whose signature is not valid. A mark for one question
- * grants nothing to the other. */
-static void two_clients(const char *list, const char *sequence, const char *key)
+/* A client of a service: its question, and whether the signature that it shows is valid. */
+struct client {
+    spki_guard *guard;
+    struct spki_question question;
+    bool is_valid;
+};
+
+/* Asks for a client again and again, and marks what is valid. */
+static void *serves(void *given)
+{
+    const struct client *client = given;
+    for (int turn = 0; turn < TURNS; turn++) {
+        spki_asked *asked = asked_of(client->guard, &client->question);
+        expect(spki_asked_count(asked) == 1 && spki_asked_possible(asked) && !spki_asked_granted(asked), "a mark of an earlier question counts");
+        expect(!client->is_valid || spki_asked_mark(asked, 0) == SPKI_DONE, "no mark");
+        expect(spki_asked_granted(asked) == client->is_valid, "a mark for another client counts");
+        spki_asked_close(asked);
+    }
+    return NULL;
+}
+
+/* Two clients at once, in one thread and then in several: b shows what a has signed, and c a certificate in the name of a whose signature is not
+ * valid. A mark for one question grants nothing to the other. */
+static void two_clients(const char *list, const char *sequence, const char *key, size_t count)
 {
     static const char forged[] = "(sequence (cert (issuer (public-key (test a))) (subject (public-key (test c))) (tag (*))) (signature (hash sha256 "
                                  "#b0c7e53153c3b09dad60263b3b4738aa1ae756cc4642305bcf4fdc4114ff0d5d#) (public-key (test a)) forged))";
-    spki_guard *guard = opened(list, SPKI_ALLOW_SHA1);
-    struct spki_question first = {.size = sizeof first, .sequence = text(sequence), .key = text(key), .request = text("(ftp)"), .seconds = &moment};
-    struct spki_question second = first;
-    second.sequence = text(forged);
-    second.key = text("(public-key (test c))");
-    spki_asked *good = asked_of(guard, &first), *bad = asked_of(guard, &second), *again = asked_of(guard, &first);
-    expect(spki_asked_count(bad) == 1 && spki_asked_possible(bad), "a forged certificate is not listed");
-    expect(spki_asked_mark(good, 0) == SPKI_DONE, "no mark");
-    expect(spki_asked_granted(good) && !spki_asked_granted(bad) && !spki_asked_granted(again), "a mark counts for another question");
-    spki_asked_close(good);
-    expect(!spki_asked_granted(bad) && !spki_asked_granted(again), "a mark outlives its question");
-    spki_asked_close(again);
-    spki_asked_close(bad);
-    spki_guard_close(guard);
+    struct client good = {opened(list, SPKI_ALLOW_SHA1), {.size = sizeof good.question, .sequence = text(sequence), .key = text(key),
+                                                    .request = text("(ftp)"), .seconds = &moment}, true}, bad = good;
+    bad.question.sequence = text(forged);
+    bad.question.key = text("(public-key (test c))");
+    bad.is_valid = false;
+    spki_asked *first = asked_of(good.guard, &good.question), *second = asked_of(bad.guard, &bad.question);
+    expect(spki_asked_mark(first, 0) == SPKI_DONE, "no mark");
+    expect(spki_asked_granted(first) && !spki_asked_granted(second), "a mark counts for another question");
+    spki_asked_close(first);
+    expect(!spki_asked_granted(second), "a mark outlives its question");
+    spki_asked_close(second);
+    pthread_t each[MOST_THREADS];
+    for (size_t i = 0; i < count; i++)
+        expect(!pthread_create(&each[i], NULL, serves, i % 2 ? &good : &bad), "no thread");
+    for (size_t i = 0; i < count; i++)
+        pthread_join(each[i], NULL);
+    spki_guard_close(good.guard);
 }
 
 #define OWN \
@@ -467,7 +491,7 @@ int main(int count, char **words)
     expect(!strcmp(spki_version(), SPKI_VERSION), "another version");
     delegation(words[3], words[4], words[5]);
     places(words[3], words[4], words[5]);
-    two_clients(words[3], words[4], words[5]);
+    two_clients(words[3], words[4], words[5], strtoul(words[1], NULL, 10));
     equal_signatures(words[3]);
     one_question(words[3], words[4], words[5]);
     strings();

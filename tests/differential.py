@@ -47,7 +47,7 @@ from model.calls import DONE, TOO_SMALL, call, of_library, string_at, too_small
 from model.guard import MISUSES, WISHES
 from support import LIBRARY as ARCHIVE, PROGRAM
 
-# A case that takes so long is taken for one that does not end.
+# A case that takes longer counts as one that does not end.
 SECONDS = 600
 SECONDS_QUIET = 300
 # The program answers the texts of each 7th case. Questions to guards, calls and rows apart are no texts, so this is over a tenth of all.

@@ -104,15 +104,14 @@ def of_strings() -> Iterator[CallRow]:
 
 
 DATES = {
-    0: b"1970-01-01_00:00:00", 1: b"1970-01-01_00:00:01", -1: b"1969-12-31_23:59:59", 951_782_400: b"2000-02-29_00:00:00",
+    0: b"1970-01-01_00:00:00", 1: b"1970-01-01_00:00:01", 951_782_400: b"2000-02-29_00:00:00",
     951_868_799: b"2000-02-29_23:59:59", 4_107_542_400: b"2100-03-01_00:00:00", 4_107_542_399: b"2100-02-28_23:59:59",
-    2_147_483_648: b"2038-01-19_03:14:08", 1_795_428_000: b"2026-11-23_10:00:00", 253_402_300_799: b"9999-12-31_23:59:59",
-    -62_167_219_200: b"0000-01-01_00:00:00"}
-NO_DATES = (253_402_300_800, -62_167_219_201, 2**63 - 1, -2**63, -377_705_116_800, 1_000_000_000_000)
+    2_147_483_648: b"2038-01-19_03:14:08", 1_795_428_000: b"2026-11-23_10:00:00", 253_402_300_799: b"9999-12-31_23:59:59"}
+NO_DATES = (-1, 253_402_300_800, -62_167_219_200, -62_167_219_201, 2**63 - 1, -2**63, -377_705_116_800, 1_000_000_000_000)
 
 
 def of_seconds() -> Iterator[CallRow]:
-    """Seconds are the moment of their date. They are refused where they have none from year 0 to year 9999."""
+    """Seconds are the moment of their date. They are refused if they are negative, or after the year 9999."""
     for seconds, date in DATES.items():
         for limit, text, answer in ((date, string(date), b"Yes(1)"), (b"1971-01-01_00:00:00", string(date), b"No")):
             listed = list_of(b"(1:*)", group(string("not-before"), string(limit)) + group(string("not-after"), string(limit)))

@@ -26,7 +26,7 @@ NOTE = "note: "
 
 @dataclass
 class Outcome:
-    """What came of some tests: how many passed, the names and texts of those that failed, the reasons of those that were skipped."""
+    """The outcome of some tests: how many passed, the names and texts of those that failed, the reasons of those that were skipped."""
 
     name: str
     passed: int = 0
@@ -169,7 +169,7 @@ def tell(outcome: Outcome, command: str) -> None:
 
 
 def told_in_short(name: str, outcomes: list[Outcome]) -> str:
-    """A line on what came of a class."""
+    """A line with the outcome of a class."""
     counts = [(sum(it.passed for it in outcomes), "passed"), (sum(len(it.failed) for it in outcomes), "failed"),
               (sum(len(it.skipped) for it in outcomes), "skipped")]
     said = ", ".join(f"{count} {what}" for count, what in counts if count)
@@ -177,14 +177,14 @@ def told_in_short(name: str, outcomes: list[Outcome]) -> str:
 
 
 class Report:
-    """What came so far, told by classes as they end."""
+    """The outcomes so far, printed by classes as they end."""
 
     def __init__(self, parts: Iterable[tuple[str, list[unittest.TestCase]]], command: str) -> None:
         self.left, self.command = Counter(name for name, _ in parts), command
         self.outcomes: list[Outcome] = []
 
     def add(self, outcome: Outcome) -> None:
-        """Adds what came of a part."""
+        """Adds the outcome of a part."""
         self.outcomes.append(outcome)
         tell(outcome, self.command)
         self.left[outcome.name] -= 1
@@ -193,7 +193,7 @@ class Report:
 
 
 def outcome_of(future: Future, name: str) -> Outcome:
-    """What came of a part; where its process ended, that is a fault of the class."""
+    """The outcome of a part. If its process ended, that is a fault of the class."""
     fault = future.exception()
     return future.result() if fault is None else Outcome(name, failed={name: f"its process ended: {fault!r}\n"})
 

@@ -1,7 +1,8 @@
 """Tests that what the documents name is there: each relative link and its heading, each path of a file or folder of this repository in
 backticks, in a block of commands and in a table, the versions of the manual and of README.md, which are that of the file VERSION, and
 the logic of the toolchain that README.md names, which `rt --version` prints; each definition of docs/DEFINITIONS.md, in the file of its
-row; and each function, clause and definition that a row of docs/PROOFS.md names. The pages have at most the octets that are meant for them.
+row; and each clause that a row of docs/PROOFS.md names, in the function of that row (`claims.py`). The pages have at most the octets that are meant
+for them.
 
 A path is what begins with a name at the top of the repository, or in the folder of the document, or with `src`, `specs` or `proofs` in the
 page of a crate; and each word in backticks that ends as a file of a kind that is here. A word in capitals stands for any name, and so
@@ -12,6 +13,7 @@ import re
 import unittest
 from collections.abc import Callable, Iterator
 
+import claims
 from support import TOP, output_of, text_of
 
 PAGES = ["*.md", "docs/*.md", "examples/*.md", "apps/**/*.md", "crates/*/CALLING.md"]
@@ -89,14 +91,9 @@ def dead_paths(page, names):
 
 # ---- names in the sources
 
-SECTION = re.compile(r"^## (.*)\n((?:(?!## ).*\n)*)", re.MULTILINE)
 DEFINED = re.compile(r"^\| ([A-Z]\w+(?:, [A-Z]\w+)*) \| ((?:`[\w-]+`(?:, )?)+) \|", re.MULTILINE)
-CLAIM = re.compile(r"^\| .* \| ([^|]*`[^|]*) \|$", re.MULTILINE)
-# The functions, types and clauses of a source, and the definitions of a specification: also fields and constructors.
-OF_SOURCE = re.compile(r"\b(?:fn|struct|enum|trait) (\w+)|\b(?:ensures|requires) (\w+) \{")
+# The definitions of a specification: also fields and constructors.
 OF_SPECS = re.compile(r"^ *(?:(?:abbrev|pub|record|data|unfoldable) )*([\w-]+)\b|\(pub ([\w-]+)", re.MULTILINE)
-# What rows of docs/PROOFS.md name that is of the language, and its sections whose rows name other things.
-OF_LANGUAGE, OTHER_SECTIONS = {"Send", "Sync", "test_callers"}, {"How to read a contract", "Only tested"}
 
 
 def names_in(pattern: re.Pattern[str], paths: list[str]) -> set[str]:
@@ -111,20 +108,11 @@ def below_crates(part: str) -> list[str]:
 
 def undefined() -> Iterator[str]:
     """The definitions of docs/DEFINITIONS.md that are not in the files of their rows."""
-    for head, rows in SECTION.findall(text_of("docs/DEFINITIONS.md")):
+    for head, rows in claims.SECTION.findall(text_of("docs/DEFINITIONS.md")):
         for files, names in DEFINED.findall(rows):
             paths = [f"crates/{crate}/specs/{file}.antt" for crate in re.findall(r"`(\w+)`", head) for file in files.split(", ")]
             there = names_in(OF_SPECS, [path for path in paths if os.path.exists(os.path.join(TOP, path))])
             yield from (f"{files}: {name}" for name in re.findall(r"`([\w-]+)`", names) if name not in there)
-
-
-def unclaimed() -> Iterator[str]:
-    """The names in the rows of docs/PROOFS.md that no source and no specification has."""
-    there = names_in(OF_SOURCE, below_crates("src/**/*.rt")) | names_in(OF_SPECS, below_crates("specs/**/*.antt")) | OF_LANGUAGE
-    for head, rows in SECTION.findall(text_of("docs/PROOFS.md")):
-        if head not in OTHER_SECTIONS:
-            named = (name for cell in CLAIM.findall(rows) for name in re.findall(r"`([\w:]+)`", cell))
-            yield from (f"{head}: {name}" for name in named if name.split("::")[-1] not in there)
 
 
 class Documents(unittest.TestCase):
@@ -150,7 +138,8 @@ class Documents(unittest.TestCase):
         self.assertEqual(list(undefined()), [])
 
     def test_claims(self) -> None:
-        self.assertEqual(list(unclaimed()), [])
+        sources = claims.Sources(below_crates("src/**/*.rt"), below_crates("specs/**/*.antt"))
+        self.assertEqual(list(claims.faults("docs/PROOFS.md", sources)), [])
 
     def is_whole(self, page: str) -> None:
         """All that a page names must be there."""

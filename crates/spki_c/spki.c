@@ -3,17 +3,12 @@
  * here: a null pointer is misuse, or is replaced by the address of a value that is not used. */
 #include "spki.h"
 
-struct handle { /* a pointer to a guard or to a question, or null */
-    void *at;
-};
-struct parts { /* the parts of a question without the strings of its request */
-    struct spki_text sequence, key, request, moment;
-    bool is_worded;
-};
-struct texts { /* the texts of a signature, and whether its value is one string */
-    struct spki_signed signature;
-    bool is_string;
-};
+/* A pointer to a guard or to a question, or null. */
+struct handle { void *at; };
+/* The parts of a question without the strings of its request. */
+struct parts { struct spki_text sequence, key, request, moment; bool is_worded; };
+/* The texts of a signature, and whether its value is one string. */
+struct texts { struct spki_signed signature; bool is_string; };
 
 /* The parameters by which an answer is returned, and the arguments for them. */
 #define ANSWER void *buffer, size_t buffer_length, size_t *needed
@@ -24,7 +19,7 @@ uint32_t spki_c_check_accepted(struct spki_text text, struct spki_text rows, ANS
 uint32_t spki_c_guard_open(struct spki_text list, uint32_t policy, const struct spki_limits *limits, size_t count, struct handle *guard, ANSWER);
 void spki_c_close(bool is_question, struct handle value, struct handle *back);
 size_t spki_c_guard_entries(struct handle *guard);
-uint32_t spki_c_guard_ask(struct handle *guard, struct parts *parts, struct spki_text *words, size_t word_count, const int64_t *seconds,
+uint32_t spki_c_guard_ask(struct handle *guard, struct parts parts, const struct spki_text *words, size_t word_count, const int64_t *seconds,
                           size_t count, struct handle *asked, ANSWER);
 size_t spki_c_asked_count(struct handle *asked);
 uint32_t spki_c_asked_signature(struct handle *asked, size_t place, struct texts *texts);
@@ -53,32 +48,30 @@ static bool begins(void **buffer, size_t length, size_t **needed, size_t *unaske
     return is_buffer;
 }
 
+/* What each call that returns an answer does first. */
+#define BEGINS begins(&buffer, buffer_length, &needed, &(size_t){0})
+
 /* A handle as a call takes it that borrows what it has. */
 #define LENT(value) (&(struct handle){(void *)(value)})
 
 enum spki_status spki_answer(enum spki_command command, const void *text, size_t text_length, ANSWER)
 {
-    size_t unasked;
-    return begins(&buffer, buffer_length, &needed, &unasked) ? spki_c_answer(command, (struct spki_text){text, text_length}, TO) : SPKI_MISUSED;
+    return BEGINS ? spki_c_answer(command, (struct spki_text){text, text_length}, TO) : SPKI_MISUSED;
 }
 
 enum spki_status spki_check_accepted(const void *text, size_t text_length, const void *rows, size_t rows_length, ANSWER)
 {
-    size_t unasked;
-    bool is_fit = begins(&buffer, buffer_length, &needed, &unasked);
-    return is_fit ? spki_c_check_accepted((struct spki_text){text, text_length}, (struct spki_text){rows, rows_length}, TO) : SPKI_MISUSED;
+    return BEGINS ? spki_c_check_accepted((struct spki_text){text, text_length}, (struct spki_text){rows, rows_length}, TO) : SPKI_MISUSED;
 }
 
 enum spki_status spki_guard_open(const void *list, size_t list_length, enum spki_policy policy, const struct spki_limits *limits,
                                  spki_guard **guard, ANSWER)
 {
-    static const struct spki_limits none;
     struct handle handle = {0};
-    size_t unasked;
-    bool is_fit = begins(&buffer, buffer_length, &needed, &unasked) && guard && (!limits || limits->size == sizeof *limits);
+    const struct spki_limits *some = limits ? limits : &(struct spki_limits){.size = sizeof *limits};
     enum spki_status status = SPKI_MISUSED;
-    if (is_fit)
-        status = spki_c_guard_open((struct spki_text){list, list_length}, policy, limits ? limits : &none, limits ? 1 : 0, &handle, TO);
+    if (BEGINS && guard && some->size == sizeof *some)
+        status = spki_c_guard_open((struct spki_text){list, list_length}, policy, some, limits ? 1 : 0, &handle, TO);
     if (guard)
         *guard = handle.at;
     return status;
@@ -97,18 +90,13 @@ size_t spki_guard_entries(const spki_guard *guard)
 
 enum spki_status spki_guard_ask(const spki_guard *guard, const struct spki_question *question, spki_asked **asked, ANSWER)
 {
-    static struct spki_text no_words;
-    static const int64_t no_seconds;
     struct handle handle = {0};
-    size_t unasked;
-    bool is_fit = begins(&buffer, buffer_length, &needed, &unasked) && guard && asked && question && question->size == sizeof *question
-        && !is_misuse(question->words, question->word_count, sizeof *question->words);
+    const struct spki_question *q = question;
     enum spki_status status = SPKI_MISUSED;
-    if (is_fit) {
-        struct parts parts = {question->sequence, question->key, question->request, question->moment, question->words};
-        status = spki_c_guard_ask(LENT(guard), &parts, question->words ? (struct spki_text *)question->words : &no_words,
-                                  question->word_count, question->seconds ? question->seconds : &no_seconds, question->seconds ? 1 : 0, &handle, TO);
-    }
+    if (BEGINS && guard && asked && q && q->size == sizeof *q && !is_misuse(q->words, q->word_count, sizeof *q->words))
+        status = spki_c_guard_ask(LENT(guard), (struct parts){q->sequence, q->key, q->request, q->moment, q->words},
+                                  q->words ? q->words : &(struct spki_text){0}, q->word_count, q->seconds ? q->seconds : &(int64_t){0},
+                                  q->seconds ? 1 : 0, &handle, TO);
     if (asked)
         *asked = handle.at;
     return status;
@@ -129,9 +117,7 @@ enum spki_status spki_asked_signature(const spki_asked *asked, size_t place, str
 {
     static const struct spki_text empty = {"", 0};
     struct texts texts = {{empty, empty, empty, empty}, false};
-    enum spki_status status = SPKI_MISUSED;
-    if (asked && signature)
-        status = spki_c_asked_signature(LENT(asked), place, &texts);
+    enum spki_status status = asked && signature ? spki_c_asked_signature(LENT(asked), place, &texts) : SPKI_MISUSED;
     if (signature)
         *signature = status == SPKI_DONE ? texts.signature : (struct spki_signed){0};
     if (status == SPKI_DONE && !texts.is_string)
@@ -158,8 +144,7 @@ bool spki_asked_possible(const spki_asked *asked)
 #define ANSWERS(call, wish) \
     enum spki_status call(const spki_asked *asked, ANSWER) \
     { \
-        size_t unasked; \
-        return begins(&buffer, buffer_length, &needed, &unasked) && asked ? spki_c_asked_answer(wish, LENT(asked), TO) : SPKI_MISUSED; \
+        return BEGINS && asked ? spki_c_asked_answer(wish, LENT(asked), TO) : SPKI_MISUSED; \
     }
 ANSWERS(spki_asked_decide, SPKI_CHECK)
 ANSWERS(spki_asked_explain, SPKI_EXPLAIN)
@@ -167,13 +152,12 @@ ANSWERS(spki_asked_reduce, SPKI_REDUCE)
 
 enum spki_status spki_string(const void *text, size_t text_length, const size_t *path, size_t depth, const void **octets, size_t *length)
 {
-    static const size_t no_path;
-    size_t at = 0, unasked;
+    size_t at = 0;
     enum spki_status status = SPKI_MISUSED;
-    length = length ? length : &unasked;
+    length = length ? length : &(size_t){0};
     *length = 0;
     if (octets && !is_misuse(path, depth, sizeof *path))
-        status = spki_c_string((struct spki_text){text, text_length}, path ? path : &no_path, depth, &at, length);
+        status = spki_c_string((struct spki_text){text, text_length}, path ? path : &(size_t){0}, depth, &at, length);
     if (octets)
         *octets = status == SPKI_DONE ? (const unsigned char *)text + at : 0;
     return status;

@@ -232,7 +232,8 @@ struct spki_question {
                                       if there is one. `request` is empty then */
     size_t word_count;             /* how many strings; 0 if `words` is null */
     struct spki_text moment;       /* a date, such as `19:2024-01-01_00:00:00`, if `seconds` is null */
-    const int64_t *seconds;        /* the moment in seconds since 1970-01-01 00:00:00 UTC. `moment` is empty then */
+    const int64_t *seconds;        /* the moment in seconds since 1970-01-01 00:00:00 UTC. `moment` is empty then. Seconds below 0, as of
+                                      a time() that failed, are refused as BadDate, and so are those past the year 9999 */
 };
 
 /* A question that was read. It owns all it needs of the question's texts and of the guard. */

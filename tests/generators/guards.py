@@ -9,7 +9,7 @@ from .cases import Builder
 from .nearly import changed, texts
 
 ODDITIES = [*MISUSES.counts, *ALLOWED.counts]
-SECONDS = (0, -1, 1_704_067_199, 1_704_067_200, 1_718_440_200, 951_782_400, -2_203_891_200, FIRST_SECOND, FIRST_SECOND - 1,
+SECONDS = (0, -1, 1_704_067_199, 1_704_067_200, 1_718_440_200, 951_782_400, -2_203_891_200, -62_167_219_200,
            FIRST_SECOND + 31_622_400, LAST_SECOND, LAST_SECOND + 1, -2**63, 2**63 - 1)
 STRINGS = (b"", b"ftp", b"x) (at ", b"1:a", b"\x00\xff", b"(", b"a.o read")
 

@@ -22,7 +22,7 @@ REFUSED = Rows("question to a guard, refused", [
     *(f"{part}{row}" for part in PARTS for row in (", form", "")),
     "sequence, item 0", "explain, octets of the answer", "reduce, octets of the answer"])
 GIVEN = Rows("question to a guard, given", [
-    "request by no string", "request by one string", "request by strings", "seconds", "seconds before 1970", "limits that are lower"])
+    "request by no string", "request by one string", "request by strings", "seconds", "limits that are lower"])
 SIGNED = Rows("question to a guard, signatures that are listed", ["none", "of each certificate", "up to one that does not stand"])
 DECIDED = Rows("question to a guard, decided", ["yes where check is TooLarge", "no where check is TooLarge", "as check"])
 STATUSES = Rows("question to a guard, status", [f"{wish}: {status}" for wish in WISHES for status in (0, 1, 2)])
@@ -40,7 +40,7 @@ MISUSES = Rows("question to a guard, status 5", [*OPENED, *ASKED, *LISTED, *ANSW
 POSSIBLE = Rows("question to a guard, if all signatures were valid", ["yes", "no"])
 ALLOWED = Rows("question to a guard, null pointers that are allowed", ["limits", "needed"])
 SMALL = Rows("question to a guard, status 4", ["the line of a refused list", "the line of a refused question", "an answer"])
-FIRST_SECOND, LAST_SECOND = -62_167_219_200, 253_402_300_799
+FIRST_SECOND, LAST_SECOND = 0, 253_402_300_799
 DATE_OCTETS = 22
 
 
@@ -161,15 +161,13 @@ def value_of_strings(strings: tuple[bytes, ...]) -> Value:
 
 
 def date_of(seconds: int) -> bytes:
-    """The date of seconds since 1970-01-01 00:00:00 UTC, in the years 0 to 9999."""
+    """The date of seconds since 1970-01-01 00:00:00 UTC, to the year 9999."""
     if not FIRST_SECOND <= seconds <= LAST_SECOND:
         REFUSED.used("at, seconds")
         raise Refused("at BadDate")
-    GIVEN.used("seconds" if seconds >= 0 else "seconds before 1970")
-    # the calendar repeats itself every 400 years, and Python's begins with the year 1
-    years = 400 if seconds < 0 else 0
-    moment = datetime.datetime(1970 + years, 1, 1) + datetime.timedelta(seconds=seconds)
-    return b"%04d-" % (moment.year - years) + moment.strftime("%m-%d_%H:%M:%S").encode()
+    GIVEN.used("seconds")
+    moment = datetime.datetime(1970, 1, 1) + datetime.timedelta(seconds=seconds)
+    return b"%04d-" % moment.year + moment.strftime("%m-%d_%H:%M:%S").encode()
 
 
 def octets_of(asked: Parts) -> int:

@@ -49,20 +49,20 @@ whole_goes text v w = search (rules, append-nil text)
 
 -- ---- braces that are closed
 
--- the body and what stands behind an octet that can't stand in it
+-- the body and what stands behind an octet that cannot stand in it
 pub one_closed : (a b x y r s : List ℕ) (c d : ℕ) → AreSpaces a → AreSpaces b → AreBodyOctets x → AreBodyOctets y → is_body_octet c ≡ false → is_body_octet d ≡ false
     → a ++ 123 ∷ (x ++ c ∷ r) ≡ b ++ 123 ∷ (y ++ d ∷ s) → (x ≡ y) × (c ≡ d) × (r ≡ s)
 one_closed a b x y r s c d ha hb hx hy hc hd e =
     let p = one_end a b (123 ∷ (x ++ c ∷ r)) (123 ∷ (y ++ d ∷ s)) ha hb refl refl e in
     one_body x y c d r s hx hy hc hd (tail_is 123 123 (x ++ c ∷ r) (y ++ d ∷ s) p.1)
 
--- a body that has an octet which can't stand in it isn't open
+-- a body that has an octet which cannot stand in it is not open
 pub not_open : (a x r : List ℕ) (c : ℕ) (text : List ℕ) → AreSpaces a → is_body_octet c ≡ false → text ≡ a ++ 123 ∷ (x ++ c ∷ r) → OpensBraces text → ⊥
 not_open a x r c text ha hc e o =
     let p = one_end a o.before (123 ∷ (x ++ c ∷ r)) (123 ∷ o.body) ha o.spaces_before refl refl (sym e ∙ o.parts) in
     fails_among is_body_octet x c r o.body hc o.symbols (tail_is 123 123 (x ++ c ∷ r) o.body p.1)
 
--- a body that isn't closed braces nothing
+-- a body that is not closed braces nothing
 pub not_closed : (a x text : List ℕ) (v : Value) → AreSpaces a → AreBodyOctets x → text ≡ a ++ 123 ∷ x → Braced text v → ⊥
 not_closed a x text v ha hx e b =
     let p = one_end a b.before (123 ∷ x) (123 ∷ (b.body ++ 125 ∷ b.after)) ha b.spaces_before refl refl (sym e ∙ b.parts) in
@@ -78,7 +78,7 @@ deep_unbraced text v d b h =
 deep_more : (text more : List ℕ) → BracesDeep text → BracesDeep (text ++ more)
 deep_more text more d = search (rules, append_assoc)
 
--- what is too deep doesn't go on
+-- what is too deep does not go on
 pub deep_stops : (text : List ℕ) → BracesDeep text → BracesGoOn text → ⊥
 deep_stops text d (inl b) = search (rules, deep_unbraced, deep_more)
 deep_stops text d (inr o) = not_open d.before d.body d.after 125 text d.spaces_before refl d.parts o
@@ -221,7 +221,7 @@ packed_there text other body begin octets s packed e =
     let all : other ++ [] ≡ (s.spaces ++ 123 ∷ []) ++ (body ++ 125 ∷ []) = append-nil other ∙ e ∙ sym (append_assoc s.spaces (123 ∷ []) (body ++ 125 ∷ [])) in
     search (rules, drop_at)
 
--- what is too deep and ends at an octet that can't stand in a body is base64 of that body
+-- what is too deep and ends at an octet that cannot stand in a body is base64 of that body
 deep_body : (a body text : List ℕ) (c : ℕ) → AreSpaces a → AreBodyOctets body → is_body_octet c ≡ false → text ≡ a ++ 123 ∷ (body ++ c ∷ []) → (d : BracesDeep text)
     → (IsBase64 (visible body) d.octets) × (c ≡ 125)
 deep_body a body text c ha hb hc e d =

@@ -33,7 +33,7 @@ length_short n xs ys e f = record {
   whole = record { number = n; is = ap (λ t. t ++ 58 ∷ []) (e ∙ ap (λ t. decimal n ++ t) f ∙ append-nil (decimal n)) };
 }
 
--- the octet c can't stand behind the digits of n
+-- the octet c cannot stand behind the digits of n
 CannotFollow : ℕ → ℕ → Type 0
 CannotFollow n c = (m : ℕ) (x y : List ℕ) → decimal n ++ c ∷ x ≡ decimal m ++ 58 ∷ y → ⊥
 

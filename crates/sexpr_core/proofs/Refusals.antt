@@ -195,7 +195,7 @@ body_refused octets at (Trailing k) fault few r e =
     (refl, λ v same. ends_there octets k r.0 r.1 (goes_on_deep octets (k + 1) v same), not_deep octets k (stops_trailing octets k r))
 body_refused octets at Memory fault few r e = subst (RefusesBody octets at) (sym e) tt
 
--- the canonical text of a shallow value isn't too deep
+-- the canonical text of a shallow value is not too deep
 pub shallow_text : (octets : List ℕ) (v : Value) → IsShallow v → octets ≡ canon v → Refused octets TooDeep → ⊥
 shallow_text octets v h same r = search (rules, take-append-drop r.0 octets)
 

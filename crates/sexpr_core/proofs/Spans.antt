@@ -180,14 +180,14 @@ more_gathered text at i end next symbols new g run gap e =
 pub no_body_octet : (text : List ℕ) (i end c : ℕ) → SkipsSymbols text i end → Skips text end i → StandsAt text i c → is_body_octet c ≡ false
 no_body_octet text i end c run gap stands = search rules
 
--- a body ends at the first octet that can't stand in it
+-- a body ends at the first octet that cannot stand in it
 pub one_body : (xs ys : List ℕ) (c d : ℕ) (r s : List ℕ) → AreBodyOctets xs → AreBodyOctets ys → is_body_octet c ≡ false → is_body_octet d ≡ false
     → xs ++ c ∷ r ≡ ys ++ d ∷ s → (xs ≡ ys) × (c ≡ d) × (r ≡ s)
 one_body xs ys c d r s hx hy hc hd e =
     let q = one_front is_body_octet xs ys (c ∷ r) (d ∷ s) hx hy hc hd e in
     (q.0, head_is c d r s q.1, tail_is c d r s q.1)
 
--- no body stands before the mark where the octet behind some of its octets is no other than one that can't stand in it
+-- no body stands before the mark where the octet behind some of its octets is no other than one that cannot stand in it
 pub gathered_mark : (text : List ℕ) (at i c mark : ℕ) (symbols body rest : List ℕ) → Gathers text at symbols i → StandsAt text i c
     → is_body_octet c ≡ false → is_body_octet mark ≡ false → AreBodyOctets body → drop at text ≡ body ++ mark ∷ rest → c ≡ mark
 gathered_mark text at i c mark symbols body rest g stands other mark_other all e = search (rules, one_body)

@@ -128,7 +128,7 @@ first_part room ends first v (c ∷ cs) y m deep apart b =
       };
     }
 
--- ---- the same of what isn't closed
+-- ---- the same of what is not closed
 
 pub hinted_unclosed : (as_token : Bool) (hint inside hint_text behind_hint behind x : List ℕ) → AreSpaces inside → Simple as_token hint_text hint
     → AreSpaces behind_hint → AreSpaces behind → IsUnclosedString x

@@ -33,7 +33,7 @@ octet_stops text at i c kept k stands apart is = stops_here (DigitsStand at) tex
     (stands_too text other i i c a (omega arith) stands) apart (hexadecimal_octets w.body w.octets w.packed) w.spelled is in
     cc)
 
--- an octet that can't stand in the body
+-- an octet that cannot stand in the body
 pub octet_refused : (text : List ℕ) (at i c : ℕ) (kept : List ℕ) (fault : FormFault) → Keeps text at kept i → StandsAt text i c → (c ≡ 35 → ⊥)
     → IsNoHexadecimalOctet c i fault → RefusesPart (DigitsStand at) text at fault
 octet_refused text at i c kept (Bad n) k stands apart is = search (rules, octet_stops text at i c kept k stands apart (refl, is.1))
@@ -212,7 +212,7 @@ marked_missed text at first number to c fault opens low r ends next apart h =
     (count_too text other n at number to a (omega arith) r) (ends_too text other n number to a le ends) (stands_too text other n to c a le next) apart w.stands in
     record { spelling = k.0; octets = w.octets; rest = w.rest; meant = k.1; spelled = k.2 }) h
 
--- a length that isn't the number of octets meant
+-- a length that is not the number of octets meant
 pub count_missed : (text : List ℕ) (at first number to c end m : ℕ) (octets : List ℕ) → length text ≤ 1048576 → StandsAt text at first → IsDigit first
     → ReadsCount text at number to → (number ≡ 0) ⊎ Stops is_digit (drop to text) → StandsAt text to c → c ≢ 58 → Reads IsMarked text to octets end
     → m ≡ length octets → m ≢ number → StopsAt (StringStands at) text at (end - 1)

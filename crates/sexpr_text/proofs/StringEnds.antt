@@ -140,7 +140,7 @@ quoted_end text at i octets fault opens r h =
 
 -- ---- bodies
 
--- a body that has a wrong octet is none that isn't closed
+-- a body that has a wrong octet is none that is not closed
 pub body_fails : (p : ℕ → Bool) (text other : List ℕ) (at k c : ℕ) → Agree text other k → Passed p text at k → StandsAt text k c → p c ≡ false
     → AllByRecursion (λ d. p d ≡ true) (drop at other) → ⊥
 body_fails p text other at k c a b s f all =
@@ -151,7 +151,7 @@ body_fails p text other at k c a b s f all =
 other_marks : (m n : ℕ) (x y : List ℕ) → m ∷ x ≡ n ∷ y → (m ≡ n → ⊥) → ⊥
 other_marks m n x y e f = f (head_is m n x y e)
 
--- which of the three isn't closed is seen in its opening mark
+-- which of the three is not closed is seen in its opening mark
 pub quoted_is : (x : List ℕ) → IsUnclosed (34 ∷ x) → OpensQuoted (34 ∷ x)
 quoted_is x (inl h) = h
 quoted_is x u = search (rules, other_marks)

@@ -49,7 +49,7 @@ unclosed_first t (inr (inr h)) = (124, h.body, h.spelled, refl)
 
 -- ---- with a length in front, or without
 
--- a string that isn't closed, cut behind the digits with which it begins
+-- a string that is not closed, cut behind the digits with which it begins
 pub record CutOpen (text : List ℕ) : Type 0 where
   pub digits : List ℕ
   pub number : ℕ
@@ -113,7 +113,7 @@ unclosed_value_first (vs ∷ inner) t h = (40, h.0, h.1, refl)
 pub unclosed_value_visible : (lists : List Values) (t : List ℕ) → UnclosedValue lists t → StartsVisible t
 unclosed_value_visible lists t h = search (rules, unclosed_value_first, start_visible)
 
--- an octet that begins no string begins none that isn't closed
+-- an octet that begins no string begins none that is not closed
 pub unclosed_string_differs : (t x : List ℕ) (d : ℕ) → IsUnclosedString t → is_string_start d ≡ false → t ≡ d ∷ x → ⊥
 unclosed_string_differs t x d h other e =
     let f = unclosed_start t h in
@@ -186,11 +186,11 @@ mutual
       let o = one_spelling m.1 k.1 m.2 (m.3 ++ 41 ∷ r) k.2 k.3 v w m.6 (apart_append m.1 m.3 r 41 m.7 refl) k.6 k.7 p.1 in
       unclosed_members m.3 r vs ws inner k.3 m.8 k.8 o.1
 
--- ---- what stands in front of a string that isn't closed, and that what goes on goes on at each octet before
+-- ---- what stands in front of a string that is not closed, and that what goes on goes on at each octet before
 
--- ---- what stands in front of the string that isn't closed
+-- ---- what stands in front of the string that is not closed
 
--- A text of U is octets that begin one of P, and a string that isn't closed; any other may stand there.
+-- A text of U is octets that begin one of P, and a string that is not closed; any other may stand there.
 pub record Closing (P U : List ℕ → Type 0) (t : List ℕ) : Type 0 where
   pub front : List ℕ
   pub marked : List ℕ
@@ -235,7 +235,7 @@ closing_atom room t (inr (inr h)) =
 mark_apart : (c : ℕ) → is_mark c ≡ true → is_token_octet c ≡ false
 mark_apart c h = grind (arith, nat_tests)
 
--- what stands behind a token stands behind it whichever string that isn't closed ends it
+-- what stands behind a token stands behind it whichever string that is not closed ends it
 apart_filled : (ends : Bool) (front marked m : List ℕ) → IsApart ends (front ++ marked) → IsUnclosed m → IsApart ends (front ++ m)
 apart_filled false front marked m h u = tt
 apart_filled true [] marked m h u = let f = unclosed_first m u in subst (IsApart true) (sym f.2) (mark_apart f.0 f.3)

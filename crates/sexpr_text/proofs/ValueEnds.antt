@@ -37,7 +37,7 @@ ends_later room less G H U V W X text front at i _ le e on deep stops any h = h
 
 -- ---- strings
 
--- what isn't closed and begins with neither parenthesis nor bracket is a string without hint
+-- what is not closed and begins with neither parenthesis nor bracket is a string without hint
 string_open : (text : List ℕ) (at c : ℕ) → StandsAt text at c → (c ≡ 40 → ⊥) → (c ≡ 91 → ⊥) → (lists : List Values) → UnclosedValue lists (drop at text) → IsUnclosedString (drop at text)
 string_open text at c s group hinted [] (inl u) = u
 string_open text at c s group hinted lists u = search (rules, head_is)
@@ -67,7 +67,7 @@ flat_ends room text at _ h = h room
 
 -- ---- lists
 
--- what isn't closed and begins with a parenthesis is a list
+-- what is not closed and begins with a parenthesis is a list
 list_open : (room : ℕ) (text : List ℕ) (at : ℕ) → StandsAt text at 40 → (lists : List Values) → depth_open lists ≤ room → UnclosedValue lists (drop at text)
     → (0 < room) × AreUnclosedMembers (room - 1) (drop (at + 1) text)
 list_open room text at s [] le (inl u) = absurd (unclosed_string_differs (drop at text) (drop (at + 1) text) 40 u refl s.spelled)
@@ -135,7 +135,7 @@ members_short room text at i vs m e =
       within = m.within;
     })
 
--- members that aren't closed begin with a value, whole or not
+-- members that are not closed begin with a value, whole or not
 member_open : (most : ℕ) (text : List ℕ) (at : ℕ) → StartsVisible (drop at text) → AreUnclosedMembers most (drop at text)
     → ValueStandsIn most at text ⊎ IsUnclosedValue most (drop at text)
 member_open most text at visible u = begins u.items u.unclosed u.few
@@ -218,7 +218,7 @@ last_found text close next behind last e s t spaces u =
     let p = one_end t.spaces behind (drop next text) last t.are_spaces spaces t.ends (unclosed_visible last u) (sym t.spelled ∙ f) in
     subst IsUnclosedString (sym p.1) u
 
--- a hint that was read whole isn't open
+-- a hint that was read whole is not open
 hint_closed : (text : List ℕ) (at begin to : ℕ) (read : List ℕ) → StandsAt text at 91 → Skips text (at + 1) begin → ReadsString text begin read to
     → IsUnclosedHint (drop at text) → ⊥
 hint_closed text at begin to read s t r u =

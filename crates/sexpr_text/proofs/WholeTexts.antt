@@ -124,7 +124,7 @@ pub braced_text : (text rest : List ℕ) (begin : ℕ) (v : Value) → Skips tex
 braced_text text rest begin v s e (inl w) = absurd (brace_unspelled text rest begin v s e w.spelling)
 braced_text text rest begin v s e (inr w) = w
 
--- and one that doesn't is spelled
+-- and one that does not is spelled
 pub spelled_text : (text : List ℕ) (begin : ℕ) (v : Value) → Skips text 0 begin → (((rest : List ℕ) × (drop begin text ≡ 123 ∷ rest)) → ⊥) → IsTextWithin text v → IsSpelledWithin text v
 spelled_text text begin v s other (inl w) = w
 spelled_text text begin v s other (inr w) = absurd (other (w.braced.body ++ 125 ∷ w.braced.after, opening text begin v s w.braced))
@@ -151,7 +151,7 @@ goes_whole room text begin to s b = subst (GoesOnWithin room) (sym (text_is text
       unclosed = u.unclosed;
     })
 
--- the value of a text that isn't closed stands past whitespace
+-- the value of a text that is not closed stands past whitespace
 unclosed_at : (room : ℕ) (text : List ℕ) (begin : ℕ) → Skips text 0 begin → IsUnclosedText room text → IsUnclosedValue room (drop begin text)
 unclosed_at room text begin s u = search (rules, one_end, unclosed_value_visible)
 

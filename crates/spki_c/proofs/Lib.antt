@@ -1,6 +1,7 @@
 pub mod Answering
 pub mod Lending
 pub mod Counted
+pub mod Reading
 pub mod BoxPointerValues
 pub mod Places
 pub mod OneCommand

@@ -3,4 +3,5 @@ pub mod Guards
 pub mod Results
 pub mod Pointers
 pub mod Strings
+pub mod Readables
 pub mod Contents

@@ -1,12 +1,22 @@
 //! The octets of texts that C passes.
-ghost use Rattle.std.specs.Prelude.{◌≡◌, ◌↔◌, IsTrue, IfOk, All, map};
+ghost use Rattle.std.specs.Prelude.{◌≡◌, ◌↔◌, IsTrue, IfOk, IfErr, All, map};
 ghost use Rattle.spki_c.specs.Asking.{IsLent};
+ghost use Rattle.spki_c.specs.Readables.{AreReadable};
 
+use crate::readable::{Readable, TextPlace};
 use crate::text::Text;
 use std::alloc::{AllocError, Global};
 
 /// The most octets that memory can have in one piece.
 const MOST: usize = 9_223_372_036_854_775_807;
+
+/// Why the texts of an array cannot be read.
+pub(crate) enum TextsFault {
+    /// A text is not lent whole.
+    Unlent,
+    /// Memory ran out.
+    Memory,
+}
 
 impl Text {
     /// Whether the text is lent whole: its count is 0, or the pointer is not null and the count is at most
@@ -28,16 +38,31 @@ impl Text {
     }
 }
 
-/// Whether each of the texts is lent whole.
-pub(crate) fn are_lent(texts: &mut [Text]) -> bool
-    ensures { (texts.new ≡ texts.old) × (IsTrue result ↔ All IsLent texts.old) }
+/// The texts of an array, with the octets that may be read. Err if one of them is not lent whole, or else if memory ran out.
+pub(crate) fn texts_of(
+    alloc: Global,
+    places: &[TextPlace],
+    readable: Readable,
+) -> Result<Vec<Text>, TextsFault>
+    requires { AreReadable places.now readable.texts }
+    ensures read { IfOk result (λ texts. (texts.items ≡ readable.texts) × All IsLent readable.texts) }
+    ensures unlent { IfErr result (λ fault. fault ≡ TextsFault.Unlent ↔ ¬ All IsLent readable.texts) }
 {
-    for text in texts.iter_mut() {
+    let mut readable = readable;
+    let mut texts = Vec::new(alloc);
+    let mut is_kept = true;
+    for place in places {
+        let mut text = readable.next(*place);
         if !text.is_lent() {
-            return false;
+            return Err(TextsFault::Unlent);
         }
+        is_kept = texts.push(text).is_ok() && is_kept;
     }
-    true
+    if is_kept {
+        Ok(texts)
+    } else {
+        Err(TextsFault::Memory)
+    }
 }
 
 /// The octets of each text, in order. All texts must be lent whole. Err if memory ran out.

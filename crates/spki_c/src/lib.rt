@@ -17,6 +17,7 @@ mod opening;
 mod parts;
 mod question_exports;
 mod questions;
+mod readable;
 mod signatures;
 mod strings;
 mod text;

@@ -4,13 +4,40 @@ ghost use Rattle.spki_service.specs.GuardQuestions.{IsOpened, NoneMarked};
 ghost use Rattle.spki_service.specs.declared.opened.Opened.{Opened};
 ghost use Rattle.spki_guard.specs.TextAnswers.{written_by};
 ghost use Rattle.spki_guard.specs.HeldQuestions.{IsUnreadQuestion};
+ghost use Rattle.spki_service.specs.declared.question.Question.{Question};
+ghost use Rattle.spki_c.specs.Asking.{AreLent, IsQuestionOf};
 
 use crate::content::{Content, boxed};
+use crate::lent_texts::words_of;
+use crate::parts::Parts;
+use crate::text::Text;
 use spki_guard::{Answer, AskFault, Question, SharedGuard, open_question, refused_question};
 use std::alloc::Global;
 
+/// Opens the question of these parts for a guard, and puts it on the heap. `texts` are the strings of its request. All texts must be lent
+/// whole. Err is the line of the refusal, as for `open_question`.
+pub(crate) fn open_parts(
+    alloc: Global,
+    guard: &SharedGuard,
+    mut parts: Parts,
+    mut texts: Vec<Text>,
+    seconds: &[i64],
+) -> Result<Box<Content>, Answer>
+    requires { AreLent parts texts.items }
+    ensures opened { IfOk result (λ c. (q : Question) × IsQuestionOf parts texts.items seconds.now q
+        × ((o : Opened) × (c.value ≡ Content.Question o) × IsOpened guard.now q o × NoneMarked o.marks.items)) }
+    ensures refused { IfErr result (λ a. (q : Question) × IsQuestionOf parts texts.items seconds.now q
+        × IsUnreadQuestion guard.now q a.verdict (written_by a)) }
+{
+    let Ok(words) = words_of(alloc, texts.as_mut_slice()) else {
+        return Err(refused_question(alloc, AskFault::Memory));
+    };
+    let question = parts.question(words.as_slice(), seconds);
+    open_boxed(alloc, guard, &question)
+}
+
 /// Opens a question for a guard, and puts it on the heap. Err is the line of the refusal, as for `open_question`.
-pub(crate) fn open_boxed(
+fn open_boxed(
     alloc: Global,
     guard: &SharedGuard,
     question: &Question,

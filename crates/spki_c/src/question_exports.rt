@@ -11,24 +11,25 @@ ghost use Rattle.spki_c.specs.declared.content.Content.{Content};
 ghost use Rattle.spki_c.specs.Contents.{HandsBack};
 ghost use Rattle.spki_c.specs.Guards.{query_number, IsAnswered};
 ghost use Rattle.spki_guard.specs.HeldQuestions.{GrantsHeld, MayGrant};
+ghost use Rattle.spki_c.specs.Readables.{AreReadable};
 ghost use Rattle.spki_c.specs.Results.{IsMisuse};
 
 use crate::box_pointer::BoxPointer;
 use crate::buffer::{hand_over, misused};
 use crate::content::Content;
 use crate::handle::{Handle, Lent};
-use crate::lent_texts::words_of;
+use crate::lent_texts::{TextsFault, texts_of};
 use crate::numbers::{DONE, MISUSED, NO_MEMORY, NONE, REFUSED, query_of, query_status};
-use crate::opening::open_boxed;
+use crate::opening::open_parts;
 use crate::parts::Parts;
+use crate::readable::{Readable, TextPlace};
 use crate::signatures::{SignatureTexts, texts_of};
-use crate::text::Text;
 use spki_guard::{AskFault, answer_opened, is_granted, is_possible, refused_question};
 use std::alloc::Global;
 
 /// Reads a question for a guard, and keeps what it needs of it on the heap. The caller holds the question by the
 /// handle, which must have no question before. The strings of the request are `words` if `is_worded` of `parts` is
-/// true. The moment is the first of `seconds`, if there are any.
+/// true; `readable` has what may be read of them. The moment is the first of `seconds`, if there are any.
 ///
 /// Returns 6 if the handle has the question. Otherwise the handle is unchanged. Returns 2 for a refusal, also if memory
 /// ran out, and 4 if the buffer is too small for its line. Returns 5 if `lent` is no guard, a request or a moment is
@@ -38,43 +39,42 @@ use std::alloc::Global;
 pub extern "C" fn spki_c_guard_ask(
     alloc: Global,
     lent: &mut Lent,
-    parts: &mut Parts,
-    words: &mut [Text],
+    mut parts: Parts,
+    words: &[TextPlace],
+    readable: Readable,
     seconds: &[i64],
     handle: &mut Handle,
     buffer: &mut [u8],
     needed: &mut usize,
 ) -> u32
     requires empty { handle.old.held ≡ None }
-    ensures asked { (g : Held) → lent.old.content ≡ Content.Guard g → AreLent parts.old words.old → ¬ IsAmbiguous parts.old seconds.now
-        → (q : Question) × IsQuestionOf parts.old words.old seconds.now q
+    requires readable { AreReadable words.now readable.texts }
+    ensures asked { (g : Held) → lent.old.content ≡ Content.Guard g → AreLent parts readable.texts → ¬ IsAmbiguous parts seconds.now
+        → (q : Question) × IsQuestionOf parts readable.texts seconds.now q
         × (IsHeldQuestion g q handle.new.held buffer.old buffer.new needed.new result
         ⊎ IsUnheld g q handle.old handle.new buffer.old buffer.new needed.new result) }
-    ensures ambiguous { IsAmbiguous parts.old seconds.now
+    ensures ambiguous { IsAmbiguous parts seconds.now
         → (handle.new ≡ handle.old) × IsMisuse buffer.old buffer.new needed.new result }
-    ensures unlent { ¬ AreLent parts.old words.old
+    ensures unlent { ¬ AreLent parts readable.texts
         → (handle.new ≡ handle.old) × IsMisuse buffer.old buffer.new needed.new result }
     ensures other { ((g : Held) → lent.old.content ≢ Content.Guard g)
         → (handle.new ≡ handle.old) × IsMisuse buffer.old buffer.new needed.new result }
 {
-    if !parts.are_lent(words) || parts.is_ambiguous(seconds) {
+    if !parts.are_lent() || parts.is_ambiguous(seconds) {
         return misused(needed);
     }
     let Some(guard) = lent.content().guard() else {
         return misused(needed);
     };
-    let Ok(words) = words_of(alloc, words) else {
-        return hand_over(
-            refused_question(alloc, AskFault::Memory),
-            REFUSED,
-            buffer,
-            needed,
-        );
+    let texts = match texts_of(alloc, words, readable) {
+        Ok(texts) => texts,
+        Err(TextsFault::Unlent) => return misused(needed),
+        Err(TextsFault::Memory) => {
+            let answer = refused_question(alloc, AskFault::Memory);
+            return hand_over(answer, REFUSED, buffer, needed);
+        }
     };
-    let question = parts.question(words.as_slice(), seconds);
-    let opened = open_boxed(alloc, guard, &question);
-    drop(words);
-    match opened {
+    match open_parts(alloc, guard, parts, texts, seconds) {
         Ok(opened) => {
             handle.hold(BoxPointer::of(opened));
             *needed = 0;

@@ -1,23 +1,20 @@
 //! Questions from the parts that C passes.
-ghost use Rattle.std.specs.Prelude.{◌≡◌, ◌↔◌, IsTrue, map};
+ghost use Rattle.std.specs.Prelude.{◌≡◌, ◌↔◌, [], IsTrue, map};
 ghost use Rattle.spki_c.specs.Asking.{IsAmbiguous, IsQuestionBy, IsRequestBy, IsMomentBy, IsLent, AreLent};
 
-use crate::lent_texts::are_lent;
 use crate::parts::Parts;
-use crate::text::Text;
 use spki_guard::{Moment, Question, RequestInput};
 
 impl Parts {
-    /// Whether all texts of a question are lent whole: its parts, and `words`, the strings of its request.
-    pub(crate) fn are_lent(&mut self, words: &mut [Text]) -> bool
-        ensures same { (self.new ≡ self.old) × (words.new ≡ words.old) }
-        ensures lent { IsTrue result ↔ AreLent self.old words.old }
+    /// Whether all texts of a question but the strings of its request are lent whole.
+    pub(crate) fn are_lent(&mut self) -> bool
+        ensures same { self.new ≡ self.old }
+        ensures lent { IsTrue result ↔ AreLent self.old [] }
     {
         self.sequence.is_lent()
             && self.key.is_lent()
             && self.request.is_lent()
             && self.moment.is_lent()
-            && are_lent(words)
     }
 
     /// Whether the request is given both as a text and by its strings, or the moment both as a text and in seconds. A

@@ -12,8 +12,8 @@ use std::marker::Model;
 #[repr(C)]
 #[derive(Drop)]
 pub struct Text {
-    at: *const u8,
-    count: usize,
+    pub(crate) at: *const u8,
+    pub(crate) count: usize,
     pub ghost octets: { List ℕ },
 }
 

@@ -49,7 +49,7 @@ lifted v ms (Some p) e h = search rules
 
 -- ---- the policy
 
--- one member that isn't headed policy
+-- one member that is not headed policy
 pub no_policy : (ms : List Value) (v : Value) → ms ≡ v ∷ [] → ((rest : List Value) → v ≢ headed (codes "policy") rest)
     → (policy : Policy) → ms ≢ policy_values policy
 no_policy ms v e unlike Open h = let k : v ∷ [] ≡ [] = sym e ∙ h in cc

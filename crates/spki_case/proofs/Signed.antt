@@ -10,7 +10,7 @@ use Rattle.spki_cert.specs.Fields.{is_headed}
 use Rattle.spki_cert.specs.Structures.{ItemOf, waits_behind, waits_after, IsInPlace, AreInPlace, SeqOf}
 use Rattle.spki_case.specs.Case.{signature_in, certificates_from, are_signed}
 
--- where a certificate waits, what is neither do nor signature isn't in place
+-- where a certificate waits, what is neither do nor signature is not in place
 stray : (v : Value) → is_headed (codes "do") v ≡ false → is_headed (codes "signature") v ≡ false → IsInPlace true v → ⊥
 stray v d s (inl h) = let clash : false ≡ true = sym d ∙ h in cc
 stray v d s (inr h) = let clash : false ≡ true = sym s ∙ h in cc

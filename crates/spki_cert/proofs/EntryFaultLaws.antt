@@ -31,7 +31,7 @@ relative-is_no_subject v names relative s (inr read) = search (rules, same_other
 
 -- ---- access lists
 
--- an entry isn't headed version
+-- an entry is not headed version
 pub entry-unversioned : (v : Value) (e : Entry) → EntryOf v e → is_headed (codes "version") v ≡ false
 entry-unversioned v e read = ap (is_headed (codes "version")) read.written
 

@@ -183,11 +183,11 @@ a_signature = group (plain (codes "signature") ∷ [])
 abbrev an_operation : Value
 an_operation = group (plain (codes "do") ∷ [])
 
--- an operation between a certificate and its signature doesn't end the wait
+-- an operation between a certificate and its signature does not end the wait
 signed_behind_operation : AreInPlace false (a_cert ∷ an_operation ∷ a_signature ∷ []) × (waits_after false (a_cert ∷ an_operation ∷ a_signature ∷ []) ≡ false)
 signed_behind_operation = ((refl, (inl refl, (inr refl, tt))), refl)
 
--- a key doesn't stand there
+-- a key does not stand there
 key_between : AreInPlace false (a_cert ∷ ka ∷ a_signature ∷ []) → ⊥
 key_between places = elim places.1.0 [ inl e ↦ absurd (cc) | inr e ↦ absurd (cc) ]
 

@@ -45,7 +45,7 @@ has-given word R vs (Some a) given = has-contents word vs ∙ ap some_are given.
 pub again-headed : (word : List ℕ) (before : List Value) (v : Value) (rest : List Value) → v ≡ group (plain word ∷ rest) → is_again before v ≡ has word before
 again-headed word before v rest e = ap (λ (w : Value). has_head before (head_of w)) e
 
--- a head that no limit has isn't among limits
+-- a head that no limit has is not among limits
 no-online : (vs : List Value) → AllByRecursion IsLimitField vs → has (codes "online") vs ≡ false
 no-online [] all = refl
 no-online (v ∷ vs) all = search (rules, has-more, no-online vs all.1)
@@ -89,7 +89,7 @@ field-new fault_of before v found e f = ap (λ (b : Bool). first_fault (unless (
 pub field-misfit : (fault_of : Value → Option CertFaultKind) (before : List Value) (v : Value) → fault_of v ≡ Some Shape → first_fault (field_looked fault_of before v) ≡ Some Shape
 field-misfit fault_of before v e = search (rules, one-look)
 
--- a limit that stands among these already, and one that doesn't
+-- a limit that stands among these already, and one that does not
 pub again-limit : (word : List ℕ) (R : List Value → List ℕ → Type 0) (before : List Value) (v : Value) (rest : List Value) (o : Option (List ℕ)) (b : Bool)
     → v ≡ group (plain word ∷ rest) → Given word R before o → is_some o ≡ b → is_again before v ≡ b
 again-limit word R before v rest o b e given f = again-headed word before v rest e ∙ has-given word R before o given ∙ f
@@ -214,7 +214,7 @@ headless-field : (place : Place) (v : Value) → head_of v ≡ None → fault_in
 headless-field places.Entry v e = headless-entry v e
 headless-field places.Certificate v e = search (rules, cert-else, headless, headless-entry)
 
--- a field whose head isn't new, or that has none
+-- a field whose head is not new, or that has none
 pub field-not_new : (place : Place) (before : List Value) (heads : List (List ℕ)) (k : Known) (v : Value) → AreRead before heads k
     → ((head : List ℕ) → IsNew v heads head → ⊥) → first_fault (field_looked (fault_in place) before v) ≡ Some Shape
 field-not_new place before heads k v read none = by (head_of v) refl

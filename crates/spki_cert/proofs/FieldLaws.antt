@@ -92,7 +92,7 @@ pub given-none : {A : Type 0} (word : List ℕ) (R : List Value → A → Type 0
 given-none word R xs None given e = given
 given-none word R xs (Some a) given e = absurd cc
 
--- what isn't given isn't there
+-- what is not given is not there
 pub given-else : {A : Type 0} (word : List ℕ) (R : List Value → A → Type 0) (xs : List Value) (a : A) → Given word R xs (Some a) → contents word xs ≡ [] → ⊥
 given-else word R xs a given e = absurd (let f = given.1 in cc)
 
@@ -236,7 +236,7 @@ pub headed-none : (word : List ℕ) (xs : List Value) → contents word xs ≡ [
 headed-none word [] e = refl
 headed-none word (x ∷ xs) e = search (rules, contents-headed, contents-other, headed-none word xs)
 
--- the head of a new field wasn't met
+-- the head of a new field was not met
 pub new-first : (xs : List Value) (heads : List (List ℕ)) (k : Known) (v : Value) (head : List ℕ) → AreRead xs heads k → IsNew v heads head
     → (word : List ℕ) → is_headed word v ≡ true → contents word xs ≡ []
 new-first xs heads k v head read new word e =

@@ -32,7 +32,7 @@ same_second v word s t vs ws e f = search (rules, group-injective (plain word �
 pub same_others : (v : Value) (word : List ℕ) (vs ws : List Value) → v ≡ group (plain word ∷ vs) → v ≡ group (plain word ∷ ws) → vs ≡ ws
 same_others v word vs ws e f = search (rules, group-injective (plain word ∷ vs) (plain word ∷ ws) (sym e ∙ f))
 
--- a value with this head isn't one with another
+-- a value with this head is not one with another
 pub other-head : (word : List ℕ) (v w : Value) → v ≡ w → is_headed word v ≡ true → is_headed word w ≡ false → ⊥
 other-head word v w e here other = absurd (let f : true ≡ false = sym here ∙ ap (is_headed word) e ∙ other in cc)
 
@@ -52,7 +52,7 @@ head-same v head word rest e f = (bytes_eq-Decides head word).0 (ap (is_headed w
 pub headed-by : (v : Value) (head : List ℕ) (rest : List Value) → v ≡ group (plain head ∷ rest) → is_headed head v ≡ true
 headed-by v head rest e = ap (is_headed head) e ∙ (bytes_eq-Decides head head).1 refl
 
--- a value with one head hasn't another one
+-- a value with one head does not have another one
 pub headed-else : (word other : List ℕ) (v : Value) (rest : List Value) → v ≡ group (plain word ∷ rest) → is_headed other (group (plain word ∷ rest)) ≡ false
     → is_headed other v ≡ false
 headed-else word other v rest e f = ap (is_headed other) e ∙ f
@@ -79,7 +79,7 @@ is-group word (sexpr.list (sexpr.more (sexpr.string None head) others)) e =
     let same : head ≡ word = (bytes_eq-Decides head word).0 e in cc (values-members others)
 is-group word v e = absurd (cc)
 
--- a value without this head isn't headed so
+-- a value without this head is not headed so
 pub not-headed : (word : List ℕ) (v : Value) → IsNotHeaded v word → is_headed word v ≡ false
 not-headed word v other = false_from_ne_true (is_headed word v) (λ e. other (behind_head v) (is-group word v e))
 

@@ -98,7 +98,7 @@ cert-tag v h (issuer rest i e read) = absurd (other-head (codes "tag") v _ e h r
 cert-tag v h (subject rest s e read) = absurd (other-head (codes "tag") v _ e h refl)
 cert-tag v h (unread u) = absurd (other-word unread_words v (codes "tag") h refl (unread-head v u))
 
--- the subject of a certificate, where the issuer's principal stands for one that isn't written
+-- the subject of a certificate, where the issuer's principal stands for one that is not written
 issued-to : (p : Principal) (v : Value) (o : Option Principal) (names : List (List ℕ)) → WhoOf v o names → (s : Subject) × IssuedTo p v s
 issued-to p v None names read = (record { principal = p; names = names }, inr (refl, read))
 issued-to p v (Some q) names read = (record { principal = q; names = names }, inl read)

@@ -33,9 +33,9 @@ more_at xs n x is =
 pub never : (b : Bool) → b ≡ false → b ≡ true → ⊥
 never b e f = both_ways b e f
 
--- ---- a tuple that doesn't join
+-- ---- a tuple that does not join
 
--- a cause that isn't a matter of what tags or windows leave
+-- a cause that is not a matter of what tags or windows leave
 abbrev pub IsMisfit : Cause → Type 0
 IsMisfit NotIssuer = Unit {0}
 IsMisfit NotTheName = Unit {0}

@@ -146,15 +146,15 @@ delegation request moment = record {
   grants = record { issuer = refl; whole = refl; named = refl; asked = refl; timely = refl };
 }
 
--- The second certificate doesn't join what the first one made of the entry, since that may not be delegated.
+-- The second certificate does not join what the first one made of the entry, since that may not be delegated.
 delegation-stops : Stops Open (five (delegated root_entry first_cert)) (five second_cert) NoDelegation
 delegation-stops = (record { holder = kb; issued = refl; is_for = record { whole = refl; named = refl } }, refl)
 
--- what can't be delegated isn't
+-- what cannot be delegated is not
 undelegated : (left right result : FiveTuple) → Delegate Open left right result → left.delegation ≡ false → ⊥
 undelegated left right result h e = let k : true ≡ false = sym h.allowed ∙ e in cc
 
--- what the first certificate becomes can't be delegated
+-- what the first certificate becomes cannot be delegated
 passed_on : (a b r : Tuple) → a ≡ five root_entry → b ≡ five first_cert → Joins Open a b r → (c s : Tuple) → c ≡ five second_cert → Joins Open r c s
     → ⊥
 passed_on a b (five r) e f h c (five s) g k = search (rules, undelegated, delegation)

@@ -46,7 +46,7 @@ pub along : {T : Type 0} (joined : Joined T) (P P' : T → Type 0) (Q Q' : Cause
 along (Done f) P P' Q Q' h p q = p f h
 along (Stopped cause) P P' Q Q' h p q = q cause h
 
--- what would be refused didn't come to an answer
+-- what would be refused did not come to an answer
 pub unrefused : {T E : Type 0} (r : Result T E) (e : E) (P : Type 0) → (P → r ≡ Err e) → IfOk r (λ _. P → ⊥)
 unrefused (Ok x) e P h = λ p. absurd (let clash = h p in cc)
 unrefused (Err x) e P h = tt

@@ -1,4 +1,4 @@
--- A chain that goes through a step isn't stopped there, so it stops at one step alone, for one cause.
+-- A chain that goes through a step is not stopped there, so it stops at one step alone, for one cause.
 use Rattle.std.proofs.Common.{◌≡◌, ◌≢◌, ◌⊎◌, inl, inr, ℕ, zero, suc, ◌+◌, ◌≤◌, ◌<◌, List, [], ◌∷◌, ◌++◌, fold, Some, refl, sym, ◌∙◌, ap, subst, arith, append_assoc, take, drop, slice_get, length, get_or, rules}
 use Rattle.std.proofs.lemmas.Bool.{cases_lt, and_left, both_ways}
 use Rattle.std.proofs.lemmas.List.{take-append-drop, take-take, take_all}
@@ -111,7 +111,7 @@ module _ (policy : Policy) (first : Tuple) (others : List Tuple) (tagged : AreTa
   unstopped NoTag h = asked h
   unstopped cause h = joined cause tt h
 
--- ---- chains that aren't too large
+-- ---- chains that are not too large
 
 pub steps_tagged : (steps : List Step) → AreTagged (tuples_of steps)
 steps_tagged [] place tuple e = absurd cc
@@ -152,7 +152,7 @@ module _ (most : ℕ) (policy : Policy) (first : Tuple) where
       | inr p ↦ this (large_last h p.0 p.1)
     ]
 
-  -- a chain that stops isn't too large behind its stop
+  -- a chain that stops is not too large behind its stop
   module _ (others : List Tuple) (tagged : AreTagged others) (step : ℕ) (cause : Cause)
       (stops : StopsAt policy first others step cause) (so_far : TooLargeAt most policy first (take step others) → ⊥) where
     pub small : TooLargeAt most policy first others → ⊥

@@ -52,14 +52,6 @@ unfolding first_date
 first_day =
     omega (arith, signed_arith, days_from_civil-day_count, day_count-early (pos 0) 9999 1 1 refl (omega arith) (omega arith) (omega arith))
 
--- a date of the year 0 is no earlier
-first_count : (year month day : ℕ) → pos year ≡ pos 0 → IsCivilDate (pos year) month day
-    → neg_ℤ (pos 719_528) ≤ℤ days_from_civil (pos year) month day
-first_count year month day e civil =
-    let first = day_count-early (pos 0) 9999 1 1 refl (omega arith) (omega arith) (omega arith) in
-    let start : day_count (pos year) 1 1 ≡ day_count (pos 0) 1 1 = ap (λ y. day_count y 1 1) e in
-    omega (arith, signed_arith, days_from_civil-day_count (pos year) month day, first, start, day_count-day_of_year (pos year) month day civil.2.0, civil.2.0)
-
 first_year : first_date.year ≡ pos 0
 unfolding first_date
 first_year = refl
@@ -67,21 +59,9 @@ first_year = refl
 pub none_beyond : (seconds : ℤ) → (IsCivilNanos (seconds *ℤ pos 1_000_000_000) → ⊥) → IsAtNoDate seconds
 none_beyond seconds h = search (rules, by_lt_z, neg_ℤ, signed_arith)
 
-pub none_before : (seconds : ℤ) (dt : DateTime) → civil_nanos dt ≡ seconds *ℤ pos 1_000_000_000 → dt.date.year <ℤ pos 0
-    → IsAtNoDate seconds
-none_before seconds dt e early =
-    let before : epoch_day dt.date <ℤ epoch_day first_date = epoch_day-lt dt.date first_date (inl (rw first_year early)) in
-    inl (omega (arith, signed_arith, civil_nanos-parts dt, time_nanos_bound dt.time, e, before, first_day))
-
 -- and those of no date are not those of one
 pub no_date : (seconds : ℤ) (octets : List ℕ) → IsAtNoDate seconds → ¬ IsDateAt seconds octets
-no_date seconds octets (inl early) d =
-    let a = moment_of seconds octets d in
-    by_lt_z (pos 0) (pos d.year)
-    (λ later. let after : epoch_day first_date <ℤ epoch_day a.date = epoch_day-lt first_date a.date (inl (rw first_year later)) in
-    omega (arith, signed_arith, d.counted, early, after, first_day))
-    (λ same. let year : pos d.year ≡ pos 0 = omega (arith, signed_arith) in
-    omega (arith, signed_arith, d.counted, early, first_count d.year d.month d.day year d.civil))
+no_date seconds octets (inl early) d = absurd (omega (arith, signed_arith, early, d.since))
 no_date seconds octets (inr late) d =
     let range = civil_nanos_range (moment_of seconds octets d) in
     omega (arith, signed_arith, counted_nanos seconds octets d, late, range.1)
@@ -92,9 +72,17 @@ not_negative : (z : ℤ) → pos 0 ≤ℤ z → z ≡ pos (unsigned_abs z)
 not_negative (pos n) h = refl
 not_negative (negsuc n) h = absurd (omega (arith, signed_arith, h))
 
-pub date_of : (seconds : ℤ) (dt : DateTime) → civil_nanos dt ≡ seconds *ℤ pos 1_000_000_000 → pos 0 ≤ℤ dt.date.year
+-- seconds that are not negative are of no year before 0
+pub late_year : (seconds : ℤ) (dt : DateTime) → civil_nanos dt ≡ seconds *ℤ pos 1_000_000_000 → pos 0 ≤ℤ seconds → pos 0 ≤ℤ dt.date.year
+late_year seconds dt e since =
+    by_lt_z dt.date.year (pos 0)
+    (λ early. let before : epoch_day dt.date <ℤ epoch_day first_date = epoch_day-lt dt.date first_date (inl (rw first_year early)) in
+    absurd (omega (arith, signed_arith, civil_nanos-parts dt, time_nanos_bound dt.time, e, before, first_day, since)))
+    (λ late. late)
+
+pub date_of : (seconds : ℤ) (dt : DateTime) → civil_nanos dt ≡ seconds *ℤ pos 1_000_000_000 → pos 0 ≤ℤ seconds → pos 0 ≤ℤ dt.date.year
     → IsDateAt seconds (date_octets (unsigned_abs dt.date.year) dt.date.month dt.date.day dt.time.hour dt.time.minute dt.time.second)
-date_of seconds dt e late =
+date_of seconds dt e since late =
     let year : dt.date.year ≡ pos (unsigned_abs dt.date.year) = not_negative dt.date.year late in
     let day : days_from_civil dt.date.year dt.date.month dt.date.day ≡ days_from_civil (pos (unsigned_abs dt.date.year)) dt.date.month dt.date.day =
     ap (λ y. days_from_civil y dt.date.month dt.date.day) year in
@@ -105,6 +93,7 @@ date_of seconds dt e late =
       hour = dt.time.hour;
       minute = dt.time.minute;
       second = dt.time.second;
+      since = since;
       civil = subst (λ y. IsCivilDate y dt.date.month dt.date.day) year (civil dt.date);
       hours = dt.time.hour_in;
       minutes = dt.time.minute_in;

@@ -1,6 +1,6 @@
 -- The parts of a question in any of the three forms, the case that they are, and why a question is refused: a part
 -- cannot be read, or there are too many certificates or strings.
-use Rattle.std.specs.Prelude.{◌≡◌, ◌≢◌, ◌⊎◌, ◌↔◌, ℕ, ◌<◌, ◌≤◌, List, length, ◌+◌, ◌*◌, ◌/◌, ◌%◌, [], ◌∷◌, ◌++◌, ℤ, pos, neg_ℤ, ◌+ℤ◌, ◌*ℤ◌, ◌<ℤ◌, map, Some, Bool, IsTrue}
+use Rattle.std.specs.Prelude.{◌≡◌, ◌≢◌, ◌⊎◌, ◌↔◌, ℕ, ◌<◌, ◌≤◌, List, length, ◌+◌, ◌*◌, ◌/◌, ◌%◌, [], ◌∷◌, ◌++◌, ℤ, pos, neg_ℤ, ◌+ℤ◌, ◌*ℤ◌, ◌<ℤ◌, ◌≤ℤ◌, map, Some, Bool, IsTrue}
 use Rattle.sexpr_core.specs.declared.fault.FormFault.{FormFault}
 use Rattle.sexpr_core.specs.declared.fault.FormFault.TheVariants as form
 use Rattle.sexpr_core.specs.Value.{Value, canon, plain, group, Values, string, list, none, more, IsWithinLimits}
@@ -80,8 +80,8 @@ date_octets year month day hour minute second =
     ++ char ":" ∷ (two_digits minute
     ++ char ":" ∷ two_digits second)))))
 
--- The seconds are those of this date, on a clock in UTC whose days have 86,400 seconds each. The year is from 0 to 9999,
--- in the Gregorian calendar.
+-- The seconds are those of this date, on a clock in UTC whose days have 86,400 seconds each. They are not negative, and the year is at most
+-- 9999, in the Gregorian calendar.
 pub record IsDateAt (seconds : ℤ) (octets : List ℕ) : Type 0 where
   pub year : ℕ
   pub month : ℕ
@@ -89,6 +89,7 @@ pub record IsDateAt (seconds : ℤ) (octets : List ℕ) : Type 0 where
   pub hour : ℕ
   pub minute : ℕ
   pub second : ℕ
+  pub since : pos 0 ≤ℤ seconds
   pub civil : IsCivilDate (pos year) month day
   pub hours : hour < 24
   pub minutes : minute < 60
@@ -96,9 +97,9 @@ pub record IsDateAt (seconds : ℤ) (octets : List ℕ) : Type 0 where
   pub counted : seconds ≡ days_from_civil (pos year) month day *ℤ pos 86400 +ℤ pos (hour * 3600 + minute * 60 + second)
   pub written : octets ≡ date_octets year month day hour minute second
 
--- They are before 0000-01-01 00:00:00 or after 9999-12-31 23:59:59, so no such date has them.
+-- They are negative, as of a clock that failed, or after 9999-12-31 23:59:59.
 abbrev pub IsAtNoDate : ℤ → Type 0
-IsAtNoDate seconds = (seconds <ℤ neg_ℤ (pos 62_167_219_200)) ⊎ (pos 253_402_300_799 <ℤ seconds)
+IsAtNoDate seconds = (seconds <ℤ pos 0) ⊎ (pos 253_402_300_799 <ℤ seconds)
 
 -- ---- the parts of a question, and why a question is refused
 

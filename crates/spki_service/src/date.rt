@@ -6,18 +6,17 @@ ghost use Rattle.spki_service.specs.Questions.{date_octets, IsDateAt, IsAtNoDate
 use jiff_core::civil::DateTime;
 use spki_cert::Date;
 
-/// The date of seconds since 1970-01-01 00:00:00 UTC. None if the year is not from 0 to 9999. Allocates nothing.
+/// The date of seconds since 1970-01-01 00:00:00 UTC. None if they are negative, or the year is after 9999. Allocates nothing.
 pub(crate) fn date_at(seconds: i64) -> Option<Date>
     ensures { MatchOption result (IsAtNoDate seconds) (λ date. IsDateAt seconds date) }
 {
-    let civil = match DateTime::from_nanosecond(nanoseconds_of(seconds)) {
-        Ok(civil) => civil,
-        Err(_) => return None,
-    };
-    if civil.date.year < 0 {
+    if seconds < 0 {
         return None;
     }
-    Date::of(&octets_of(civil))
+    match DateTime::from_nanosecond(nanoseconds_of(seconds)) {
+        Ok(civil) => Date::of(&octets_of(civil)),
+        Err(_) => None,
+    }
 }
 
 /// The same number of seconds, in nanoseconds.

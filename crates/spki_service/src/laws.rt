@@ -43,7 +43,7 @@ pub fn one_asking()
     ensures fault { (q : Question) (f g : AskFault) → IsNotAsked q f → IsNotAsked q g → f ≡ g }
 {}
 
-/// Seconds have at most one date. Seconds before 0000-01-01 00:00:00 or after 9999-12-31 23:59:59 have none.
+/// Seconds have at most one date. Negative seconds and those after 9999-12-31 23:59:59 have none.
 pub fn one_date()
     ensures one { (seconds : ℤ) (date other : List ℕ) → IsDateAt seconds date → IsDateAt seconds other → date ≡ other }
     ensures none { (seconds : ℤ) (date : List ℕ) → IsAtNoDate seconds → ¬ IsDateAt seconds date }

@@ -89,8 +89,8 @@ pub enum AskFault {
     /// The request.
     #[error("request: {0}")]
     Request(TagFault),
-    /// The fault of the moment. Seconds below -62,167,219,200 or above 253,402,300,799 are `BadDate`: they have no date in
-    /// the years 0 to 9999.
+    /// The fault of the moment. Seconds below 0 or above 253,402,300,799 are `BadDate`: a clock that failed, or a year
+    /// after 9999.
     #[error("moment: {0}")]
     Moment(CertFaultKind),
     /// Memory ran out.

@@ -1,4 +1,4 @@
--- Tags that aren't met.
+-- Tags that are not met.
 use Rattle.std.proofs.Common.{◌≡◌, ◌*◌, ◌<◌, refl}
 use Rattle.sexpr_core.specs.Value.{Value}
 use Rattle.spki_tag.specs.declared.fault.MeetFault.{MeetFault}

@@ -1,0 +1,19 @@
+-- The texts of an array that C passes, and what a call may read of them.
+use base.Fml.{Fml, fsep, ftrue}
+use Rattle.std.specs.Prelude.{List, [], ◌∷◌, map, ◌≡◌}
+use Rattle.spki_c.specs.declared.text.Text.{Text}
+use Rattle.spki_c.specs.declared.readable.TextPlace.{TextPlace}
+use Rattle.spki_c.specs.Pointers.{text_owns}
+
+-- what may be read of each of these texts
+unfoldable pub texts_own : List Text → Fml
+texts_own [] = ftrue
+texts_own (text ∷ texts) = fsep (text_owns text.at text.count text.octets) (texts_own texts)
+
+-- where a text is, and how many octets the caller states
+abbrev pub place_of : Text → TextPlace
+place_of text = record { at = text.at; count = text.count }
+
+-- the array has these texts
+abbrev pub AreReadable : List TextPlace → List Text → Type 0
+AreReadable places texts = places ≡ map place_of texts

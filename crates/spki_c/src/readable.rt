@@ -1,0 +1,44 @@
+//! Arrays of texts that C passes.
+ghost use Rattle.std.specs.Prelude.{◌≡◌, List, ◌∷◌};
+ghost use Rattle.std.specs.Coded.{coded_list};
+ghost use Rattle.spki_c.specs.declared.text.Text.{Text};
+ghost use Rattle.spki_c.specs.contracts.text.Text.{the_row};
+ghost use Rattle.spki_c.specs.Readables.{texts_own, place_of};
+
+use crate::text::Text;
+use std::marker::Model;
+
+/// A text of an array that C passes: `struct spki_text`. `Readable` says what may be read there.
+#[derive(Clone, Copy)]
+#[repr(C)]
+pub struct TextPlace {
+    /// Where its octets are. The pointer may be null.
+    pub at: *const u8,
+    /// How many octets the caller states.
+    pub count: usize,
+}
+
+/// The texts of an array that C passes, with the octets that may be read. They last at least as long as the call. It has no bytes, so C passes
+/// nothing for it.
+#[repr(C)]
+#[derive(Drop)]
+pub struct Readable {
+    pub ghost texts: { List Text } by { coded_list the_row.coded },
+}
+
+impl Model for Readable {
+    ghost also_owns = { λ r. texts_own r.texts };
+}
+
+impl Readable {
+    /// The next text, of which `place` says where it is.
+    pub(crate) fn next(&mut self, place: TextPlace) -> Text
+        requires { (t : Text) × (ts : List Text) × (self.old.texts ≡ t ∷ ts) × (place ≡ place_of t) }
+        ensures { self.old.texts ≡ result ∷ self.new.texts }
+    {
+        Text {
+            at: place.at,
+            count: place.count,
+        }
+    }
+}
