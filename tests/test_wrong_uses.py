@@ -126,7 +126,7 @@ class WrongUses(built.OfLibrary):
             path, lines = self.written(f"{name}/main.go", shared, rows)
             with open(os.path.join(self.room, name, "go.mod"), "w", encoding="utf-8") as file:
                 file.write(GO_MODULE.format(module=golang.MODULE))
-            said = self.said("go", "build", "-gcflags=-e", "-o", "made", ".", folder=os.path.dirname(path), status=1 if rows is wrong else 0)
+            said = self.said("go", "build", "-gcflags=-e", "-o", "made", ".", folder=os.path.dirname(path), status=None if rows is wrong else 0)
             if rows is wrong:
                 self.are_refused(wrong, said, path, lines)
         self.come_to(others, self.said(os.path.join(self.room, "run", "made"), status=0))

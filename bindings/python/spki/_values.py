@@ -3,12 +3,11 @@ from __future__ import annotations
 
 import ctypes
 import enum
-import math
 import re
 from collections.abc import Callable, Iterator, Sequence
 from ctypes import addressof, c_int64, c_void_p, pointer
 from dataclasses import dataclass, fields
-from datetime import datetime
+from datetime import datetime, timedelta, timezone
 from typing import NamedTuple, NoReturn, Union
 
 from . import _library as of
@@ -18,6 +17,7 @@ FAULT = re.compile(r".*\b([A-Z]\w*)")
 REASON = re.compile(r"^(?:entry (\d+) )?(?:item (\d+) )?(\w+)$", re.MULTILINE)
 # Seconds that the library refuses as BadDate.
 NO_SECONDS = 2 ** 62
+EPOCH, SECOND = datetime(1970, 1, 1, tzinfo=timezone.utc), timedelta(seconds=1)
 
 
 class Refused(Exception):
@@ -326,4 +326,5 @@ def seconds_of(moment: datetime) -> int:
         raise TypeError(f"a moment is a `datetime` or the text of a date, and not {type(moment).__name__}: use datetime.now(timezone.utc)")
     if moment.tzinfo is None:
         raise TypeError("a `datetime` without a time zone is no moment: use datetime.now(timezone.utc)")
-    return math.floor(moment.timestamp())
+    # (a float rounds the last microsecond of the year 9999 up)
+    return (moment - EPOCH) // SECOND
