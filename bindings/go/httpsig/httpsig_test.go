@@ -24,7 +24,7 @@ import (
 	"conguraki/spki/verify"
 )
 
-// A row is one of the table that all languages read: tests/signatures/make.py says what its lines are.
+// A row is one of the table that all languages read: tests/generators/signed_requests.py says what its lines are.
 type row struct {
 	name, gives string
 	message     Message
@@ -34,7 +34,7 @@ type row struct {
 
 // rowsOf reads the table.
 func rowsOf(t testing.TB) (rows []row) {
-	octets, err := os.ReadFile("../../../tests/signatures/rows")
+	octets, err := os.ReadFile("testdata/rows")
 	if err != nil {
 		t.Fatal(err)
 	}

@@ -1,5 +1,5 @@
 #!/usr/bin/env python3
-"""Makes the table `rows` beside this file: signed requests, valid ones and attacks, which the verifiers in Go, Python, Rust and C all read.
+"""Makes the table `bindings/go/httpsig/testdata/rows`: signed requests, valid ones and attacks, which the verifiers of all languages read.
 
 It signs by `cryptography`, and writes each signature base by hand, as RFC 9421 has it: nothing here is of the verifiers. Those by Ed25519 have the
 key of the RFC's appendix B. The other keys are new in each run, so the table changes with each.
@@ -28,6 +28,8 @@ from cryptography.hazmat.primitives.asymmetric.utils import decode_dss_signature
 from cryptography.hazmat.primitives.hashes import SHA256
 from cryptography.hazmat.primitives.serialization import Encoding, PublicFormat, load_der_private_key
 
+# (Go keeps what a test of a package found until a file below the module changes)
+ROWS = os.path.join("..", "..", "bindings", "go", "httpsig", "testdata", "rows")
 NOW = 1792000100
 TEST_KEY = base64.b64decode("MC4CAQAwBQYDK2VwBCIEIJ+DYvh6SEqVTm50DFtMDoQikTmiCqirVv9mWG9qfSnF")
 ORDER_256 = 0xFFFFFFFF00000000FFFFFFFFFFFFFFFFBCE6FAADA7179E84F3B9CAC2FC632551
@@ -416,8 +418,8 @@ def main() -> None:
     for each in (valid, changed_requests, changed_fields, changed_inputs, changed_parameters, changed_signatures):
         LINES.append(f"# {each.__doc__}\n" if each.__doc__ else "")
         each()
-    with open(os.path.join(os.path.dirname(os.path.realpath(__file__)), "rows"), "w", encoding="ascii") as file:
-        file.write("# Signed requests, made by make.py beside this file, which says what each line is.\n\n" + "\n".join(LINES))
+    with open(os.path.join(os.path.dirname(os.path.realpath(__file__)), ROWS), "w", encoding="ascii") as file:
+        file.write("# Signed requests, made by tests/generators/signed_requests.py, which says what each line is.\n\n" + "\n".join(LINES))
 
 
 if __name__ == "__main__":
