@@ -61,11 +61,13 @@ func start(words words, out, messages io.Writer) error {
 
 // newDecider returns a decider without an access list.
 func newDecider(config *config) *decider {
-	return &decider{
+	made := &decider{
 		config: config, keys: newKeys(config.CertificateForm), cache: newCache(*config.Cache), sequences: newSequences(*config.Cache), now: time.Now,
 		counts: newCounts(len(config.Requests)), byKey: newRates(config.Limits.KeyRate), byAddress: newRates(config.Limits.AddressRate),
 		verify: verify.Signature,
 	}
+	made.signed = newSigned(config, func() time.Time { return made.now() })
+	return made
 }
 
 // test says what is in the files of a configuration, or what else is wrong.
