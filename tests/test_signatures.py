@@ -1,20 +1,31 @@
-"""Tests signed requests of `spki-cert request`: its fields, by a key's file and by ssh-agent, and what it has curl send, at a small server."""
+"""Tests signed requests: those of `spki-cert request`, by a key's file and by ssh-agent, at a small server that curl asks too; and the verifier in C
+by the table that the bindings read, and by mutations of it, to which it must answer what the verifier in Python answers."""
 from __future__ import annotations
 
+import dataclasses
+import hashlib
 import http.server
 import os
+import random
 import subprocess
 import sys
 import tempfile
 import threading
 import unittest
 import urllib.request
+from typing import Any, Optional
 
+import built
 import needs
-from support import TOP
+from support import TESTS, TOP, is_compiled, string
 
 COMMAND = os.path.join(TOP, "apps", "spki-cert", "spki-cert")
 SECONDS = 600
+WARNINGS = ["cc", "-std=c11", "-Wall", "-Wextra", "-Wpedantic", "-Werror", "-O1", "-g", "-fsanitize=address,undefined", "-fno-sanitize-recover=all"]
+# How many rows are mutated.
+MUTATED = 200_000 if built.IS_LONG else 2_000
+# The name, the request, the time, how long before the same came, the answer.
+Row = tuple[str, Any, int, Optional[int], str]
 KINDS = ("ed25519", "rsa", "p256")
 
 
@@ -157,6 +168,74 @@ class Requests(unittest.TestCase):
                 self.assertEqual(self.asked(self.done("request", "--by", f"{kind}.pub", self.url, SSH_AUTH_SOCK=socket))[0], 200)
         finally:
             subprocess.run(["kill", settings["SSH_AGENT_PID"]], check=True)
+
+
+@needs.needs("cc", "import cryptography")
+class InC(unittest.TestCase):
+    """The verifier in C, under AddressSanitizer."""
+
+    def setUp(self) -> None:
+        sys.path.append(os.path.join(TOP, "bindings", "python"))
+        folder = tempfile.TemporaryDirectory()
+        self.addCleanup(folder.cleanup)
+        self.room = folder.name
+
+    def answers(self, program: str, rows: list[Row]) -> list[str]:
+        """The answers to requests, and to the digests of their bodies."""
+        strings: list[bytes] = []
+        for _, message, now, again, _ in rows:
+            words = [message.method, message.authority, message.target, str(now), "" if again is None else str(again), str(len([*message.fields]))]
+            strings += [word.encode("latin-1") for word in [*words, *(it for pair in message.fields for it in pair)]]
+        done = subprocess.run([program], input=b"".join(map(string, strings)), stdout=subprocess.PIPE, timeout=SECONDS)
+        self.assertEqual(done.returncode, 0)
+        return [self.judged(line, row[1].body) for line, row in zip(done.stdout.decode().split("\n"), rows)]
+
+    def judged(self, line: str, body: bytes | None) -> str:
+        """The answer of a line, with a look at the body, which the caller has."""
+        answer, _, digest = line.partition(" ")
+        if answer != "valid" or body is None:
+            return answer
+        made = {0: b"".hex() if body == b"" else "-", 64: hashlib.sha256(body).hexdigest(), 128: hashlib.sha512(body).hexdigest()}
+        return "valid" if made[len(digest)] == digest else "other-digest"
+
+    def compiled(self, verifier: str, library: str) -> str:
+        folder, program = os.path.join(TOP, "examples", "c"), os.path.join(self.room, verifier)
+        files = [os.path.join(folder, f"{name}.c") for name in ("http_request", "http_nonces", verifier)]
+        self.assertTrue(is_compiled(*WARNINGS, "-I", folder, "-o", program, os.path.join(TESTS, "proving.c"), *files, library))
+        return program
+
+    def agrees(self, verifier: str, library: str) -> None:
+        """The answers to all rows and to mutated ones are right."""
+        import test_spki_http
+        program, rows = self.compiled(verifier, library), [*test_spki_http.rows()]
+        self.assertEqual([*zip([row[0] for row in rows], self.answers(program, rows))], [(row[0], row[4]) for row in rows])
+        seed = random.randrange(2**32)
+        chance = random.Random(seed)
+        made = [mutated(chance.choice(rows), chance) for _ in range(MUTATED)]
+        wanted = [test_spki_http.answer(test_spki_http.verifier_at([now]), message) for _, message, now, _, _ in made]
+        for row, answer, right in zip(made, self.answers(program, made), wanted):
+            self.assertEqual(answer, right, f"seed {seed}: {row}")
+
+    @needs.needs("openssl/evp.h")
+    def test_by_openssl(self) -> None:
+        self.agrees("verify_openssl", "-lcrypto")
+
+    @needs.needs("/usr/include/gcrypt.h")
+    def test_by_gcrypt(self) -> None:
+        self.agrees("verify_gcrypt", "-lgcrypt")
+
+
+def mutated(row: Row, chance: random.Random) -> Row:
+    """A row of which one text has another octet, one less or one more, or a part twice. It is asked once."""
+    name, message, now, _, gives = row
+    texts = [message.method, message.authority, message.target, *(it for pair in message.fields for it in pair)]
+    place = chance.randrange(len(texts))
+    text, at = texts[place], chance.randrange(len(texts[place]) + 1)
+    octet, end = chance.choice("\0\t\n ,;=()\":{}@?#/Az09\x7f\xe9" + chance.choice(text or " ")), at + chance.randrange(40)
+    texts[place] = chance.choice([text[:at] + octet + text[at:], text[:at] + octet + text[at + 1:], text[:at] + text[at + 1:],
+                                  text[:at] + text[at:end] + text[at:], text[:at] + text[end:]])
+    pairs = [*zip(texts[3::2], texts[4::2])]
+    return name, dataclasses.replace(message, method=texts[0], authority=texts[1], target=texts[2], fields=pairs), now, None, gives
 
 
 class Quiet(urllib.request.HTTPErrorProcessor):

@@ -69,6 +69,11 @@ def rows() -> Iterator[tuple[str, spki_http.Message, int, int | None, str]]:
         yield lines[0][4:], spki_http.Message(method, authority, target, fields, body), int(now), again, said["gives"]
 
 
+def verifier_at(clock: list[int]) -> spki_http.Verifier:
+    """The service of the rows, at a time."""
+    return spki_http.Verifier("example.com", start=1792000000, now=lambda: clock[0])
+
+
 def answer(verifier: spki_http.Verifier, message: spki_http.Message) -> str:
     """`valid`, or the name of the refusal."""
     try:
@@ -132,7 +137,7 @@ class Requests(unittest.TestCase):
         for name, message, now, again, gives in read:
             with self.subTest(name):
                 clock = [now - (again or 0)]
-                verifier = spki_http.Verifier("example.com", start=1792000000, now=lambda: clock[0])
+                verifier = verifier_at(clock)
                 if again is not None:
                     self.assertEqual(answer(verifier, message), "valid")
                 clock[0] = now

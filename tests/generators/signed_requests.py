@@ -219,6 +219,9 @@ def changed_requests() -> None:
     row("http's port", "other-authority", replace(GET, authority="example.com:80"), signed(GET))
     row("a dot behind the name", "other-authority", replace(GET, authority="example.com."), signed(GET))
     row("no name", "other-authority", replace(GET, authority=""), signed(GET))
+    for name, method in {"a method of nothing": "", "a method with a space": "GET ", "a method with an octet over ASCII": "G\xe9T",
+                         "a method with a line feed": 'GET\n"@authority": example.com'}.items():
+        row(name, "bad-method", replace(GET, method=method), signed(GET))
     row("the whole address in the first line", "bad-target", replace(GET, target="https://example.com/foo"))
     row("a star in the first line", "bad-target", Request("OPTIONS", target="*"))
     row("a target of nothing", "bad-target", replace(GET, target=""))

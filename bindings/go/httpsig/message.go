@@ -45,6 +45,11 @@ func AuthorityOf(scheme, authority string) string {
 	return strings.TrimSuffix(strings.ToLower(authority), usual)
 }
 
+// isToken says whether a text is a token of HTTP, as a method is.
+func isToken(text string) bool {
+	return text != "" && isComponent(strings.ToLower("x-"+text))
+}
+
 // isTarget says whether a target is one of a request: a path and perhaps a query, of visible characters.
 func isTarget(target string) bool {
 	if !strings.HasPrefix(target, "/") {

@@ -26,6 +26,7 @@ const (
 	BeforeStart       Refusal = "before-start"
 	BadKey            Refusal = "bad-key"
 	OtherAlgorithm    Refusal = "other-algorithm"
+	BadMethod         Refusal = "bad-method"
 	BadTarget         Refusal = "bad-target"
 	OtherAuthority    Refusal = "other-authority"
 	AbsentField       Refusal = "absent-field"
@@ -33,8 +34,8 @@ const (
 	UncoveredField    Refusal = "uncovered-field"
 	BodyWithoutDigest Refusal = "body-without-digest"
 	BadDigest         Refusal = "bad-digest"
-	OtherDigest       Refusal = "other-digest"
 	InvalidSignature  Refusal = "invalid-signature"
+	OtherDigest       Refusal = "other-digest"
 	NonceSeen         Refusal = "nonce-seen"
 	StoreFull         Refusal = "store-full"
 )

@@ -58,7 +58,7 @@ func (s *Signer) Sign(scheme string, message Message, covered ...string) error {
 	if err != nil {
 		return err
 	}
-	if !isTarget(message.Target) {
+	if !isToken(message.Method) || !isTarget(message.Target) {
 		return BadTarget
 	}
 	text, err := (&base{&message, scheme, AuthorityOf(scheme, message.Authority)}).text(names, parameters)

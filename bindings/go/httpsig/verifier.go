@@ -127,6 +127,9 @@ func (v *Verifier) Check(message Message) (*Proof, error) {
 	if len(octets) != length || !v.Verify(key, text, valueOf(algorithm, octets)) {
 		return nil, InvalidSignature
 	}
+	if digest.octets != nil && message.Body != nil && !digest.is(message.Body) {
+		return nil, OtherDigest
+	}
 	return &Proof{key, input.nonce, digest}, nil
 }
 
@@ -171,6 +174,9 @@ func (v *Verifier) checkTime(input *input) error {
 
 // checkMessage returns the signed text of a message, and the digest of its body if it has one.
 func (v *Verifier) checkMessage(message Message, input *input) (text []byte, digest digest, err error) {
+	if !isToken(message.Method) {
+		return nil, digest, BadMethod
+	}
 	if !isTarget(message.Target) {
 		return nil, digest, BadTarget
 	}
@@ -196,9 +202,7 @@ func (v *Verifier) checkMessage(message Message, input *input) (text []byte, dig
 	if err != nil {
 		return nil, digest, err
 	}
-	if digest, err = digestOf(value); err == nil && message.Body != nil && !digest.is(message.Body) {
-		err = OtherDigest
-	}
+	digest, err = digestOf(value)
 	return text, digest, err
 }
 

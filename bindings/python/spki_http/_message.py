@@ -8,6 +8,7 @@ from dataclasses import dataclass
 from ._fields import Refused
 
 CHAINED, DIGEST = "authorization", "content-digest"
+METHOD = re.compile(r"[A-Za-z0-9!#$%&'*+.^_`|~-]+")
 TARGET = re.compile(r"/[!\"$-~]*")
 VALUE = re.compile(r"[\t -~]*")
 PORTS = {"https": ":443", "http": ":80"}

@@ -9,7 +9,7 @@ from dataclasses import dataclass, replace
 from typing import Protocol
 
 from ._fields import TAG, Input, Refused, digest_of, input_of, key_of, signature_of, value_of
-from ._message import CHAINED, DIGEST, TARGET, Message, authority_of, base_of
+from ._message import CHAINED, DIGEST, METHOD, TARGET, Message, authority_of, base_of
 from ._message import value_of as component_of
 
 MOST_WINDOW, MOST_AHEAD = 300, 60
@@ -107,7 +107,10 @@ class Verifier:
         text, digest = self._check_message(message, given)
         if len(octets) != length or not self.verify(key, text, value_of(algorithm, octets)):
             raise Refused("invalid-signature")
-        return Proof(key, given.nonce, digest)
+        proof = Proof(key, given.nonce, digest)
+        if message.body is not None and not proof.covers(message.body):
+            raise Refused("other-digest")
+        return proof
 
     def _check_time(self, given: Input) -> None:
         """Tests the tag, the nonce and the window."""
@@ -122,6 +125,8 @@ class Verifier:
 
     def _check_message(self, message: Message, given: Input) -> tuple[bytes, tuple[str, bytes] | None]:
         """The signed text of a message, and the digest of its body if one is covered."""
+        if not METHOD.fullmatch(message.method):
+            raise Refused("bad-method")
         if not TARGET.fullmatch(message.target):
             raise Refused("bad-target")
         if authority_of(self.scheme, message.authority) not in self.authorities:
@@ -133,7 +138,4 @@ class Verifier:
             if message.may_have_body():
                 raise Refused("body-without-digest")
             return text, None
-        digest = digest_of(component_of(message, self.scheme, DIGEST))
-        if message.body is not None and not Proof(b"", "", digest).covers(message.body):
-            raise Refused("other-digest")
-        return text, digest
+        return text, digest_of(component_of(message, self.scheme, DIGEST))

@@ -150,6 +150,9 @@ impl<N: TakeNonce> Requests<N> {
         message: &Message,
         input: &Input,
     ) -> Result<(Vec<u8>, Option<ContentDigest>), Unproved> {
+        if message.method.is_empty() || !message.method.bytes().all(fields::is_of_token) {
+            return Err(Unproved::BadMethod);
+        }
         if !is_target(message.target) {
             return Err(Unproved::BadTarget);
         }

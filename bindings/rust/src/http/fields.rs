@@ -180,13 +180,16 @@ impl<'a> Input<'a> {
     }
 }
 
+/// Whether an octet may be in a token of HTTP.
+pub(super) fn is_of_token(octet: u8) -> bool {
+    octet.is_ascii_alphanumeric() || b"!#$%&'*+-.^_`|~".contains(&octet)
+}
+
 /// Whether a name is one of a field in small letters, or of the five components that are derived.
 fn is_component(name: &str) -> bool {
-    let is_of_field = |octet: u8| {
-        octet.is_ascii_lowercase() || octet.is_ascii_digit() || b"!#$%&'*+-.^_`|~".contains(&octet)
-    };
+    let is_small = |octet: u8| is_of_token(octet) && !octet.is_ascii_uppercase();
     DERIVED.contains(&name)
-        || !["", "signature", "signature-input"].contains(&name) && name.bytes().all(is_of_field)
+        || !["", "signature", "signature-input"].contains(&name) && name.bytes().all(is_small)
 }
 
 /// Reads `Signature-Input`.

@@ -44,6 +44,7 @@ unproved! {
     BeforeStart "before-start",
     BadKey "bad-key",
     OtherAlgorithm "other-algorithm",
+    BadMethod "bad-method",
     BadTarget "bad-target",
     OtherAuthority "other-authority",
     AbsentField "absent-field",
@@ -51,9 +52,9 @@ unproved! {
     UncoveredField "uncovered-field",
     BodyWithoutDigest "body-without-digest",
     BadDigest "bad-digest",
-    OtherDigest "other-digest",
     InvalidSignature "invalid-signature",
     VerifierFailed "verifier-failed",
+    OtherDigest "other-digest",
     NonceSeen "nonce-seen",
     StoreFull "store-full",
 }
