@@ -74,7 +74,8 @@ class Proxies(unittest.TestCase):
         """The refusal, `valid`, or the status of the proxy."""
         fields = self.signer.fields(method, f"http://{NAME}{target}", body)
         length = [f"Content-Length: {len(body)}"] if body else []
-        head = [f"{method} {target} HTTP/1.1", f"Host: {host}", "Connection: close", *length, *change([f"{name}: {it}" for name, it in fields.items()])]
+        lines = change([f"{name}: {it}" for name, it in fields.items()])
+        head = [f"{method} {target} HTTP/1.1", f"Host: {host}", "Connection: close", *length, *lines]
         said = b""
         with socket.socket(socket.AF_UNIX) as client:
             client.settimeout(SECONDS)
