@@ -35,7 +35,8 @@ class OfSites(unittest.TestCase):
 
             def prepare(self) -> None:
                 super().prepare()
-                names = f'"signatures": {{"names": ["localhost:{self.port}"]}}, "listen"'
+                os.mkdir(self.at("chains"), 0o700)
+                names = f'"signatures": {{"names": ["localhost:{self.port}"]}}, "chains": {{"folder": "{self.at("chains")}"}}, "listen"'
                 self.write("etc/authd.json", self.text("etc/authd.json").replace('"listen"', names))
 
         cls.site = Signed()
@@ -71,6 +72,9 @@ class OfSites(unittest.TestCase):
         self.site.cert("sign", "--by", "keys/ann", "--to", "keys/ben.pub", *right, "--force", "-o", "b")
         ben = self.fields("ben", PAGE, "--cert", "b")
         self.assertEqual(self.asked("GET", PAGE, *ben), 200)
+        self.assertEqual([self.site.status("ben", "GET", PAGE), self.asked("GET", PAGE, *self.fields("ben", PAGE))], [401, 401])
+        self.assertEqual(self.asked("GET", PAGE, *self.fields("ben", PAGE, "--cert", "b", "--keep")), 200)
+        self.assertEqual([self.site.status("ben", "GET", PAGE), self.asked("GET", PAGE, *self.fields("ben", PAGE))], [200, 200])
         sent = self.fields("ben", PAGE)
         self.assertEqual(self.asked("GET", PAGE, *sent, next(line for line in ben if line.startswith("X-Spki"))), 403)
 
@@ -185,4 +189,3 @@ class Smallest(unittest.TestCase):
         golang.go(golang.MODULE, ["build", "-o", program, "./examples/signed"], built.library()).check_returncode()
         with self.started(program) as port:
             self.answers(port)
-

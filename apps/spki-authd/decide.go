@@ -16,6 +16,7 @@ type decider struct {
 	cache     *cache
 	sequences *sequences
 	signed    *signed
+	chains    *kept
 	counts    *counts
 	clock     clock
 	// The rates of keys and of addresses.
@@ -69,7 +70,7 @@ func (d *decider) decide(asked asked) record {
 		made.Target = cut(asked.method+" "+path, mostTarget)
 		return made.ended(answerNo, errNoRule)
 	}
-	return d.takeNonce(d.judge(made, client.key, path, asked.sequence), proof)
+	return d.keep(d.takeNonce(d.judgeAll(made, client.key, path, &asked), proof), &asked)
 }
 
 // shownTarget returns what the log has of a target that is not clear. A query may have a password or a token, and is left out.

@@ -66,7 +66,7 @@ func TestSigned(t *testing.T) {
 		{"no host", changed(alices("GET", "/web/x", ""), "X-Original-Host", ""), 400, "other-authority"},
 		{"Alice writes without the right", alices("PUT", "/web/x", "abc"), 401, ""},
 		{"PUT made of GET", changed(alices("GET", "/web/x", ""), "X-Original-Method", "PUT"), 400, "body-without-digest"},
-		{"a bad signature beside a certificate", append(changed(alices("GET", "/web/x", ""), "Signature", "spki=:AAAA:"), "X-Client-Cert", s.alice.escaped()),
+		{"a bad signature, a certificate", append(changed(alices("GET", "/web/x", ""), "Signature", "spki=:AAAA:"), "X-Client-Cert", s.alice.escaped()),
 			400, "invalid-signature"},
 		{"half a signature beside a certificate", []string{"X-Original-Method", "GET", "X-Original-URI", "/web/x", "X-Original-Host", "files.example.org",
 			"Signature", "spki=:AAAA:", "X-Client-Cert", s.alice.escaped()}, 400, "malformed"},

@@ -46,6 +46,9 @@ func start(words words, out, messages io.Writer) error {
 		*config.Cache = 0
 	}
 	decider := newDecider(config)
+	if decider.chains, err = openKept(config.Chains, decider.now()); err != nil {
+		return err
+	}
 	if err := decider.keeper.reload(config, false, decider.now()); err != nil {
 		return err
 	}

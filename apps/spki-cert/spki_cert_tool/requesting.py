@@ -15,6 +15,7 @@ REQUEST_HELP = """Signs an HTTP request (RFC 9421), and prints the fields that p
 alone, once, and for 300 seconds. With --curl it has curl send the request, and the words after -- are more options of curl. KEY is the file of a
 private key, or of the public one of a key that ssh-agent holds."""
 DONE, BY_SIGNAL = 0, 128
+KEEP = "X-Spki-Keep"
 METHOD = re.compile(r"[A-Z]{1,32}")
 ADDRESS = re.compile(r"https?://[^/?#@\s]+(?:[/?][!\"$-~]*)?")
 
@@ -25,6 +26,7 @@ def with_request(parser: argparse.ArgumentParser) -> None:
     parser.add_argument("--cert", metavar="FILE", help="the sequence with the certificates of this key, which is sent and signed too")
     parser.add_argument("--method", metavar="METHOD", help="GET if it is not given, and PUT with --body")
     parser.add_argument("--body", metavar="FILE", help="the body of the request, whose digest is signed")
+    parser.add_argument("--keep", action="store_true", help="ask the service to keep the certificates of --cert for this key")
     parser.add_argument("--curl", action="store_true", help="have curl send the request")
     parser.add_argument("address", metavar="URL")
     parser.add_argument("words", metavar="OPTION", nargs="*", help="after --: more options of curl")
@@ -38,13 +40,17 @@ def request(given: argparse.Namespace) -> int:
         raise Refused(f"{method}: a method is in capital letters, as PUT")
     if not ADDRESS.fullmatch(given.address):
         raise Refused(f"{given.address}: no address of https or http, or one with a space, a fragment or a password; write %20 for a space")
+    if given.keep and given.cert is None:
+        raise Refused("--keep goes with --cert")
     if given.words and not given.curl:
         raise Refused(f"{given.words[0]}: options of curl go with --curl")
     sequence = "{%s}" % base64.b64encode(canonical(value_of(given.cert, "sequence"))).decode() if given.cert is not None else ""
     by = signer_at(given.by)
     tell(*(f"spki-cert: {remark}" for remark in remark_on_mode(given.by)))
     signer = Signer(canonical(by.key), lambda message: canonical(by.sign(message)), sequence)
-    lines = "".join(f"{name}: {value}\n" for name, value in signer.fields(method, given.address, body).items())
+    own = {KEEP: "yes"} if given.keep else {}
+    fields = {**own, **signer.fields(method, given.address, body, own.items(), [KEEP.lower()])}
+    lines = "".join(f"{name}: {value}\n" for name, value in fields.items())
     if given.curl:
         return sent(method, given.address, lines.encode(), body if given.body is not None else None, given.words)
     put(lines)

@@ -27,8 +27,9 @@ class Signer:
         self.key, self.sign, self.sequence = key, sign, sequence
         self.algorithm, self.length = kind_of(key)
 
-    def fields(self, method: str, url: str, body: bytes = b"", fields: Iterable[tuple[str, str]] = ()) -> dict[str, str]:
-        """The fields that a request to an address gets. Those that it has already are covered if the profile asks for it."""
+    def fields(self, method: str, url: str, body: bytes = b"", fields: Iterable[tuple[str, str]] = (), covered: Iterable[str] = ()) -> dict[str, str]:
+        """The fields that a request to an address gets. Of those that it has already, those are covered that the profile asks for, and those
+        that are named in small letters."""
         parts = urllib.parse.urlsplit(url)
         if parts.scheme not in ("https", "http") or not parts.hostname or parts.username is not None:
             raise ValueError("no address of https or http, or one with a name and a password")
@@ -37,7 +38,7 @@ class Signer:
         if Message(method, parts.netloc, target, known, body).may_have_body():
             own["Content-Digest"] = content_digest(body)
         message = Message(method, parts.netloc, target, [*known, *own.items()], body)
-        names = ["@method", "@authority", "@path", "@query", *(it for it in (CHAINED, SEQUENCE.lower(), DIGEST) if message.values(it))]
+        names = ["@method", "@authority", "@path", "@query", *(it for it in (CHAINED, SEQUENCE.lower(), DIGEST, *covered) if message.values(it))]
         parameters = self._parameters(names)
         octets = octets_of(self.sign(base_of(message, parts.scheme, names, parameters))).rjust(self.length, b"\0")
         return {**own, "Signature-Input": f"{LABEL}={parameters}", "Signature": f"{LABEL}=:{base64.b64encode(octets).decode()}:"}
@@ -53,7 +54,8 @@ class Signer:
 class Auth:
     """Signs the requests of `requests` and of `httpx`, to one of some names: `requests.put(url, data=body, auth=Auth(signer, "files.example.org"))`.
 
-    A request to any other name gets no signature and no certificates. The body must be octets, and not a stream.
+    A request to any other name gets no signature and no certificates. But `requests` follows a redirection with the fields of the first request,
+    which prove nothing there: `allow_redirects=False` keeps the certificates from other names. The body must be octets, and not a stream.
     """
 
     def __init__(self, signer: Signer, *names: str) -> None:
