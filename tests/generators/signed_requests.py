@@ -246,6 +246,7 @@ def changed_fields() -> None:
     row("an unknown method without a digest", "body-without-digest", Request("FROB"))
     row("GET with a length", "body-without-digest", replace(GET, fields=[("Content-Length", "18")]))
     row("GET with chunks", "body-without-digest", replace(GET, fields=[("Transfer-Encoding", "chunked")]))
+    row("GET with an empty length", "body-without-digest", replace(GET, fields=[("Content-Length", "")]))
     row("GET with a length of nothing", "valid", replace(GET, fields=[("Content-Length", "0")]))
     body = in_base64(hashlib.sha256(BODY.encode()).digest())
     for name, value in {

@@ -34,9 +34,12 @@ func MessageOf(request *http.Request) Message {
 
 // mayHaveBody says whether a digest must be covered.
 func (m *Message) mayHaveBody() bool {
-	length := m.Header.Get("Content-Length")
-	return m.Method != http.MethodGet && m.Method != http.MethodHead || m.HasBody || len(m.Body) > 0 || length != "" && length != "0" ||
-		len(m.Header.Values("Transfer-Encoding")) > 0
+	for _, length := range m.Header.Values("Content-Length") {
+		if strings.Trim(length, " \t") != "0" {
+			return true
+		}
+	}
+	return m.Method != http.MethodGet && m.Method != http.MethodHead || m.HasBody || len(m.Body) > 0 || len(m.Header.Values("Transfer-Encoding")) > 0
 }
 
 // AuthorityOf returns a name with its port as it is signed: in small letters, without the port that the scheme has anyway.

@@ -35,16 +35,21 @@ pub(super) struct Input<'a> {
 /// Takes a field apart from the left.
 struct Parser<'a> {
     rest: &'a str,
+    is_cut: bool,
 }
 
 impl<'a> Parser<'a> {
-    /// What reads a field behind the label of its first member.
+    /// What reads a field behind the label of its first member. The text is read up to an octet beyond ASCII, at which it is malformed.
     fn new(value: &'a [u8]) -> Result<Parser<'a>, Unproved> {
-        let whole = std::str::from_utf8(value).ok();
-        let rest = whole
-            .filter(|text| text.len() <= MOST_INPUT && text.is_ascii())
-            .ok_or(Unproved::Malformed)?;
-        let mut parser = Parser { rest };
+        if value.len() > MOST_INPUT {
+            return Err(Unproved::Malformed);
+        }
+        let end = value.iter().position(|octet| !octet.is_ascii());
+        let read = &value[..end.unwrap_or(value.len())];
+        let mut parser = Parser {
+            rest: std::str::from_utf8(read).unwrap_or_default(),
+            is_cut: end.is_some(),
+        };
         let name = parser.name()?;
         parser.skip("=")?;
         if name != LABEL {
@@ -112,7 +117,7 @@ impl<'a> Parser<'a> {
 
     /// What follows the first member, which must be nothing.
     fn end(&self) -> Result<(), Unproved> {
-        if self.rest.is_empty() {
+        if self.rest.is_empty() && !self.is_cut {
             return Ok(());
         }
         let is_more = self.rest.trim_start_matches([' ', '\t']).starts_with(',');
@@ -216,7 +221,10 @@ pub(super) fn signature_of(value: &[u8]) -> Result<Vec<u8>, Unproved> {
 pub(super) fn digest_of(value: &[u8]) -> Result<ContentDigest, Unproved> {
     let text = std::str::from_utf8(value).map_err(|_| Unproved::BadDigest)?;
     let (name, rest) = text.split_once('=').ok_or(Unproved::BadDigest)?;
-    let mut parser = Parser { rest };
+    let mut parser = Parser {
+        rest,
+        is_cut: false,
+    };
     let octets = parser.octets().map_err(|_| Unproved::BadDigest)?;
     let length = match name {
         "sha-256" => 32,
