@@ -2,8 +2,10 @@ package main
 
 import (
 	"net/http"
+	"net/http/httptest"
 	"strings"
 	"testing"
+	"time"
 
 	"conguraki/spki/httpsig"
 )
@@ -113,6 +115,30 @@ func TestSignaturesAreOff(t *testing.T) {
 			"request": ["files", "{method}", "{path}"]}], "signatures": ` + wrong + `}`
 		if _, err := parseConfig([]byte(text)); err == nil || !strings.Contains(err.Error(), "signatures") {
 			t.Errorf("%s: %v", wrong, err)
+		}
+	}
+}
+
+// forgetful are nonces that are never seen twice, so that one request can be measured.
+type forgetful struct{}
+
+func (forgetful) Take([]byte, string, int64, int64) error { return nil }
+
+// BenchmarkSigned measures a signed request without certificates: the proof and the decision.
+func BenchmarkSigned(b *testing.B) {
+	s := newSite(b, ofSite)
+	s.grants = func([]byte) error { return nil }
+	s.signed.Nonces = forgetful{}
+	request := httptest.NewRequest(http.MethodGet, "/auth", nil)
+	pairs := s.alice.signs(b, "GET", "files.example.org", "/web/x", "", nil)
+	for place := 0; place < len(pairs); place += 2 {
+		request.Header.Set(pairs[place], pairs[place+1])
+	}
+	b.ReportAllocs()
+	for turn := 0; turn < b.N; turn++ {
+		made := s.answerTo(request)
+		if made.response(time.Now(), false); made.Status != http.StatusOK {
+			b.Fatal(made.Status, made.Reason)
 		}
 	}
 }
