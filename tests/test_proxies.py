@@ -20,9 +20,10 @@ from support import TOP
 sys.path.append(os.path.join(TOP, "bindings", "python"))
 SECONDS = 600
 NAME = "files.example.org"
-NGINX = """daemon off; pid {room}/pid; events {{}} http {{ access_log off; client_body_temp_path t; proxy_temp_path t; fastcgi_temp_path t;
-uwsgi_temp_path t; scgi_temp_path t; server {{ listen unix:{room}/proxy; location / {{ proxy_pass http://127.0.0.1:{port}; {more} }} }} }}"""
+NGINX = """daemon off; pid {room}/pid; events {{}} http {{ {http} access_log off; client_body_temp_path t; proxy_temp_path t; fastcgi_temp_path t;
+uwsgi_temp_path t; scgi_temp_path t; server {{ listen unix:{room}/proxy; location / {{ proxy_pass http://{to}; {more} }} }} }}"""
 OWN_HOST = "proxy_http_version 1.1; proxy_set_header Host $http_host;"
+BY_NONCE = """map $http_signature_input $spki_nonce { '~;nonce="([^"]+)"' $1; }"""
 CADDY = "{{\nadmin off\nauto_https off\n}}\nhttp:// {{\nbind unix/{room}/proxy\nreverse_proxy 127.0.0.1:{port}\n}}\n"
 Change = Callable[[list[str]], list[str]]
 
@@ -44,13 +45,15 @@ class Proxies(unittest.TestCase):
         self.room = tempfile.mkdtemp(prefix="proxy-")
         self.addCleanup(shutil.rmtree, self.room)
         self.signer = test_spki_http.ed25519_signer(Ed25519PrivateKey.generate())
-        self.service = test_signatures.Service()
-        self.service.verifier = spki_http.Verifier(NAME, scheme="http")
-        thread = threading.Thread(target=self.service.serve_forever)
-        thread.start()
-        self.addCleanup(thread.join)
-        self.addCleanup(self.service.server_close)
-        self.addCleanup(self.service.shutdown)
+        self.services = [test_signatures.Service() for _ in range(2)]
+        for service in self.services:
+            service.verifier = spki_http.Verifier(NAME, scheme="http")
+            thread = threading.Thread(target=service.serve_forever)
+            thread.start()
+            self.addCleanup(thread.join)
+            self.addCleanup(service.server_close)
+            self.addCleanup(service.shutdown)
+        self.service = self.services[0]
 
     def start(self, words: list[str], text: str) -> None:
         """Starts a proxy, and waits until it listens."""
@@ -69,6 +72,11 @@ class Proxies(unittest.TestCase):
                 self.assertIsNone(proxy.poll(), log.read())
             return False
         waits_for("the proxy listens", listens)
+
+    def start_nginx(self, more: str, to: str = "", http: str = "") -> None:
+        as_user = "user root;" if os.getuid() == 0 else ""
+        self.start(["nginx", "-p", self.room, "-c", "conf", "-e", "log", "-g", as_user],
+                   NGINX.format(room=self.room, to=to or self.service.name, more=more, http=http))
 
     def asked(self, method: str, target: str, change: Change = same, host: str = NAME, body: bytes = b"") -> str:
         """The refusal, `valid`, or the status of the proxy."""
@@ -104,17 +112,27 @@ class Proxies(unittest.TestCase):
     @needs.needs("nginx")
     def test_nginx(self) -> None:
         """nginx passes on all that it takes as it is."""
-        as_user = "user root;" if os.getuid() == 0 else ""
-        self.start(["nginx", "-p", self.room, "-c", "conf", "-e", "log", "-g", as_user],
-                   NGINX.format(room=self.room, port=self.service.server_port, more=OWN_HOST))
+        self.start_nginx(OWN_HOST)
         self.answers({})
+
+    @needs.needs("nginx")
+    def test_nginx_before_two_services(self) -> None:
+        """Where nginx chooses by the nonce, a request that is sent again comes to the service that has it, also with tabs around the field, which
+        nginx takes for a part of it."""
+        servers = " ".join(f"server {service.name};" for service in self.services)
+        self.start_nginx(OWN_HOST, "both", f"{BY_NONCE} upstream both {{ hash $spki_nonce consistent; {servers} }}")
+        for turn in range(1000):
+            sent = [f"{name}: {it}" for name, it in self.signer.fields("GET", f"http://{NAME}/a").items()]
+            self.assertEqual(self.asked("GET", "/a", lambda _: sent), "valid")
+            self.assertEqual(self.asked("GET", "/a", lambda _: [line.replace(": ", ": \t ", 1) + "\t " for line in sent]), "nonce-seen")
+            if turn >= 20 and all(service.met for service in self.services):
+                break
+        self.assertTrue(all(service.met for service in self.services))
 
     @needs.needs("nginx")
     def test_nginx_with_a_host_of_its_own(self) -> None:
         """Without `proxy_set_header Host` the name is that of the upstream."""
-        as_user = "user root;" if os.getuid() == 0 else ""
-        self.start(["nginx", "-p", self.room, "-c", "conf", "-e", "log", "-g", as_user],
-                   NGINX.format(room=self.room, port=self.service.server_port, more=""))
+        self.start_nginx("")
         self.assertEqual(self.asked("GET", "/a"), "other-authority")
 
     @needs.needs("caddy")
