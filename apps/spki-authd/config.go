@@ -164,7 +164,8 @@ func (c *config) check() error {
 		}
 	}
 	for _, err := range []error{
-		c.checkEntrance(), c.checkControl(), c.checkLog(), c.Headers.check(c.CertificateForm), checkRules(c.Requests), c.checkLists(), c.Signatures.check(), c.Chains.check(),
+		c.checkEntrance(), c.checkControl(), c.checkLog(), c.Headers.check(c.CertificateForm), checkRules(c.Requests), c.checkLists(),
+		c.Signatures.check(), c.Chains.check(),
 	} {
 		if err != nil {
 			return err

@@ -66,7 +66,7 @@ func (c *chains) check() error {
 	return nil
 }
 
-// openKept reads the sequences of a folder. A file that is too old, or that the daemon has not written, is left out.
+// openKept reads the sequences of a folder, and removes those that have ended. What the daemon has not written is left out.
 func openKept(c *chains, now time.Time) (*kept, error) {
 	if c == nil {
 		return nil, nil
@@ -81,13 +81,34 @@ func openKept(c *chains, now time.Time) (*kept, error) {
 	}
 	paths, err := filepath.Glob(filepath.Join(c.Folder, "*", "*"))
 	for _, path := range paths {
-		key, name := filepath.Base(filepath.Dir(path)), filepath.Base(path)
-		octets, fault := readFile(path, mostShownOctets)
-		if about, stat := os.Stat(path); fault == nil && stat == nil && name == hexDigest(octets) && made.hasRoom(key) {
-			made.put(key, string(octets), about.ModTime(), now)
-		}
+		made.read(path, now)
 	}
 	return made, err
+}
+
+// read reads the file of a sequence.
+func (k *kept) read(path string, now time.Time) {
+	key, name := filepath.Base(filepath.Dir(path)), filepath.Base(path)
+	octets, err := readFile(path, mostShownOctets)
+	if err != nil || name != hexDigest(octets) {
+		return
+	}
+	about, err := os.Stat(path)
+	if err != nil || !k.hasRoom(key) {
+		return
+	}
+	made := k.chainOf(string(octets), about.ModTime())
+	if now.Before(made.until) {
+		k.byKey[key] = append(k.byKey[key], made)
+	} else {
+		k.remove(key, made)
+	}
+}
+
+// remove removes the file of a sequence. One that stays is found too old at the next start.
+func (k *kept) remove(key string, made keptChain) {
+	os.Remove(filepath.Join(k.Folder, key, made.name))
+	os.Remove(filepath.Join(k.Folder, key))
 }
 
 // hasRoom says whether a key may have one more sequence. The mutex is held, or nobody else knows the store.
@@ -96,15 +117,13 @@ func (k *kept) hasRoom(key string) bool {
 	return len(k.byKey[key]) < k.Each && (isKnown || len(k.byKey) < k.Keys)
 }
 
-// put takes a sequence that was kept at a time, unless it has ended.
-func (k *kept) put(key, text string, from, now time.Time) {
+// chainOf returns a sequence that is kept from a time on.
+func (k *kept) chainOf(text string, from time.Time) keptChain {
 	until := from.AddDate(0, 0, k.Days)
 	if end, hasEnd := endOf(text); hasEnd && end.Before(until) {
 		until = end
 	}
-	if now.Before(until) {
-		k.byKey[key] = append(k.byKey[key], keptChain{text, hexDigest([]byte(text)), until})
-	}
+	return keptChain{text, hexDigest([]byte(text)), until}
 }
 
 var notAfter = regexp.MustCompile(`\(9:not-after19:(\d{4}-\d\d-\d\d_\d\d:\d\d:\d\d)\)`)
@@ -121,56 +140,60 @@ func endOf(text string) (end time.Time, hasEnd bool) {
 	return end, hasEnd
 }
 
-// of returns the sequences of a key, and forgets those that have ended.
-func (k *kept) of(key string, now time.Time) []string {
+// of returns the sequences of a key.
+func (k *kept) of(key string, now time.Time) []keptChain {
 	if k == nil {
 		return nil
 	}
 	k.mutex.Lock()
 	defer k.mutex.Unlock()
-	var texts []string
+	return k.current(key, now)
+}
+
+// current returns the sequences of a key, and forgets those that have ended. The mutex is held.
+func (k *kept) current(key string, now time.Time) []keptChain {
 	var left []keptChain
 	for _, each := range k.byKey[key] {
 		if now.Before(each.until) {
-			texts, left = append(texts, each.text), append(left, each)
+			left = append(left, each)
 		} else {
-			os.Remove(filepath.Join(k.Folder, key, each.name))
+			k.remove(key, each)
 		}
 	}
 	if k.byKey[key] = left; len(left) == 0 {
 		delete(k.byKey, key)
-		os.Remove(filepath.Join(k.Folder, key))
 	}
-	return texts
+	return left
 }
 
 // add keeps a sequence of a key, and says what became of it. None is replaced.
 func (k *kept) add(key, text string, now time.Time) string {
-	for _, known := range k.of(key, now) {
-		if known == text {
+	k.mutex.Lock()
+	defer k.mutex.Unlock()
+	for _, known := range k.current(key, now) {
+		if known.text == text {
 			return wasKnown
 		}
 	}
-	k.mutex.Lock()
-	defer k.mutex.Unlock()
 	if !k.hasRoom(key) || len(text) > mostShownOctets {
 		return wasFull
 	}
-	if err := k.write(key, text); err != nil {
+	made := k.chainOf(text, now)
+	if !now.Before(made.until) || k.write(key, made) != nil {
 		return wasFailed
 	}
-	k.put(key, text, now, now)
+	k.byKey[key] = append(k.byKey[key], made)
 	return wasKept
 }
 
 // write writes the file of a sequence, whole or not at all.
-func (k *kept) write(key, text string) error {
+func (k *kept) write(key string, made keptChain) error {
 	folder := filepath.Join(k.Folder, key)
 	if err := os.MkdirAll(folder, 0o700); err != nil {
 		return err
 	}
-	path := filepath.Join(folder, hexDigest([]byte(text)))
-	if err := os.WriteFile(path+".new", []byte(text), 0o600); err != nil {
+	path := filepath.Join(folder, made.name)
+	if err := os.WriteFile(path+".new", []byte(made.text), 0o600); err != nil {
 		return err
 	}
 	return os.Rename(path+".new", path)
@@ -179,11 +202,11 @@ func (k *kept) write(key, text string) error {
 // judgeAll decides by what a request shows. Where it shows nothing and gets nothing, each sequence that is kept for its key is tried.
 func (d *decider) judgeAll(made record, key []byte, path string, asked *asked) record {
 	first := d.judge(made, key, path, asked.sequence)
-	if asked.sequence != "" || first.Answer == answerYes {
+	if asked.sequence != "" || first.Answer != answerUnknown {
 		return first
 	}
-	for _, text := range d.chains.of(made.Key, d.now()) {
-		if next := d.judge(made, key, path, text); next.Answer == answerYes {
+	for _, each := range d.chains.of(made.Key, d.now()) {
+		if next := d.judge(made, key, path, each.text); next.Answer == answerYes {
 			next.Kept = "used"
 			return next
 		}
