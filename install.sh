@@ -23,7 +23,7 @@ libraries=${LIBDIR:-lib}
 
 cmake=$libraries/cmake/spki
 # The modules of spki-cert, and those that it shares with services in Python.
-modules=(apps/spki-cert/spki_cert_tool/{*.py,py.typed} bindings/python/spki{,_verify}/{*.py,py.typed})
+modules=(apps/spki-cert/spki_cert_tool/{*.py,py.typed} bindings/python/spki{,_http,_verify}/{*.py,py.typed})
 
 # The place of a module under the prefix.
 place_of() {
@@ -58,7 +58,7 @@ if [[ $uninstalls ]]; then
             echo "removed $prefix/$place"
         fi
     done
-    rm -rf "$prefix"/share/spki-cert/{,spki_cert_tool,spki,spki_verify}/__pycache__
+    rm -rf "$prefix"/share/spki-cert/{,spki_cert_tool,spki,spki_http,spki_verify}/__pycache__
     exit
 fi
 

@@ -55,6 +55,7 @@ RUN = [Run(*words.split()) for words in (
 NOT_RUN = [
     ("apps/spki-authd/*", r" *(apt-get|a2ensite|install|sed|caddy|haproxy|nginx|curl|spki-authd -probe|openssl req|-keyout|chgrp) .*",
      "a server with a name of its own, by root: tests/test_attacks.py and tests/test_authd.py start each with such files"),
+    ("apps/spki-authd/README.md", r"spki-cert request .*", "a site with a name of its own: tests/test_signed_sites.py asks each web server so"),
     ("docs/OPERATING.md", r"cd /var/lib/prometheus/node-exporter .*", "a collector of Prometheus has the folder"),
     ("*", r"\(?(cd \S+ && )?rt .*|cd (\.\./|crates/)spki_\w+", "the toolchain, which no package has; proofs take minutes to hours"),
     ("*", r"\.ci/(run|deep)( .*)?|tests/run( .*)?|python3 -m unittest .*|go test .*", "they run this test, and take minutes to hours"),

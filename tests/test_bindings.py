@@ -287,7 +287,7 @@ class InPython(Binding):
 
     @needs.needs("mypy")
     def test_types(self):
-        words = ["mypy", "--strict", "--cache-dir", os.devnull, "spki", "spki_verify",
+        words = ["mypy", "--strict", "--cache-dir", os.devnull, "spki", "spki_http", "spki_verify",
                  *(os.path.join("examples", name) for name in ("decide.py", "asynchronous.py"))]
         done = subprocess.run(words, cwd=PYTHON, timeout=SECONDS, capture_output=True, text=True)
         self.assertEqual(done.returncode, 0, done.stdout)

@@ -661,7 +661,7 @@ int main(int count, char **words)
         self.assertLess(min(used), SECONDS_TO_START)
 
     def test_help_and_completion(self):
-        for command in ("", "key", "sign", "name", "entry", "show", "ask", "check"):
+        for command in ("", "key", "sign", "name", "entry", "show", "ask", "check", "request"):
             self.assertIn("example" if command else "exit status", self.done(*filter(None, [command]), "--help"))
         self.assertIn("--propagate", self.done("completion"))
         self.done("nothing", wanted=2)

@@ -1,6 +1,6 @@
 """Tests the Go module of bindings/go and the daemon spki-authd: their own tests with the race detector, gofmt and go vet. The module is asked
 what the program is asked, as `test_bindings.py` asks the other bindings. The daemon is asked with keys and certificates that `spki-cert` and
-OpenSSL made. Among the long tests, headers and signatures are fuzzed for two minutes each."""
+OpenSSL made. Among the long tests, headers, signatures and signed requests are fuzzed for two minutes each."""
 import contextlib
 import hashlib
 import http.client
@@ -23,7 +23,7 @@ import test_bindings
 from support import TESTS, TOP, canonical, read
 
 SPKI_CERT = os.path.join(TOP, "apps", "spki-cert", "spki-cert")
-FUZZED = [(golang.MODULE, "./verify", "FuzzSignature"),
+FUZZED = [(golang.MODULE, "./verify", "FuzzSignature"), (golang.MODULE, "./httpsig", "FuzzFields"), (golang.MODULE, "./httpsig", "FuzzSigned"),
           *((golang.DAEMON, ".", name) for name in ("FuzzConnection", "FuzzHeaders", "FuzzSequence", "FuzzPath"))]
 FUZZ_TIME = "120s"
 KINDS = {"ed25519": ["ed25519"], "rsa": ["RSA", "-pkeyopt", "rsa_keygen_bits:2048"], "p256": ["EC", "-pkeyopt", "ec_paramgen_curve:P-256"]}

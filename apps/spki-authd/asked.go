@@ -22,6 +22,8 @@ type asked struct {
 	id string
 	// The host that the client asks for, or empty if it is not known, and the client's address, if the web server says it.
 	host, address string
+	// The headers, in which a signature is.
+	header http.Header
 }
 
 var (
@@ -44,6 +46,7 @@ func (c *config) askedOf(request *http.Request) (made asked, err error) {
 		return made, err
 	}
 	made.id = cut(made.id, mostID)
+	made.header = request.Header
 	if made.host, err = c.hostOf(request); err != nil {
 		return made, err
 	}

@@ -34,8 +34,12 @@ type config struct {
 	Requests        []rule  `json:"requests"`
 	RefusedStatus   int     `json:"refused_status"`
 	Explain         bool    `json:"explain"`
-	Cache           *int    `json:"cache"`
-	Limits          limits  `json:"limits"`
+	// How requests are signed, or nil if they are not.
+	Signatures *signatures `json:"signatures"`
+	// Where the certificates are that clients have left, or nil if they can leave none.
+	Chains *chains `json:"chains"`
+	Cache  *int    `json:"cache"`
+	Limits limits  `json:"limits"`
 
 	secret []byte
 	// Whether a rule or a list depends on the host, so that a request must have one.
@@ -161,6 +165,7 @@ func (c *config) check() error {
 	}
 	for _, err := range []error{
 		c.checkEntrance(), c.checkControl(), c.checkLog(), c.Headers.check(c.CertificateForm), checkRules(c.Requests), c.checkLists(),
+		c.Signatures.check(), c.Chains.check(),
 	} {
 		if err != nil {
 			return err

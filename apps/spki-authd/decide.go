@@ -15,6 +15,8 @@ type decider struct {
 	keeper    keeper
 	cache     *cache
 	sequences *sequences
+	signed    *signed
+	chains    *kept
 	counts    *counts
 	clock     clock
 	// The rates of keys and of addresses.
@@ -33,7 +35,7 @@ const (
 )
 
 var (
-	errNoCertificate = errors.New("the client has shown no certificate of TLS")
+	errNoCertificate = errors.New("the client has shown no certificate of TLS, and no signature that is read")
 	errNoRule        = errors.New("no rule says which request this is")
 	errNoList        = errors.New("no access list is for this host and path")
 	errOftenAddress  = errors.New("the address asks more often than address_rate")
@@ -47,14 +49,14 @@ func (d *decider) decide(asked asked) record {
 		made.Address = cut(asked.address, mostID)
 		return made.ended(answerLimited, errOftenAddress)
 	}
-	if asked.certificate == "" {
-		return made.ended(answerUnknown, errNoCertificate)
+	client, proof, err := d.clientOf(&asked)
+	if errors.Is(err, errNoCertificate) {
+		return made.ended(answerUnknown, err)
 	}
-	client, err := d.keys.of(asked.certificate)
 	if err != nil {
 		return made.ended(answerRefused, err)
 	}
-	made.Key = client.name
+	made.Key, made.Signed = client.name, proof != nil
 	if !d.byKey.allows(client.name, d.now()) {
 		return made.ended(answerLimited, errOftenKey)
 	}
@@ -68,7 +70,7 @@ func (d *decider) decide(asked asked) record {
 		made.Target = cut(asked.method+" "+path, mostTarget)
 		return made.ended(answerNo, errNoRule)
 	}
-	return d.judge(made, client.key, path, asked.sequence)
+	return d.keep(d.takeNonce(d.judgeAll(made, client.key, path, &asked), proof), &asked)
 }
 
 // shownTarget returns what the log has of a target that is not clear. A query may have a password or a token, and is left out.

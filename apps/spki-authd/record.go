@@ -28,6 +28,8 @@ type record struct {
 	Answer       answer   `json:"answer"`
 	Status       int      `json:"status"`
 	Key          string   `json:"key,omitempty"`
+	Signed       bool     `json:"signed,omitempty"`
+	Kept         string   `json:"kept,omitempty"`
 	Request      []string `json:"request,omitempty"`
 	Entry        int      `json:"entry,omitempty"`
 	Certificates []string `json:"certificates,omitempty"`
@@ -92,6 +94,9 @@ func (r *record) response(now time.Time, isLast bool) []byte {
 	}
 	if r.Entry > 0 {
 		header("X-Spki-Entry", strconv.Itoa(r.Entry))
+	}
+	if r.Kept != "" {
+		header("X-Spki-Kept", r.Kept)
 	}
 	if r.Answer == answerRefused {
 		header("X-Spki-Reason", strings.ReplaceAll(r.Reason, "\n", ", "))

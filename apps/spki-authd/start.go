@@ -46,6 +46,9 @@ func start(words words, out, messages io.Writer) error {
 		*config.Cache = 0
 	}
 	decider := newDecider(config)
+	if decider.chains, err = openKept(config.Chains, decider.now()); err != nil {
+		return err
+	}
 	if err := decider.keeper.reload(config, false, decider.now()); err != nil {
 		return err
 	}
@@ -61,11 +64,13 @@ func start(words words, out, messages io.Writer) error {
 
 // newDecider returns a decider without an access list.
 func newDecider(config *config) *decider {
-	return &decider{
+	made := &decider{
 		config: config, keys: newKeys(config.CertificateForm), cache: newCache(*config.Cache), sequences: newSequences(*config.Cache), now: time.Now,
 		counts: newCounts(len(config.Requests)), byKey: newRates(config.Limits.KeyRate), byAddress: newRates(config.Limits.AddressRate),
 		verify: verify.Signature,
 	}
+	made.signed = newSigned(config, func() time.Time { return made.now() })
+	return made
 }
 
 // test says what is in the files of a configuration, or what else is wrong.

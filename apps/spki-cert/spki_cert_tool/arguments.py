@@ -182,7 +182,10 @@ def parser_of_commands() -> argparse.ArgumentParser:
     check.add_argument("paths", metavar="PATH", nargs="+")
     commands.add_parser("completion", help="write the completion of bash: eval \"$(spki-cert completion)\"")
     from .ending import with_end
+    from .requesting import REQUEST_HELP, with_request
     with_end(commands.add_parser("end", help="end a certificate before its date"))
+    with_request(added("request", "sign an HTTP request, and print its fields or have curl send it", REQUEST_HELP,
+                       "example: spki-cert request --by alice https://files.example.org/web/index.html"))
     return parser
 
 

@@ -290,12 +290,17 @@ def end(given: argparse.Namespace) -> int:
     return end_certificates(given)
 
 
+def request(given: argparse.Namespace) -> int:
+    from .requesting import request as sign_request
+    return sign_request(given)
+
+
 def write_completion(given: argparse.Namespace) -> int:
     return say(completion())
 
 
 COMMANDS: dict[str, Command] = {"key": key, NEW_KEY: new_key, "sign": sign, "name": sign, "entry": entry, "show": show, "ask": ask, "check": check,
-                                "end": end, "completion": write_completion}
+                                "end": end, "request": request, "completion": write_completion}
 
 
 def main() -> int:
@@ -312,7 +317,7 @@ def main() -> int:
         tell(f"spki-cert: {why}")
         return REFUSED
     except ModuleNotFoundError as why:
-        source = "pip install ./bindings/python" if why.name == "spki_verify" else f"Debian: python3-{why.name}"
+        source = "pip install ./bindings/python" if why.name in ("spki_verify", "spki_http") else f"Debian: python3-{why.name}"
         tell(f"spki-cert: the module {why.name} is not there ({source})")
     except OSError as why:
         tell(f"spki-cert: {why.filename or 'reading or writing'}: {why.strerror or why}")

@@ -40,6 +40,7 @@ mod asked;
 mod decision;
 mod explanation;
 mod guard;
+pub mod http;
 mod library;
 mod question;
 mod signature;

@@ -1,0 +1,144 @@
+package main
+
+import (
+	"net/http"
+	"net/http/httptest"
+	"strings"
+	"testing"
+	"time"
+
+	"conguraki/spki/httpsig"
+)
+
+const ofSite = `, "signatures": {"names": ["files.example.org", "files.example.net:8443"]}`
+
+// signs returns the fields of a person's request, in pairs of name and value, as nginx passes them on.
+func (p person) signs(t testing.TB, method, authority, target, sequence string, body []byte) []string {
+	t.Helper()
+	signer, err := httpsig.NewSigner(p.private)
+	if err != nil {
+		t.Fatal(err)
+	}
+	signer.Sequence = sequence
+	header := http.Header{}
+	if err := signer.Sign("https", httpsig.Message{Method: method, Authority: authority, Target: target, Header: header, Body: body}); err != nil {
+		t.Fatal(err)
+	}
+	host, _, _ := strings.Cut(authority, ":")
+	pairs := []string{"X-Original-Method", method, "X-Original-URI", target, "X-Original-Host", host}
+	for name, values := range header {
+		pairs = append(pairs, name, values[0])
+	}
+	return pairs
+}
+
+// changed returns pairs with another value.
+func changed(pairs []string, name, value string) []string {
+	made := append([]string{}, pairs...)
+	for place := 0; place < len(made); place += 2 {
+		if strings.EqualFold(made[place], name) {
+			made[place+1] = value
+		}
+	}
+	return made
+}
+
+func TestSigned(t *testing.T) {
+	s := newSite(t, ofSite)
+	bobs, _ := s.sequencesShown()
+	alices := func(method, target string, body string) []string {
+		return s.alice.signs(t, method, "files.example.org", target, "", []byte(body))
+	}
+	reads, bob := alices("GET", "/web/x?y=z", ""), s.bob.signs(t, "GET", "files.example.net:8443", "/web/docs/b", bobs, nil)
+	for _, row := range []struct {
+		name   string
+		pairs  []string
+		status int
+		reason string
+	}{
+		{"Alice reads", reads, 200, ""},
+		{"Alice reads, sent again", reads, 400, "nonce-seen"},
+		{"Alice reads, by another's certificate", append(alices("GET", "/web/x", ""), "X-Client-Cert", s.mallory.escaped()), 200, ""},
+		{"Bob reads, by another name", bob, 200, ""},
+		{"Bob's without his chain", changed(bob, "X-Spki-Sequence", ""), 400, "invalid-signature"},
+		{"Bob's to the first name", changed(bob, "X-Original-Host", "files.example.org"), 400, "invalid-signature"},
+		{"another path", changed(alices("GET", "/web/x", ""), "X-Original-URI", "/web/y"), 400, "invalid-signature"},
+		{"another method", changed(alices("GET", "/web/x", ""), "X-Original-Method", "HEAD"), 400, "invalid-signature"},
+		{"another host", changed(alices("GET", "/web/x", ""), "X-Original-Host", "evil.example"), 400, "other-authority"},
+		{"no host", changed(alices("GET", "/web/x", ""), "X-Original-Host", ""), 400, "other-authority"},
+		{"Alice writes without the right", alices("PUT", "/web/x", "abc"), 401, ""},
+		{"PUT made of GET", changed(alices("GET", "/web/x", ""), "X-Original-Method", "PUT"), 400, "body-without-digest"},
+		{"a bad signature, a certificate", append(changed(alices("GET", "/web/x", ""), "Signature", "spki=:AAAA:"), "X-Client-Cert", s.alice.escaped()),
+			400, "invalid-signature"},
+		{"half a signature beside a certificate", []string{"X-Original-Method", "GET", "X-Original-URI", "/web/x", "X-Original-Host", "files.example.org",
+			"Signature", "spki=:AAAA:", "X-Client-Cert", s.alice.escaped()}, 400, "malformed"},
+		{"two signatures", append(alices("GET", "/web/x", ""), "Signature", "spki=:AAAA:"), 400, "repeated-field"},
+		{"a certificate alone", []string{"X-Original-Method", "GET", "X-Original-URI", "/web/x", "X-Client-Cert", s.alice.escaped()}, 200, ""},
+		{"nothing", []string{"X-Original-Method", "GET", "X-Original-URI", "/web/x"}, 401, ""},
+	} {
+		met := s.ask(row.pairs...)
+		line := s.lastLine(t)
+		if met.StatusCode != row.status || !strings.HasSuffix(line.Reason, row.reason) || (line.Entry > 0) != (row.status == 200) {
+			t.Errorf("%s: %d, wanted %d: %+v", row.name, met.StatusCode, row.status, line)
+		}
+	}
+	if line := s.lastLine(t); line.Signed {
+		t.Error(line)
+	}
+}
+
+// Who is denied fills no store: the nonce of a denied request is still free.
+func TestNoncesOfDenials(t *testing.T) {
+	s := newSite(t, `, "signatures": {"names": ["files.example.org"], "nonces": 1}`)
+	denied := s.mallory.signs(t, "GET", "files.example.org", "/web/x", "", nil)
+	for range [3]int{} {
+		if met := s.ask(denied...); met.StatusCode != http.StatusUnauthorized {
+			t.Error(met.StatusCode, s.lastLine(t))
+		}
+	}
+	for _, wanted := range []string{"", string(httpsig.StoreFull)} {
+		s.ask(s.alice.signs(t, "GET", "files.example.org", "/web/x", "", nil)...)
+		if line := s.lastLine(t); !strings.HasSuffix(line.Reason, wanted) || (line.Answer == answerYes) != (wanted == "") || !line.Signed {
+			t.Errorf("%+v", line)
+		}
+	}
+}
+
+func TestSignaturesAreOff(t *testing.T) {
+	s := newSite(t, "")
+	if met := s.ask(s.alice.signs(t, "GET", "files.example.org", "/web/x", "", nil)...); met.StatusCode != http.StatusUnauthorized {
+		t.Error(met.StatusCode)
+	}
+	for _, wrong := range []string{`{}`, `{"names": []}`, `{"names": ["a b"]}`, `{"names": ["a.example", "A.example:8443"]}`, `{"names": ["a"], "nonces": -1}`,
+		`{"names": ["https://a.example"]}`} {
+		text := `{"listen": "unix:/run/x/s", "server": "nginx", "list": "/l", "log": "/log", "requests": [{"prefix": "/", "methods": {"GET": "read"},
+			"request": ["files", "{method}", "{path}"]}], "signatures": ` + wrong + `}`
+		if _, err := parseConfig([]byte(text)); err == nil || !strings.Contains(err.Error(), "signatures") {
+			t.Errorf("%s: %v", wrong, err)
+		}
+	}
+}
+
+// forgetful are nonces that are never seen twice, so that one request can be measured.
+type forgetful struct{}
+
+func (forgetful) Take([]byte, string, int64, int64) error { return nil }
+
+// BenchmarkSigned measures a signed request without certificates: the proof and the decision.
+func BenchmarkSigned(b *testing.B) {
+	s := newSite(b, ofSite)
+	s.grants = func([]byte) error { return nil }
+	s.signed.Nonces = forgetful{}
+	request := httptest.NewRequest(http.MethodGet, "/auth", nil)
+	pairs := s.alice.signs(b, "GET", "files.example.org", "/web/x", "", nil)
+	for place := 0; place < len(pairs); place += 2 {
+		request.Header.Set(pairs[place], pairs[place+1])
+	}
+	b.ReportAllocs()
+	for turn := 0; turn < b.N; turn++ {
+		made := s.answerTo(request)
+		if made.response(time.Now(), false); made.Status != http.StatusOK {
+			b.Fatal(made.Status, made.Reason)
+		}
+	}
+}

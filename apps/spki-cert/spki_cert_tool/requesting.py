@@ -1,0 +1,93 @@
+"""Signs an HTTP request by a key, and prints its fields or has curl send it: docs/SIGNATURES.md."""
+from __future__ import annotations
+
+import argparse
+import base64
+import os
+import re
+import subprocess
+import sys
+
+from .files import Refused, put, remark_on_mode, signer_at, tell, value_of
+from .sexp import canonical
+
+REQUEST_HELP = """Signs an HTTP request (RFC 9421), and prints the fields that prove it: curl takes them by `-H @-`. They count for this request
+alone, once, and for 300 seconds. With --curl it has curl send the request, and the words after -- are more options of curl. KEY is the file of a
+private key, or of the public one of a key that ssh-agent holds."""
+DONE, BY_SIGNAL = 0, 128
+KEEP = "X-Spki-Keep"
+METHOD = re.compile(r"[A-Z]{1,32}")
+ADDRESS = re.compile(r"https?://[^/?#@\s]+(?:[/?][!\"$-~]*)?")
+
+
+def with_request(parser: argparse.ArgumentParser) -> None:
+    """Adds the options of the command."""
+    parser.add_argument("--by", metavar="KEY", required=True, help="the key that signs")
+    parser.add_argument("--cert", metavar="FILE", help="the sequence with the certificates of this key, which is sent and signed too")
+    parser.add_argument("--method", metavar="METHOD", help="GET if it is not given, and PUT with --body")
+    parser.add_argument("--body", metavar="FILE", help="the body of the request, whose digest is signed")
+    parser.add_argument("--keep", action="store_true", help="ask the service to keep the certificates of --cert for this key")
+    parser.add_argument("--curl", action="store_true", help="have curl send the request")
+    parser.add_argument("address", metavar="URL")
+    parser.add_argument("words", metavar="OPTION", nargs="*", help="after --: more options of curl")
+
+
+def request(given: argparse.Namespace) -> int:
+    """Prints the fields of a signed request, or has curl send it."""
+    from spki_http import Signer
+    method, body = given.method or ("PUT" if given.body is not None else "GET"), body_of(given.body) if given.body is not None else b""
+    if not METHOD.fullmatch(method):
+        raise Refused(f"{method}: a method is in capital letters, as PUT")
+    if not ADDRESS.fullmatch(given.address):
+        raise Refused(f"{given.address}: no address of https or http, or one with a space, a fragment or a password; write %20 for a space")
+    if given.keep and given.cert is None:
+        raise Refused("--keep goes with --cert")
+    if given.words and not given.curl:
+        raise Refused(f"{given.words[0]}: options of curl go with --curl")
+    sequence = "{%s}" % base64.b64encode(canonical(value_of(given.cert, "sequence"))).decode() if given.cert is not None else ""
+    by = signer_at(given.by)
+    tell(*(f"spki-cert: {remark}" for remark in remark_on_mode(given.by)))
+    signer = Signer(canonical(by.key), lambda message: canonical(by.sign(message)), sequence)
+    own = {KEEP: "yes"} if given.keep else {}
+    fields = {**own, **signer.fields(method, given.address, body, own.items(), [KEEP.lower()])}
+    lines = "".join(f"{name}: {value}\n" for name, value in fields.items())
+    if given.curl:
+        return sent(method, given.address, lines.encode(), body if given.body is not None else None, given.words)
+    put(lines)
+    return DONE
+
+
+def body_of(path: str) -> bytes:
+    """The whole of a file, or of standard input for `-`."""
+    try:
+        if path == "-":
+            return sys.stdin.buffer.read()
+        with open(path, "rb") as file:
+            return file.read()
+    except OSError as why:
+        raise Refused(f"{path}: {why.strerror}") from None
+
+
+def sent(method: str, address: str, lines: bytes, body: bytes | None, words: list[str]) -> int:
+    """Has curl send a request as it is. The fields and the body are files without a name, so that no list of processes shows them."""
+    files = [file_of(octets) for octets in [lines, *([body] if body is not None else [])]]
+    words = ["curl", "--path-as-is", "--globoff", *(["--head"] if method == "HEAD" else ["--request", method]), "--header", f"@/dev/fd/{files[0]}",
+             *(["--header", "Content-Type: application/octet-stream", "--data-binary", f"@/dev/fd/{files[1]}"] if body is not None else []),
+             *words, "--url", address]
+    try:
+        status = subprocess.run(words, pass_fds=files).returncode
+        return status if status >= 0 else BY_SIGNAL - status
+    except FileNotFoundError:
+        raise Refused("there is no curl (Debian: curl)") from None
+    finally:
+        for file in files:
+            os.close(file)
+
+
+def file_of(octets: bytes) -> int:
+    """A file in memory with these octets."""
+    file = os.memfd_create("spki-cert")
+    with os.fdopen(os.dup(file), "wb") as writer:
+        writer.write(octets)
+    os.lseek(file, 0, os.SEEK_SET)
+    return file

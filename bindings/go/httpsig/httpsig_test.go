@@ -1,0 +1,353 @@
+package httpsig
+
+import (
+	"bytes"
+	"crypto"
+	"crypto/ecdsa"
+	"crypto/ed25519"
+	"crypto/elliptic"
+	"crypto/rand"
+	"crypto/rsa"
+	"crypto/x509"
+	"encoding/base64"
+	"errors"
+	"fmt"
+	"io"
+	"net/http"
+	"net/http/httptest"
+	"os"
+	"strconv"
+	"strings"
+	"testing"
+	"time"
+
+	"conguraki/spki/verify"
+)
+
+// A row is one of the table that all languages read: tests/generators/signed_requests.py says what its lines are.
+type row struct {
+	name, gives string
+	message     Message
+	now, again  int64
+	isAgain     bool
+}
+
+// rowsOf reads the table.
+func rowsOf(t testing.TB) (rows []row) {
+	octets, err := os.ReadFile("testdata/rows")
+	if err != nil {
+		t.Fatal(err)
+	}
+	for _, line := range strings.Split(string(octets), "\n") {
+		word, rest, _ := strings.Cut(line, " ")
+		if word == "row" {
+			rows = append(rows, row{name: rest, message: Message{Header: http.Header{}}})
+		} else if len(rows) > 0 {
+			rows[len(rows)-1].set(word, unescaped(rest))
+		}
+	}
+	return rows
+}
+
+// set sets what a line says.
+func (r *row) set(word, text string) {
+	switch word {
+	case "on":
+		parts := strings.Split(text, "|")
+		r.message.Method, r.message.Target, r.message.Authority = parts[0], parts[1], parts[2]
+		r.now, _ = strconv.ParseInt(parts[3], 10, 64)
+	case "field":
+		name, value, _ := strings.Cut(text, ": ")
+		r.message.Header.Add(name, value)
+	case "body":
+		r.message.Body = []byte(text)
+	case "again":
+		r.again, _ = strconv.ParseInt(text, 10, 64)
+		r.isAgain = true
+	case "gives":
+		r.gives = text
+	}
+}
+
+// unescaped replaces what the table escapes.
+func unescaped(text string) string {
+	made, err := strconv.Unquote(`"` + strings.ReplaceAll(text, `"`, `\"`) + `"`)
+	if err != nil {
+		panic(text)
+	}
+	return made
+}
+
+// at returns a verifier at a time.
+func at(now *int64) *Verifier {
+	made := NewVerifier("example.com")
+	made.Start, made.Now = time.Unix(1792000000, 0), func() time.Time { return time.Unix(*now, 0) }
+	return made
+}
+
+// answerOf returns `valid` or the name of a refusal.
+func answerOf(proof *Proof, err error) string {
+	var refusal Refusal
+	if err == nil && len(proof.Key) > 0 {
+		return "valid"
+	}
+	if proof != nil || !errors.As(err, &refusal) {
+		return fmt.Sprintf("%v, %v", proof, err)
+	}
+	return string(refusal)
+}
+
+func TestRows(t *testing.T) {
+	rows := rowsOf(t)
+	if len(rows) < 200 {
+		t.Fatal(len(rows))
+	}
+	for _, row := range rows {
+		now := row.now
+		verifier := at(&now)
+		if row.isAgain {
+			now -= row.again
+			if answer := answerOf(verifier.Message(row.message)); answer != "valid" {
+				t.Errorf("%s, the first time: %s", row.name, answer)
+			}
+			now = row.now
+		}
+		if answer := answerOf(verifier.Message(row.message)); answer != row.gives {
+			t.Errorf("%s: %s, wanted %s", row.name, answer, row.gives)
+		}
+	}
+}
+
+func octets(t testing.TB, text string) []byte {
+	made, err := base64.StdEncoding.DecodeString(text)
+	if err != nil {
+		t.Fatal(err)
+	}
+	return made
+}
+
+// The examples of RFC 9421, appendix B.2.6 and B.2.4, with the keys of B.1.4 and B.1.3.
+const (
+	privateRFC   = "MC4CAQAwBQYDK2VwBCIEIJ+DYvh6SEqVTm50DFtMDoQikTmiCqirVv9mWG9qfSnF"
+	signatureRFC = "wqcAqbmYJ2ji2glfAMaRy4gruYYnx2nEFN2HN6jrnDnQCK1u02Gb04v9EDgwUPiu4A0w6vuQv5lIp5WPpBKRCw=="
+	curveRFC     = "MFkwEwYHKoZIzj0CAQYIKoZIzj0DAQcDQgAEqIVYZVLCrPZHGHjP17CTW0/+D9Lfw0EkjqF7xB4FivAxzic30tMM4GF+hR6Dxh71Z50VGGdldkkDXZCnTNnoXQ=="
+	responseRFC  = `"@status": 200
+"content-type": application/json
+"content-digest": sha-512=:mEWXIS7MaLRuGgxOBdODa3xqM1XdEvxoYhvlCFJ41QJgJc4GTsPp29l5oGX69wWdXymyU0rjJuahq4l5aGgfLQ==:
+"content-length": 23
+"@signature-params": ("@status" "content-type" "content-digest" "content-length");created=1618884473;keyid="test-key-ecc-p256"`
+	curveSignatureRFC = "wNmSUAhwb5LxtOtOpNa6W5xj067m5hFrj0XQ4fvpaCLx0NKocgPquLgyahnzDnDAUy5eCdlYUEkLIj+32oiasw=="
+)
+
+func TestPublishedExamples(t *testing.T) {
+	header := http.Header{"Date": {"Tue, 20 Apr 2021 02:07:55 GMT"}, "Content-Type": {"application/json"}, "Content-Length": {"18"}}
+	of := base{&Message{Method: "POST", Target: "/foo?param=Value&Pet=dog", Header: header}, "https", "example.com"}
+	text, err := of.text([]string{"date", "@method", "@path", "@authority", "content-type", "content-length"},
+		`("date" "@method" "@path" "@authority" "content-type" "content-length");created=1618884473;keyid="test-key-ed25519"`)
+	if err != nil {
+		t.Fatal(err)
+	}
+	private, err := x509.ParsePKCS8PrivateKey(octets(t, privateRFC))
+	if err != nil {
+		t.Fatal(err)
+	}
+	signer, err := NewSigner(private.(crypto.Signer))
+	if err != nil {
+		t.Fatal(err)
+	}
+	made, err := signer.octets(text)
+	if err != nil || base64.StdEncoding.EncodeToString(made) != signatureRFC {
+		t.Errorf("%v, %x", err, made)
+	}
+	if !verify.Signature(signer.key, text, valueOf(Ed25519, octets(t, signatureRFC))) {
+		t.Error("Ed25519")
+	}
+	public, err := x509.ParsePKIXPublicKey(octets(t, curveRFC))
+	if err != nil {
+		t.Fatal(err)
+	}
+	key, err := verify.KeyOf(public)
+	if err != nil || !verify.Signature(key, []byte(responseRFC), valueOf(P256, octets(t, curveSignatureRFC))) {
+		t.Error("ECDSA")
+	}
+	digest, err := digestOf("sha-512=:WZDPaVn/7XgHaAy8pmojAkGWoRx2UFChF41A2svX+TaPm+AbwAgBWnrIiYllu7BNNyealdVLvRwEmTHWXvJwew==:")
+	if err != nil || !digest.is([]byte(`{"hello": "world"}`)) {
+		t.Error("the digest of RFC 9530")
+	}
+}
+
+// signers returns a signer by each kind of key.
+func signers(t testing.TB) map[string]*Signer {
+	_, edwards, _ := ed25519.GenerateKey(rand.Reader)
+	curve, _ := ecdsa.GenerateKey(elliptic.P256(), rand.Reader)
+	modulus, _ := rsa.GenerateKey(rand.Reader, 2048)
+	made := map[string]*Signer{}
+	for name, private := range map[string]crypto.Signer{Ed25519: edwards, P256: curve, RSA: modulus} {
+		signer, err := NewSigner(private)
+		if err != nil {
+			t.Fatal(err)
+		}
+		made[name] = signer
+	}
+	return made
+}
+
+func TestClientAndServer(t *testing.T) {
+	verifier := NewVerifier()
+	verifier.Scheme = "http"
+	var body []byte
+	server := httptest.NewServer(http.HandlerFunc(func(answer http.ResponseWriter, request *http.Request) {
+		proof, err := verifier.Request(request)
+		if err == nil {
+			body, err = proof.Body(request.Body, 100)
+		}
+		if err != nil {
+			http.Error(answer, err.Error(), http.StatusUnauthorized)
+			return
+		}
+		fmt.Fprint(answer, proof.Hash())
+	}))
+	defer server.Close()
+	name := strings.TrimPrefix(server.URL, "http://")
+	verifier.Authorities = []string{name}
+	for kind, signer := range signers(t) {
+		signer.Sequence = "{KDg6c2VxdWVuY2Up}"
+		client := http.Client{Transport: &Transport{Signer: signer, Names: []string{name}}}
+		for _, sent := range []string{"", "some octets"} {
+			request, _ := http.NewRequest(http.MethodPut, server.URL+"/a%20b/%7ec?d=e+f", strings.NewReader(sent))
+			if sent == "" {
+				request, _ = http.NewRequest(http.MethodGet, server.URL, nil)
+			}
+			response, err := client.Do(request)
+			if err != nil {
+				t.Fatal(err)
+			}
+			told, _ := io.ReadAll(response.Body)
+			response.Body.Close()
+			if wanted := (&Proof{Key: signer.key}).Hash(); response.StatusCode != 200 || string(told) != wanted || string(body) != sent {
+				t.Errorf("%s: %d %s, %q", kind, response.StatusCode, told, body)
+			}
+		}
+	}
+	response, err := http.Get(server.URL)
+	if err != nil || response.StatusCode != http.StatusUnauthorized {
+		t.Error(err, response)
+	}
+}
+
+func TestOtherNamesLearnNothing(t *testing.T) {
+	server := httptest.NewServer(http.HandlerFunc(func(answer http.ResponseWriter, request *http.Request) {
+		fmt.Fprint(answer, len(request.Header["Signature"])+len(request.Header["X-Spki-Sequence"]))
+	}))
+	defer server.Close()
+	signer := signers(t)[Ed25519]
+	signer.Sequence = "{KDg6c2VxdWVuY2Up}"
+	response, err := (&http.Client{Transport: &Transport{Signer: signer, Names: []string{"example.com"}}}).Get(server.URL)
+	if err != nil {
+		t.Fatal(err)
+	}
+	told, _ := io.ReadAll(response.Body)
+	response.Body.Close()
+	if string(told) != "0" {
+		t.Errorf("%s", told)
+	}
+}
+
+func TestBody(t *testing.T) {
+	digest, _ := digestOf(ContentDigest([]byte("abc")))
+	for _, row := range []struct {
+		proof Proof
+		sent  string
+		most  int64
+		ok    bool
+	}{
+		{Proof{digest: digest}, "abc", 3, true}, {Proof{digest: digest}, "abc", 2, false}, {Proof{digest: digest}, "abd", 3, false},
+		{Proof{digest: digest}, "", 3, false}, {Proof{}, "", 3, true}, {Proof{}, "a", 3, false},
+	} {
+		if _, err := row.proof.Body(strings.NewReader(row.sent), row.most); (err == nil) != row.ok {
+			t.Errorf("%+v: %v", row, err)
+		}
+	}
+}
+
+func TestNonces(t *testing.T) {
+	store := NewMemory(2)
+	for _, row := range []struct {
+		nonce  string
+		now    int64
+		wanted error
+	}{
+		{"a", 1000, nil}, {"a", 1000, NonceSeen}, {"b", 1100, nil}, {"c", 1359, StoreFull}, {"b", 1359, NonceSeen}, {"c", 1360, nil},
+		{"a", 1360, NonceSeen}, {"b", 1459, NonceSeen}, {"d", 900, nil}, {"c", 1719, NonceSeen}, {"a", 1720, nil}, {"c", 1720, NonceSeen},
+		{"c", 3000, nil}, {"a", 3000, nil},
+	} {
+		if err := store.Take([]byte("key"), row.nonce, row.now, 360); err != row.wanted {
+			t.Errorf("%+v: %v", row, err)
+		}
+	}
+	if err := NewMemory(1).Take([]byte("other key"), "a", 1000, 360); err != nil {
+		t.Error(err)
+	}
+}
+
+// Whatever is in the fields, there is no panic, and what Check takes was signed.
+func FuzzFields(f *testing.F) {
+	for _, row := range rowsOf(f) {
+		f.Add(row.message.Header.Get("Signature-Input"), row.message.Header.Get("Signature"), row.message.Header.Get("Content-Digest"), "/foo")
+	}
+	now := int64(1792000100)
+	verifier := at(&now)
+	asked := false
+	verifier.Verify = func(_, message, _ []byte) bool {
+		asked = bytes.HasPrefix(message, []byte(`"`)) && bytes.Contains(message, []byte(`"@signature-params": (`))
+		return asked
+	}
+	f.Fuzz(func(t *testing.T, input, signature, digest, target string) {
+		header := http.Header{"Signature-Input": {input}, "Signature": {signature}}
+		if digest != "" {
+			header["Content-Digest"] = []string{digest}
+		}
+		asked = false
+		proof, err := verifier.Check(Message{Method: "GET", Authority: "example.com", Target: target, Header: header})
+		if err == nil && (!asked || len(proof.Key) == 0) {
+			t.Errorf("%q %q", input, signature)
+		}
+	})
+}
+
+// What a client can send is what a server takes.
+func FuzzSigned(f *testing.F) {
+	f.Add("GET", "/foo?a=b", "accept", "text/html", "body")
+	all := signers(f)
+	f.Fuzz(func(t *testing.T, method, target, name, value, body string) {
+		message := Message{Method: method, Authority: "example.com", Target: target, Header: http.Header{}, Body: []byte(body)}
+		message.Header.Set(name, value)
+		if all[Ed25519].Sign("https", message, strings.ToLower(name)) != nil {
+			return
+		}
+		if !isComponent(strings.ToLower(name)) || strings.HasPrefix(name, "@") {
+			return
+		}
+		if _, err := NewVerifier("example.com").Message(message); err != nil {
+			t.Errorf("%q %q %q: %v", method, target, message.Header, err)
+		}
+	})
+}
+
+func BenchmarkVerify(b *testing.B) {
+	for name, signer := range signers(b) {
+		b.Run(name, func(b *testing.B) {
+			message := Message{Method: "GET", Authority: "example.com", Target: "/foo?a=b", Header: http.Header{}}
+			if err := signer.Sign("https", message); err != nil {
+				b.Fatal(err)
+			}
+			verifier := NewVerifier("example.com")
+			b.ResetTimer()
+			for place := 0; place < b.N; place++ {
+				if _, err := verifier.Check(message); err != nil {
+					b.Fatal(err)
+				}
+			}
+		})
+	}
+}

@@ -1,0 +1,292 @@
+package httpsig
+
+import (
+	"encoding/base64"
+	"strconv"
+	"strings"
+)
+
+// The label of the one member that each field has, and the tag of the profile.
+const (
+	label = "spki"
+	tag   = "spki"
+)
+
+// The most octets of `Signature-Input`, and the most components.
+const (
+	mostInput      = 8192
+	mostComponents = 32
+	mostDigits     = 15
+)
+
+// The components that are no fields.
+const (
+	method    = "@method"
+	authority = "@authority"
+	targetURI = "@target-uri"
+	path      = "@path"
+	query     = "@query"
+)
+
+// An input is the value of `Signature-Input`.
+type input struct {
+	// The value of `@signature-params`: what follows the label, as it was sent.
+	text             string
+	components       []string
+	created, expires int64
+	nonce, key       string
+	algorithm, tag   string
+}
+
+// A parser takes a field apart from the left.
+type parser struct {
+	rest string
+}
+
+// skips says whether the rest begins with a text, and goes behind it.
+func (p *parser) skips(text string) bool {
+	found := strings.HasPrefix(p.rest, text)
+	if found {
+		p.rest = p.rest[len(text):]
+	}
+	return found
+}
+
+// label goes behind the label of the first member.
+func (p *parser) label() error {
+	name := p.name()
+	if name == "" || !p.skips("=") {
+		return Malformed
+	}
+	if name != label {
+		return OtherLabel
+	}
+	return nil
+}
+
+// ends says what follows the first member, if anything does.
+func (p *parser) ends() error {
+	switch {
+	case p.rest == "":
+		return nil
+	case strings.HasPrefix(strings.TrimLeft(p.rest, " \t"), ","):
+		return TwoSignatures
+	}
+	return Malformed
+}
+
+// name returns the name of a member or of a parameter, or nothing.
+func (p *parser) name() string {
+	end := 0
+	for end < len(p.rest) && isOfName(p.rest[end], end) {
+		end++
+	}
+	name := p.rest[:end]
+	p.rest = p.rest[end:]
+	return name
+}
+
+// isOfName says whether an octet may be at a place in a name.
+func isOfName(octet byte, place int) bool {
+	return 'a' <= octet && octet <= 'z' || octet == '*' ||
+		place > 0 && ('0' <= octet && octet <= '9' || octet == '_' || octet == '-' || octet == '.')
+}
+
+// string returns a string in quotes. An escape is refused: nothing in the profile needs one.
+func (p *parser) string() (string, error) {
+	if !p.skips(`"`) {
+		return "", Malformed
+	}
+	end := strings.IndexByte(p.rest, '"')
+	if end < 0 {
+		return "", Malformed
+	}
+	text := p.rest[:end]
+	for place := 0; place < end; place++ {
+		if text[place] < ' ' || text[place] > '~' || text[place] == '\\' {
+			return "", Malformed
+		}
+	}
+	p.rest = p.rest[end+1:]
+	return text, nil
+}
+
+// integer returns a number of seconds, which is not negative.
+func (p *parser) integer() (int64, error) {
+	end := 0
+	for end < len(p.rest) && '0' <= p.rest[end] && p.rest[end] <= '9' {
+		end++
+	}
+	text := p.rest[:end]
+	if end == 0 || end > mostDigits || end > 1 && text[0] == '0' {
+		return 0, Malformed
+	}
+	p.rest = p.rest[end:]
+	return strconv.ParseInt(text, 10, 64)
+}
+
+// components reads the list of components.
+func (p *parser) components() ([]string, error) {
+	if !p.skips("(") {
+		return nil, Malformed
+	}
+	var found []string
+	for !p.skips(")") {
+		if len(found) > 0 && !p.skips(" ") || len(found) == mostComponents {
+			return nil, Malformed
+		}
+		name, err := p.string()
+		if err != nil {
+			return nil, err
+		}
+		if !isComponent(name) || strings.HasPrefix(p.rest, ";") {
+			return nil, UnknownComponent
+		}
+		if has(found, name) {
+			return nil, ComponentTwice
+		}
+		found = append(found, name)
+	}
+	return found, nil
+}
+
+// isComponent says whether a name is one of a component: a field in small letters, or one of the five that are derived.
+func isComponent(name string) bool {
+	switch name {
+	case method, authority, targetURI, path, query:
+		return true
+	case "", "signature", "signature-input":
+		return false
+	}
+	for place := 0; place < len(name); place++ {
+		octet := name[place]
+		if !('a' <= octet && octet <= 'z' || '0' <= octet && octet <= '9' || strings.IndexByte("!#$%&'*+-.^_`|~", octet) >= 0) {
+			return false
+		}
+	}
+	return true
+}
+
+// has says whether names have a name.
+func has(names []string, name string) bool {
+	for _, each := range names {
+		if each == name {
+			return true
+		}
+	}
+	return false
+}
+
+// inputOf reads `Signature-Input`.
+func inputOf(text string) (*input, error) {
+	if len(text) > mostInput {
+		return nil, Malformed
+	}
+	p, made := &parser{text}, new(input)
+	if err := p.label(); err != nil {
+		return nil, err
+	}
+	made.text = p.rest
+	var err error
+	if made.components, err = p.components(); err != nil {
+		return nil, err
+	}
+	count, err := made.parameters(p)
+	if err != nil {
+		return nil, err
+	}
+	hasTarget := has(made.components, targetURI) || has(made.components, path) && has(made.components, query)
+	switch {
+	case !has(made.components, method) || !has(made.components, authority) || !hasTarget:
+		return nil, MissingComponent
+	case count != len(made.places()):
+		return nil, MissingParameter
+	}
+	return made, nil
+}
+
+// places returns where the parameters go: numbers and strings.
+func (i *input) places() map[string]any {
+	return map[string]any{
+		"created": &i.created, "expires": &i.expires, "nonce": &i.nonce, "keyid": &i.key, "alg": &i.algorithm, "tag": &i.tag,
+	}
+}
+
+// parameters reads the parameters, and returns their number.
+func (i *input) parameters(p *parser) (int, error) {
+	places, seen := i.places(), 0
+	for p.skips(";") {
+		name := p.name()
+		if name == "" {
+			return 0, Malformed
+		}
+		place, isThere := places[name]
+		switch {
+		case !isThere:
+			return 0, UnknownParameter
+		case place == nil:
+			return 0, ParameterTwice
+		case !p.skips("="):
+			return 0, Malformed
+		}
+		if err := p.into(place); err != nil {
+			return 0, err
+		}
+		places[name] = nil
+		seen++
+	}
+	return seen, p.ends()
+}
+
+// into reads a number or a string.
+func (p *parser) into(place any) (err error) {
+	switch place := place.(type) {
+	case *int64:
+		*place, err = p.integer()
+	case *string:
+		*place, err = p.string()
+	}
+	return err
+}
+
+// octetsOf reads `Signature`.
+func octetsOf(text string) ([]byte, error) {
+	p := &parser{text}
+	if len(text) > mostInput {
+		return nil, Malformed
+	}
+	if err := p.label(); err != nil {
+		return nil, err
+	}
+	octets, err := p.octets()
+	if err != nil {
+		return nil, err
+	}
+	return octets, p.ends()
+}
+
+// octets returns octets between colons, in base64.
+func (p *parser) octets() ([]byte, error) {
+	if !p.skips(":") {
+		return nil, Malformed
+	}
+	end := strings.IndexByte(p.rest, ':')
+	if end < 0 {
+		return nil, Malformed
+	}
+	octets, isBase64 := decoded(p.rest[:end])
+	if !isBase64 {
+		return nil, Malformed
+	}
+	p.rest = p.rest[end+1:]
+	return octets, nil
+}
+
+// decoded returns the octets of base64 with its padding, in the one text that they have. (Go's decoder passes over ends of lines.)
+func decoded(text string) ([]byte, bool) {
+	if strings.ContainsAny(text, "\r\n") {
+		return nil, false
+	}
+	octets, err := base64.StdEncoding.Strict().DecodeString(text)
+	return octets, err == nil
+}

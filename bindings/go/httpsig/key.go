@@ -1,0 +1,113 @@
+package httpsig
+
+import (
+	"bytes"
+	"encoding/base64"
+	"strconv"
+)
+
+// An algorithm, as RFC 9421 calls it.
+const (
+	Ed25519 = "ed25519"
+	P256    = "ecdsa-p256-sha256"
+	RSA     = "rsa-v1_5-sha256"
+)
+
+// The octets of half a signature by Ed25519 or ECDSA, and the most characters of a key.
+const (
+	half    = 32
+	mostKey = 4096
+)
+
+// The canonical texts of keys and of the values of signatures, with `%` for each string.
+var (
+	keyForms = map[string]string{
+		Ed25519: "(10:public-key(3:ecc(5:curve7:Ed25519)(5:flags5:eddsa)(1:q%)))",
+		P256:    "(10:public-key(3:ecc(5:curve10:NIST P-256)(1:q%)))",
+		RSA:     "(10:public-key(3:rsa(1:n%)(1:e%)))",
+	}
+	valueForms = map[string]string{
+		Ed25519: "(7:sig-val(5:eddsa(1:r%)(1:s%)))",
+		P256:    "(7:sig-val(5:ecdsa(1:r%)(1:s%)))",
+		RSA:     "(7:sig-val(3:rsa(1:s%)))",
+	}
+)
+
+// transport returns a canonical text in transport form.
+func transport(canonical []byte) string {
+	return "{" + base64.StdEncoding.EncodeToString(canonical) + "}"
+}
+
+// keyOf returns the key of a `keyid`, its algorithm and the octets that a signature by it has.
+func keyOf(text string) (key []byte, algorithm string, octets int, err error) {
+	if len(text) < 2 || len(text) > mostKey || text[0] != '{' || text[len(text)-1] != '}' {
+		return nil, "", 0, BadKey
+	}
+	key, isBase64 := decoded(text[1 : len(text)-1])
+	if !isBase64 {
+		return nil, "", 0, BadKey
+	}
+	algorithm, octets = kindOf(key)
+	if algorithm == "" {
+		return nil, "", 0, BadKey
+	}
+	return key, algorithm, octets, nil
+}
+
+// kindOf returns the algorithm of a key, and the octets that a signature by it has. It returns nothing for what is no key.
+func kindOf(key []byte) (algorithm string, octets int) {
+	for algorithm, form := range keyForms {
+		strings, isOne := stringsOf(key, form)
+		switch {
+		case !isOne:
+		case algorithm == RSA:
+			return algorithm, len(bytes.TrimLeft(strings[0], "\x00"))
+		default:
+			return algorithm, 2 * half
+		}
+	}
+	return "", 0
+}
+
+// valueOf returns the canonical value of the octets of a signature. They are as many as the algorithm has.
+func valueOf(algorithm string, octets []byte) []byte {
+	strings := [][]byte{octets}
+	if algorithm != RSA {
+		strings = [][]byte{octets[:half], octets[half:]}
+	}
+	var made []byte
+	for _, octet := range []byte(valueForms[algorithm]) {
+		if octet != '%' {
+			made = append(made, octet)
+			continue
+		}
+		made = strconv.AppendInt(made, int64(len(strings[0])), 10)
+		made = append(append(made, ':'), strings[0]...)
+		strings = strings[1:]
+	}
+	return made
+}
+
+// stringsOf returns the strings of a canonical text that are at the marks of a form, and whether the text has it.
+func stringsOf(text []byte, form string) (found [][]byte, hasForm bool) {
+	for place := 0; place < len(form); place++ {
+		if form[place] != '%' {
+			if len(text) == 0 || text[0] != form[place] {
+				return nil, false
+			}
+			text = text[1:]
+			continue
+		}
+		colon := bytes.IndexByte(text, ':')
+		if colon < 1 || colon > 4 {
+			return nil, false
+		}
+		length, err := strconv.Atoi(string(text[:colon]))
+		if err != nil || length < 0 || strconv.Itoa(length) != string(text[:colon]) || length > len(text)-colon-1 {
+			return nil, false
+		}
+		found = append(found, text[colon+1:colon+1+length])
+		text = text[colon+1+length:]
+	}
+	return found, len(text) == 0
+}

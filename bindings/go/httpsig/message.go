@@ -1,0 +1,130 @@
+package httpsig
+
+import (
+	"net/http"
+	"strings"
+)
+
+// The fields that are covered wherever a request has them, besides the one with the sequence.
+const (
+	authorization = "authorization"
+	contentDigest = "content-digest"
+)
+
+// A Message is a request, as it was sent.
+type Message struct {
+	Method string
+	// The name that the client asks, with the port if it is not the scheme's own.
+	Authority string
+	// The path and the query, as in the first line of HTTP/1.1.
+	Target string
+	Header http.Header
+	// Whether the request has a body. Fields that say so count too.
+	HasBody bool
+	// The body, or nil if it is not known: then it is not compared.
+	Body []byte
+}
+
+// MessageOf returns the message of a request to a server of net/http, whose body stays unread.
+func MessageOf(request *http.Request) Message {
+	return Message{
+		Method: request.Method, Authority: request.Host, Target: request.RequestURI, Header: request.Header, HasBody: request.ContentLength != 0,
+	}
+}
+
+// mayHaveBody says whether a digest must be covered.
+func (m *Message) mayHaveBody() bool {
+	for _, length := range m.Header.Values("Content-Length") {
+		if strings.Trim(length, " \t") != "0" {
+			return true
+		}
+	}
+	return m.Method != http.MethodGet && m.Method != http.MethodHead || m.HasBody || len(m.Body) > 0 || len(m.Header.Values("Transfer-Encoding")) > 0
+}
+
+// AuthorityOf returns a name with its port as it is signed: in small letters, without the port that the scheme has anyway.
+func AuthorityOf(scheme, authority string) string {
+	usual := map[string]string{"https": ":443", "http": ":80"}[scheme]
+	return strings.TrimSuffix(strings.ToLower(authority), usual)
+}
+
+// isToken says whether a text is a token of HTTP, as a method is.
+func isToken(text string) bool {
+	return text != "" && isComponent(strings.ToLower("x-"+text))
+}
+
+// isTarget says whether a target is one of a request: a path and perhaps a query, of visible characters.
+func isTarget(target string) bool {
+	if !strings.HasPrefix(target, "/") {
+		return false
+	}
+	for place := 0; place < len(target); place++ {
+		if target[place] <= ' ' || target[place] > '~' || target[place] == '#' {
+			return false
+		}
+	}
+	return true
+}
+
+// A base writes the text that is signed.
+type base struct {
+	*Message
+	scheme, authority string
+}
+
+// text returns the signature base of components. The parameters are those of `Signature-Input`, as they were sent.
+func (b *base) text(components []string, parameters string) ([]byte, error) {
+	made := make([]byte, 0, 1024)
+	for _, name := range components {
+		value, err := b.value(name)
+		if err != nil {
+			return nil, err
+		}
+		made = append(append(append(append(append(made, '"'), name...), `": `...), value...), '\n')
+	}
+	return append(append(made, `"@signature-params": `...), parameters...), nil
+}
+
+// value returns the value of a component.
+func (b *base) value(name string) (string, error) {
+	sent, asked, hasQuery := strings.Cut(b.Target, "?")
+	switch name {
+	case method:
+		return b.Method, nil
+	case authority:
+		return b.authority, nil
+	case path:
+		return sent, nil
+	case query:
+		return "?" + asked, nil
+	case targetURI:
+		if hasQuery {
+			asked = "?" + asked
+		}
+		return b.scheme + "://" + b.authority + sent + asked, nil
+	}
+	return fieldOf(b.Header, name)
+}
+
+// fieldOf returns the value of a field, which must be there in one line.
+func fieldOf(header http.Header, name string) (string, error) {
+	values := header.Values(name)
+	switch len(values) {
+	case 0:
+		return "", AbsentField
+	case 1:
+		return cleanValue(values[0])
+	}
+	return "", RepeatedField
+}
+
+// cleanValue returns the value of a field without the spaces around it.
+func cleanValue(value string) (string, error) {
+	value = strings.Trim(value, " \t")
+	for place := 0; place < len(value); place++ {
+		if octet := value[place]; octet != '\t' && (octet < ' ' || octet > '~') {
+			return "", BadValue
+		}
+	}
+	return value, nil
+}

@@ -1,0 +1,43 @@
+// Package httpsig proves the client's key in each HTTP request, by HTTP Message Signatures (RFC 9421) of the profile in docs/SIGNATURES.md. A
+// Verifier is for services, a Signer and a Transport for clients. It needs no library for C.
+package httpsig
+
+// A Refusal is why a request proves no key. It is an error, and errors.Is compares it.
+type Refusal string
+
+// The refusals, in the order of docs/SIGNATURES.md.
+const (
+	Absent            Refusal = "absent"
+	RepeatedField     Refusal = "repeated-field"
+	Malformed         Refusal = "malformed"
+	OtherLabel        Refusal = "other-label"
+	TwoSignatures     Refusal = "two-signatures"
+	ComponentTwice    Refusal = "component-twice"
+	UnknownComponent  Refusal = "unknown-component"
+	MissingComponent  Refusal = "missing-component"
+	ParameterTwice    Refusal = "parameter-twice"
+	UnknownParameter  Refusal = "unknown-parameter"
+	MissingParameter  Refusal = "missing-parameter"
+	OtherTag          Refusal = "other-tag"
+	BadNonce          Refusal = "bad-nonce"
+	BadWindow         Refusal = "bad-window"
+	TooEarly          Refusal = "too-early"
+	Expired           Refusal = "expired"
+	BeforeStart       Refusal = "before-start"
+	BadKey            Refusal = "bad-key"
+	OtherAlgorithm    Refusal = "other-algorithm"
+	BadMethod         Refusal = "bad-method"
+	BadTarget         Refusal = "bad-target"
+	OtherAuthority    Refusal = "other-authority"
+	AbsentField       Refusal = "absent-field"
+	BadValue          Refusal = "bad-value"
+	UncoveredField    Refusal = "uncovered-field"
+	BodyWithoutDigest Refusal = "body-without-digest"
+	BadDigest         Refusal = "bad-digest"
+	InvalidSignature  Refusal = "invalid-signature"
+	OtherDigest       Refusal = "other-digest"
+	NonceSeen         Refusal = "nonce-seen"
+	StoreFull         Refusal = "store-full"
+)
+
+func (r Refusal) Error() string { return "the request proves no key: " + string(r) }

@@ -1,0 +1,123 @@
+package httpsig
+
+import (
+	"crypto"
+	"crypto/ecdsa"
+	"crypto/ed25519"
+	"crypto/rand"
+	"crypto/rsa"
+	"crypto/sha256"
+	"encoding/asn1"
+	"encoding/base64"
+	"fmt"
+	"math/big"
+	"net/http"
+	"strings"
+	"time"
+
+	"conguraki/spki/verify"
+)
+
+// A Signer makes the fields of signed requests.
+type Signer struct {
+	// The client's certificates in transport form, `{..}`, or nothing.
+	Sequence string
+	private  crypto.Signer
+	key      []byte
+	kind     string
+	now      func() time.Time
+	random   func(octets []byte) (int, error)
+}
+
+// NewSigner returns a signer by a private key: an ed25519.PrivateKey, an *ecdsa.PrivateKey of P-256 or an *rsa.PrivateKey, or one of a device.
+func NewSigner(private crypto.Signer) (*Signer, error) {
+	key, err := verify.KeyOf(private.Public())
+	if err != nil {
+		return nil, err
+	}
+	kind, _ := kindOf(key)
+	return &Signer{private: private, key: key, kind: kind, now: time.Now, random: rand.Read}, nil
+}
+
+// Sign puts the fields of a signature into the header of a request: also the certificates, and the digest of the body where one is due. The
+// header must be whole otherwise. More names of fields may be given that are to be covered. What is written is for this request alone.
+func (s *Signer) Sign(scheme string, message Message, covered ...string) error {
+	names := []string{method, authority, path, query}
+	if s.Sequence != "" {
+		message.Header.Set("X-Spki-Sequence", s.Sequence)
+	}
+	if message.mayHaveBody() {
+		message.Header.Set("Content-Digest", ContentDigest(message.Body))
+	}
+	for _, name := range append([]string{authorization, "x-spki-sequence", contentDigest}, covered...) {
+		if len(message.Header.Values(name)) > 0 && !has(names, name) {
+			names = append(names, name)
+		}
+	}
+	parameters, err := s.parameters(names)
+	if err != nil {
+		return err
+	}
+	if !isToken(message.Method) || !isTarget(message.Target) {
+		return BadTarget
+	}
+	text, err := (&base{&message, scheme, AuthorityOf(scheme, message.Authority)}).text(names, parameters)
+	if err != nil {
+		return err
+	}
+	octets, err := s.octets(text)
+	if err != nil {
+		return err
+	}
+	message.Header.Set("Signature-Input", label+"="+parameters)
+	message.Header.Set("Signature", label+"=:"+base64.StdEncoding.EncodeToString(octets)+":")
+	return nil
+}
+
+// parameters returns the value of `@signature-params`, with a new nonce.
+func (s *Signer) parameters(names []string) (string, error) {
+	nonce := make([]byte, 16)
+	if _, err := s.random(nonce); err != nil {
+		return "", err
+	}
+	created := s.now().Unix()
+	return fmt.Sprintf(`("%s");created=%d;expires=%d;nonce="%s";keyid="%s";alg="%s";tag="%s"`, strings.Join(names, `" "`), created,
+		created+mostWindow, base64.RawURLEncoding.EncodeToString(nonce), transport(s.key), s.kind, tag), nil
+}
+
+// octets returns the octets of a signature.
+func (s *Signer) octets(text []byte) ([]byte, error) {
+	if s.kind == Ed25519 {
+		return s.private.Sign(rand.Reader, text, crypto.Hash(0))
+	}
+	digest := sha256.Sum256(text)
+	octets, err := s.private.Sign(rand.Reader, digest[:], crypto.SHA256)
+	if err != nil || s.kind == RSA {
+		return octets, err
+	}
+	var pair struct{ R, S *big.Int }
+	if _, err := asn1.Unmarshal(octets, &pair); err != nil {
+		return nil, err
+	}
+	made := make([]byte, 2*half)
+	pair.R.FillBytes(made[:half])
+	pair.S.FillBytes(made[half:])
+	return made, nil
+}
+
+// (these are the keys that NewSigner takes)
+var (
+	_ crypto.Signer = ed25519.PrivateKey{}
+	_ crypto.Signer = (*ecdsa.PrivateKey)(nil)
+	_ crypto.Signer = (*rsa.PrivateKey)(nil)
+)
+
+// isOf says whether a request goes to one of some names.
+func isOf(names []string, request *http.Request) bool {
+	for _, name := range names {
+		if AuthorityOf(request.URL.Scheme, name) == AuthorityOf(request.URL.Scheme, request.URL.Host) {
+			return true
+		}
+	}
+	return false
+}

@@ -1,0 +1,61 @@
+package httpsig
+
+import (
+	"bytes"
+	"io"
+	"net/http"
+)
+
+// A Transport signs each request of an http.Client to one of some names. A request to any other, as one that a redirection leads to, goes out as
+// it is: its server learns no key and no certificates.
+//
+//	client := http.Client{Transport: &httpsig.Transport{Signer: signer, Names: []string{"files.example.org"}}}
+type Transport struct {
+	Signer *Signer
+	// The services, with ports that are not the scheme's own.
+	Names []string
+	// What sends the request: http.DefaultTransport, if nothing is set.
+	Base http.RoundTripper
+}
+
+// RoundTrip is that of an http.RoundTripper. It has the whole body in memory.
+func (t *Transport) RoundTrip(request *http.Request) (*http.Response, error) {
+	under := t.Base
+	if under == nil {
+		under = http.DefaultTransport
+	}
+	if !isOf(t.Names, request) {
+		return under.RoundTrip(request)
+	}
+	signed, err := t.signed(request)
+	if err != nil {
+		return nil, err
+	}
+	return under.RoundTrip(signed)
+}
+
+// signed returns a signed copy of a request.
+func (t *Transport) signed(request *http.Request) (*http.Request, error) {
+	signed := request.Clone(request.Context())
+	if signed.Header == nil {
+		signed.Header = http.Header{}
+	}
+	message := Message{Method: request.Method, Authority: request.URL.Host, Target: request.URL.RequestURI(), Header: signed.Header}
+	if message.Method == "" {
+		message.Method = http.MethodGet
+	}
+	if request.Host != "" {
+		message.Authority = request.Host
+	}
+	if request.Body != nil && request.Body != http.NoBody {
+		body, err := io.ReadAll(request.Body)
+		request.Body.Close()
+		if err != nil {
+			return nil, err
+		}
+		message.Body = body
+		signed.Body, signed.ContentLength = io.NopCloser(bytes.NewReader(body)), int64(len(body))
+		signed.GetBody = func() (io.ReadCloser, error) { return io.NopCloser(bytes.NewReader(body)), nil }
+	}
+	return signed, t.Signer.Sign(request.URL.Scheme, message)
+}

@@ -1,0 +1,217 @@
+package httpsig
+
+import (
+	"crypto/sha256"
+	"encoding/hex"
+	"errors"
+	"io"
+	"net/http"
+	"strings"
+	"time"
+
+	"conguraki/spki/verify"
+)
+
+// The seconds from `created` to `expires` at most, and those that a client's clock may be ahead.
+const (
+	mostWindow = 300
+	mostAhead  = 60
+)
+
+// The characters of a nonce.
+const (
+	leastNonce = 16
+	mostNonce  = 64
+)
+
+// A Verifier says which key has made a request. Its fields are set before it is used, and then several goroutines may use it.
+type Verifier struct {
+	// The names of this service, with ports that are not the scheme's own. A request for any other is refused.
+	Authorities []string
+	// `https`, unless `http` is set.
+	Scheme string
+	// The field with the client's certificates, in small letters: `x-spki-sequence`, unless another is set.
+	Sequence string
+	Nonces   Nonces
+	// What was created before is refused, since its nonce may be forgotten. It is the time of NewVerifier; zero if the nonces outlast the process.
+	Start time.Time
+	Now   func() time.Time
+	// Verifies a signature, in the forms of a guard.
+	Verify func(key, message, value []byte) bool
+}
+
+// NewVerifier returns a verifier for a service of these names, with https and nonces in memory.
+func NewVerifier(authorities ...string) *Verifier {
+	return &Verifier{
+		Authorities: authorities, Scheme: "https", Sequence: "x-spki-sequence", Nonces: NewMemory(usualNonces), Start: time.Now(), Now: time.Now,
+		Verify: verify.Signature,
+	}
+}
+
+// A Proof says which key has signed a request.
+type Proof struct {
+	// The SPKI key in canonical form, as a guard.Question has it.
+	Key    []byte
+	nonce  string
+	digest digest
+}
+
+// Hash returns the SHA-256 digest of the key, in hexadecimal digits.
+func (p *Proof) Hash() string {
+	made := sha256.Sum256(p.Key)
+	return hex.EncodeToString(made[:])
+}
+
+// Body reads a body of at most so many octets, and returns it if it is the signed one. Otherwise it returns an error: OtherDigest, or one of
+// reading. A request without a digest has no body.
+func (p *Proof) Body(from io.Reader, most int64) ([]byte, error) {
+	body, err := io.ReadAll(io.LimitReader(from, most+1))
+	if err != nil {
+		return nil, err
+	}
+	if int64(len(body)) > most {
+		return nil, errors.New("the body is too long")
+	}
+	if p.digest.octets == nil && len(body) == 0 {
+		return nil, nil
+	}
+	if p.digest.octets == nil || !p.digest.is(body) {
+		return nil, OtherDigest
+	}
+	return body, nil
+}
+
+// Request returns the proof of a request to a server of net/http, and uses up its nonce. The body stays unread: Proof.Body reads it.
+func (v *Verifier) Request(request *http.Request) (*Proof, error) {
+	return v.Message(MessageOf(request))
+}
+
+// Message returns the proof of a message, and uses up its nonce.
+func (v *Verifier) Message(message Message) (*Proof, error) {
+	proof, err := v.Check(message)
+	if err == nil {
+		err = v.Take(proof)
+	}
+	if err != nil {
+		return nil, err
+	}
+	return proof, nil
+}
+
+// Take uses up the nonce of a proof. NO PROOF COUNTS WITHOUT IT: a caller of Check takes the nonce before it acts, as a service does that first
+// decides, so that strangers do not fill the store.
+func (v *Verifier) Take(proof *Proof) error {
+	return v.Nonces.Take(proof.Key, proof.nonce, v.Now().Unix(), mostWindow+mostAhead)
+}
+
+// Check returns the proof of a message, and leaves the nonce. Take must follow.
+func (v *Verifier) Check(message Message) (*Proof, error) {
+	input, octets, err := signatureOf(message.Header)
+	if err != nil {
+		return nil, err
+	}
+	if err := v.checkTime(input); err != nil {
+		return nil, err
+	}
+	key, algorithm, length, err := keyOf(input.key)
+	if err != nil {
+		return nil, err
+	}
+	if algorithm != input.algorithm {
+		return nil, OtherAlgorithm
+	}
+	text, digest, err := v.checkMessage(message, input)
+	if err != nil {
+		return nil, err
+	}
+	if len(octets) != length || !v.Verify(key, text, valueOf(algorithm, octets)) {
+		return nil, InvalidSignature
+	}
+	if digest.octets != nil && message.Body != nil && !digest.is(message.Body) {
+		return nil, OtherDigest
+	}
+	return &Proof{key, input.nonce, digest}, nil
+}
+
+// signatureOf reads both fields.
+func signatureOf(header http.Header) (*input, []byte, error) {
+	inputs, signatures := header.Values("Signature-Input"), header.Values("Signature")
+	switch {
+	case len(inputs)+len(signatures) == 0:
+		return nil, nil, Absent
+	case len(inputs) > 1 || len(signatures) > 1:
+		return nil, nil, RepeatedField
+	case len(inputs) != len(signatures):
+		return nil, nil, Malformed
+	}
+	input, err := inputOf(strings.Trim(inputs[0], " \t"))
+	if err != nil {
+		return nil, nil, err
+	}
+	octets, err := octetsOf(strings.Trim(signatures[0], " \t"))
+	return input, octets, err
+}
+
+// checkTime says what is wrong in the tag, the nonce and the window.
+func (v *Verifier) checkTime(input *input) error {
+	now := v.Now().Unix()
+	switch {
+	case input.tag != tag:
+		return OtherTag
+	case len(input.nonce) < leastNonce || len(input.nonce) > mostNonce:
+		return BadNonce
+	case input.expires <= input.created || input.expires > input.created+mostWindow:
+		return BadWindow
+	case input.created > now+mostAhead:
+		return TooEarly
+	case input.expires <= now:
+		return Expired
+	case !v.Start.IsZero() && input.created < v.Start.Unix():
+		return BeforeStart
+	}
+	return nil
+}
+
+// checkMessage returns the signed text of a message, and the digest of its body if it has one.
+func (v *Verifier) checkMessage(message Message, input *input) (text []byte, digest digest, err error) {
+	if !isToken(message.Method) {
+		return nil, digest, BadMethod
+	}
+	if !isTarget(message.Target) {
+		return nil, digest, BadTarget
+	}
+	of := base{&message, v.Scheme, AuthorityOf(v.Scheme, message.Authority)}
+	if !v.isName(of.authority) {
+		return nil, digest, OtherAuthority
+	}
+	if text, err = of.text(input.components, input.text); err != nil {
+		return nil, digest, err
+	}
+	for _, name := range []string{authorization, v.Sequence, contentDigest} {
+		if len(message.Header.Values(name)) > 0 && !has(input.components, name) {
+			return nil, digest, UncoveredField
+		}
+	}
+	if !has(input.components, contentDigest) {
+		if message.mayHaveBody() {
+			return nil, digest, BodyWithoutDigest
+		}
+		return text, digest, nil
+	}
+	value, err := of.value(contentDigest)
+	if err != nil {
+		return nil, digest, err
+	}
+	digest, err = digestOf(value)
+	return text, digest, err
+}
+
+// isName says whether a name is one of the service.
+func (v *Verifier) isName(authority string) bool {
+	for _, name := range v.Authorities {
+		if AuthorityOf(v.Scheme, name) == authority {
+			return authority != ""
+		}
+	}
+	return false
+}

@@ -1,0 +1,72 @@
+"""A request as it was sent, and the text of it that is signed."""
+from __future__ import annotations
+
+import re
+from collections.abc import Iterable
+from dataclasses import dataclass
+
+from ._fields import Refused
+
+CHAINED, DIGEST = "authorization", "content-digest"
+METHOD = re.compile(r"[A-Za-z0-9!#$%&'*+.^_`|~-]+")
+TARGET = re.compile(r"/[!\"$-~]*")
+VALUE = re.compile(r"[\t -~]*")
+PORTS = {"https": ":443", "http": ":80"}
+
+
+@dataclass(frozen=True)
+class Message:
+    """A request: its method, the name that the client asks, its target as in the first line of HTTP/1.1, and its fields in their order.
+
+    `body` is None if it is not known. `has_body` is for servers that do not pass on the fields that say so.
+    """
+
+    method: str
+    authority: str
+    target: str
+    fields: Iterable[tuple[str, str]]
+    body: bytes | None = None
+    has_body: bool = False
+
+    def values(self, name: str) -> list[str]:
+        """The values of a field, without the spaces around them."""
+        return [value.strip(" \t") for known, value in self.fields if known.lower() == name]
+
+    def may_have_body(self) -> bool:
+        """Whether a digest must be covered."""
+        lengths = [it for it in self.values("content-length") if it != "0"]
+        return self.method not in ("GET", "HEAD") or self.has_body or bool(self.body or lengths or self.values("transfer-encoding"))
+
+
+def authority_of(scheme: str, authority: str) -> str:
+    """A name with its port as it is signed: in small letters, without the port that the scheme has anyway."""
+    return authority.lower().removesuffix(PORTS[scheme])
+
+
+def base_of(message: Message, scheme: str, components: list[str], parameters: str) -> bytes:
+    """The signature base. The parameters are those of `Signature-Input`, as they were sent."""
+    lines = [f'"{name}": {value_of(message, scheme, name)}' for name in components]
+    return "\n".join([*lines, f'"@signature-params": {parameters}']).encode("ascii")
+
+
+def value_of(message: Message, scheme: str, name: str) -> str:
+    """The value of a component."""
+    path, mark, query = message.target.partition("?")
+    authority = authority_of(scheme, message.authority)
+    match name:
+        case "@method":
+            return message.method
+        case "@authority":
+            return authority
+        case "@path":
+            return path
+        case "@query":
+            return f"?{query}"
+        case "@target-uri":
+            return f"{scheme}://{authority}{path}{mark}{query}"
+    values = message.values(name)
+    if len(values) != 1:
+        raise Refused("repeated-field" if values else "absent-field")
+    if not VALUE.fullmatch(values[0]):
+        raise Refused("bad-value")
+    return values[0]

@@ -1,0 +1,93 @@
+"""Signs requests of clients."""
+from __future__ import annotations
+
+import base64
+import secrets
+import time
+import urllib.parse
+import urllib.request
+from collections.abc import Callable, Iterable
+from typing import Any
+
+from ._fields import LABEL, TAG, content_digest, kind_of, octets_of
+from ._message import CHAINED, DIGEST, Message, base_of
+from ._verifier import MOST_WINDOW
+
+SEQUENCE = "X-Spki-Sequence"
+
+
+class Signer:
+    """Makes the fields of signed requests.
+
+    `key` is the SPKI key in canonical form. `sign` returns the canonical value of a signature of a message, `(7:sig-val..)`. `sequence` has the
+    client's certificates in transport form, `{..}`.
+    """
+
+    def __init__(self, key: bytes, sign: Callable[[bytes], bytes], sequence: str = "") -> None:
+        self.key, self.sign, self.sequence = key, sign, sequence
+        self.algorithm, self.length = kind_of(key)
+
+    def fields(self, method: str, url: str, body: bytes = b"", fields: Iterable[tuple[str, str]] = (), covered: Iterable[str] = ()) -> dict[str, str]:
+        """The fields that a request to an address gets. Of those that it has already, those are covered that the profile asks for, and those
+        that are named in small letters."""
+        parts = urllib.parse.urlsplit(url)
+        if parts.scheme not in ("https", "http") or not parts.hostname or parts.username is not None:
+            raise ValueError("no address of https or http, or one with a name and a password")
+        target = (parts.path or "/") + (f"?{parts.query}" if "?" in url.partition("#")[0] else "")
+        own, known = {SEQUENCE: self.sequence} if self.sequence else {}, [*fields]
+        if Message(method, parts.netloc, target, known, body).may_have_body():
+            own["Content-Digest"] = content_digest(body)
+        message = Message(method, parts.netloc, target, [*known, *own.items()], body)
+        names = ["@method", "@authority", "@path", "@query", *(it for it in (CHAINED, SEQUENCE.lower(), DIGEST, *covered) if message.values(it))]
+        parameters = self._parameters(names)
+        octets = octets_of(self.sign(base_of(message, parts.scheme, names, parameters))).rjust(self.length, b"\0")
+        return {**own, "Signature-Input": f"{LABEL}={parameters}", "Signature": f"{LABEL}=:{base64.b64encode(octets).decode()}:"}
+
+    def _parameters(self, names: list[str]) -> str:
+        """The value of `@signature-params`, with a new nonce."""
+        created, listed = int(time.time()), " ".join(f'"{name}"' for name in names)
+        keyid, nonce = base64.b64encode(self.key).decode(), secrets.token_urlsafe(16)
+        return (f'({listed});created={created};expires={created + MOST_WINDOW};nonce="{nonce}";keyid="{{{keyid}}}";alg="{self.algorithm}"'
+                f';tag="{TAG}"')
+
+
+class Auth:
+    """Signs the requests of `requests` and of `httpx`, to one of some names: `requests.put(url, data=body, auth=Auth(signer, "files.example.org"))`.
+
+    A request to any other name gets no signature and no certificates. But `requests` follows a redirection with the fields of the first request,
+    which prove nothing there: `allow_redirects=False` keeps the certificates from other names. The body must be octets, and not a stream.
+    """
+
+    def __init__(self, signer: Signer, *names: str) -> None:
+        self.signer, self.names = signer, {name.lower() for name in names}
+
+    def __call__(self, request: Any) -> Any:
+        url = str(request.url)
+        if urllib.parse.urlsplit(url).netloc.lower() in self.names:
+            body = request.content if hasattr(request, "content") else request.body
+            octets = body.encode() if isinstance(body, str) else body or b""
+            if not isinstance(octets, bytes):
+                raise TypeError("a body that is signed must be octets")
+            fields = [(name, value) for name, value in request.headers.items() if name.lower() != "content-length"]
+            request.headers.update(self.signer.fields(request.method, url, octets, fields))
+        return request
+
+
+class Handler(urllib.request.BaseHandler):
+    """Signs the requests of `urllib`, as `Auth` does: `urllib.request.build_opener(Handler(signer, "files.example.org"))`."""
+
+    handler_order = 900
+
+    def __init__(self, signer: Signer, *names: str) -> None:
+        self.signer, self.names = signer, {name.lower() for name in names}
+
+    def https_request(self, request: urllib.request.Request) -> urllib.request.Request:
+        if urllib.parse.urlsplit(request.full_url).netloc.lower() in self.names:
+            body = request.data or b""
+            if not isinstance(body, bytes):
+                raise TypeError("a body that is signed must be octets")
+            for name, value in self.signer.fields(request.get_method(), request.full_url, body, request.header_items()).items():
+                request.add_unredirected_header(name, value)
+        return request
+
+    http_request = https_request

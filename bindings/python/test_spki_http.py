@@ -1,0 +1,229 @@
+"""Tests the package spki_http by the table of requests that all languages read, by the examples of RFC 9421, and by clients and a server.
+
+    PYTHONPATH=bindings/python python3 -m unittest bindings/python/test_spki_http.py
+"""
+from __future__ import annotations
+
+import base64
+import http.server
+import os
+import re
+import threading
+import unittest
+import urllib.error
+import urllib.request
+from collections.abc import Callable, Iterator
+from typing import Any
+
+import spki_http
+from spki_http import _fields, _message
+
+try:
+    from cryptography.hazmat.primitives.asymmetric import ec
+    from cryptography.hazmat.primitives.asymmetric.ed25519 import Ed25519PrivateKey
+    from cryptography.hazmat.primitives.asymmetric.utils import decode_dss_signature
+    from cryptography.hazmat.primitives.hashes import SHA256
+    from cryptography.hazmat.primitives.serialization import Encoding, PublicFormat, load_der_private_key, load_der_public_key
+
+    import spki_verify
+except ImportError:
+    raise unittest.SkipTest("there is no cryptography; Debian: python3-cryptography") from None
+
+ROWS = os.path.join(os.path.dirname(os.path.realpath(__file__)), "..", "go", "httpsig", "testdata", "rows")
+ESCAPE = re.compile(r"\\(?:x(..)|(.))")
+CHAIN = "{KDg6c2VxdWVuY2Up}"
+# RFC 9421, appendix B.1.4 and B.2.6, and B.1.3 and B.2.4.
+PRIVATE = "MC4CAQAwBQYDK2VwBCIEIJ+DYvh6SEqVTm50DFtMDoQikTmiCqirVv9mWG9qfSnF"
+SIGNATURE = "wqcAqbmYJ2ji2glfAMaRy4gruYYnx2nEFN2HN6jrnDnQCK1u02Gb04v9EDgwUPiu4A0w6vuQv5lIp5WPpBKRCw=="
+BASE = """"date": Tue, 20 Apr 2021 02:07:55 GMT
+"@method": POST
+"@path": /foo
+"@authority": example.com
+"content-type": application/json
+"content-length": 18
+"@signature-params": ("date" "@method" "@path" "@authority" "content-type" "content-length");created=1618884473;keyid="test-key-ed25519\""""
+CURVE = "MFkwEwYHKoZIzj0CAQYIKoZIzj0DAQcDQgAEqIVYZVLCrPZHGHjP17CTW0/+D9Lfw0EkjqF7xB4FivAxzic30tMM4GF+hR6Dxh71Z50VGGdldkkDXZCnTNnoXQ=="
+OF_CURVE = "wNmSUAhwb5LxtOtOpNa6W5xj067m5hFrj0XQ4fvpaCLx0NKocgPquLgyahnzDnDAUy5eCdlYUEkLIj+32oiasw=="
+RESPONSE = """"@status": 200
+"content-type": application/json
+"content-digest": sha-512=:mEWXIS7MaLRuGgxOBdODa3xqM1XdEvxoYhvlCFJ41QJgJc4GTsPp29l5oGX69wWdXymyU0rjJuahq4l5aGgfLQ==:
+"content-length": 23
+"@signature-params": ("@status" "content-type" "content-digest" "content-length");created=1618884473;keyid="test-key-ecc-p256\""""
+
+
+def unescaped(text: str) -> str:
+    return ESCAPE.sub(lambda found: chr(int(found[1], 16)) if found[1] else {"t": "\t", "n": "\n", "r": "\r", "\\": "\\"}[found[2]], text)
+
+
+def rows() -> Iterator[tuple[str, spki_http.Message, int, int | None, str]]:
+    """The rows: the name, the request, the time, how long before the same came, the answer."""
+    with open(ROWS, encoding="ascii") as file:
+        blocks = [block.splitlines() for block in file.read().split("\n\n") if block.startswith("row ")]
+    for lines in blocks:
+        words = [(word, unescaped(rest)) for word, _, rest in (line.partition(" ") for line in lines)]
+        said = dict(words)
+        method, target, authority, now = said["on"].split("|")
+        fields = [(name, value) for word, text in words if word == "field" for name, _, value in [text.partition(": ")]]
+        body = said["body"].encode("latin-1") if "body" in said else None
+        again = int(said["again"]) if "again" in said else None
+        yield lines[0][4:], spki_http.Message(method, authority, target, fields, body), int(now), again, said["gives"]
+
+
+def verifier_at(clock: list[int]) -> spki_http.Verifier:
+    """The service of the rows, at a time."""
+    return spki_http.Verifier("example.com", start=1792000000, now=lambda: clock[0])
+
+
+def answer(verifier: spki_http.Verifier, message: spki_http.Message) -> str:
+    """`valid`, or the name of the refusal."""
+    try:
+        proof = verifier.prove(message.method, message.authority, message.target, iter(message.fields), message.body)
+    except spki_http.Refused as why:
+        return why.name
+    return "valid" if proof.key.startswith(b"(10:public-key") else "no key"
+
+
+def string(octets: bytes) -> bytes:
+    return b"%d:%s" % (len(octets), octets)
+
+
+def ed25519_signer(private: Ed25519PrivateKey) -> spki_http.Signer:
+    def sign(message: bytes) -> bytes:
+        made = private.sign(message)
+        return b"(7:sig-val(5:eddsa(1:r%s)(1:s%s)))" % (string(made[:32]), string(made[32:]))
+    public = private.public_key().public_bytes(Encoding.Raw, PublicFormat.Raw)
+    return spki_http.Signer(b"(10:public-key(3:ecc(5:curve7:Ed25519)(5:flags5:eddsa)(1:q%s)))" % string(public), sign, CHAIN)
+
+
+def curve_signer() -> spki_http.Signer:
+    private = ec.generate_private_key(ec.SECP256R1())
+
+    def sign(message: bytes) -> bytes:
+        numbers = decode_dss_signature(private.sign(message, ec.ECDSA(SHA256())))
+        return b"(7:sig-val(5:ecdsa(1:r%s)(1:s%s)))" % tuple(string(it.to_bytes(32, "big")) for it in numbers)
+    public = private.public_key().public_bytes(Encoding.X962, PublicFormat.UncompressedPoint)
+    return spki_http.Signer(b"(10:public-key(3:ecc(5:curve10:NIST P-256)(1:q%s)))" % string(public), sign)
+
+
+class Handler(http.server.BaseHTTPRequestHandler):
+    """A service that answers the key of a request, or why it proves none."""
+
+    verifier: spki_http.Verifier
+
+    def answer_it(self) -> None:
+        body = self.rfile.read(int(self.headers.get("Content-Length", 0)))
+        try:
+            proof = self.verifier.prove(self.command, self.headers["Host"], self.path, self.headers.items(), body)
+        except spki_http.Refused as why:
+            self.send_error(401, why.name)
+            return
+        self.send_response(200)
+        self.send_header("Content-Length", str(len(proof.key)))
+        self.end_headers()
+        self.wfile.write(proof.key)
+
+    do_GET = do_PUT = do_DELETE = answer_it
+
+    def log_message(self, *words: Any) -> None:
+        pass
+
+
+class Requests(unittest.TestCase):
+    """What is accepted and what is refused."""
+
+    def test_rows(self) -> None:
+        read = [*rows()]
+        self.assertGreater(len(read), 200)
+        for name, message, now, again, gives in read:
+            with self.subTest(name):
+                clock = [now - (again or 0)]
+                verifier = verifier_at(clock)
+                if again is not None:
+                    self.assertEqual(answer(verifier, message), "valid")
+                clock[0] = now
+                self.assertEqual(answer(verifier, message), gives)
+
+    def test_examples_of_the_standard(self) -> None:
+        private = load_der_private_key(base64.b64decode(PRIVATE), None)
+        assert isinstance(private, Ed25519PrivateKey)
+        signer = ed25519_signer(private)
+        self.assertEqual(base64.b64encode(_fields.octets_of(signer.sign(BASE.encode()))).decode(), SIGNATURE)
+        fields = [("Date", "Tue, 20 Apr 2021 02:07:55 GMT"), ("Content-Type", "application/json"), ("Content-Length", "18")]
+        message = spki_http.Message("POST", "example.com", "/foo?param=Value&Pet=dog", fields)
+        parameters = BASE.rpartition('params": ')[2]
+        self.assertEqual(_message.base_of(message, "https", re.findall(r'"([^"]*)"', parameters)[:6], parameters), BASE.encode())
+        self.assertTrue(spki_verify.verify(signer.key, BASE.encode(), _fields.value_of("ed25519", base64.b64decode(SIGNATURE))))
+        public = load_der_public_key(base64.b64decode(CURVE)).public_bytes(Encoding.X962, PublicFormat.UncompressedPoint)
+        key = b"(10:public-key(3:ecc(5:curve10:NIST P-256)(1:q%s)))" % string(public)
+        self.assertTrue(spki_verify.verify(key, RESPONSE.encode(), _fields.value_of("ecdsa-p256-sha256", base64.b64decode(OF_CURVE))))
+
+    def test_nonces(self) -> None:
+        store = spki_http.Memory(2)
+        for nonce, now, wanted in (
+            ("a", 1000, ""), ("a", 1000, "nonce-seen"), ("b", 1100, ""), ("c", 1359, "store-full"), ("b", 1359, "nonce-seen"), ("c", 1360, ""),
+            ("a", 1360, "nonce-seen"), ("b", 1459, "nonce-seen"), ("d", 900, ""), ("c", 1719, "nonce-seen"), ("a", 1720, ""),
+            ("c", 1720, "nonce-seen"), ("c", 3000, ""), ("a", 3000, ""),
+        ):
+            met = ""
+            try:
+                store.take(b"key", nonce, now, 360)
+            except spki_http.Refused as why:
+                met = why.name
+            self.assertEqual(met, wanted, (nonce, now))
+
+
+class Clients(unittest.TestCase):
+    """Clients and a server."""
+
+    def setUp(self) -> None:
+        self.server = http.server.ThreadingHTTPServer(("127.0.0.1", 0), Handler)
+        self.name = f"127.0.0.1:{self.server.server_port}"
+        Handler.verifier = spki_http.Verifier(self.name, scheme="http")
+        thread = threading.Thread(target=self.server.serve_forever)
+        thread.start()
+        self.addCleanup(thread.join)
+        self.addCleanup(self.server.server_close)
+        self.addCleanup(self.server.shutdown)
+        self.url = f"http://{self.name}/a%20b/%7ec?d=e+f"
+        self.signers = [ed25519_signer(Ed25519PrivateKey.generate()), curve_signer()]
+
+    def each(self, send: Callable[[spki_http.Signer, str, bytes | None], bytes]) -> None:
+        """Each signer's requests show its key."""
+        for signer in self.signers:
+            for method, body in (("GET", None), ("PUT", b"some octets"), ("PUT", b""), ("DELETE", None)):
+                self.assertEqual(send(signer, method, body), signer.key, method)
+
+    def test_urllib(self) -> None:
+        def send(signer: spki_http.Signer, method: str, body: bytes | None) -> bytes:
+            opener = urllib.request.build_opener(urllib.request.ProxyHandler({}), spki_http.Handler(signer, self.name))
+            with opener.open(urllib.request.Request(self.url, body, method=method)) as response:
+                return bytes(response.read())
+        self.each(send)
+        with self.assertRaises(urllib.error.HTTPError) as met:
+            urllib.request.build_opener(urllib.request.ProxyHandler({}), spki_http.Handler(self.signers[0], "example.com")).open(self.url)
+        self.assertEqual((met.exception.code, met.exception.reason), (401, "absent"))
+        met.exception.close()
+
+    def test_requests(self) -> None:
+        """The object for `requests` and `httpx`, by a request of the form that each has."""
+        class Prepared:
+            def __init__(self, method: str, url: str, body: bytes | None, has_content: bool) -> None:
+                self.method, self.url, self.headers = method, url, {"Accept": "*/*", "Content-Length": "99"}
+                setattr(self, "content" if has_content else "body", body)
+
+        for has_content in (False, True):
+            def send(signer: spki_http.Signer, method: str, body: bytes | None) -> bytes:
+                prepared = spki_http.Auth(signer, self.name)(Prepared(method, self.url, body, has_content))
+                del prepared.headers["Content-Length"]
+                opener = urllib.request.build_opener(urllib.request.ProxyHandler({}))
+                with opener.open(urllib.request.Request(prepared.url, body, prepared.headers, method=method)) as response:
+                    return bytes(response.read())
+            self.each(send)
+            other = spki_http.Auth(self.signers[0], "example.com")(Prepared("GET", self.url, None, has_content))
+            self.assertEqual({*other.headers}, {"Accept", "Content-Length"})
+        with self.assertRaises(TypeError):
+            spki_http.Auth(self.signers[0], self.name)(Prepared("PUT", self.url, iter(()), False))  # type: ignore[arg-type]
+
+
+if __name__ == "__main__":
+    unittest.main()

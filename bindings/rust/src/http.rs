@@ -1,0 +1,193 @@
+//! Proves the client's key in each HTTP request, by HTTP Message Signatures (RFC 9421) of the profile in docs/SIGNATURES.md.
+//!
+//! ```
+//! use spki::http::{Message, Nonces, Requests, Unproved};
+//!
+//! let requests = Requests::new(&["files.example.org"], Nonces::new(100_000), 1_792_000_000);
+//! let fields: &[(&str, &[u8])] = &[("Host", b"files.example.org")];
+//! let message = Message::new("GET", "files.example.org", "/web/index.html", fields);
+//! // Call your crypto library here: it is the verifier that a guard asks, too.
+//! let verify = |_key: &[u8], _message: &[u8], _value: &[u8]| false;
+//! let proof = requests.prove(&message, 1_792_000_100, verify);
+//! assert_eq!(proof.unwrap_err().name(), "absent");
+//! ```
+
+mod fields;
+mod form;
+mod message;
+mod nonces;
+mod unproved;
+
+pub use fields::ContentDigest;
+pub use message::Message;
+pub use nonces::{Nonces, TakeNonce};
+pub use unproved::Unproved;
+
+use crate::Verdict;
+use fields::Input;
+use message::{authority_of, is_target};
+
+/// The seconds from `created` to `expires` at most, and those that a client's clock may be ahead.
+const MOST_WINDOW: u64 = 300;
+const MOST_AHEAD: u64 = 60;
+const NONCE: std::ops::RangeInclusive<usize> = 16..=64;
+
+/// Says which key has made a request to one service. Several threads may share it.
+#[derive(Debug)]
+pub struct Requests<N = Nonces> {
+    names: Vec<String>,
+    nonces: N,
+    start: u64,
+    scheme: &'static str,
+    sequence: String,
+}
+
+/// The key that has signed a request. There is a value of this type only for a signature that is valid.
+#[derive(Clone, Debug)]
+pub struct Proof {
+    /// The SPKI key in canonical form, as a question has it.
+    pub key: Vec<u8>,
+    /// The digest of the body, if one is covered. Whoever reads the body compares it: without a digest there is none.
+    pub digest: Option<ContentDigest>,
+    nonce: String,
+}
+
+impl<N: TakeNonce> Requests<N> {
+    /// Requests to a service of these names, with ports that are not those of https. `start` is the time in seconds since 1970 before which
+    /// nothing may be created, since its nonce may be forgotten: the start of the process, or 0 if the nonces outlast it.
+    #[must_use]
+    pub fn new(names: &[&str], nonces: N, start: u64) -> Requests<N> {
+        Requests {
+            names: names
+                .iter()
+                .map(|name| authority_of("https", name))
+                .collect(),
+            nonces,
+            start,
+            scheme: "https",
+            sequence: "x-spki-sequence".to_string(),
+        }
+    }
+
+    /// The proof of a request at a time, in seconds since 1970. Its nonce is used up.
+    ///
+    /// # Errors
+    /// If the request proves no key, or the verifier fails.
+    pub fn prove<V, A>(&self, message: &Message, now: u64, verify: V) -> Result<Proof, Unproved>
+    where
+        V: FnMut(&[u8], &[u8], &[u8]) -> A,
+        A: Verdict,
+    {
+        let proof = self.check(message, now, verify)?;
+        self.take(&proof, now)?;
+        Ok(proof)
+    }
+
+    /// Uses up the nonce of a proof. NO PROOF COUNTS WITHOUT IT: `check` leaves that to its caller, who may decide first.
+    ///
+    /// # Errors
+    /// If the nonce was used before, or there is no room for it.
+    pub fn take(&self, proof: &Proof, now: u64) -> Result<(), Unproved> {
+        let seconds = MOST_WINDOW + MOST_AHEAD;
+        self.nonces.take(&proof.key, &proof.nonce, now, seconds)
+    }
+
+    /// The proof of a request, whose nonce is not yet used up. `take` must follow.
+    ///
+    /// # Errors
+    /// If the request proves no key, or the verifier fails.
+    pub fn check<V, A>(&self, message: &Message, now: u64, mut verify: V) -> Result<Proof, Unproved>
+    where
+        V: FnMut(&[u8], &[u8], &[u8]) -> A,
+        A: Verdict,
+    {
+        let (input, octets) = signature_of(message)?;
+        self.check_time(&input, now)?;
+        let (key, kind) = form::key_of(input.keyid)?;
+        if kind.algorithm != input.alg {
+            return Err(Unproved::OtherAlgorithm);
+        }
+        let (text, digest) = self.check_message(message, &input)?;
+        if octets.len() != kind.octets {
+            return Err(Unproved::InvalidSignature);
+        }
+        match verify(&key, &text, &kind.value_of(&octets)).verdict() {
+            Ok(true) => Ok(Proof {
+                key,
+                digest,
+                nonce: input.nonce.to_string(),
+            }),
+            Ok(false) => Err(Unproved::InvalidSignature),
+            Err(_) => Err(Unproved::VerifierFailed),
+        }
+    }
+
+    /// Tests the tag, the nonce and the window.
+    fn check_time(&self, input: &Input, now: u64) -> Result<(), Unproved> {
+        let faults = [
+            (input.tag != fields::TAG, Unproved::OtherTag),
+            (!NONCE.contains(&input.nonce.len()), Unproved::BadNonce),
+            (
+                input.expires <= input.created || input.expires > input.created + MOST_WINDOW,
+                Unproved::BadWindow,
+            ),
+            (
+                input.created > now.saturating_add(MOST_AHEAD),
+                Unproved::TooEarly,
+            ),
+            (input.expires <= now, Unproved::Expired),
+            (input.created < self.start, Unproved::BeforeStart),
+        ];
+        match faults.into_iter().find(|(is_fault, _)| *is_fault) {
+            Some((_, fault)) => Err(fault),
+            None => Ok(()),
+        }
+    }
+
+    /// The signed text of a message, and the digest of its body if one is covered.
+    fn check_message(
+        &self,
+        message: &Message,
+        input: &Input,
+    ) -> Result<(Vec<u8>, Option<ContentDigest>), Unproved> {
+        if message.method.is_empty() || !message.method.bytes().all(fields::is_of_token) {
+            return Err(Unproved::BadMethod);
+        }
+        if !is_target(message.target) {
+            return Err(Unproved::BadTarget);
+        }
+        let authority = authority_of(self.scheme, message.authority);
+        if authority.is_empty() || !self.names.contains(&authority) {
+            return Err(Unproved::OtherAuthority);
+        }
+        let text = message.base(self.scheme, &authority, input)?;
+        for name in ["authorization", &self.sequence, message::DIGEST] {
+            if message.values(name).next().is_some() && !input.components.contains(&name) {
+                return Err(Unproved::UncoveredField);
+            }
+        }
+        if !input.components.contains(&message::DIGEST) {
+            if message.may_have_body() {
+                return Err(Unproved::BodyWithoutDigest);
+            }
+            return Ok((text, None));
+        }
+        let digest = fields::digest_of(&message.field(message::DIGEST)?)?;
+        Ok((text, Some(digest)))
+    }
+}
+
+/// Reads both fields of a signature.
+fn signature_of<'a>(message: &Message<'a>) -> Result<(Input<'a>, Vec<u8>), Unproved> {
+    let inputs: Vec<&[u8]> = message.values("signature-input").collect();
+    let signatures: Vec<&[u8]> = message.values("signature").collect();
+    match (&inputs[..], &signatures[..]) {
+        ([], []) => Err(Unproved::Absent),
+        ([_, _, ..], _) | (_, [_, _, ..]) => Err(Unproved::RepeatedField),
+        ([input], [signature]) => {
+            let read = fields::input_of(input)?;
+            Ok((read, fields::signature_of(signature)?))
+        }
+        _ => Err(Unproved::Malformed),
+    }
+}

@@ -1,0 +1,268 @@
+//! Reads the fields of a signed request: `Signature-Input`, `Signature` and `Content-Digest`.
+
+use super::Unproved;
+
+pub(super) const LABEL: &str = "spki";
+pub(super) const TAG: &str = "spki";
+const MOST_INPUT: usize = 8192;
+const MOST_COMPONENTS: usize = 32;
+const MOST_DIGITS: usize = 15;
+const DERIVED: [&str; 5] = ["@method", "@authority", "@target-uri", "@path", "@query"];
+const PARAMETERS: usize = 6;
+
+/// The digest of a body, of `Content-Digest`.
+#[derive(Clone, Debug, PartialEq, Eq)]
+pub struct ContentDigest {
+    /// `sha-256` or `sha-512`.
+    pub algorithm: String,
+    /// The octets of the digest.
+    pub octets: Vec<u8>,
+}
+
+/// The value of `Signature-Input`. `text` is that of `@signature-params`, as it was sent.
+#[derive(Default)]
+pub(super) struct Input<'a> {
+    pub(super) text: &'a str,
+    pub(super) components: Vec<&'a str>,
+    pub(super) created: u64,
+    pub(super) expires: u64,
+    pub(super) nonce: &'a str,
+    pub(super) keyid: &'a str,
+    pub(super) alg: &'a str,
+    pub(super) tag: &'a str,
+}
+
+/// Takes a field apart from the left.
+struct Parser<'a> {
+    rest: &'a str,
+    is_cut: bool,
+}
+
+impl<'a> Parser<'a> {
+    /// What reads a field behind the label of its first member. The text is read up to an octet beyond ASCII, at which it is malformed.
+    fn new(value: &'a [u8]) -> Result<Parser<'a>, Unproved> {
+        if value.len() > MOST_INPUT {
+            return Err(Unproved::Malformed);
+        }
+        let end = value.iter().position(|octet| !octet.is_ascii());
+        let read = &value[..end.unwrap_or(value.len())];
+        let mut parser = Parser {
+            rest: std::str::from_utf8(read).unwrap_or_default(),
+            is_cut: end.is_some(),
+        };
+        let name = parser.name()?;
+        parser.skip("=")?;
+        if name != LABEL {
+            return Err(Unproved::OtherLabel);
+        }
+        Ok(parser)
+    }
+
+    /// Whether the rest begins with a text, which is passed over then.
+    fn skips(&mut self, text: &str) -> bool {
+        let behind = self.rest.strip_prefix(text);
+        self.rest = behind.unwrap_or(self.rest);
+        behind.is_some()
+    }
+
+    fn skip(&mut self, text: &str) -> Result<(), Unproved> {
+        self.skips(text).then_some(()).ok_or(Unproved::Malformed)
+    }
+
+    /// The octets that the rest begins with, as long as they are of a kind.
+    fn while_of(&mut self, is_of: impl Fn(u8) -> bool) -> &'a str {
+        let end = self.rest.bytes().position(|octet| !is_of(octet));
+        let (taken, rest) = self.rest.split_at(end.unwrap_or(self.rest.len()));
+        self.rest = rest;
+        taken
+    }
+
+    /// The name of a member or of a parameter.
+    fn name(&mut self) -> Result<&'a str, Unproved> {
+        if !self
+            .rest
+            .starts_with(|c: char| c.is_ascii_lowercase() || c == '*')
+        {
+            return Err(Unproved::Malformed);
+        }
+        Ok(self
+            .while_of(|it| it.is_ascii_lowercase() || it.is_ascii_digit() || b"_-.*".contains(&it)))
+    }
+
+    /// A string in quotes. An escape is refused: nothing in the profile needs one.
+    fn string(&mut self) -> Result<&'a str, Unproved> {
+        self.skip("\"")?;
+        let text = self.while_of(|it| (b' '..=b'~').contains(&it) && it != b'"' && it != b'\\');
+        self.skip("\"")?;
+        Ok(text)
+    }
+
+    /// A number of seconds.
+    fn integer(&mut self) -> Result<u64, Unproved> {
+        let digits = self.while_of(|it| it.is_ascii_digit());
+        if digits.len() > MOST_DIGITS || digits.len() > 1 && digits.starts_with('0') {
+            return Err(Unproved::Malformed);
+        }
+        digits.parse().map_err(|_| Unproved::Malformed)
+    }
+
+    /// Octets between colons, in base64.
+    fn octets(&mut self) -> Result<Vec<u8>, Unproved> {
+        self.skip(":")?;
+        let text = self.while_of(|it| it != b':');
+        let octets = decoded(text.as_bytes()).ok_or(Unproved::Malformed)?;
+        self.skip(":")?;
+        Ok(octets)
+    }
+
+    /// What follows the first member, which must be nothing.
+    fn end(&self) -> Result<(), Unproved> {
+        if self.rest.is_empty() && !self.is_cut {
+            return Ok(());
+        }
+        let is_more = self.rest.trim_start_matches([' ', '\t']).starts_with(',');
+        Err(if is_more {
+            Unproved::TwoSignatures
+        } else {
+            Unproved::Malformed
+        })
+    }
+
+    /// The list of components.
+    fn components(&mut self) -> Result<Vec<&'a str>, Unproved> {
+        let mut found = Vec::new();
+        self.skip("(")?;
+        while !self.skips(")") {
+            if found.len() == MOST_COMPONENTS || !found.is_empty() && !self.skips(" ") {
+                return Err(Unproved::Malformed);
+            }
+            let name = self.string()?;
+            if !is_component(name) || self.rest.starts_with(';') {
+                return Err(Unproved::UnknownComponent);
+            }
+            if found.contains(&name) {
+                return Err(Unproved::ComponentTwice);
+            }
+            found.push(name);
+        }
+        Ok(found)
+    }
+}
+
+impl<'a> Input<'a> {
+    /// Reads the parameters up to the end of the field.
+    fn read_parameters(&mut self, parser: &mut Parser<'a>) -> Result<(), Unproved> {
+        let mut seen = Vec::new();
+        while parser.skips(";") {
+            let name = parser.name()?;
+            if !["created", "expires", "nonce", "keyid", "alg", "tag"].contains(&name) {
+                return Err(Unproved::UnknownParameter);
+            }
+            if seen.contains(&name) {
+                return Err(Unproved::ParameterTwice);
+            }
+            parser.skip("=")?;
+            match name {
+                "created" => self.created = parser.integer()?,
+                "expires" => self.expires = parser.integer()?,
+                "nonce" => self.nonce = parser.string()?,
+                "keyid" => self.keyid = parser.string()?,
+                "alg" => self.alg = parser.string()?,
+                _ => self.tag = parser.string()?,
+            }
+            seen.push(name);
+        }
+        parser.end()?;
+        let has = |name: &str| self.components.contains(&name);
+        let has_target = has("@target-uri") || has("@path") && has("@query");
+        if !has("@method") || !has("@authority") || !has_target {
+            return Err(Unproved::MissingComponent);
+        }
+        if seen.len() < PARAMETERS {
+            return Err(Unproved::MissingParameter);
+        }
+        Ok(())
+    }
+}
+
+/// Whether an octet may be in a token of HTTP.
+pub(super) fn is_of_token(octet: u8) -> bool {
+    octet.is_ascii_alphanumeric() || b"!#$%&'*+-.^_`|~".contains(&octet)
+}
+
+/// Whether a name is one of a field in small letters, or of the five components that are derived.
+fn is_component(name: &str) -> bool {
+    let is_small = |octet: u8| is_of_token(octet) && !octet.is_ascii_uppercase();
+    DERIVED.contains(&name)
+        || !["", "signature", "signature-input"].contains(&name) && name.bytes().all(is_small)
+}
+
+/// Reads `Signature-Input`.
+pub(super) fn input_of(value: &[u8]) -> Result<Input<'_>, Unproved> {
+    let mut parser = Parser::new(value)?;
+    let mut made = Input {
+        text: parser.rest,
+        components: parser.components()?,
+        ..Input::default()
+    };
+    made.read_parameters(&mut parser)?;
+    Ok(made)
+}
+
+/// Reads `Signature`.
+pub(super) fn signature_of(value: &[u8]) -> Result<Vec<u8>, Unproved> {
+    let mut parser = Parser::new(value)?;
+    let octets = parser.octets()?;
+    parser.end()?;
+    Ok(octets)
+}
+
+/// Reads `Content-Digest`: one member, by SHA-256 or SHA-512.
+pub(super) fn digest_of(value: &[u8]) -> Result<ContentDigest, Unproved> {
+    let text = std::str::from_utf8(value).map_err(|_| Unproved::BadDigest)?;
+    let (name, rest) = text.split_once('=').ok_or(Unproved::BadDigest)?;
+    let mut parser = Parser {
+        rest,
+        is_cut: false,
+    };
+    let octets = parser.octets().map_err(|_| Unproved::BadDigest)?;
+    let length = match name {
+        "sha-256" => 32,
+        "sha-512" => 64,
+        _ => 0,
+    };
+    if !parser.rest.is_empty() || length == 0 || octets.len() != length {
+        return Err(Unproved::BadDigest);
+    }
+    Ok(ContentDigest {
+        algorithm: name.to_string(),
+        octets,
+    })
+}
+
+/// The octets of base64 with its padding, in the one text that they have.
+pub(super) fn decoded(text: &[u8]) -> Option<Vec<u8>> {
+    let padding = text.iter().rev().take(2).filter(|it| **it == b'=').count();
+    if text.len() % 4 != 0 {
+        return None;
+    }
+    let (mut made, mut bits, mut count) = (Vec::with_capacity(text.len() / 4 * 3), 0u32, 0);
+    for octet in &text[..text.len() - padding] {
+        let six = match octet {
+            b'A'..=b'Z' => octet - b'A',
+            b'a'..=b'z' => octet - b'a' + 26,
+            b'0'..=b'9' => octet - b'0' + 52,
+            b'+' => 62,
+            b'/' => 63,
+            _ => return None,
+        };
+        bits = (bits << 6 | u32::from(six)) & 0xffff;
+        count += 6;
+        if count >= 8 {
+            count -= 8;
+            made.push((bits >> count) as u8);
+            bits &= (1 << count) - 1;
+        }
+    }
+    (bits == 0).then_some(made)
+}

@@ -1,0 +1,102 @@
+//! Keys and signatures: octets of HTTP, and the canonical texts of docs/FORMATS.md.
+
+use super::fields::decoded;
+use super::Unproved;
+
+const HALF: usize = 32;
+const MOST_KEY: usize = 4096;
+/// The algorithms, and the canonical texts of their keys and of the values of their signatures, with `%` for each string.
+const FORMS: [(&str, &str, &str); 3] = [
+    (
+        "ed25519",
+        "(10:public-key(3:ecc(5:curve7:Ed25519)(5:flags5:eddsa)(1:q%)))",
+        "(7:sig-val(5:eddsa(1:r%)(1:s%)))",
+    ),
+    (
+        "ecdsa-p256-sha256",
+        "(10:public-key(3:ecc(5:curve10:NIST P-256)(1:q%)))",
+        "(7:sig-val(5:ecdsa(1:r%)(1:s%)))",
+    ),
+    (
+        "rsa-v1_5-sha256",
+        "(10:public-key(3:rsa(1:n%)(1:e%)))",
+        "(7:sig-val(3:rsa(1:s%)))",
+    ),
+];
+
+/// The algorithm of a key, and how many octets a signature by it has.
+pub(super) struct Kind {
+    pub(super) algorithm: &'static str,
+    pub(super) octets: usize,
+    value: &'static str,
+}
+
+impl Kind {
+    /// The canonical value of the octets of a signature. They are as many as the algorithm has.
+    pub(super) fn value_of(&self, octets: &[u8]) -> Vec<u8> {
+        let halves = self.value.matches('%').count();
+        let mut strings = octets.chunks(octets.len() / halves);
+        let mut made = Vec::new();
+        for octet in self.value.bytes() {
+            if octet == b'%' {
+                let string = strings.next().unwrap_or_default();
+                made.extend_from_slice(format!("{}:", string.len()).as_bytes());
+                made.extend_from_slice(string);
+            } else {
+                made.push(octet);
+            }
+        }
+        made
+    }
+}
+
+/// The key of a `keyid`, and its kind.
+pub(super) fn key_of(keyid: &str) -> Result<(Vec<u8>, Kind), Unproved> {
+    let bare = keyid
+        .strip_prefix('{')
+        .and_then(|rest| rest.strip_suffix('}'));
+    let key = bare
+        .filter(|_| keyid.len() <= MOST_KEY)
+        .and_then(|text| decoded(text.as_bytes()))
+        .ok_or(Unproved::BadKey)?;
+    for (algorithm, form, value) in FORMS {
+        if let Some(first) = first_string(&key, form) {
+            let octets = if algorithm.starts_with("rsa") {
+                first.iter().skip_while(|octet| **octet == 0).count()
+            } else {
+                2 * HALF
+            };
+            let kind = Kind {
+                algorithm,
+                octets,
+                value,
+            };
+            return Ok((key, kind));
+        }
+    }
+    Err(Unproved::BadKey)
+}
+
+/// The first of the strings of a canonical text that are at the marks of a form. `None` if the text has another form.
+fn first_string<'a>(mut text: &'a [u8], form: &str) -> Option<&'a [u8]> {
+    let mut first = None;
+    for octet in form.bytes() {
+        if octet == b'%' {
+            let (string, rest) = string_of(text)?;
+            first = first.or(Some(string));
+            text = rest;
+        } else {
+            text = text.strip_prefix(&[octet])?;
+        }
+    }
+    first.filter(|_| text.is_empty())
+}
+
+/// The string that a canonical text begins with, and the rest.
+fn string_of(text: &[u8]) -> Option<(&[u8], &[u8])> {
+    let colon = text.iter().take(5).position(|octet| *octet == b':')?;
+    let digits = std::str::from_utf8(&text[..colon]).ok()?;
+    let length: usize = digits.parse().ok()?;
+    let rest = &text[colon + 1..];
+    (digits == length.to_string() && length <= rest.len()).then(|| rest.split_at(length))
+}

@@ -1,0 +1,127 @@
+//! A request as it was sent, and the text of it that is signed.
+
+use super::fields::Input;
+use super::Unproved;
+
+pub(super) const DIGEST: &str = "content-digest";
+
+/// A request, as it was sent.
+#[derive(Clone, Copy, Debug)]
+pub struct Message<'a> {
+    pub(super) method: &'a str,
+    pub(super) authority: &'a str,
+    pub(super) target: &'a str,
+    pub(super) fields: &'a [(&'a str, &'a [u8])],
+}
+
+impl<'a> Message<'a> {
+    /// A request: its method, the name that the client asks with its port, the path and the query as in the first line of HTTP/1.1, and its
+    /// fields, each line of them.
+    #[must_use]
+    pub fn new(
+        method: &'a str,
+        authority: &'a str,
+        target: &'a str,
+        fields: &'a [(&'a str, &'a [u8])],
+    ) -> Message<'a> {
+        Message {
+            method,
+            authority,
+            target,
+            fields,
+        }
+    }
+
+    /// The values of a field, without the spaces around them.
+    pub(super) fn values<'n>(&self, name: &'n str) -> impl Iterator<Item = &'a [u8]> + 'n
+    where
+        'a: 'n,
+    {
+        self.fields
+            .iter()
+            .filter(move |(known, _)| known.eq_ignore_ascii_case(name))
+            .map(|(_, value)| trimmed(value))
+    }
+
+    /// The value of a field, which must be there in one line.
+    pub(super) fn field(&self, name: &str) -> Result<Vec<u8>, Unproved> {
+        let mut values = self.values(name);
+        let value = values.next().ok_or(Unproved::AbsentField)?;
+        if values.next().is_some() {
+            return Err(Unproved::RepeatedField);
+        }
+        if value
+            .iter()
+            .any(|it| *it != b'\t' && !(b' '..=b'~').contains(it))
+        {
+            return Err(Unproved::BadValue);
+        }
+        Ok(value.to_vec())
+    }
+
+    /// Whether a digest must be covered.
+    pub(super) fn may_have_body(&self) -> bool {
+        !matches!(self.method, "GET" | "HEAD")
+            || self.values("content-length").any(|value| value != b"0")
+            || self.values("transfer-encoding").next().is_some()
+    }
+
+    /// The signature base.
+    pub(super) fn base(
+        &self,
+        scheme: &str,
+        authority: &str,
+        input: &Input,
+    ) -> Result<Vec<u8>, Unproved> {
+        let mut made = Vec::with_capacity(1024);
+        for name in &input.components {
+            let value = self.value(scheme, authority, name)?;
+            made.extend_from_slice(format!("\"{name}\": ").as_bytes());
+            made.extend_from_slice(&value);
+            made.push(b'\n');
+        }
+        made.extend_from_slice(format!("\"@signature-params\": {}", input.text).as_bytes());
+        Ok(made)
+    }
+
+    /// The value of a component.
+    fn value(&self, scheme: &str, authority: &str, name: &str) -> Result<Vec<u8>, Unproved> {
+        let (path, query) = match self.target.split_once('?') {
+            Some((path, query)) => (path, Some(query)),
+            None => (self.target, None),
+        };
+        let made = match name {
+            "@method" => self.method.to_string(),
+            "@authority" => authority.to_string(),
+            "@path" => path.to_string(),
+            "@query" => format!("?{}", query.unwrap_or_default()),
+            "@target-uri" => format!("{scheme}://{authority}{}", self.target),
+            _ => return self.field(name),
+        };
+        Ok(made.into_bytes())
+    }
+}
+
+/// A value without the spaces and tabs around it.
+fn trimmed(mut value: &[u8]) -> &[u8] {
+    while let [b' ' | b'\t', rest @ ..] | [rest @ .., b' ' | b'\t'] = value {
+        value = rest;
+    }
+    value
+}
+
+/// A name with its port as it is signed: in small letters, without the port that the scheme has anyway.
+pub(super) fn authority_of(scheme: &str, authority: &str) -> String {
+    let usual = if scheme == "http" { ":80" } else { ":443" };
+    let name = authority.to_ascii_lowercase();
+    name.strip_suffix(usual)
+        .map_or(name.clone(), str::to_string)
+}
+
+/// Whether a target is one of a request: a path and perhaps a query, of visible characters.
+pub(super) fn is_target(target: &str) -> bool {
+    target.starts_with('/')
+        && target
+            .bytes()
+            .all(|octet| octet.is_ascii_graphic() && octet != b'#')
+}

@@ -1,0 +1,75 @@
+//! Which nonces were used.
+
+use super::Unproved;
+use std::collections::hash_map::RandomState;
+use std::collections::HashSet;
+use std::hash::BuildHasher;
+use std::sync::{Mutex, PoisonError};
+
+/// Keeps which nonces were used.
+pub trait TakeNonce {
+    /// Keeps a nonce of a key for so many seconds from now.
+    ///
+    /// # Errors
+    /// If the nonce was used before, or there is no room for it.
+    fn take(&self, key: &[u8], nonce: &str, now: u64, seconds: u64) -> Result<(), Unproved>;
+}
+
+/// Nonces in two sets, as hashes of key and nonce. If the young set is as old as a nonce is kept, it becomes the old one. Where two have the same
+/// hash, the second is refused.
+#[derive(Debug)]
+pub struct Nonces {
+    most: usize,
+    hasher: RandomState,
+    sets: Mutex<Sets>,
+}
+
+#[derive(Debug, Default)]
+struct Sets {
+    turned: u64,
+    old: HashSet<u64>,
+    young: HashSet<u64>,
+}
+
+impl Nonces {
+    /// Room for so many nonces in each of the two sets. A full one refuses.
+    #[must_use]
+    pub fn new(most: usize) -> Nonces {
+        Nonces {
+            most,
+            hasher: RandomState::new(),
+            sets: Mutex::default(),
+        }
+    }
+}
+
+impl TakeNonce for Nonces {
+    fn take(&self, key: &[u8], nonce: &str, now: u64, seconds: u64) -> Result<(), Unproved> {
+        let name = self.hasher.hash_one((key, nonce));
+        let mut sets = self.sets.lock().unwrap_or_else(PoisonError::into_inner);
+        sets.turn(now, seconds);
+        if sets.old.contains(&name) || sets.young.contains(&name) {
+            return Err(Unproved::NonceSeen);
+        }
+        if sets.young.len() >= self.most {
+            return Err(Unproved::StoreFull);
+        }
+        sets.young.insert(name);
+        Ok(())
+    }
+}
+
+impl Sets {
+    /// Makes the young set the old one when it is time. If the clock went back, nothing is forgotten.
+    fn turn(&mut self, now: u64, seconds: u64) {
+        let age = now.saturating_sub(self.turned);
+        if age < seconds {
+            return;
+        }
+        self.old = std::mem::take(&mut self.young);
+        self.turned = now;
+        if age >= 2 * seconds {
+            self.old.clear();
+        }
+    }
+}

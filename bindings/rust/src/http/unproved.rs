@@ -1,0 +1,68 @@
+//! Why a request proves no key.
+
+use std::error::Error;
+use std::fmt;
+
+macro_rules! unproved {
+    ($($variant:ident $name:literal,)*) => {
+        /// Why a request proves no key. The names are those of docs/SIGNATURES.md.
+        #[non_exhaustive]
+        #[derive(Clone, Copy, Debug, PartialEq, Eq, Hash)]
+        pub enum Unproved {
+            $(#[doc = concat!("`", $name, "`")] $variant,)*
+        }
+
+        impl Unproved {
+            /// The name in docs/SIGNATURES.md.
+            #[must_use]
+            pub fn name(self) -> &'static str {
+                match self {
+                    $(Unproved::$variant => $name,)*
+                }
+            }
+        }
+    };
+}
+
+unproved! {
+    Absent "absent",
+    RepeatedField "repeated-field",
+    Malformed "malformed",
+    OtherLabel "other-label",
+    TwoSignatures "two-signatures",
+    ComponentTwice "component-twice",
+    UnknownComponent "unknown-component",
+    MissingComponent "missing-component",
+    ParameterTwice "parameter-twice",
+    UnknownParameter "unknown-parameter",
+    MissingParameter "missing-parameter",
+    OtherTag "other-tag",
+    BadNonce "bad-nonce",
+    BadWindow "bad-window",
+    TooEarly "too-early",
+    Expired "expired",
+    BeforeStart "before-start",
+    BadKey "bad-key",
+    OtherAlgorithm "other-algorithm",
+    BadMethod "bad-method",
+    BadTarget "bad-target",
+    OtherAuthority "other-authority",
+    AbsentField "absent-field",
+    BadValue "bad-value",
+    UncoveredField "uncovered-field",
+    BodyWithoutDigest "body-without-digest",
+    BadDigest "bad-digest",
+    InvalidSignature "invalid-signature",
+    VerifierFailed "verifier-failed",
+    OtherDigest "other-digest",
+    NonceSeen "nonce-seen",
+    StoreFull "store-full",
+}
+
+impl fmt::Display for Unproved {
+    fn fmt(&self, f: &mut fmt::Formatter) -> fmt::Result {
+        write!(f, "the request proves no key: {}", self.name())
+    }
+}
+
+impl Error for Unproved {}

@@ -1,0 +1,227 @@
+//! Requests that are signed: the table that the verifiers of all languages read. `openssl` verifies, and coreutils make digests.
+
+#[path = "../examples/by_openssl/mod.rs"]
+mod by_openssl;
+
+use by_openssl::Openssl;
+use spki::http::{ContentDigest, Message, Nonces, Requests, TakeNonce, Unproved};
+use spki::Verifier;
+use std::fs;
+use std::io::Write;
+use std::process::{Command, Stdio};
+
+const ROWS: &str = concat!(env!("CARGO_MANIFEST_DIR"), "/../go/httpsig/testdata/rows");
+const START: u64 = 1_792_000_000;
+/// RFC 9421, appendix B.2.4: a response, its signature by ECDSA, and the key of B.1.3.
+const RESPONSE: &str = "\"@status\": 200
+\"content-type\": application/json
+\"content-digest\": sha-512=:mEWXIS7MaLRuGgxOBdODa3xqM1XdEvxoYhvlCFJ41QJgJc4GTsPp29l5oGX69wWdXymyU0rjJuahq4l5aGgfLQ==:
+\"content-length\": 23
+\"@signature-params\": (\"@status\" \"content-type\" \"content-digest\" \"content-length\");created=1618884473;keyid=\"test-key-ecc-p256\"";
+const CURVE: &str = "04a885586552c2acf6471878cfd7b0935b4ffe0fd2dfc341248ea17bc41e058af031ce2737d2d30ce0617e851e83c61ef5679d151867657649035d90a74cd9e85d";
+const OF_CURVE: [&str; 2] = [
+    "c0d9925008706f92f1b4eb4ea4d6ba5b9c63d3aee6e6116b8f45d0e1fbe96822",
+    "f1d0d2a87203eab8b8326a19f30e70c0532e5e09d95850490b223fb7da889ab3",
+];
+
+#[derive(Default)]
+struct Row {
+    name: String,
+    on: Vec<String>,
+    fields: Vec<(String, Vec<u8>)>,
+    body: Option<Vec<u8>>,
+    again: Option<u64>,
+    gives: String,
+}
+
+/// The octets of a line in which some are escaped.
+fn unescaped(text: &str) -> Vec<u8> {
+    let mut made = Vec::new();
+    let mut rest = text.bytes();
+    while let Some(octet) = rest.next() {
+        if octet != b'\\' {
+            made.push(octet);
+            continue;
+        }
+        made.push(match rest.next() {
+            Some(b't') => b'\t',
+            Some(b'n') => b'\n',
+            Some(b'r') => b'\r',
+            Some(b'x') => {
+                let digits = [rest.next().expect("a digit"), rest.next().expect("another")];
+                hexadecimal(std::str::from_utf8(&digits).expect("ASCII"))[0]
+            }
+            other => other.expect("what is escaped"),
+        });
+    }
+    made
+}
+
+fn hexadecimal(digits: &str) -> Vec<u8> {
+    let pairs = (0..digits.len()).step_by(2);
+    pairs
+        .map(|at| u8::from_str_radix(&digits[at..at + 2], 16).expect("two digits"))
+        .collect()
+}
+
+fn rows() -> Vec<Row> {
+    let mut made: Vec<Row> = Vec::new();
+    for line in fs::read_to_string(ROWS).expect("the table").lines() {
+        let (word, rest) = line.split_once(' ').unwrap_or((line, ""));
+        if word == "row" {
+            made.push(Row {
+                name: rest.to_string(),
+                ..Row::default()
+            });
+        }
+        let Some(row) = made.last_mut() else {
+            continue;
+        };
+        let octets = unescaped(rest);
+        let text: String = octets.iter().map(|octet| char::from(*octet)).collect();
+        match word {
+            "on" => row.on = text.split('|').map(str::to_string).collect(),
+            "field" => {
+                let at = text.find(": ").expect("a name");
+                row.fields
+                    .push((text[..at].to_string(), octets[at + 2..].to_vec()));
+            }
+            "body" => row.body = Some(octets),
+            "again" => row.again = text.parse().ok(),
+            "gives" => row.gives = text,
+            _ => {}
+        }
+    }
+    made
+}
+
+/// Whether a digest is that of a body, by coreutils.
+fn is_of(digest: Option<&ContentDigest>, body: &[u8]) -> bool {
+    let Some(digest) = digest else {
+        return body.is_empty();
+    };
+    let mut program = Command::new(digest.algorithm.replace('-', "") + "sum")
+        .stdin(Stdio::piped())
+        .stdout(Stdio::piped())
+        .spawn()
+        .expect("coreutils");
+    let mut input = program.stdin.take().expect("its input");
+    input.write_all(body).expect("it reads");
+    drop(input);
+    let said = program.wait_with_output().expect("it answers").stdout;
+    hexadecimal(std::str::from_utf8(&said[..2 * digest.octets.len()]).expect("digits"))
+        == digest.octets
+}
+
+/// `valid`, or the name of the refusal.
+fn answer(requests: &Requests, row: &Row, now: u64) -> &'static str {
+    let fields: Vec<(&str, &[u8])> = row
+        .fields
+        .iter()
+        .map(|(name, value)| (&name[..], &value[..]))
+        .collect();
+    let message = Message::new(&row.on[0], &row.on[2], &row.on[1], &fields);
+    match requests.prove(&message, now, |key: &[u8], message: &[u8], value: &[u8]| {
+        Openssl.verify(key, message, value)
+    }) {
+        Err(unproved) => unproved.name(),
+        Ok(proof)
+            if row
+                .body
+                .as_ref()
+                .map_or(true, |body| is_of(proof.digest.as_ref(), body)) =>
+        {
+            "valid"
+        }
+        Ok(_) => Unproved::OtherDigest.name(),
+    }
+}
+
+#[test]
+fn the_rows_are_answered() {
+    let rows = rows();
+    assert!(rows.len() > 200);
+    for row in &rows {
+        let requests = Requests::new(&["example.com"], Nonces::new(10), START);
+        let now: u64 = row.on[3].parse().expect("a time");
+        if let Some(before) = row.again {
+            assert_eq!(
+                answer(&requests, row, now - before),
+                "valid",
+                "{}, the first time",
+                row.name
+            );
+        }
+        assert_eq!(answer(&requests, row, now), row.gives, "{}", row.name);
+    }
+}
+
+#[test]
+fn the_published_signature_is_valid() {
+    let string = |octets: Vec<u8>| [format!("{}:", octets.len()).into_bytes(), octets].concat();
+    let [r, s] = OF_CURVE.map(|digits| string(hexadecimal(digits)));
+    let key = [
+        &b"(10:public-key(3:ecc(5:curve10:NIST P-256)(1:q"[..],
+        &string(hexadecimal(CURVE)),
+        b")))",
+    ]
+    .concat();
+    let value = [&b"(7:sig-val(5:ecdsa(1:r"[..], &r, b")(1:s", &s, b")))"].concat();
+    assert!(Openssl
+        .verify(&key, RESPONSE.as_bytes(), &value)
+        .expect("openssl"));
+    assert!(!Openssl
+        .verify(&key, &RESPONSE.as_bytes()[1..], &value)
+        .expect("openssl"));
+}
+
+#[test]
+fn nonces_are_kept_in_two_sets() {
+    let store = Nonces::new(2);
+    for (nonce, now, wanted) in [
+        ("a", 1000, ""),
+        ("a", 1000, "nonce-seen"),
+        ("b", 1100, ""),
+        ("c", 1359, "store-full"),
+        ("b", 1359, "nonce-seen"),
+        ("c", 1360, ""),
+        ("a", 1360, "nonce-seen"),
+        ("b", 1459, "nonce-seen"),
+        ("d", 900, ""),
+        ("c", 1719, "nonce-seen"),
+        ("a", 1720, ""),
+        ("c", 1720, "nonce-seen"),
+        ("c", 3000, ""),
+        ("a", 3000, ""),
+    ] {
+        let met = store
+            .take(b"key", nonce, now, 360)
+            .err()
+            .map_or("", Unproved::name);
+        assert_eq!(met, wanted, "{nonce} {now}");
+    }
+    assert!(store.take(b"another key", "a", 3360, 360).is_ok());
+}
+
+#[test]
+fn a_verifier_that_fails_proves_nothing() {
+    let row = &rows()[0];
+    let fields: Vec<(&str, &[u8])> = row
+        .fields
+        .iter()
+        .map(|(name, value)| (&name[..], &value[..]))
+        .collect();
+    let message = Message::new(&row.on[0], &row.on[2], &row.on[1], &fields);
+    let requests = Requests::new(&["example.com"], Nonces::new(10), START);
+    assert_eq!(
+        requests
+            .prove(&message, START + 100, |_: &[u8], _: &[u8], _: &[u8]| Err::<
+                bool,
+                (),
+            >(
+                ()
+            ))
+            .err(),
+        Some(Unproved::VerifierFailed)
+    );
+}

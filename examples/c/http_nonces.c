@@ -1,0 +1,130 @@
+/* Nonces of http_request.h in memory. Two sets have the hashes of key and nonce: if the young one is as old as a nonce is kept, it becomes the old
+ * one. A hash is by SipHash-2-4 with a key of the process, so that nobody can choose two nonces of one hash. The second of these is refused. */
+#define _DEFAULT_SOURCE
+#include "http_request.h"
+
+#include <stdint.h>
+#include <stdlib.h>
+#include <sys/random.h>
+
+/* Each set has twice as many places as nonces. 0 is a free place. */
+struct http_nonces {
+    uint64_t key[2], *young, *old;
+    size_t most, count;
+    long long turned;
+};
+
+static uint64_t rotated(uint64_t word, unsigned bits)
+{
+    return word << bits | word >> (64 - bits);
+}
+
+static void rounds(uint64_t v[4], int count)
+{
+    for (; count > 0; count--) {
+        v[0] += v[1], v[1] = rotated(v[1], 13) ^ v[0], v[0] = rotated(v[0], 32);
+        v[2] += v[3], v[3] = rotated(v[3], 16) ^ v[2];
+        v[0] += v[3], v[3] = rotated(v[3], 21) ^ v[0];
+        v[2] += v[1], v[1] = rotated(v[1], 17) ^ v[2], v[2] = rotated(v[2], 32);
+    }
+}
+
+/* A SipHash under way: the words so far, and the octets of the next one. */
+struct sip {
+    uint64_t v[4], word;
+    size_t length;
+};
+
+static void eat(struct sip *sip, const void *octets, size_t length)
+{
+    const unsigned char *in = octets;
+    for (size_t i = 0; i < length; i++) {
+        sip->word |= (uint64_t)in[i] << (8 * (sip->length % 8));
+        if (++sip->length % 8 == 0) {
+            sip->v[3] ^= sip->word;
+            rounds(sip->v, 2);
+            sip->v[0] ^= sip->word;
+            sip->word = 0;
+        }
+    }
+}
+
+/* The hash of a key and a nonce, which is not 0. No key has the octet between them at its end. */
+static uint64_t hash_of(const uint64_t key[2], struct spki_text first, struct spki_text second)
+{
+    struct sip sip = {{key[0] ^ 0x736f6d6570736575, key[1] ^ 0x646f72616e646f6d, key[0] ^ 0x6c7967656e657261, key[1] ^ 0x7465646279746573}, 0, 0};
+    eat(&sip, first.octets, first.length);
+    eat(&sip, "", 1);
+    eat(&sip, second.octets, second.length);
+    uint64_t last = sip.word | (uint64_t)sip.length << 56;
+    sip.v[3] ^= last;
+    rounds(sip.v, 2);
+    sip.v[0] ^= last;
+    sip.v[2] ^= 0xff;
+    rounds(sip.v, 4);
+    uint64_t hash = sip.v[0] ^ sip.v[1] ^ sip.v[2] ^ sip.v[3];
+    return hash ? hash : 1;
+}
+
+/* The place of a hash in a set: where it is, or the free one that it would have. */
+static uint64_t *place_of(uint64_t *set, size_t most, uint64_t hash)
+{
+    size_t at = (size_t)(hash % (2 * most));
+    while (set[at] && set[at] != hash)
+        at = (at + 1) % (2 * most);
+    return &set[at];
+}
+
+struct http_nonces *http_nonces_open(size_t most)
+{
+    struct http_nonces *made = most > 0 && most < SIZE_MAX / 16 ? calloc(1, sizeof *made) : NULL;
+    if (!made)
+        return NULL;
+    made->most = most;
+    made->young = calloc(2 * most, sizeof *made->young);
+    made->old = calloc(2 * most, sizeof *made->old);
+    if (made->young && made->old && getrandom(made->key, sizeof made->key, 0) == (ssize_t)sizeof made->key)
+        return made;
+    http_nonces_close(made);
+    return NULL;
+}
+
+/* Makes the young set the old one when it is time. If the clock went back, nothing is forgotten. */
+static void turn(struct http_nonces *nonces, long long now, long long seconds)
+{
+    long long age = now - nonces->turned;
+    if (age < seconds)
+        return;
+    uint64_t *kept = nonces->young;
+    nonces->young = nonces->old;
+    nonces->old = kept;
+    memset(nonces->young, 0, 2 * nonces->most * sizeof *nonces->young);
+    if (age >= 2 * seconds)
+        memset(nonces->old, 0, 2 * nonces->most * sizeof *nonces->old);
+    nonces->turned = now;
+    nonces->count = 0;
+}
+
+const char *http_nonces_take(void *store, struct spki_text key, struct spki_text nonce, long long now, long long seconds)
+{
+    struct http_nonces *nonces = store;
+    uint64_t hash = hash_of(nonces->key, key, nonce), *place;
+    turn(nonces, now, seconds);
+    place = place_of(nonces->young, nonces->most, hash);
+    if (*place || *place_of(nonces->old, nonces->most, hash))
+        return "nonce-seen";
+    if (nonces->count == nonces->most)
+        return "store-full";
+    *place = hash;
+    nonces->count++;
+    return NULL;
+}
+
+void http_nonces_close(struct http_nonces *nonces)
+{
+    if (nonces) {
+        free(nonces->young);
+        free(nonces->old);
+    }
+    free(nonces);
+}

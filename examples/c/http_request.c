@@ -1,0 +1,558 @@
+/* http_request.h says what it is for. Nothing is copied but the key, the digest and the signed text. */
+#include "http_request.h"
+
+#include <stdlib.h>
+
+enum { MOST_INPUT = 8192, MOST_COMPONENTS = 32, MOST_DIGITS = 15, MOST_KEY_TEXT = 4096, MOST_SIGNATURE = 512 };
+enum { MOST_WINDOW = 300, MOST_AHEAD = 60, LEAST_NONCE = 16, MOST_NONCE = 64 };
+enum { CREATED, EXPIRES, NONCE, KEYID, ALG, TAG, PARAMETERS };
+
+static const char *const parameter_names[PARAMETERS] = {"created", "expires", "nonce", "keyid", "alg", "tag"};
+static const char *const derived[] = {"@method", "@authority", "@target-uri", "@path", "@query"};
+static const char malformed[] = "malformed", chained[] = "authorization", sequence[] = "x-spki-sequence", body_digest[] = "content-digest";
+
+/* The value of `Signature-Input`. `text` is that of `@signature-params`, as it was sent. */
+struct input {
+    struct spki_text text, components[MOST_COMPONENTS], strings[PARAMETERS];
+    size_t count;
+    long long created, expires;
+};
+
+/* Octets that are taken apart from the left. */
+struct cursor {
+    const unsigned char *at, *end;
+};
+
+/* ---- texts */
+
+static struct spki_text literal(const char *text)
+{
+    return (struct spki_text){text, strlen(text)};
+}
+
+static bool is(struct spki_text text, const char *wanted)
+{
+    return text.length == strlen(wanted) && (text.length == 0 || memcmp(text.octets, wanted, text.length) == 0);
+}
+
+static unsigned char small(unsigned char octet)
+{
+    return octet >= 'A' && octet <= 'Z' ? (unsigned char)(octet | 0x20) : octet;
+}
+
+static bool is_in_any_letters(struct spki_text text, struct spki_text wanted)
+{
+    const unsigned char *first = text.octets, *second = wanted.octets;
+    for (size_t i = 0; text.length == wanted.length && i < text.length; i++)
+        if (small(first[i]) != small(second[i]))
+            return false;
+    return text.length == wanted.length;
+}
+
+static struct spki_text between(const unsigned char *first, const unsigned char *end)
+{
+    return (struct spki_text){first, (size_t)(end - first)};
+}
+
+/* A value without the spaces and tabs around it. */
+static struct spki_text trimmed(struct spki_text value)
+{
+    const unsigned char *first = value.octets, *end = first + value.length;
+    while (first != end && (*first == ' ' || *first == '\t'))
+        first++;
+    while (first != end && (end[-1] == ' ' || end[-1] == '\t'))
+        end--;
+    return between(first, end);
+}
+
+static bool has(const struct input *input, const char *name)
+{
+    for (size_t i = 0; i < input->count; i++)
+        if (is(input->components[i], name))
+            return true;
+    return false;
+}
+
+/* ---- base64 */
+
+static int six_bits(unsigned char octet)
+{
+    static const char all[] = "ABCDEFGHIJKLMNOPQRSTUVWXYZabcdefghijklmnopqrstuvwxyz0123456789+/";
+    const char *found = octet ? strchr(all, octet) : NULL;
+    return found ? (int)(found - all) : -1;
+}
+
+/* Whether a text is base64 with its padding, in the one form that its octets have, and they have room. */
+static bool decoded(struct spki_text text, unsigned char *octets, size_t room, size_t *length)
+{
+    const unsigned char *in = text.octets;
+    size_t padding = 0;
+    unsigned bits = 0, count = 0;
+    *length = 0;
+    while (padding < 2 && padding < text.length && in[text.length - 1 - padding] == '=')
+        padding++;
+    if (text.length % 4 != 0)
+        return false;
+    for (size_t i = 0; i < text.length - padding; i++) {
+        int six = six_bits(in[i]);
+        if (six < 0)
+            return false;
+        bits = (bits << 6 | (unsigned)six) & 0xfff;
+        if ((count += 6) < 8)
+            continue;
+        if (*length == room)
+            return false;
+        count -= 8;
+        octets[(*length)++] = (unsigned char)(bits >> count);
+        bits &= (1U << count) - 1;
+    }
+    return bits == 0;
+}
+
+/* ---- fields of RFC 8941, as strictly as they are written */
+
+static bool skips(struct cursor *in, const char *text)
+{
+    size_t length = strlen(text);
+    bool found = (size_t)(in->end - in->at) >= length && memcmp(in->at, text, length) == 0;
+    in->at += found ? length : 0;
+    return found;
+}
+
+/* The name of a member or of a parameter. It is empty if none is there. */
+static struct spki_text name_at(struct cursor *in)
+{
+    const unsigned char *first = in->at;
+    for (; in->at != in->end; in->at++) {
+        unsigned char octet = *in->at;
+        bool is_first = (octet >= 'a' && octet <= 'z') || octet == '*';
+        bool is_later = (octet >= '0' && octet <= '9') || octet == '_' || octet == '-' || octet == '.';
+        if (!is_first && !(is_later && in->at != first))
+            break;
+    }
+    return between(first, in->at);
+}
+
+/* Whether a string in quotes is there. An escape is refused: nothing in the profile needs one. */
+static bool string_at(struct cursor *in, struct spki_text *string)
+{
+    if (!skips(in, "\""))
+        return false;
+    const unsigned char *first = in->at;
+    while (in->at != in->end && *in->at >= ' ' && *in->at <= '~' && *in->at != '"' && *in->at != '\\')
+        in->at++;
+    *string = between(first, in->at);
+    return skips(in, "\"");
+}
+
+static bool integer_at(struct cursor *in, long long *number)
+{
+    const unsigned char *first = in->at;
+    *number = 0;
+    for (; in->at != in->end && *in->at >= '0' && *in->at <= '9' && in->at - first <= MOST_DIGITS; in->at++)
+        *number = 10 * *number + (*in->at - '0');
+    ptrdiff_t digits = in->at - first;
+    return digits > 0 && digits <= MOST_DIGITS && (digits == 1 || *first != '0');
+}
+
+/* Goes behind the label of the first member. */
+static const char *begin(struct spki_text value, struct cursor *in)
+{
+    const unsigned char *first = value.octets;
+    *in = (struct cursor){first, first + value.length};
+    struct spki_text name = name_at(in);
+    if (value.length > MOST_INPUT || name.length == 0 || !skips(in, "="))
+        return malformed;
+    return is(name, "spki") ? NULL : "other-label";
+}
+
+/* What follows the first member, which must be nothing. */
+static const char *end_of(struct cursor in)
+{
+    if (in.at == in.end)
+        return NULL;
+    while (in.at != in.end && (*in.at == ' ' || *in.at == '\t'))
+        in.at++;
+    return skips(&in, ",") ? "two-signatures" : malformed;
+}
+
+/* Whether an octet may be in a token of HTTP. */
+static bool is_of_token(unsigned char octet)
+{
+    return (small(octet) >= 'a' && small(octet) <= 'z') || (octet >= '0' && octet <= '9') || (octet && strchr("!#$%&'*+-.^_`|~", octet));
+}
+
+/* Whether a name is one of a field in small letters, or of the components that are derived. */
+static bool is_component(struct spki_text name)
+{
+    const unsigned char *octets = name.octets;
+    for (size_t i = 0; i < sizeof derived / sizeof *derived; i++)
+        if (is(name, derived[i]))
+            return true;
+    for (size_t i = 0; i < name.length; i++)
+        if (!is_of_token(octets[i]) || octets[i] != small(octets[i]))
+            return false;
+    return name.length > 0 && !is(name, "signature") && !is(name, "signature-input");
+}
+
+static const char *read_components(struct cursor *in, struct input *input)
+{
+    if (!skips(in, "("))
+        return malformed;
+    while (!skips(in, ")")) {
+        struct spki_text name;
+        if (input->count == MOST_COMPONENTS || (input->count > 0 && !skips(in, " ")) || !string_at(in, &name))
+            return malformed;
+        if (!is_component(name) || (in->at != in->end && *in->at == ';'))
+            return "unknown-component";
+        for (size_t i = 0; i < input->count; i++)
+            if (name.length == input->components[i].length && memcmp(name.octets, input->components[i].octets, name.length) == 0)
+                return "component-twice";
+        input->components[input->count++] = name;
+    }
+    return NULL;
+}
+
+static const char *read_parameters(struct cursor *in, struct input *input)
+{
+    unsigned seen = 0;
+    while (skips(in, ";")) {
+        struct spki_text name = name_at(in);
+        unsigned place = 0;
+        while (place < PARAMETERS && !is(name, parameter_names[place]))
+            place++;
+        if (name.length == 0 || place == PARAMETERS)
+            return name.length == 0 ? malformed : "unknown-parameter";
+        if (seen & 1U << place)
+            return "parameter-twice";
+        seen |= 1U << place;
+        long long *number = place == CREATED ? &input->created : &input->expires;
+        if (!skips(in, "=") || !(place <= EXPIRES ? integer_at(in, number) : string_at(in, &input->strings[place])))
+            return malformed;
+    }
+    const char *behind = end_of(*in);
+    if (behind)
+        return behind;
+    if (!has(input, "@method") || !has(input, "@authority") || (!has(input, "@target-uri") && !(has(input, "@path") && has(input, "@query"))))
+        return "missing-component";
+    return seen == (1U << PARAMETERS) - 1 ? NULL : "missing-parameter";
+}
+
+/* Reads `Signature-Input`. */
+static const char *read_input(struct spki_text value, struct input *input)
+{
+    struct cursor in;
+    const char *why = begin(value, &in);
+    if (why)
+        return why;
+    *input = (struct input){.text = between(in.at, in.end)};
+    why = read_components(&in, input);
+    return why ? why : read_parameters(&in, input);
+}
+
+/* Reads octets between colons. */
+static bool octets_at(struct cursor *in, unsigned char *octets, size_t room, size_t *length)
+{
+    if (!skips(in, ":"))
+        return false;
+    const unsigned char *first = in->at;
+    while (in->at != in->end && *in->at != ':')
+        in->at++;
+    return decoded(between(first, in->at), octets, room, length) && skips(in, ":");
+}
+
+/* Reads `Signature`. One that is longer than any by these algorithms is read, and is none of them. */
+static const char *read_signature(struct spki_text value, unsigned char octets[MOST_INPUT], size_t *length)
+{
+    struct cursor in;
+    const char *why = begin(value, &in);
+    if (why)
+        return why;
+    return octets_at(&in, octets, MOST_INPUT, length) ? end_of(in) : malformed;
+}
+
+/* ---- the request */
+
+/* How many lines a field has, and its value in the first of them. */
+static size_t lines_of(const struct http_request *request, const char *name, struct spki_text *value)
+{
+    size_t count = 0;
+    for (size_t i = 0; i < request->field_count; i++)
+        if (is_in_any_letters(request->fields[i].name, literal(name)) && count++ == 0 && value)
+            *value = trimmed(request->fields[i].value);
+    return count;
+}
+
+/* The value of a field that is covered, whose name is that of a component. */
+static const char *field_of(const struct http_request *request, struct spki_text name, struct spki_text *value)
+{
+    size_t count = 0;
+    for (size_t i = 0; i < request->field_count; i++)
+        if (is_in_any_letters(request->fields[i].name, name) && count++ == 0)
+            *value = trimmed(request->fields[i].value);
+    if (count != 1)
+        return count == 0 ? "absent-field" : "repeated-field";
+    const unsigned char *octets = value->octets;
+    for (size_t i = 0; i < value->length; i++)
+        if (octets[i] != '\t' && (octets[i] < ' ' || octets[i] > '~'))
+            return "bad-value";
+    return NULL;
+}
+
+static bool is_method(struct spki_text method)
+{
+    const unsigned char *octets = method.octets;
+    for (size_t i = 0; i < method.length; i++)
+        if (!is_of_token(octets[i]))
+            return false;
+    return method.length > 0;
+}
+
+static bool is_target(struct spki_text target)
+{
+    const unsigned char *octets = target.octets;
+    for (size_t i = 0; i < target.length; i++)
+        if (octets[i] <= ' ' || octets[i] > '~' || octets[i] == '#')
+            return false;
+    return target.length > 0 && octets[0] == '/';
+}
+
+/* The name of the service that a request is for, or null. */
+static const struct spki_text *authority_of(const struct http_service *service, const struct http_request *request)
+{
+    struct spki_text asked = request->authority, port = SPKI_LITERAL(":443");
+    const unsigned char *octets = asked.octets;
+    if (asked.length >= port.length && memcmp(octets + asked.length - port.length, port.octets, port.length) == 0)
+        asked.length -= port.length;
+    for (size_t i = 0; i < service->name_count; i++)
+        if (asked.length > 0 && is_in_any_letters(asked, service->names[i]))
+            return &service->names[i];
+    return NULL;
+}
+
+static bool may_have_body(const struct http_request *request)
+{
+    for (size_t i = 0; i < request->field_count; i++)
+        if (is_in_any_letters(request->fields[i].name, literal("content-length")) && !is(trimmed(request->fields[i].value), "0"))
+            return true;
+    return !(is(request->method, "GET") || is(request->method, "HEAD")) || lines_of(request, "transfer-encoding", NULL) > 0;
+}
+
+/* ---- the signed text */
+
+/* The text, or its length alone where the octets are null. */
+struct writer {
+    unsigned char *octets;
+    size_t length;
+};
+
+static void put(struct writer *out, struct spki_text text)
+{
+    if (out->octets && text.length)
+        memcpy(out->octets + out->length, text.octets, text.length);
+    out->length += text.length;
+}
+
+/* Writes the value of a component. */
+static const char *put_value(struct writer *out, const struct http_request *request, struct spki_text authority, struct spki_text name)
+{
+    struct spki_text target = request->target, value;
+    const unsigned char *first = target.octets, *mark = memchr(first, '?', target.length), *end = first + target.length;
+    const char *why = NULL;
+    if (is(name, "@method")) {
+        put(out, request->method);
+    } else if (is(name, "@authority")) {
+        put(out, authority);
+    } else if (is(name, "@path")) {
+        put(out, between(first, mark ? mark : end));
+    } else if (is(name, "@query")) {
+        put(out, mark ? between(mark, end) : literal("?"));
+    } else if (is(name, "@target-uri")) {
+        put(out, literal("https://"));
+        put(out, authority);
+        put(out, target);
+    } else if (!(why = field_of(request, name, &value))) {
+        put(out, value);
+    }
+    return why;
+}
+
+static const char *put_base(struct writer *out, const struct http_request *request, struct spki_text authority, const struct input *input)
+{
+    for (size_t i = 0; i < input->count; i++) {
+        put(out, literal("\""));
+        put(out, input->components[i]);
+        put(out, literal("\": "));
+        const char *why = put_value(out, request, authority, input->components[i]);
+        if (why)
+            return why;
+        put(out, literal("\n"));
+    }
+    put(out, literal("\"@signature-params\": "));
+    put(out, input->text);
+    return NULL;
+}
+
+/* ---- keys and signatures, as docs/FORMATS.md has them */
+
+/* Reads a key. Returns its algorithm and the octets of a signature by it, or null. */
+static const char *read_key(struct spki_text text, struct http_proof *proof, size_t *octets)
+{
+    const unsigned char *in = text.octets;
+    if (text.length < 2 || text.length > MOST_KEY_TEXT || in[0] != '{' || in[text.length - 1] != '}')
+        return NULL;
+    if (!decoded(between(in + 1, in + text.length - 1), proof->key, sizeof proof->key, &proof->key_length))
+        return NULL;
+    struct spki_text key = {proof->key, proof->key_length}, strings[2];
+    *octets = (size_t)2 * VERIFY_HALF;
+    if (verify_has_form(key, "(10:public-key(3:ecc(5:curve7:Ed25519)(5:flags5:eddsa)(1:q%)))", strings))
+        return "ed25519";
+    if (verify_has_form(key, "(10:public-key(3:ecc(5:curve10:NIST P-256)(1:q%)))", strings))
+        return "ecdsa-p256-sha256";
+    if (!verify_has_form(key, "(10:public-key(3:rsa(1:n%)(1:e%)))", strings))
+        return NULL;
+    *octets = verify_trimmed(strings[0]).length;
+    return "rsa-v1_5-sha256";
+}
+
+/* Writes LENGTH:OCTETS. */
+static void put_string(struct writer *out, struct spki_text string)
+{
+    char digits[8];
+    size_t at = sizeof digits;
+    digits[--at] = ':';
+    for (size_t length = string.length; at == sizeof digits - 1 || length > 0; length /= 10)
+        digits[--at] = (char)('0' + length % 10);
+    put(out, (struct spki_text){digits + at, sizeof digits - at});
+    put(out, string);
+}
+
+/* Writes the canonical value of a signature. */
+static void put_signature(struct writer *out, const char *algorithm, struct spki_text octets)
+{
+    const unsigned char *first = octets.octets;
+    if (strcmp(algorithm, "rsa-v1_5-sha256") == 0) {
+        put(out, literal("(7:sig-val(3:rsa(1:s"));
+        put_string(out, octets);
+    } else {
+        put(out, literal(strcmp(algorithm, "ed25519") == 0 ? "(7:sig-val(5:eddsa(1:r" : "(7:sig-val(5:ecdsa(1:r"));
+        put_string(out, between(first, first + VERIFY_HALF));
+        put(out, literal(")(1:s"));
+        put_string(out, between(first + VERIFY_HALF, first + 2 * VERIFY_HALF));
+    }
+    put(out, literal(")))"));
+}
+
+/* ---- the tests */
+
+static const char *check_time(const struct http_service *service, const struct input *input, long long now)
+{
+    if (!is(input->strings[TAG], "spki"))
+        return "other-tag";
+    if (input->strings[NONCE].length < LEAST_NONCE || input->strings[NONCE].length > MOST_NONCE)
+        return "bad-nonce";
+    if (input->expires <= input->created || input->expires > input->created + MOST_WINDOW)
+        return "bad-window";
+    if (input->created > now + MOST_AHEAD)
+        return "too-early";
+    if (input->expires <= now)
+        return "expired";
+    return input->created < service->start ? "before-start" : NULL;
+}
+
+/* Reads `Content-Digest`. */
+static const char *read_digest(struct spki_text value, struct http_proof *proof)
+{
+    const unsigned char *first = value.octets;
+    struct cursor in = {first, first + value.length};
+    size_t wanted = skips(&in, "sha-256=") ? 32 : skips(&in, "sha-512=") ? 64 : 0;
+    bool is_one = wanted && octets_at(&in, proof->digest, sizeof proof->digest, &proof->digest_length) && in.at == in.end;
+    return is_one && proof->digest_length == wanted ? NULL : "bad-digest";
+}
+
+static const char *check_fields(const struct http_request *request, const struct input *input, struct http_proof *proof)
+{
+    const char *const all[] = {chained, sequence, body_digest};
+    struct spki_text value;
+    for (size_t i = 0; i < sizeof all / sizeof *all; i++)
+        if (lines_of(request, all[i], NULL) > 0 && !has(input, all[i]))
+            return "uncovered-field";
+    proof->digest_length = 0;
+    if (!has(input, body_digest))
+        return may_have_body(request) ? "body-without-digest" : NULL;
+    const char *why = field_of(request, literal(body_digest), &value);
+    return why ? why : read_digest(value, proof);
+}
+
+/* Verifies the signature of a request whose fields are read. */
+static const char *check_signature(struct spki_text key, const char *algorithm, struct spki_text octets, struct writer *base)
+{
+    unsigned char text[MOST_SIGNATURE + 64];
+    struct writer value = {text, 0};
+    put_signature(&value, algorithm, octets);
+    bool is_valid = verifies(key, (struct spki_text){base->octets, base->length}, (struct spki_text){text, value.length});
+    return is_valid ? NULL : "invalid-signature";
+}
+
+/* Tests the message, and then its signature. */
+static const char *check_message(const struct http_service *service, const struct http_request *request, const struct input *input,
+                                 const char *algorithm, struct spki_text octets, size_t wanted, struct http_proof *proof)
+{
+    struct writer length = {NULL, 0};
+    if (!is_method(request->method) || !is_target(request->target))
+        return is_method(request->method) ? "bad-target" : "bad-method";
+    const struct spki_text *authority = authority_of(service, request);
+    const char *why = authority ? put_base(&length, request, *authority, input) : "other-authority";
+    if (!why)
+        why = check_fields(request, input, proof);
+    if (why)
+        return why;
+    if (octets.length != wanted || octets.length > MOST_SIGNATURE)
+        return "invalid-signature";
+    struct writer base = {malloc(length.length), 0};
+    if (!base.octets)
+        return "memory";
+    put_base(&base, request, *authority, input);
+    why = check_signature((struct spki_text){proof->key, proof->key_length}, algorithm, octets, &base);
+    free(base.octets);
+    return why;
+}
+
+/* Reads both fields. */
+static const char *read_both(const struct http_request *request, struct input *input, unsigned char octets[MOST_INPUT], size_t *length)
+{
+    struct spki_text given, signature;
+    size_t inputs = lines_of(request, "signature-input", &given), signatures = lines_of(request, "signature", &signature);
+    if (inputs + signatures == 0)
+        return "absent";
+    if (inputs > 1 || signatures > 1)
+        return "repeated-field";
+    if (inputs != signatures)
+        return malformed;
+    const char *why = read_input(given, input);
+    return why ? why : read_signature(signature, octets, length);
+}
+
+const char *http_request_proves(const struct http_service *service, const struct http_request *request, long long now, struct http_proof *proof)
+{
+    struct input input;
+    struct http_proof made = {.key_length = 0};
+    unsigned char octets[MOST_INPUT];
+    size_t length = 0, wanted = 0;
+    const char *why = read_both(request, &input, octets, &length);
+    if (!why)
+        why = check_time(service, &input, now);
+    if (why)
+        return why;
+    const char *algorithm = read_key(input.strings[KEYID], &made, &wanted);
+    if (!algorithm)
+        return "bad-key";
+    if (!is(input.strings[ALG], algorithm))
+        return "other-algorithm";
+    why = check_message(service, request, &input, algorithm, (struct spki_text){octets, length}, wanted, &made);
+    if (!why)
+        why = service->take(service->store, (struct spki_text){made.key, made.key_length}, input.strings[NONCE], now, MOST_WINDOW + MOST_AHEAD);
+    if (!why)
+        *proof = made;
+    return why;
+}

@@ -1,0 +1,53 @@
+/* Proves the client's key in each HTTP request, by HTTP Message Signatures (RFC 9421) of the profile in docs/SIGNATURES.md. A service takes
+ * http_request.c along with verify.h and one of its verifiers, and http_nonces.c unless it keeps nonces itself.
+ *
+ *     struct http_service service = {names, 1, time(NULL), http_nonces_take, http_nonces_open(100000)};
+ *     const char *refused = http_request_proves(&service, &request, time(NULL), &proof);
+ *     if (!refused)
+ *         question.key = (struct spki_text){proof.key, proof.key_length};
+ */
+#ifndef HTTP_REQUEST_H
+#define HTTP_REQUEST_H
+
+#include "verify.h"
+
+/* A line of a header: the name in any letters, and the value. */
+struct http_field {
+    struct spki_text name, value;
+};
+
+/* A request, as it was sent: the name that the client asks with its port, and the path with the query as in the first line of HTTP/1.1. */
+struct http_request {
+    struct spki_text method, authority, target;
+    const struct http_field *fields;
+    size_t field_count;
+};
+
+/* A service: its names in small letters, with ports that are not 443, and the time before which nothing may be created, since its nonce may be
+ * forgotten: the start of the process, or 0. `take` keeps a nonce of a key for so many seconds, and returns null, or why not. */
+struct http_service {
+    const struct spki_text *names;
+    size_t name_count;
+    long long start;
+    const char *(*take)(void *store, struct spki_text key, struct spki_text nonce, long long now, long long seconds);
+    void *store;
+};
+
+/* The key that has signed a request, in canonical form, and the digest of the body by SHA-256 or SHA-512, whose length is 0 if there is no body.
+ * Whoever reads the body compares it. */
+struct http_proof {
+    unsigned char key[VERIFY_MOST_OCTETS], digest[64];
+    size_t key_length, digest_length;
+};
+
+/* Whether a request proves a key at a time, in seconds since 1970: null, or the name of the refusal in docs/SIGNATURES.md, or "memory". Its nonce
+ * is used up. The key is set only if null is returned. */
+const char *http_request_proves(const struct http_service *service, const struct http_request *request, long long now, struct http_proof *proof);
+
+/* Nonces in memory: room for so many in each of two sets, as hashes of eight octets. One thread at a time may call. Null if there is no memory. */
+struct http_nonces;
+struct http_nonces *http_nonces_open(size_t most);
+const char *http_nonces_take(void *nonces, struct spki_text key, struct spki_text nonce, long long now, long long seconds);
+void http_nonces_close(struct http_nonces *nonces);
+
+#endif

@@ -1,0 +1,430 @@
+#!/usr/bin/env python3
+"""Makes the table `bindings/go/httpsig/testdata/rows`: signed requests, valid ones and attacks, which the verifiers of all languages read.
+
+It signs by `cryptography`, and writes each signature base by hand, as RFC 9421 has it: nothing here is of the verifiers. Those by Ed25519 have the
+key of the RFC's appendix B. The other keys are new in each run, so the table changes with each.
+
+A row has these lines. A tab, a line feed, a carriage return and a backslash in them are `\\t`, `\\n`, `\\r`, `\\\\`, another octet is `\\xHH`:
+
+    row NAME
+    on METHOD|TARGET|AUTHORITY|NOW           the service is https://example.com, started at 1792000000
+    field NAME: VALUE                        in the order in which they are sent
+    body TEXT                                if the body is known
+    again SECONDS                            the same came so many seconds before, and was valid
+    gives NAME                               `valid`, or the refusal
+"""
+from __future__ import annotations
+
+import base64
+import hashlib
+import os
+from collections.abc import Callable
+from dataclasses import dataclass, field, replace
+from typing import Optional
+
+from cryptography.hazmat.primitives.asymmetric import ec, padding, rsa
+from cryptography.hazmat.primitives.asymmetric.ed25519 import Ed25519PrivateKey
+from cryptography.hazmat.primitives.asymmetric.utils import decode_dss_signature, encode_dss_signature
+from cryptography.hazmat.primitives.hashes import SHA256
+from cryptography.hazmat.primitives.serialization import Encoding, PublicFormat, load_der_private_key
+
+# (Go keeps what a test of a package found until a file below the module changes)
+ROWS = os.path.join("..", "..", "bindings", "go", "httpsig", "testdata", "rows")
+NOW = 1792000100
+TEST_KEY = base64.b64decode("MC4CAQAwBQYDK2VwBCIEIJ+DYvh6SEqVTm50DFtMDoQikTmiCqirVv9mWG9qfSnF")
+ORDER_256 = 0xFFFFFFFF00000000FFFFFFFFFFFFFFFFBCE6FAADA7179E84F3B9CAC2FC632551
+ORDER_25519 = 2**252 + 27742317777372353535851937790883648493
+PLAIN = ("@method", "@authority", "@path", "@query")
+CHAIN = "{KDg6c2VxdWVuY2Up}"
+Fields = list[tuple[str, str]]
+
+
+def string(octets: bytes) -> bytes:
+    return b"%d:%s" % (len(octets), octets)
+
+
+def in_base64(octets: bytes) -> str:
+    return base64.b64encode(octets).decode()
+
+
+@dataclass
+class Key:
+    """A private key: its text, its algorithm, and how it signs."""
+
+    text: bytes
+    algorithm: str
+    sign: Callable[[bytes], bytes]
+
+
+def ed25519(private: Ed25519PrivateKey) -> Key:
+    octets = private.public_key().public_bytes(Encoding.Raw, PublicFormat.Raw)
+    return Key(b"(10:public-key(3:ecc(5:curve7:Ed25519)(5:flags5:eddsa)(1:q%s)))" % string(octets), "ed25519", private.sign)
+
+
+def p256(private: ec.EllipticCurvePrivateKey) -> Key:
+    def sign(message: bytes) -> bytes:
+        return b"".join(it.to_bytes(32, "big") for it in decode_dss_signature(private.sign(message, ec.ECDSA(SHA256()))))
+    octets = private.public_key().public_bytes(Encoding.X962, PublicFormat.UncompressedPoint)
+    return Key(b"(10:public-key(3:ecc(5:curve10:NIST P-256)(1:q%s)))" % string(octets), "ecdsa-p256-sha256", sign)
+
+
+def rsa2048(private: rsa.RSAPrivateKey) -> Key:
+    n = private.public_key().public_numbers().n
+    text = b"(10:public-key(3:rsa(1:n%s)(1:e3:\1\0\1)))" % string(n.to_bytes(257, "big"))
+    return Key(text, "rsa-v1_5-sha256", lambda message: private.sign(message, padding.PKCS1v15(), SHA256()))
+
+
+def loaded() -> Ed25519PrivateKey:
+    private = load_der_private_key(TEST_KEY, None)
+    assert isinstance(private, Ed25519PrivateKey)
+    return private
+
+
+ALICE, MALLORY = ed25519(loaded()), ed25519(Ed25519PrivateKey.generate())
+CURVE, MODULUS = p256(ec.generate_private_key(ec.SECP256R1())), rsa2048(rsa.generate_private_key(65537, 2048))
+
+
+@dataclass
+class Request:
+    """A request, and how it is signed."""
+
+    method: str = "GET"
+    target: str = "/foo?param=Value&Pet=dog"
+    authority: str = "example.com"
+    fields: Fields = field(default_factory=list)
+    body: Optional[str] = None
+    now: int = NOW
+    components: tuple[str, ...] = PLAIN
+    created: str = str(NOW)
+    expires: str = str(NOW + 300)
+    nonce: str = "sFzj0lYlX0wQm6ZCXPBvTw"
+    keyid: Optional[str] = None
+    algorithm: Optional[str] = None
+    tag: str = "spki"
+    # The whole of the parameters, where they are not the usual ones.
+    parameters: Optional[str] = None
+    key: Key = field(default_factory=lambda: ALICE)
+
+
+def parameters_of(request: Request) -> str:
+    if request.parameters is not None:
+        return request.parameters
+    names = " ".join(f'"{name}"' for name in request.components)
+    keyid = request.keyid if request.keyid is not None else "{%s}" % in_base64(request.key.text)
+    algorithm = request.algorithm if request.algorithm is not None else request.key.algorithm
+    return (f'({names});created={request.created};expires={request.expires};nonce="{request.nonce}";keyid="{keyid}";alg="{algorithm}"'
+            f';tag="{request.tag}"')
+
+
+def value_of(request: Request, name: str) -> str:
+    path, mark, query = request.target.partition("?")
+    derived = {"@method": request.method, "@authority": request.authority.lower(), "@path": path, "@query": "?" + query, "@status": "200",
+               "@target-uri": f"https://{request.authority}{path}{mark}{query}", "@scheme": "https", "@request-target": request.target}
+    return derived[name] if name.startswith("@") else ", ".join(value for known, value in request.fields if known.lower() == name)
+
+
+def signed(request: Request) -> Fields:
+    """The two fields of a signature."""
+    parameters = parameters_of(request)
+    names = [it.split('"')[1] for it in parameters[1:].partition(")")[0].split(" ") if it]
+    lines = [f'"{name}": {value_of(request, name)}' for name in names] + [f'"@signature-params": {parameters}']
+    return [("Signature-Input", f"spki={parameters}"), ("Signature", f"spki=:{in_base64(request.key.sign(chr(10).join(lines).encode()))}:")]
+
+
+def escaped(text: str) -> str:
+    made = text.replace("\\", "\\\\").replace("\t", "\\t").replace("\n", "\\n").replace("\r", "\\r")
+    return "".join(it if " " <= it <= "~" else f"\\x{ord(it):02x}" for it in made)
+
+
+LINES: list[str] = []
+
+
+def row(name: str, gives: str, sent: Request, signature: Optional[Fields] = None, again: Optional[int] = None) -> None:
+    """Writes a row: what is sent, and the fields of the signature, which is by default that of what is sent."""
+    both = signed(sent) if signature is None else signature
+    LINES.extend([f"row {name}", f"on {escaped(f'{sent.method}|{sent.target}|{sent.authority}|{sent.now}')}"])
+    LINES.extend(f"field {escaped(f'{known}: {value}')}" for known, value in [*sent.fields, *both])
+    LINES.extend([f"body {escaped(sent.body)}"] if sent.body is not None else [])
+    LINES.extend([f"again {again}"] if again is not None else [])
+    LINES.extend([f"gives {gives}", ""])
+
+
+def digest(body: str, algorithm: str = "sha-256") -> tuple[str, str]:
+    made = hashlib.new(algorithm.replace("-", ""), body.encode()).digest()
+    return "Content-Digest", f"{algorithm}=:{in_base64(made)}:"
+
+
+BODY = '{"hello": "world"}'
+GET = Request()
+POST = Request("POST", fields=[digest(BODY), ("Content-Length", "18")], body=BODY, components=(*PLAIN, "content-digest"))
+CHAINED = Request(fields=[("X-Spki-Sequence", CHAIN)], components=(*PLAIN, "x-spki-sequence"))
+AUTHORIZED = Request(fields=[("Authorization", "SPKI " + CHAIN)], components=(*PLAIN, "authorization"))
+WITH_TYPE = Request(fields=[("Accept", "text/html")], components=(*PLAIN, "accept"))
+WHOLE = Request(components=("@method", "@authority", "@target-uri"))
+
+
+def valid() -> None:
+    """What is valid."""
+    row("Ed25519", "valid", GET)
+    row("ECDSA", "valid", Request(key=CURVE))
+    row("RSA", "valid", Request(key=MODULUS))
+    row("target-uri", "valid", WHOLE)
+    row("a body with its digest", "valid", POST)
+    row("a body that is not known", "valid", replace(POST, body=None))
+    row("a digest by SHA-512", "valid", replace(POST, fields=[digest(BODY, "sha-512")]))
+    row("DELETE with the digest of nothing", "valid", Request("DELETE", fields=[digest("")], components=POST.components))
+    row("a chain in its own field", "valid", CHAINED)
+    row("a chain in Authorization", "valid", AUTHORIZED)
+    row("another field is covered", "valid", WITH_TYPE)
+    row("no query", "valid", Request(target="/foo"))
+    row("an empty query is none", "valid", replace(GET, target="/foo?"), signed(Request(target="/foo")))
+    row("the root", "valid", Request(target="/"))
+    row("a path in percent-encoding", "valid", Request(target="/%7efoo%2Fbar"))
+    row("the scheme's port", "valid", replace(GET, authority="example.com:443"), signed(GET))
+    row("a name in capitals", "valid", replace(GET, authority="Example.COM"), signed(GET))
+    row("names of fields in other letters", "valid", replace(CHAINED, fields=[("x-spki-SEQUENCE", CHAIN)]),
+        [(name.upper(), value) for name, value in signed(CHAINED)])
+    row("spaces around values", "valid", replace(CHAINED, fields=[("X-Spki-Sequence", f" \t{CHAIN} ")]),
+        [(name, f" {value}\t") for name, value in signed(CHAINED)])
+    row("created 60 seconds ahead", "valid", Request(created=str(NOW + 60)))
+    row("a second before its end", "valid", Request(now=NOW + 299))
+    row("components in another order", "valid", Request(components=PLAIN[::-1]))
+    keyid = in_base64(ALICE.text)
+    row("parameters in another order", "valid", Request(
+        parameters=f'("@method" "@authority" "@path" "@query");tag="spki";alg="ed25519";keyid="{{{keyid}}}";nonce="sFzj0lYlX0wQm6ZCXPBvTw"'
+        f";expires={NOW + 1};created={NOW}"))
+    row("32 components", "valid", Request(fields=[(f"x-{it}", "1") for it in range(28)], components=(*PLAIN, *(f"x-{it}" for it in range(28)))))
+
+
+def changed_requests() -> None:
+    """What is changed on the way."""
+    for name, sent in {
+        "another method": replace(GET, method="HEAD"), "a method in small letters": replace(GET, method="get", fields=[digest("")]),
+        "another path": replace(GET, target="/bar?param=Value&Pet=dog"), "a path in capitals": replace(GET, target="/FOO?param=Value&Pet=dog"),
+        "a slash at the end": replace(GET, target="/foo/?param=Value&Pet=dog"), "two slashes": replace(GET, target="//foo?param=Value&Pet=dog"),
+        "a segment of a dot": replace(GET, target="/./foo?param=Value&Pet=dog"),
+        "a letter in percent-encoding": replace(GET, target="/%66oo?param=Value&Pet=dog"),
+        "another query": replace(GET, target="/foo?param=Value&Pet=cat"), "no query any more": replace(GET, target="/foo"),
+        "a longer query": replace(GET, target="/foo?param=Value&Pet=dog&x=1"),
+        "parameters of the query in another order": replace(GET, target="/foo?Pet=dog&param=Value"),
+    }.items():
+        row(name, "body-without-digest" if name == "a method in small letters" else "invalid-signature", replace(sent, fields=[]), signed(GET))
+    row("digits of percent-encoding in small letters", "invalid-signature", Request(target="/%7efoo"), signed(Request(target="/%7Efoo")))
+    row("a query with target-uri", "invalid-signature", replace(WHOLE, target="/foo?"), signed(replace(WHOLE, target="/foo")))
+    row("http in target-uri", "invalid-signature", WHOLE, signed(replace(WHOLE, target=WHOLE.target, authority="example.com:80")))
+    row("made for another name", "other-authority", replace(GET, authority="evil.example"))
+    row("made for another name, sent with ours", "invalid-signature", GET, signed(replace(GET, authority="evil.example")))
+    row("made for ours, sent with another name", "other-authority", replace(GET, authority="evil.example"), signed(GET))
+    row("another port", "other-authority", replace(GET, authority="example.com:8443"), signed(GET))
+    row("http's port", "other-authority", replace(GET, authority="example.com:80"), signed(GET))
+    row("a dot behind the name", "other-authority", replace(GET, authority="example.com."), signed(GET))
+    row("no name", "other-authority", replace(GET, authority=""), signed(GET))
+    for name, method in {"a method of nothing": "", "a method with a space": "GET ", "a method with an octet over ASCII": "G\xe9T",
+                         "a method with a line feed": 'GET\n"@authority": example.com'}.items():
+        row(name, "bad-method", replace(GET, method=method), signed(GET))
+    row("the whole address in the first line", "bad-target", replace(GET, target="https://example.com/foo"))
+    row("a star in the first line", "bad-target", Request("OPTIONS", target="*"))
+    row("a target of nothing", "bad-target", replace(GET, target=""))
+    row("a fragment", "bad-target", replace(GET, target="/foo#bar"))
+    row("a space in the target", "bad-target", replace(GET, target="/foo bar"))
+    row("a line feed in the target", "bad-target", replace(GET, target='/foo\n"@query": ?'))
+    row("an octet over ASCII in the target", "bad-target", replace(GET, target="/f\xe9"))
+
+
+def changed_fields() -> None:
+    """Bodies, digests, chains and covered fields that are changed."""
+    other = [digest(BODY + "!"), ("Content-Length", "18")]
+    row("another body", "other-digest", replace(POST, body='{"hello": "wurld"}'), signed(POST))
+    row("no body any more", "other-digest", replace(POST, body=""), signed(POST))
+    row("another body with its digest", "invalid-signature", replace(POST, fields=other, body=BODY + "!"), signed(POST))
+    row("a digest taken away", "absent-field", replace(POST, fields=[]), signed(POST))
+    row("a digest not covered", "uncovered-field", replace(POST, components=PLAIN))
+    row("a digest twice", "repeated-field", replace(POST, fields=[digest(BODY), digest("")]), signed(POST))
+    row("POST without a digest", "body-without-digest", Request("POST"))
+    row("PUT without a digest", "body-without-digest", Request("PUT"))
+    row("DELETE without a digest", "body-without-digest", Request("DELETE"))
+    row("an unknown method without a digest", "body-without-digest", Request("FROB"))
+    row("GET with a length", "body-without-digest", replace(GET, fields=[("Content-Length", "18")]))
+    row("GET with chunks", "body-without-digest", replace(GET, fields=[("Transfer-Encoding", "chunked")]))
+    row("GET with an empty length", "body-without-digest", replace(GET, fields=[("Content-Length", "")]))
+    row("GET with a length of nothing", "valid", replace(GET, fields=[("Content-Length", "0")]))
+    body = in_base64(hashlib.sha256(BODY.encode()).digest())
+    for name, value in {
+        "a digest by MD5": "md5=:XrY7u+Ae7tCTyyK7j1rNww==:", "a digest that is too short": "sha-256=:XrY7u+Ae7tCTyyK7j1rNww==:",
+        "SHA-512 of 32 octets": f"sha-512=:{body}:", "two digests": f"sha-256=:{body}:, sha-256=:{body}:", "an empty digest": "",
+        "a digest in quotes": f'sha-256="{body}"', "a digest without padding": f"sha-256=:{body[:-1]}:", "a digest with a parameter":
+        f"sha-256=:{body}:;a", "a digest's algorithm in capitals": f"SHA-256=:{body}:",
+    }.items():
+        row(name, "bad-digest", replace(POST, fields=[("Content-Digest", value)]))
+    row("another chain", "invalid-signature", replace(CHAINED, fields=[("X-Spki-Sequence", "{KDE6YSk=}")]), signed(CHAINED))
+    row("a chain taken away", "absent-field", replace(CHAINED, fields=[]), signed(CHAINED))
+    row("a chain put in", "uncovered-field", replace(CHAINED, components=PLAIN))
+    row("a chain twice", "repeated-field", replace(CHAINED, fields=2 * CHAINED.fields), signed(CHAINED))
+    row("a second chain put in", "uncovered-field", replace(CHAINED, fields=[*CHAINED.fields, *AUTHORIZED.fields]), signed(CHAINED))
+    row("another chain in Authorization", "invalid-signature", replace(AUTHORIZED, fields=[("Authorization", "SPKI {KDE6YSk=}")]),
+        signed(AUTHORIZED))
+    row("Authorization put in", "uncovered-field", replace(AUTHORIZED, components=PLAIN))
+    row("a covered field changed", "invalid-signature", replace(WITH_TYPE, fields=[("Accept", "text/plain")]), signed(WITH_TYPE))
+    row("a covered field in other letters", "invalid-signature", replace(WITH_TYPE, fields=[("Accept", "Text/html")]), signed(WITH_TYPE))
+    row("a covered field taken away", "absent-field", replace(WITH_TYPE, fields=[]), signed(WITH_TYPE))
+    row("a covered field in two lines", "repeated-field", replace(WITH_TYPE, fields=[("Accept", "text/html"), ("Accept", "b")]))
+    row("a space put into a covered field", "invalid-signature", replace(WITH_TYPE, fields=[("Accept", "text/ html")]), signed(WITH_TYPE))
+    row("a folded field", "bad-value", replace(WITH_TYPE, fields=[("Accept", "text/html,\r\n b")]))
+    row("a line feed in a field", "bad-value", replace(WITH_TYPE, fields=[("Accept", 'text/html\n"x": y')]))
+    row("an octet over ASCII in a field", "bad-value", replace(WITH_TYPE, fields=[("Accept", "text/h\xe9")]))
+    row("a null octet in a field", "bad-value", replace(WITH_TYPE, fields=[("Accept", "text\0")]))
+
+
+def changed_inputs() -> None:
+    """`Signature-Input` and `Signature` that are changed, or that are not those of the profile."""
+    (_, text), (_, octets) = both = signed(GET)
+    bare = text.removeprefix("spki=")
+
+    def sent(name: str, gives: str, changed: str, signature: str = octets) -> None:
+        row(name, gives, GET, [("Signature-Input", changed), ("Signature", signature)])
+
+    row("no signature", "absent", GET, [])
+    row("underscores in names of fields", "absent", GET, [(name.replace("-", "_") + "_", value) for name, value in both])
+    row("Signature alone", "malformed", GET, both[1:])
+    row("Signature-Input alone", "malformed", GET, both[:1])
+    row("Signature in two lines", "repeated-field", GET, [*both, both[1]])
+    row("Signature-Input in two lines", "repeated-field", GET, [*both, both[0]])
+    sent("a second signature", "two-signatures", f"{text}, a={bare}", f"{octets}, a=:AAAA:")
+    sent("a second signature of the same label", "two-signatures", f"{text},{text}", f"{octets},{octets}")
+    sent("a second value of Signature alone", "two-signatures", text, f"{octets}, spki=:AAAA:")
+    sent("a signature of another label before it", "other-label", f"a={bare}, {text}", f"a=:AAAA:, {octets}")
+    sent("another label", "other-label", f"sig1={bare}", octets.replace("spki", "sig1"))
+    sent("labels that differ", "other-label", text, octets.replace("spki", "spkj"))
+    sent("an empty Signature-Input", "malformed", "")
+    sent("an empty Signature", "malformed", text, "")
+    sent("no list of components", "malformed", "spki;created=1")
+    sent("text behind the parameters", "malformed", text + " x")
+    sent("a space behind a semicolon", "malformed", text.replace(";expires", "; expires"))
+    sent("a space before a semicolon", "malformed", text.replace(";expires", " ;expires"))
+    sent("spaces around an equals sign", "malformed", text.replace("nonce=", "nonce = "))
+    sent("two spaces between components", "malformed", text.replace('" "', '"  "', 1))
+    sent("a tab between components", "malformed", text.replace('" "', '"\t"', 1))
+    sent("a space in the list", "malformed", text.replace("(", "( "))
+    sent("a component without quotes", "malformed", text.replace('"@path"', "@path"))
+    sent("a line feed in Signature-Input", "malformed", text.replace('" "', '"\n"', 1))
+    sent("an octet over ASCII in a parameter", "malformed", text.replace("sFzj", "s\xe9zj"))
+    sent("a list that does not end", "malformed", text.partition(")")[0])
+    sent("a string that does not end", "malformed", text[:-1])
+    sent("a name of a parameter in capitals", "malformed", text.replace(";alg", ";Alg"))
+    sent("components changed in order", "invalid-signature", text.replace('"@method" "@authority"', '"@authority" "@method"'))
+    sent("another value of a parameter", "invalid-signature", text.replace("sFzj", "tFzj"))
+    sent("a later end", "invalid-signature", text.replace(f"expires={NOW + 300}", f"expires={NOW + 299}"))
+    sent("parameters changed in order", "invalid-signature", bare.join(["spki=", ""]).replace(';tag="spki"', "").replace(
+        ";created", ';tag="spki";created'))
+    for name in PLAIN:
+        row(f"{name} left out", "missing-component", Request(components=tuple(it for it in PLAIN if it != name)))
+    row("no components", "missing-component", Request(components=()))
+    row("path alone beside target-uri", "valid", Request(components=(*WHOLE.components, "@path")))
+    row("a component twice", "component-twice", Request(components=(*PLAIN, "@path")))
+    for name in ("@status", "@scheme", "@request-target"):
+        row(f"the component {name}", "unknown-component", Request(components=(*PLAIN, name)))
+    param = parameters_of(GET).replace('"@query"', '"@query";name="a"')
+    row("the component @query-param", "unknown-component", GET, signed(Request(parameters=param)))
+    sent("a component with a parameter", "unknown-component", text.replace('"@path"', '"@path";req'))
+    sent("a component in capitals", "unknown-component", text.replace("@path", "@PATH"))
+    sent("an empty component", "unknown-component", text.replace("@path", ""))
+    sent("the component signature", "unknown-component", text.replace("@path", "signature"))
+    sent("33 components", "malformed", text.replace('("', "(" + "".join(f'"x-{it}" ' for it in range(29)) + '"'))
+    sent("a Signature-Input of over 8,192 octets", "malformed", text.replace('";alg', "A" * 8192 + '";alg'))
+
+
+def changed_parameters() -> None:
+    """Parameters that are changed, or that are not those of the profile."""
+    (_, text), (_, octets) = signed(GET)
+    for name in ("created", "expires", "nonce", "keyid", "alg", "tag"):
+        kept = [it for it in parameters_of(GET).split(";") if not it.startswith(name)]
+        row(f"{name} left out", "missing-parameter", Request(parameters=";".join(kept)))
+        twice = parameters_of(GET) + ";" + next(it for it in parameters_of(GET).split(";") if it.startswith(name))
+        row(f"{name} twice", "parameter-twice", Request(parameters=twice))
+    row("a parameter more", "unknown-parameter", Request(parameters=parameters_of(GET) + ";a=1"))
+    row("another tag", "other-tag", Request(tag="web-bot-auth"))
+    row("a nonce of 15 characters", "bad-nonce", Request(nonce="sFzj0lYlX0wQm6Z"))
+    row("a nonce of 65 characters", "bad-nonce", Request(nonce="s" * 65))
+    row("a nonce with an escape", "malformed", Request(nonce='sFzj0lYlX0w\\"Qm6ZCXPBvTw'))
+    for name, value in {
+        "a negative number": "-1", "a number with a dot": f"{NOW}.0", "a number with a zero in front": f"0{NOW}", "a number in quotes": f'"{NOW}"',
+        "no number": "", "a number of 16 digits": "1" * 16, "a number with a sign": f"+{NOW}",
+    }.items():
+        row(f"created with {name}", "malformed", Request(created=value))
+    row("an end at its beginning", "bad-window", Request(expires=str(NOW)))
+    row("an end before its beginning", "bad-window", Request(expires=str(NOW - 1)))
+    row("a window of 301 seconds", "bad-window", Request(expires=str(NOW + 301)))
+    row("created 61 seconds ahead", "too-early", Request(created=str(NOW + 61), expires=str(NOW + 62)))
+    row("at its end", "expired", Request(now=NOW + 300))
+    row("a day later", "expired", Request(now=NOW + 86_400))
+    row("created before the start", "before-start", Request(now=NOW - 98, created=str(NOW - 101), expires=str(NOW)))
+    key, padded = in_base64(ALICE.text), in_base64(MODULUS.text)
+    assert padded.endswith("==")
+    for name, value in {
+        "a hash for a key": "{%s}" % in_base64(b"(4:hash6:sha25632:%s)" % hashlib.sha256(ALICE.text).digest()), "a key without braces": key,
+        "a key in advanced form": "(public-key (test a))", "a key with a space": "{%s }" % key, "a key without padding": "{%s}" % padded.rstrip("="),
+        "a key with bits behind its end": "{%s%s==}" % (padded[:-3], chr(ord(padded[-3]) + 1)), "an empty key": "", "an empty key in braces": "{}",
+        "a key of another algorithm": "{%s}" % in_base64(b"(10:public-key(3:dsa(1:p1:\5)))"), "a key with text behind it":
+        "{%s}" % in_base64(ALICE.text + b"(1:a)"), "a key of over 4,096 characters": "{%s}" % ("AAAA" * 1025), "a key and a comment":
+        "{%s}" % in_base64(ALICE.text[:-1] + b"(7:comment1:a))"), "a length with a zero in front":
+        "{%s}" % in_base64(ALICE.text.replace(b"32:", b"032:")),
+    }.items():
+        row(name, "bad-key", Request(keyid=value))
+    small = b"(10:public-key(3:ecc(5:curve7:Ed25519)(5:flags5:eddsa)(1:q32:%s)))" % bytes(32)
+    row("a point of small order", "invalid-signature", Request(keyid="{%s}" % in_base64(small)), [
+        ("Signature-Input", text.replace(key, in_base64(small))), ("Signature", f"spki=:{in_base64(bytes(64))}:")])
+    row("another key", "invalid-signature", Request(keyid="{%s}" % in_base64(MALLORY.text)))
+    row("another key put in", "invalid-signature", GET, [("Signature-Input", text.replace(key, in_base64(MALLORY.text))), ("Signature", octets)])
+    for algorithm in ("rsa-v1_5-sha256", "hmac-sha256", "ecdsa-p256-sha256", "rsa-pss-sha512", "ED25519", "none", ""):
+        row(f"the algorithm {algorithm or 'of no name'}", "other-algorithm", Request(algorithm=algorithm))
+    row("Ed25519 for a key of ECDSA", "other-algorithm", Request(key=CURVE, algorithm="ed25519"))
+
+
+def changed_signatures() -> None:
+    """The octets of a signature, and what is sent again."""
+    (_, text), (_, octets) = signed(GET)
+    made = base64.b64decode(octets.removeprefix("spki=:").removesuffix(":"))
+
+    def sent(name: str, gives: str, value: str, input_: str = text) -> None:
+        row(name, gives, GET, [("Signature-Input", input_), ("Signature", f"spki={value}")])
+
+    sent("an octet changed", "invalid-signature", f":{in_base64(bytes([made[0] ^ 1]) + made[1:])}:")
+    sent("a signature cut off", "invalid-signature", f":{in_base64(made[:-1])}:")
+    sent("an octet more", "invalid-signature", f":{in_base64(made + bytes(1))}:")
+    sent("no octets", "invalid-signature", "::")
+    sent("octets 00", "invalid-signature", f":{in_base64(bytes(64))}:")
+    raised = (int.from_bytes(made[32:], "little") + ORDER_25519).to_bytes(32, "little")
+    sent("s raised by the order", "invalid-signature", f":{in_base64(made[:32] + raised)}:")
+    sent("a signature in quotes", "malformed", f'"{in_base64(made)}"')
+    sent("no padding", "malformed", f":{in_base64(made).rstrip('=')}:")
+    sent("base64 of URLs", "malformed", ":" + in_base64(b"\xff" * 64).replace("/", "_") + ":")
+    sent("a space in base64", "malformed", f":{in_base64(made)[:8]} {in_base64(made)[8:]}:")
+    sent("a line feed in base64", "malformed", f":{in_base64(made)[:8]}\n{in_base64(made)[8:]}:")
+    sent("no colon at the end", "malformed", f":{in_base64(made)}")
+    sent("a parameter behind the signature", "malformed", f":{in_base64(made)}:;a=1")
+    bits = in_base64(made).removesuffix("==")
+    sent("bits behind the end", "malformed", f":{bits[:-1]}{chr(ord(bits[-1]) + 1)}==:")
+    curve = Request(key=CURVE)
+    (_, second), (_, pair) = signed(curve)
+    numbers = base64.b64decode(pair.removeprefix("spki=:").removesuffix(":"))
+    r, s = int.from_bytes(numbers[:32], "big"), int.from_bytes(numbers[32:], "big")
+    sent("ECDSA in DER", "invalid-signature", f":{in_base64(encode_dss_signature(r, s))}:", second)
+    sent("ECDSA with numbers 00", "invalid-signature", f":{in_base64(bytes(64))}:", second)
+    sent("ECDSA with the other s, whose nonce is the same", "valid", f":{in_base64(numbers[:32] + (ORDER_256 - s).to_bytes(32, 'big'))}:", second)
+    row("sent again at once", "nonce-seen", GET, again=0)
+    row("sent again in its window", "nonce-seen", replace(GET, now=NOW + 299), again=299)
+    row("sent again with another path", "nonce-seen", Request(now=NOW + 1), again=1)
+    row("sent again after its window", "expired", replace(GET, now=NOW + 300), again=200)
+    row("ECDSA sent again", "nonce-seen", curve, again=0)
+
+
+def main() -> None:
+    for each in (valid, changed_requests, changed_fields, changed_inputs, changed_parameters, changed_signatures):
+        LINES.append(f"# {each.__doc__}\n" if each.__doc__ else "")
+        each()
+    with open(os.path.join(os.path.dirname(os.path.realpath(__file__)), ROWS), "w", encoding="ascii") as file:
+        file.write("# Signed requests, made by tests/generators/signed_requests.py, which says what each line is.\n\n" + "\n".join(LINES))
+
+
+if __name__ == "__main__":
+    main()
