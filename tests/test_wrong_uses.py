@@ -18,8 +18,8 @@ from wrong_uses import Row
 SECONDS = 600
 RUST, PYTHON, CRATE = (os.path.join(TOP, *words) for words in (["bindings", "rust"], ["bindings", "python"], ["crates", "spki_c"]))
 WARNINGS = ["-Wall", "-Wextra", "-Wno-unused-function", "-Wno-unused-const-variable", "-Werror"]
-GRANTED = ("a key that was only sent", "a verifier that says yes to all", "a path that is not normalized", "an answer that is kept past its time",
-           "another service's list", "a status is taken for a truth value")
+GRANTED = ("a key that was only sent", "a verifier that accepts everything", "a path that is not normalized", "an answer that is kept past its time",
+           "another service's list", "a status used as a truth value")
 
 
 class Table(unittest.TestCase):

@@ -146,7 +146,7 @@ func partsOf(question *Question) (C.struct_library_question, *C.size_t) {
 		parts.by_words = 1
 	}
 	if !question.Time.IsZero() {
-		parts.by_seconds, parts.seconds = 1, C.int64_t(question.seconds())
+		parts.by_seconds, parts.seconds = 1, C.int64_t(question.Time.Unix())
 	}
 	return parts, (*C.size_t)(unsafe.Pointer(&lengths[0]))
 }

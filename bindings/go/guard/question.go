@@ -22,20 +22,6 @@ type Question struct {
 	Moment []byte
 }
 
-// The last second of the year 9999, and seconds that the library refuses as BadDate.
-const (
-	lastSecond = 253_402_300_799
-	noSeconds  = 1 << 62
-)
-
-// seconds returns the time as the library takes it.
-func (q *Question) seconds() int64 {
-	if seconds := q.Time.Unix(); 0 <= seconds && seconds <= lastSecond {
-		return seconds
-	}
-	return noSeconds
-}
-
 // joined returns the strings of the request in one piece, and their lengths, of which there is at least one.
 func (q *Question) joined() ([]byte, []uintptr) {
 	lengths := make([]uintptr, len(q.Words)+1)

@@ -15,8 +15,6 @@ from ._words import Cause, Fault, Part
 
 FAULT = re.compile(r".*\b([A-Z]\w*)")
 REASON = re.compile(r"^(?:entry (\d+) )?(?:item (\d+) )?(\w+)$", re.MULTILINE)
-# Seconds that the library refuses as BadDate.
-NO_SECONDS = 2 ** 62
 EPOCH, SECOND = datetime(1970, 1, 1, tzinfo=timezone.utc), timedelta(seconds=1)
 
 
@@ -203,8 +201,7 @@ class Question:
             moment = octets_of(moment)
             given.moment = of.Text(moment, len(moment))
         else:
-            seconds = seconds_of(moment)
-            given.seconds = pointer(c_int64(seconds if seconds >= 0 else NO_SECONDS))
+            given.seconds = pointer(c_int64(seconds_of(moment)))
         self._parts = (sequence, key, words, text, moment)
         self._at = c_void_p(addressof(given))
 

@@ -8,9 +8,6 @@ use std::time::{SystemTime, UNIX_EPOCH};
 
 /// The places of so many strings need no allocation.
 const WORDS: usize = 16;
-/// The last second of the year 9999, and seconds that the library refuses as `BadDate`.
-const LAST_SECOND: i64 = 253_402_300_799;
-const NO_SECONDS: i64 = 1 << 62;
 
 /// What a service asks a guard. Each text is one value in any of the three forms of RFC 9804, so that no octets of one part can become
 /// another part.
@@ -104,10 +101,7 @@ impl<'q> Question<'q> {
         };
         let (moment, seconds) = match &self.moment {
             Moment::Text(text) => (sys::Text::of(text), ptr::null()),
-            Moment::Seconds(seconds) if (0..=LAST_SECOND).contains(seconds) => {
-                (sys::Text::NONE, ptr::from_ref(seconds))
-            }
-            Moment::Seconds(_) => (sys::Text::NONE, ptr::from_ref(&NO_SECONDS)),
+            Moment::Seconds(seconds) => (sys::Text::NONE, ptr::from_ref(seconds)),
         };
         sys::Question {
             size: size_of::<sys::Question>(),
