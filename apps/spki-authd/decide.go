@@ -56,7 +56,9 @@ func (d *decider) decide(asked asked) record {
 	if err != nil {
 		return made.ended(answerRefused, err)
 	}
-	made.Key, made.Signed = client.name, proof != nil
+	if made.Key = client.name; proof != nil {
+		made.Proof = bySignature
+	}
 	if !d.byKey.allows(client.name, d.now()) {
 		return made.ended(answerLimited, errOftenKey)
 	}

@@ -92,10 +92,11 @@ func TestKeptChainsEnd(t *testing.T) {
 			t.Error(kept)
 		}
 	}
-	for days, wanted := range map[int]int{9: 2, 11: 1, 89: 1, 91: 0} {
-		made, err := openKept(s.config.Chains, begun.AddDate(0, 0, days))
-		if err != nil || len(made.of(hexDigest([]byte(s.bob.key)), begun.AddDate(0, 0, days))) != wanted {
-			t.Error(days, err, made)
+	for _, row := range [][2]int{{9, 2}, {11, 1}, {89, 1}, {91, 0}} {
+		now := begun.AddDate(0, 0, row[0])
+		made, err := openKept(s.config.Chains, now)
+		if err != nil || len(made.of(hexDigest([]byte(s.bob.key)), now)) != row[1] {
+			t.Error(row, err, made)
 		}
 	}
 	if left := s.chains.of(hexDigest([]byte(s.bob.key)), begun.AddDate(1, 0, 0)); left != nil {

@@ -19,6 +19,8 @@ func (r *record) line() []byte {
 	line.text("answer", string(r.Answer), true)
 	line.number("status", int64(r.Status), true)
 	line.text("key", r.Key, false)
+	line.text("proof", r.Proof, false)
+	line.text("kept", r.Kept, false)
 	line.texts("request", r.Request)
 	line.number("entry", int64(r.Entry), false)
 	line.texts("certificates", r.Certificates)

@@ -28,7 +28,7 @@ type record struct {
 	Answer       answer   `json:"answer"`
 	Status       int      `json:"status"`
 	Key          string   `json:"key,omitempty"`
-	Signed       bool     `json:"signed,omitempty"`
+	Proof        string   `json:"proof,omitempty"`
 	Kept         string   `json:"kept,omitempty"`
 	Request      []string `json:"request,omitempty"`
 	Entry        int      `json:"entry,omitempty"`

@@ -19,6 +19,9 @@ type signatures struct {
 
 const usualNonces = 1_000_000
 
+// bySignature is what the log says of a request whose key was proved by a signature.
+const bySignature = "signature"
+
 // A signed verifies requests.
 type signed struct {
 	*httpsig.Verifier

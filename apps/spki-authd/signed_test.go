@@ -82,7 +82,7 @@ func TestSigned(t *testing.T) {
 			t.Errorf("%s: %d, wanted %d: %+v", row.name, met.StatusCode, row.status, line)
 		}
 	}
-	if line := s.lastLine(t); line.Signed {
+	if line := s.lastLine(t); line.Proof != "" {
 		t.Error(line)
 	}
 }
@@ -98,7 +98,7 @@ func TestNoncesOfDenials(t *testing.T) {
 	}
 	for _, wanted := range []string{"", string(httpsig.StoreFull)} {
 		s.ask(s.alice.signs(t, "GET", "files.example.org", "/web/x", "", nil)...)
-		if line := s.lastLine(t); !strings.HasSuffix(line.Reason, wanted) || (line.Answer == answerYes) != (wanted == "") || !line.Signed {
+		if line := s.lastLine(t); !strings.HasSuffix(line.Reason, wanted) || (line.Answer == answerYes) != (wanted == "") || line.Proof != bySignature {
 			t.Errorf("%+v", line)
 		}
 	}
@@ -109,8 +109,10 @@ func TestSignaturesAreOff(t *testing.T) {
 	if met := s.ask(s.alice.signs(t, "GET", "files.example.org", "/web/x", "", nil)...); met.StatusCode != http.StatusUnauthorized {
 		t.Error(met.StatusCode)
 	}
-	for _, wrong := range []string{`{}`, `{"names": []}`, `{"names": ["a b"]}`, `{"names": ["a.example", "A.example:8443"]}`, `{"names": ["a"], "nonces": -1}`,
-		`{"names": ["https://a.example"]}`} {
+	for _, wrong := range []string{
+		`{}`, `{"names": []}`, `{"names": ["a b"]}`, `{"names": ["a.example", "A.example:8443"]}`, `{"names": ["a"], "nonces": -1}`,
+		`{"names": ["https://a.example"]}`,
+	} {
 		text := `{"listen": "unix:/run/x/s", "server": "nginx", "list": "/l", "log": "/log", "requests": [{"prefix": "/", "methods": {"GET": "read"},
 			"request": ["files", "{method}", "{path}"]}], "signatures": ` + wrong + `}`
 		if _, err := parseConfig([]byte(text)); err == nil || !strings.Contains(err.Error(), "signatures") {
