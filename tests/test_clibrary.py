@@ -369,7 +369,7 @@ class Structures(unittest.TestCase):
     # What that header adds at the ends of two structures.
     LATER = ((", 100000, 1048576}", ", 100000, 1048576, 0}"), ("SIZE_MAX, SIZE_MAX}", "SIZE_MAX, SIZE_MAX, 0}"),
              ("the most octets of the answer */\n", "the most octets of the answer */\n    size_t later;\n"),
-             ("`moment` is empty then */\n", "`moment` is empty then */\n    const void *later;\n"))
+             ("past the year 9999 */\n};", "past the year 9999 */\n    const void *later;\n};"))
 
     def reads(self, *changes):
         """spki.c with a header that is changed reads what it should."""

@@ -43,7 +43,7 @@ from typing import NoReturn, TypeVar, cast
 from . import _library as of
 from ._library import library
 from ._values import (Denied, Explanation, Grant, Limits, NoDecision, NotProved, Policy, ProvenKey, Question, Reason, Reduction, Refused,
-                      Scheme, Signature, Verify, answer_of, octets_of, whole)
+                      Scheme, Signature, Verify, answer_of, octets_of, signature_of, whole)
 from ._words import Cause, Fault, Part
 
 __version__ = "0.2.0"
@@ -371,7 +371,7 @@ def _signature(handle: c_void_p, place: int, keys: dict[bytes, bytes]) -> Signat
     numbers = _texts(handle, place, room)
     _spare.append(room)
     key, message, value, _ = (of.memory[at:at + length] for at, length in zip(numbers[::2], numbers[1::2]))
-    return Signature(key=keys.setdefault(key, key), message=message, value=value)
+    return signature_of(keys.setdefault(key, key), message, value)
 
 
 def _verified(handle: c_void_p, count: int, verify: Verify) -> int:
@@ -384,7 +384,7 @@ def _verified(handle: c_void_p, count: int, verify: Verify) -> int:
             if key != last:
                 # (a verifier that keeps keys keeps one of many equal ones)
                 last = key
-            answer = verify(Signature(key=last, message=memory[message:message + message_length], value=memory[value:value + value_length]))
+            answer = verify(signature_of(last, memory[message:message + message_length], memory[value:value + value_length]))
             if answer is not True:
                 answer_of(answer)
                 return place

@@ -114,6 +114,16 @@ class Signature:
         return octets if colon and length.isdigit() else None
 
 
+_new, _set = object.__new__, object.__setattr__
+
+
+def signature_of(key: bytes, message: bytes, value: bytes) -> Signature:
+    """The signature of these texts, without the calls by which a frozen dataclass sets its fields."""
+    made = _new(Signature)
+    _set(made, "__dict__", {"key": key, "message": message, "value": value})
+    return made
+
+
 # Whether a signature is valid. It answers `True` or `False`, and nothing else.
 Verify = Callable[[Signature], bool]
 
