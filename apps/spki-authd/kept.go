@@ -10,6 +10,8 @@ import (
 	"strings"
 	"sync"
 	"time"
+
+	"conguraki/spki/guard"
 )
 
 // A chains says that clients may leave their certificates with the daemon.
@@ -200,7 +202,7 @@ func (k *kept) write(key string, made keptChain) error {
 }
 
 // judgeAll decides by what a request shows. Where it shows nothing and gets nothing, each sequence that is kept for its key is tried.
-func (d *decider) judgeAll(made record, key []byte, path string, asked *asked) record {
+func (d *decider) judgeAll(made record, key guard.ProvenKey, path string, asked *asked) record {
 	first := d.judge(made, key, path, asked.sequence)
 	if asked.sequence != "" || first.Answer != answerUnknown {
 		return first

@@ -22,6 +22,8 @@ import (
 	"time"
 
 	"conguraki/spki/verify"
+
+	"conguraki/spki"
 )
 
 // A row is one of the table that all languages read: tests/generators/signed_requests.py says what its lines are.
@@ -88,7 +90,7 @@ func at(now *int64) *Verifier {
 // answerOf returns `valid` or the name of a refusal.
 func answerOf(proof *Proof, err error) string {
 	var refusal Refusal
-	if err == nil && len(proof.Key) > 0 {
+	if err == nil && proof.Key.Text() != "" {
 		return "valid"
 	}
 	if proof != nil || !errors.As(err, &refusal) {
@@ -159,7 +161,7 @@ func TestPublishedExamples(t *testing.T) {
 	if err != nil || base64.StdEncoding.EncodeToString(made) != signatureRFC {
 		t.Errorf("%v, %x", err, made)
 	}
-	if !verify.Signature(signer.key, text, valueOf(Ed25519, octets(t, signatureRFC))) {
+	if !verify.Signature(spki.Signature{Key: signer.key, Message: text, Value: valueOf(Ed25519, octets(t, signatureRFC))}) {
 		t.Error("Ed25519")
 	}
 	public, err := x509.ParsePKIXPublicKey(octets(t, curveRFC))
@@ -167,7 +169,7 @@ func TestPublishedExamples(t *testing.T) {
 		t.Fatal(err)
 	}
 	key, err := verify.KeyOf(public)
-	if err != nil || !verify.Signature(key, []byte(responseRFC), valueOf(P256, octets(t, curveSignatureRFC))) {
+	if err != nil || !verify.Signature(spki.Signature{Key: key, Message: []byte(responseRFC), Value: valueOf(P256, octets(t, curveSignatureRFC))}) {
 		t.Error("ECDSA")
 	}
 	digest, err := digestOf("sha-512=:WZDPaVn/7XgHaAy8pmojAkGWoRx2UFChF41A2svX+TaPm+AbwAgBWnrIiYllu7BNNyealdVLvRwEmTHWXvJwew==:")
@@ -224,7 +226,7 @@ func TestClientAndServer(t *testing.T) {
 			}
 			told, _ := io.ReadAll(response.Body)
 			response.Body.Close()
-			if wanted := (&Proof{Key: signer.key}).Hash(); response.StatusCode != 200 || string(told) != wanted || string(body) != sent {
+			if wanted := (&Proof{Key: spki.AssumeKey(signer.key)}).Hash(); response.StatusCode != 200 || string(told) != wanted || string(body) != sent {
 				t.Errorf("%s: %d %s, %q", kind, response.StatusCode, told, body)
 			}
 		}
@@ -298,8 +300,8 @@ func FuzzFields(f *testing.F) {
 	now := int64(1792000100)
 	verifier := at(&now)
 	asked := false
-	verifier.Verify = func(_, message, _ []byte) bool {
-		asked = bytes.HasPrefix(message, []byte(`"`)) && bytes.Contains(message, []byte(`"@signature-params": (`))
+	verifier.Verify = func(signed spki.Signature) bool {
+		asked = bytes.HasPrefix(signed.Message, []byte(`"`)) && bytes.Contains(signed.Message, []byte(`"@signature-params": (`))
 		return asked
 	}
 	f.Fuzz(func(t *testing.T, input, signature, digest, target string) {
@@ -309,7 +311,7 @@ func FuzzFields(f *testing.F) {
 		}
 		asked = false
 		proof, err := verifier.Check(Message{Method: "GET", Authority: "example.com", Target: target, Header: header})
-		if err == nil && (!asked || len(proof.Key) == 0) {
+		if err == nil && (!asked || proof.Key.Text() == "") {
 			t.Errorf("%q %q", input, signature)
 		}
 	})

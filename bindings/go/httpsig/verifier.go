@@ -9,6 +9,7 @@ import (
 	"strings"
 	"time"
 
+	"conguraki/spki"
 	"conguraki/spki/verify"
 )
 
@@ -37,7 +38,7 @@ type Verifier struct {
 	Start time.Time
 	Now   func() time.Time
 	// Verifies a signature, in the forms of a guard.
-	Verify func(key, message, value []byte) bool
+	Verify func(spki.Signature) bool
 }
 
 // NewVerifier returns a verifier for a service of these names, with https and nonces in memory.
@@ -50,15 +51,15 @@ func NewVerifier(authorities ...string) *Verifier {
 
 // A Proof says which key has signed a request.
 type Proof struct {
-	// The SPKI key in canonical form, as a guard.Question has it.
-	Key    []byte
+	// The key, as a guard.Question has it.
+	Key    spki.ProvenKey
 	nonce  string
 	digest digest
 }
 
 // Hash returns the SHA-256 digest of the key, in hexadecimal digits.
 func (p *Proof) Hash() string {
-	made := sha256.Sum256(p.Key)
+	made := sha256.Sum256([]byte(p.Key.Text()))
 	return hex.EncodeToString(made[:])
 }
 
@@ -101,7 +102,7 @@ func (v *Verifier) Message(message Message) (*Proof, error) {
 // Take uses up the nonce of a proof. NO PROOF COUNTS WITHOUT IT: a caller of Check takes the nonce before it acts, as a service does that first
 // decides, so that strangers do not fill the store.
 func (v *Verifier) Take(proof *Proof) error {
-	return v.Nonces.Take(proof.Key, proof.nonce, v.Now().Unix(), mostWindow+mostAhead)
+	return v.Nonces.Take([]byte(proof.Key.Text()), proof.nonce, v.Now().Unix(), mostWindow+mostAhead)
 }
 
 // Check returns the proof of a message, and leaves the nonce. Take must follow.
@@ -124,13 +125,17 @@ func (v *Verifier) Check(message Message) (*Proof, error) {
 	if err != nil {
 		return nil, err
 	}
-	if len(octets) != length || !v.Verify(key, text, valueOf(algorithm, octets)) {
+	if len(octets) != length {
+		return nil, InvalidSignature
+	}
+	proven, err := spki.ProveKey(spki.Signature{Key: key, Message: text, Value: valueOf(algorithm, octets)}, v.Verify)
+	if err != nil {
 		return nil, InvalidSignature
 	}
 	if digest.octets != nil && message.Body != nil && !digest.is(message.Body) {
 		return nil, OtherDigest
 	}
-	return &Proof{key, input.nonce, digest}, nil
+	return &Proof{proven, input.nonce, digest}, nil
 }
 
 // signatureOf reads both fields.

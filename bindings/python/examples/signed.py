@@ -4,7 +4,7 @@ Usage: signed.py ACL NAME
 """
 import http.server
 import sys
-import time
+from datetime import datetime, timezone
 
 import spki
 import spki_http
@@ -24,7 +24,8 @@ class Handler(http.server.BaseHTTPRequestHandler):
             path = self.path.partition("?")[0]
             if "%" in path or "/." in path:
                 raise ValueError("the path is not clear")
-            question = spki.Question(sequence, proof.key, words=(b"files", b"read", path.encode()), moment=int(time.time()))
+            question = spki.Question(sequence, spki.ProvenKey.assume(proof.key), words=(b"files", b"read", path.encode()),
+                                     moment=datetime.now(timezone.utc))
             GUARD.require(question, spki_verify.verify)
         except (spki_http.Refused, spki.Refused, spki.Denied, ValueError):
             self.send_error(403)

@@ -20,7 +20,7 @@ USUAL_NONCES = 100_000
 def usual_verify() -> Callable[[bytes, bytes, bytes], bool]:
     """What verifies signatures, if nothing else is given."""
     import spki_verify
-    return spki_verify.verify
+    return spki_verify.verify_texts
 
 
 class Nonces(Protocol):

@@ -1,13 +1,14 @@
 //! Proves the client's key in each HTTP request, by HTTP Message Signatures (RFC 9421) of the profile in docs/SIGNATURES.md.
 //!
 //! ```
-//! use spki::http::{Message, Nonces, Requests, Unproved};
+//! use spki::http::{Message, Nonces, Requests};
+//! use spki::Signature;
 //!
 //! let requests = Requests::new(&["files.example.org"], Nonces::new(100_000), 1_792_000_000);
 //! let fields: &[(&str, &[u8])] = &[("Host", b"files.example.org")];
 //! let message = Message::new("GET", "files.example.org", "/web/index.html", fields);
 //! // Call your crypto library here: it is the verifier that a guard asks, too.
-//! let verify = |_key: &[u8], _message: &[u8], _value: &[u8]| false;
+//! let verify = |_signature: Signature| false;
 //! let proof = requests.prove(&message, 1_792_000_100, verify);
 //! assert_eq!(proof.unwrap_err().name(), "absent");
 //! ```
@@ -23,7 +24,7 @@ pub use message::Message;
 pub use nonces::{Nonces, TakeNonce};
 pub use unproved::Unproved;
 
-use crate::Verdict;
+use crate::{NotProved, ProvenKey, Signature, Verdict};
 use fields::Input;
 use message::{authority_of, is_target};
 
@@ -45,8 +46,8 @@ pub struct Requests<N = Nonces> {
 /// The key that has signed a request. There is a value of this type only for a signature that is valid.
 #[derive(Clone, Debug)]
 pub struct Proof {
-    /// The SPKI key in canonical form, as a question has it.
-    pub key: Vec<u8>,
+    /// The key, as a question has it.
+    pub key: ProvenKey<'static>,
     /// The digest of the body, if one is covered. Whoever reads the body compares it: without a digest there is none.
     pub digest: Option<ContentDigest>,
     nonce: String,
@@ -75,7 +76,7 @@ impl<N: TakeNonce> Requests<N> {
     /// If the request proves no key, or the verifier fails.
     pub fn prove<V, A>(&self, message: &Message, now: u64, verify: V) -> Result<Proof, Unproved>
     where
-        V: FnMut(&[u8], &[u8], &[u8]) -> A,
+        V: FnMut(Signature<'_>) -> A,
         A: Verdict,
     {
         let proof = self.check(message, now, verify)?;
@@ -89,16 +90,17 @@ impl<N: TakeNonce> Requests<N> {
     /// If the nonce was used before, or there is no room for it.
     pub fn take(&self, proof: &Proof, now: u64) -> Result<(), Unproved> {
         let seconds = MOST_WINDOW + MOST_AHEAD;
-        self.nonces.take(&proof.key, &proof.nonce, now, seconds)
+        self.nonces
+            .take(proof.key.text(), &proof.nonce, now, seconds)
     }
 
     /// The proof of a request, whose nonce is not yet used up. `take` must follow.
     ///
     /// # Errors
     /// If the request proves no key, or the verifier fails.
-    pub fn check<V, A>(&self, message: &Message, now: u64, mut verify: V) -> Result<Proof, Unproved>
+    pub fn check<V, A>(&self, message: &Message, now: u64, verify: V) -> Result<Proof, Unproved>
     where
-        V: FnMut(&[u8], &[u8], &[u8]) -> A,
+        V: FnMut(Signature<'_>) -> A,
         A: Verdict,
     {
         let (input, octets) = signature_of(message)?;
@@ -111,14 +113,19 @@ impl<N: TakeNonce> Requests<N> {
         if octets.len() != kind.octets {
             return Err(Unproved::InvalidSignature);
         }
-        match verify(&key, &text, &kind.value_of(&octets)).verdict() {
-            Ok(true) => Ok(Proof {
-                key,
+        let signed = Signature {
+            key: &key,
+            message: &text,
+            value: &kind.value_of(&octets),
+        };
+        match ProvenKey::by(signed, verify) {
+            Ok(key) => Ok(Proof {
+                key: key.into_owned(),
                 digest,
                 nonce: input.nonce.to_string(),
             }),
-            Ok(false) => Err(Unproved::InvalidSignature),
-            Err(_) => Err(Unproved::VerifierFailed),
+            Err(NotProved::No) => Err(Unproved::InvalidSignature),
+            Err(NotProved::Verifier(_)) => Err(Unproved::VerifierFailed),
         }
     }
 

@@ -5,7 +5,7 @@ mod by_openssl;
 
 use by_openssl::Openssl;
 use spki::http::{ContentDigest, Message, Nonces, Requests, TakeNonce, Unproved};
-use spki::Verifier;
+use spki::{Signature, Verifier};
 use std::fs;
 use std::io::Write;
 use std::process::{Command, Stdio};
@@ -121,9 +121,7 @@ fn answer(requests: &Requests, row: &Row, now: u64) -> &'static str {
         .map(|(name, value)| (&name[..], &value[..]))
         .collect();
     let message = Message::new(&row.on[0], &row.on[2], &row.on[1], &fields);
-    match requests.prove(&message, now, |key: &[u8], message: &[u8], value: &[u8]| {
-        Openssl.verify(key, message, value)
-    }) {
+    match requests.prove(&message, now, |signed: Signature| Openssl.verify(signed)) {
         Err(unproved) => unproved.name(),
         Ok(proof)
             if row
@@ -167,12 +165,17 @@ fn the_published_signature_is_valid() {
     ]
     .concat();
     let value = [&b"(7:sig-val(5:ecdsa(1:r"[..], &r, b")(1:s", &s, b")))"].concat();
-    assert!(Openssl
-        .verify(&key, RESPONSE.as_bytes(), &value)
-        .expect("openssl"));
-    assert!(!Openssl
-        .verify(&key, &RESPONSE.as_bytes()[1..], &value)
-        .expect("openssl"));
+    let verifies = |message| {
+        let (key, value) = (&key[..], &value[..]);
+        let signed = Signature {
+            key,
+            message,
+            value,
+        };
+        Openssl.verify(signed).expect("openssl")
+    };
+    assert!(verifies(RESPONSE.as_bytes()));
+    assert!(!verifies(&RESPONSE.as_bytes()[1..]));
 }
 
 #[test]
@@ -215,12 +218,7 @@ fn a_verifier_that_fails_proves_nothing() {
     let requests = Requests::new(&["example.com"], Nonces::new(10), START);
     assert_eq!(
         requests
-            .prove(&message, START + 100, |_: &[u8], _: &[u8], _: &[u8]| Err::<
-                bool,
-                (),
-            >(
-                ()
-            ))
+            .prove(&message, START + 100, |_: Signature| Err::<bool, ()>(()))
             .err(),
         Some(Unproved::VerifierFailed)
     );
