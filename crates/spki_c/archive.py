@@ -8,7 +8,7 @@ library links beside any other, also beside another one of the toolchain, and a 
 these symbols have a version, such as SPKI_0.2, so that a program does not run with a library of another interface.
 
 `rt ci` leaves the libraries below in a form that `rt lib` does not accept, so that it would prove all of them again. Right behind it,
---over-gate builds over that form. --again links anew over the proved code of the last run, where only spki.c or spki.h has changed.
+--over-gate builds over that form. --again links anew over the proved code of the last run, where only the files in C have changed.
 
 --target aarch64-unknown-linux-gnu builds both for Linux on ARM with 64 bits, in out/aarch64-unknown-linux-gnu/. What is proved is the code for
 this target. The toolchain has its calls of `malloc`, `realloc` and `free` for x86-64 alone: those of heap.c take their place, which is

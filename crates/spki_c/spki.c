@@ -2,6 +2,7 @@
  * caller gives it, and refuses a null pointer with a length, and a length that is more than memory can have. All other pointers are tested
  * here: a null pointer is misuse, or is replaced by the address of a value that is not used. */
 #include "spki.h"
+#include "structures.h"
 
 /* A pointer to a guard or to a question, or null. */
 struct handle { void *at; };
@@ -68,10 +69,10 @@ enum spki_status spki_guard_open(const void *list, size_t list_length, enum spki
                                  spki_guard **guard, ANSWER)
 {
     struct handle handle = {0};
-    const struct spki_limits *some = limits ? limits : &(struct spki_limits){.size = sizeof *limits};
+    struct spki_limits some = {0};
     enum spki_status status = SPKI_MISUSED;
-    if (BEGINS && guard && some->size == sizeof *some)
-        status = spki_c_guard_open((struct spki_text){list, list_length}, policy, some, limits ? 1 : 0, &handle, TO);
+    if (BEGINS && guard && (!limits || READ(some, struct spki_limits, answer, limits)))
+        status = spki_c_guard_open((struct spki_text){list, list_length}, policy, &some, 1, &handle, TO);
     if (guard)
         *guard = handle.at;
     return status;
@@ -91,12 +92,12 @@ size_t spki_guard_entries(const spki_guard *guard)
 enum spki_status spki_guard_ask(const spki_guard *guard, const struct spki_question *question, spki_asked **asked, ANSWER)
 {
     struct handle handle = {0};
-    const struct spki_question *q = question;
+    struct spki_question q;
     enum spki_status status = SPKI_MISUSED;
-    if (BEGINS && guard && asked && q && q->size == sizeof *q && !is_misuse(q->words, q->word_count, sizeof *q->words))
-        status = spki_c_guard_ask(LENT(guard), (struct parts){q->sequence, q->key, q->request, q->moment, q->words},
-                                  q->words ? q->words : &(struct spki_text){0}, q->word_count, q->seconds ? q->seconds : &(int64_t){0},
-                                  q->seconds ? 1 : 0, &handle, TO);
+    if (BEGINS && guard && asked && READ(q, struct spki_question, seconds, question) && !is_misuse(q.words, q.word_count, sizeof *q.words))
+        status = spki_c_guard_ask(LENT(guard), (struct parts){q.sequence, q.key, q.request, q.moment, q.words},
+                                  q.words ? q.words : &(struct spki_text){0}, q.word_count, q.seconds ? q.seconds : &(int64_t){0},
+                                  q.seconds ? 1 : 0, &handle, TO);
     if (asked)
         *asked = handle.at;
     return status;

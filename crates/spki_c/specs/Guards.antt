@@ -1,5 +1,5 @@
 -- What a C program receives from the guards that it holds.
-use Rattle.std.specs.Prelude.{◌≡◌, ◌⊎◌, ℕ, ◌≤◌, List, [], ◌∷◌, Bool, Option, Some}
+use Rattle.std.specs.Prelude.{◌≡◌, ◌⊎◌, ℕ, zero, suc, ◌≤◌, List, [], ◌∷◌, Bool, Option, Some}
 use Rattle.spki_cert.specs.declared.principal.Policy.{Policy}
 use Rattle.spki_cert.specs.declared.principal.Policy.TheVariants.{Open, Strict}
 use Rattle.spki_service.specs.AccessLists.{Held, HoldsList, IsNoAccessList}
@@ -45,11 +45,22 @@ pub record Numbers : Type 0 where
   pub work : ℕ
   pub answer : ℕ
 
+-- a limit that is 0 is the usual one
+abbrev pub or_usual : ℕ → ℕ → ℕ
+or_usual zero usual = usual
+or_usual (suc limit) usual = suc limit
+
 -- the first limits that are passed, or the usual ones if there are none
 abbrev pub numbers_in : List LimitParts → Numbers
 numbers_in [] = record { octets = 65536; certificates = 16; words = 64; nodes = 1000000; work = 100000; answer = 1048576 }
-numbers_in (l ∷ others) =
-    record { octets = l.octets; certificates = l.certificates; words = l.words; nodes = l.nodes; work = l.work; answer = l.answer }
+numbers_in (l ∷ others) = record {
+  octets = or_usual l.octets 65536;
+  certificates = or_usual l.certificates 16;
+  words = or_usual l.words 64;
+  nodes = or_usual l.nodes 1000000;
+  work = or_usual l.work 100000;
+  answer = or_usual l.answer 1048576;
+}
 
 -- no limit is over the highest
 abbrev pub AreAllowed : Numbers → Type 0

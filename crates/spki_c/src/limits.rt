@@ -1,6 +1,6 @@
 //! Limits as C passes them.
-ghost use Rattle.std.specs.Prelude.{MatchOption};
-ghost use Rattle.spki_c.specs.Guards.{numbers_in, AreAllowed, AreLimits};
+ghost use Rattle.std.specs.Prelude.{◌≡◌, MatchOption};
+ghost use Rattle.spki_c.specs.Guards.{numbers_in, or_usual, AreAllowed, AreLimits};
 
 use spki_guard::Limits;
 
@@ -23,20 +23,28 @@ pub struct LimitParts {
     pub answer: usize,
 }
 
-/// The limits that C passes: the first of `limits`, or the default ones if there are none. None if `octets` is over
-/// 1,048,576 or `nodes` over 1,000,000. `size` is not tested.
+/// The limits that C passes: the first of `limits`, or the default ones if there are none. A limit of 0 is the default one. None if
+/// `octets` is over 1,048,576 or `nodes` over 1,000,000. `size` is not tested.
 pub(crate) fn limits_of(limits: &[LimitParts]) -> Option<Limits>
     ensures { MatchOption result (¬ AreAllowed (numbers_in limits.now)) (AreLimits (numbers_in limits.now)) }
 {
+    let usual = Limits::default();
     match limits {
-        [] => Some(Limits::default()),
+        [] => Some(usual),
         [first, ..] => Limits::new(
-            first.octets,
-            first.certificates,
-            first.words,
-            first.nodes,
-            first.work,
-            first.answer,
+            or_usual(first.octets, usual.octets),
+            or_usual(first.certificates, usual.certificates),
+            or_usual(first.words, usual.words),
+            or_usual(first.nodes, usual.nodes),
+            or_usual(first.work, usual.work),
+            or_usual(first.answer, usual.answer),
         ),
     }
+}
+
+/// A limit, or the usual one if it is 0.
+fn or_usual(limit: usize, usual: usize) -> usize
+    ensures { result ≡ or_usual limit usual }
+{
+    if limit == 0 { usual } else { limit }
 }
