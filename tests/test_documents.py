@@ -18,7 +18,7 @@ from support import TOP, output_of, text_of
 
 PAGES = ["*.md", "docs/*.md", "examples/*.md", "apps/**/*.md", "crates/*/CALLING.md"]
 # The octets that README.md may have, and all pages of docs/ with the pages CALLING.md.
-MOST_OF_README, MOST_OF_PAGES = 16_384, 253_952
+MOST_OF_README, MOST_OF_PAGES = 16_384, 245_760
 LINK = re.compile(r"\]\(([^)\s]+)\)")
 TICKS = re.compile(r"`([^`\n]+)`")
 FENCED = re.compile(r"^```(\w*) ?(\S*)\n(.*?)^```$", re.MULTILINE | re.DOTALL)
