@@ -15,20 +15,23 @@ from typing import NoReturn
 
 from .arguments import NEW_KEY, completion, parser_of_commands
 from .certificates import headed, members
-from .files import (DAY_ENDS, READ, TERMINAL, Refused, key_at, locked, moment_of, node_of, now, octets_of, passphrase_for, put, remark_on_mode,
-                    signer_at, tell, value_of, write, write_all)
+from .ending import end
+from .files import (DAY_ENDS, READ, TERMINAL, Refused, key_at, locked, moment_of, node_of, now, octets_of, passphrase_for, put, remark_on_mode, say,
+                    signer_at, tell, text_at, value_headed, value_of, write, write_all)
 from .forms import Wrong
 from .keys import BadKey, file_of, hash_of, kind_of, new_private, openssh_line, principal_of
 from .labels import Labels
 from .making import (Wish, certificate_of, entry_of, list_with, list_without, named, signed_sequence, text_of, warnings_of, warnings_of_certificate,
                      warnings_of_list)
-from .places import BY_HEAD, read_text, told, value_in
+from .places import value_in
 from .sexp import Value, canonical, on_one_line
-from .structures import PRINCIPALS, read_certificate, read_subject
+from .structures import PRINCIPALS, read_subject
 from .tags import read_tag
 
 DONE, NO, REFUSED, FAILED, UNCONFIRMED = 0, 1, 2, 3, 4
 ENDING = (signal.SIGHUP, signal.SIGINT, signal.SIGQUIT, signal.SIGTERM)
+SHOWN = (b"acl", b"sequence", b"case")
+NOT_SHOWN = "only an access list, a certificate, a sequence or a case is shown; for a key there is `spki-cert key`"
 Command = Callable[[argparse.Namespace], int]
 
 
@@ -123,20 +126,7 @@ def list_at(path: str) -> bytes:
     """The text of an access list that is edited. It must be one that a service takes."""
     if path != "-" and os.path.exists(path) and not os.path.isfile(path):
         raise Refused(f"{path}: this is no regular file, and only such a list is edited; nothing was written")
-    octets = octets_of(path)
-    found, _ = read_text(octets, "refused acl")
-    if found[0] is not None:
-        raise Refused(*told(path, found))
-    return octets
-
-
-def say(*lines: str, is_aside: bool = False) -> int:
-    """Writes lines to standard output, or to standard error beside what standard output gets."""
-    if is_aside:
-        tell(*lines)
-    else:
-        put("".join(f"{line}\n" for line in lines))
-    return DONE
+    return text_at(path, "refused acl")[0]
 
 
 def is_confirmed(is_wanted: bool, option: str, warnings: Iterable[str]) -> bool:
@@ -152,7 +142,7 @@ def wish_of(given: argparse.Namespace) -> Wish:
     """What the certificate or the entry is to say."""
     if given.tag is None and given.name is None:
         raise Refused("a right needs --tag")
-    tag = node_of(given.tag, "--tag", lambda node: read_tag(node, [0])) if given.tag is not None else None
+    tag = node_of(os.fsencode(given.tag), "--tag", lambda node: read_tag(node, [0])) if given.tag is not None else None
     ends = now(given.days) if given.days is not None else moment_of(given.until, DAY_ENDS) if given.until is not None else None
     return Wish(subject_of(given), os.fsencode(given.name) if given.name is not None else None, tag, given.tag or "",
                 moment_of(given.begins) if given.begins is not None else None, ends, given.propagate, given.comment or "")
@@ -165,7 +155,7 @@ def subject_of(given: argparse.Namespace) -> Value:
             raise Refused("a certificate needs --to, or --named for a name of the issuer")
         return named(None, given.named)
     is_itself = given.to.lstrip().startswith(("(", "{"))
-    subject = named(node_of(given.to, "--to", read_subject).value if is_itself else principal_of(key_at(given.to, given.number)), given.named)
+    subject = named(node_of(os.fsencode(given.to), "--to", read_subject).value if is_itself else principal_of(key_at(given.to, given.number)), given.named)
     if given.command == "entry" and headed(subject, b"name") and not headed(members(subject)[0], *PRINCIPALS):
         raise Refused(f"--to {given.to}: a name in an entry needs the key that defines it: give --to KEY --named NAME")
     return subject
@@ -194,23 +184,10 @@ def moment_given(given: argparse.Namespace) -> bytes:
     return moment_of(given.at) if given.at is not None else now()
 
 
-def shown_value(path: str) -> Value:
-    """The value of a file that can be shown."""
-    octets = octets_of(path)
-    found, node = read_text(octets)
-    if found[0] is not None:
-        raise Refused(*told(path, found))
-    if node.head == b"cert":
-        node_of(octets.decode(errors="surrogateescape"), path, read_certificate)
-    elif BY_HEAD.get(node.head or b"") not in ("acl", "sequence", "case"):
-        raise Refused(f"{path}: only an access list, a certificate, a sequence or a case is shown; for a key there is `spki-cert key`")
-    return node.value
-
-
 def show(given: argparse.Namespace) -> int:
     from .showing import lines_of, rows_of, what_is
     labels, moment = labels_of(given), moment_given(given)
-    values = [(path, shown_value(path)) for path in given.files]
+    values = [(path, value_headed(path, SHOWN, NOT_SHOWN)) for path in given.files]
     if given.braces:
         put(b"".join(b"{%s}\n" % base64.b64encode(canonical(value)) for _, value in values))
         return DONE
@@ -285,17 +262,8 @@ def check(given: argparse.Namespace) -> int:
     return REFUSED if refused else NO if remarks else DONE
 
 
-def end(given: argparse.Namespace) -> int:
-    from .ending import end as end_certificates
-    return end_certificates(given)
-
-
-def write_completion(given: argparse.Namespace) -> int:
-    return say(completion())
-
-
 COMMANDS: dict[str, Command] = {"key": key, NEW_KEY: new_key, "sign": sign, "name": sign, "entry": entry, "show": show, "ask": ask, "check": check,
-                                "end": end, "completion": write_completion}
+                                "end": end, "completion": lambda _: say(completion())}
 
 
 def main() -> int:
