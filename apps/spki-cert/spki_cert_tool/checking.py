@@ -6,7 +6,7 @@ import os
 from collections.abc import Iterator
 from dataclasses import dataclass
 
-from .certificates import Keys, certificates_in, fault_of_signature, keys_in, remarks_on_window, terms_of_certificate, terms_of_entry
+from .certificates import Keys, certificates_in, fault_of_signature, keys_in, remarks_on_window, terms_of
 from .files import Refused, octets_of, remark_on_mode
 from .forms import Node, Wrong, meant
 from .keys import ENCRYPTED, BadKey, is_key_file, is_private, is_text, kind_of, no_passphrase, pieces_of, public_of, read_public
@@ -168,7 +168,7 @@ def of_parts(node: Node, moment: bytes) -> Iterator[tuple[int, str]]:
 def of_terms(node: Node, moment: bytes) -> Iterator[tuple[int, str]]:
     """What is probably a mistake in an entry or a certificate."""
     is_certificate = node.head == b"cert"
-    terms = terms_of_certificate(node.value) if is_certificate else terms_of_entry(node.value)
+    terms = terms_of(node.value)
     for field in node.members or []:
         if field.head == b"tag" and field.members:
             yield from remarks(field.members[1])
@@ -187,7 +187,7 @@ def of_terms(node: Node, moment: bytes) -> Iterator[tuple[int, str]]:
 
 def of_entries(node: Node) -> Iterator[tuple[int, str]]:
     """The entries of a list that give nothing that another one does not give. Of those for one subject the first ones are compared."""
-    entries = [(it, terms_of_entry(it.value)) for it in node.rest if it.head == b"entry"]
+    entries = [(it, terms_of(it.value)) for it in node.rest if it.head == b"entry"]
     keys, by_subject = Keys(it.principal for _, it in entries), dict[object, list[int]]()
     for number, (_, terms) in enumerate(entries):
         by_subject.setdefault(on_one_line([keys.named(terms.principal) or terms.principal, *terms.names]), []).append(number)

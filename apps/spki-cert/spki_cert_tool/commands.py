@@ -263,7 +263,8 @@ def check(given: argparse.Namespace) -> int:
 
 
 COMMANDS: dict[str, Command] = {"key": key, NEW_KEY: new_key, "sign": sign, "name": sign, "entry": entry, "show": show, "ask": ask, "check": check,
-                                "end": end, "completion": lambda _: say(completion())}
+                                "end": end,
+                                "completion": lambda _: say(completion())}
 
 
 def main() -> int:

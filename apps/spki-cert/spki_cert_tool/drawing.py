@@ -12,7 +12,7 @@ from html import escape
 from typing import TYPE_CHECKING
 
 from .asking import Answer, Asked, answered, asked_of_case, case_of, furthest
-from .certificates import Keys, entries_of, field, headed, keys_in, members, terms_of_certificate
+from .certificates import Keys, entries_of, field, headed, keys_in, members, terms_of
 from .forms import Parser
 from .labels import Labels
 from .sexp import Value, canonical, on_one_line
@@ -94,7 +94,7 @@ class Drawing:
         """An arrow for each certificate up to the one that stops the chain, which is red."""
         for number, item in enumerate(members(sequence), 1):
             if headed(item, b"cert") and number <= (stops or number):
-                terms = terms_of_certificate(item)
+                terms = terms_of(item)
                 said = [f"item {number} {cause}:", MEANINGS[cause]] if number == stops else [f"item {number}"]
                 begin = [b"name", terms.issuer or b"", terms.name] if terms.name is not None else terms.issuer or b""
                 self.arrow(self.of(begin), self.of(terms.subject), RED if number == stops else BLACK, *said, *self.terms(item))

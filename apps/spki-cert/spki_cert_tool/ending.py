@@ -32,28 +32,6 @@ BY_HAND = re.compile(rb"[ \t]*([0-9A-Fa-f]{64})?[ \t]*(?:#([^\n]*))?")
 DATED = re.compile(r"(\d{4}-\d\d-\d\d)(?: (.*))?")
 
 
-HELP = """Ends certificates before their date: puts their digests into the file that `spki-authd` reads as "ended". They count from the next
-reload on. Of a FILE its last certificate is meant, or that of --place. Without FILE and --digest it makes the file if it is not there.
-
-The file has a last line with the number and the digest of the others, and is refused if it was cut or changed by hand."""
-
-
-def with_end(end: argparse.ArgumentParser) -> None:
-    """The words of the command."""
-    end.description, end.formatter_class = HELP, argparse.RawDescriptionHelpFormatter
-    end.epilog = "example: spki-cert end to-bob.sexp --reason 'laptop stolen' --ended ended"
-    end.add_argument("files", metavar="FILE", nargs="*", help="a sequence, whose last certificate is meant, or a certificate")
-    end.add_argument("--ended", metavar="FILE", required=True, help="the file of the digests that no longer count")
-    end.add_argument("--place", metavar="N", type=int, help="the N-th certificate of FILE, instead of the last one")
-    end.add_argument("--digest", metavar="HEX", action="append", default=[], help="the SHA-256 of a certificate, as the log of spki-authd has it")
-    end.add_argument("--reason", metavar="TEXT", default="", help="why it ends: it is written behind the digest, with the date")
-    how = end.add_mutually_exclusive_group()
-    how.add_argument("--undo", action="store_true", help="take the digests out again: spki-authd then needs -reload -fewer")
-    how.add_argument("--list", action="store_true", help="print the digests with date and reason, and the last line of the file")
-    how.add_argument("--adopt", action="store_true", help="take the lines of a file without a last line, or with a wrong one, as they are")
-    end.add_argument("--yes", action="store_true", help="adopt it although it has no digests, or fewer than it says")
-
-
 class Edited(NamedTuple):
     """The file while no other writer changes it: its name, the handle of its folder, what it is (None if it is new), and its octets."""
 

@@ -14,17 +14,19 @@ import termios
 import time
 from collections.abc import Iterator
 from datetime import datetime, timedelta, timezone
-from typing import Any, TextIO
+from typing import Any, TextIO, Union
 
+from .agent import AgentSigner
 from .certificates import DATE_FORMAT
 from .forms import MOST_OCTETS, Node, Wrong
-from .keys import BadKey, FileSigner, Signer, is_key_file, is_private, read_private, read_public
+from .keys import BadKey, FileSigner, is_key_file, is_private, read_private, read_public
 from .places import fault_of, name_foreign, read_text, told, value_in
 from .sexp import Value
 from .structures import MOMENT, Reader, read_certificate
 
 DAY_ENDS = "_23:59:59"
 SECONDS_TO_LOCK = 30
+Signer = Union[FileSigner, AgentSigner]
 CONTROLS = re.compile("[\0-\x08\x0b-\x1f\x7f-\x9f]")
 # The files that this command has read, by device and inode, and whether it has read standard input. None of them is written over.
 READ: set[tuple[int, int]] = set()
@@ -176,10 +178,10 @@ def key_at(path: str, number: int | None = None, is_private_too: bool = False) -
 
 def signer_at(path: str) -> Signer:
     """Who signs: the private key of a file, or for a public key ssh-agent."""
-    from .agent import AgentSigner
     with octets_of_key(path) as octets:
-        is_file = is_private(octets)
-        return FileSigner(read_private(octets, lambda: passphrase_for(path))) if is_file else AgentSigner(read_public(octets, lambda: b""))
+        if is_private(octets):
+            return FileSigner(read_private(octets, lambda: passphrase_for(path)))
+        return AgentSigner(read_public(octets, lambda: b""))
 
 
 @contextlib.contextmanager

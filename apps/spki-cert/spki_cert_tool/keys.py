@@ -16,7 +16,7 @@ import hashlib
 import importlib.util
 import re
 from collections.abc import Callable
-from typing import TYPE_CHECKING, Any, Protocol, Union, cast
+from typing import TYPE_CHECKING, Any, Union, cast
 
 from .forms import Parser
 from .places import USED, foreign, value_in
@@ -44,17 +44,6 @@ Asking = Callable[[], bytes]
 
 class BadKey(Exception):
     """What is said of a file that has no key that can be used."""
-
-
-class Signer(Protocol):
-    """Who holds a private key, in a file or in an agent."""
-
-    @property
-    def key(self) -> Value:
-        """The public key."""
-
-    def sign(self, message: bytes) -> Value:
-        """The value of a signature of these octets."""
 
 
 def digest_of(value: Value) -> bytes:

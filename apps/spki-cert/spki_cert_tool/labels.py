@@ -28,20 +28,14 @@ class Labels:
             self.labels.setdefault(canonical(key), label)
 
     def add_path(self, path: str) -> None:
-        """Takes the keys of a file, or of the files of a folder."""
+        """Takes the public keys of a file, or of the files of a folder: lines of OpenSSH with their comments, as authorized_keys has them, or
+        one key with the name of the file. What is no public key is left out."""
         for file in sorted(filter(os.path.isfile, glob.glob(f"{glob.escape(path)}/*"))) if os.path.isdir(path) else [path]:
-            self.add_file(file)
-
-    def add_file(self, path: str) -> None:
-        """Takes the public keys of a file: lines of OpenSSH with their comments, as authorized_keys has them, or one key with the
-        name of the file. What is no public key is left out."""
-        octets = octets_of(path)
-        stem = os.path.splitext(os.path.basename(path))[0]
-        if is_private(octets):
-            return
-        for line, comment in OPENSSH.findall(octets) or [(octets, b"")]:
-            with contextlib.suppress(BadKey, Wrong):
-                self.add(read_public(line, no_passphrase), comment.decode(errors="replace").strip() or stem)
+            octets = octets_of(file)
+            stem = os.path.splitext(os.path.basename(file))[0]
+            for line, comment in OPENSSH.findall(octets) or [(octets, b"")] if not is_private(octets) else []:
+                with contextlib.suppress(BadKey, Wrong):
+                    self.add(read_public(line, no_passphrase), comment.decode(errors="replace").strip() or stem)
 
     def of(self, principal: Value | None) -> str:
         """What a principal is called."""

@@ -5,10 +5,10 @@ import os
 from collections.abc import Iterator
 from dataclasses import dataclass
 
-from .certificates import Keys, certificates_in, entries_of, headed, members, remarks_on_window, terms_of_entry
-from .files import Refused, now
+from .certificates import Keys, certificates_in, entries_of, headed, members, remarks_on_window, terms_of
+from .files import Refused, Signer, now
 from .forms import Node
-from .keys import Signer, hash_of, is_named_by_itself, principal_of, verifies
+from .keys import hash_of, is_named_by_itself, principal_of, verifies
 from .places import fault_of, place_shown, told, value_in
 from .sexp import Value, canonical, laid_out, on_one_line
 from .tag_words import contains, is_everything, lacks, remarks
@@ -86,8 +86,8 @@ def list_without(subject: Value, before: bytes) -> tuple[bytes, int]:
     """The text of an access list without the entries for a subject, and how many they were. What is around them stays as it is."""
     if before.lstrip().startswith(b"{"):
         before = text_of(value_in(before).value)
-    wanted, entries = terms_of_entry([b"entry", subject]), [it for it in value_in(before).members or [] if it.head == b"entry"]
-    terms = [terms_of_entry(it.value) for it in entries]
+    wanted, entries = terms_of([b"entry", subject]), [it for it in value_in(before).members or [] if it.head == b"entry"]
+    terms = [terms_of(it.value) for it in entries]
     keys = Keys(it.principal for it in (wanted, *terms))
     gone = [node for node, it in zip(entries, terms) if it.names == wanted.names and keys.are_one(it.principal, wanted.principal)]
     for node in reversed(gone):
@@ -120,7 +120,7 @@ def warnings_of_certificate(wish: Wish, chain: Value | None, tries: list[Value])
 
 def warnings_of_list(made: Value, before: bytes) -> Iterator[str]:
     """What is probably a mistake in an entry for a list that has others."""
-    entries, new = entries_of(value_in(before).value), terms_of_entry(made)
+    entries, new = entries_of(value_in(before).value), terms_of(made)
     keys = Keys(it.principal for it in (*entries, new))
     yield from (f"entry {number} of the list gives all of this already" for number, it in enumerate(entries, 1) if contains(it, new, keys))
 

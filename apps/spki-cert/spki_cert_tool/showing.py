@@ -3,7 +3,7 @@ from __future__ import annotations
 
 from collections.abc import Iterator
 
-from .certificates import Keys, Terms, certificates_in, entries_of, fault_of_signature, headed, keys_in, members, terms_of_certificate
+from .certificates import Keys, Terms, certificates_in, entries_of, fault_of_signature, headed, keys_in, members, terms_of
 from .keys import digest_of, hash_of, kind_of
 from .labels import Labels
 from .sexp import Value, on_one_line
@@ -32,7 +32,7 @@ def row_of_terms(kind: str, number: int | None, terms: Terms, moment: bytes, lab
 def rows_of(value: Value, moment: bytes, labels: Labels) -> Iterator[Row]:
     """The rows of a list, a certificate, a sequence or a case."""
     if headed(value, b"cert"):
-        yield row_of_terms("certificate", None, terms_of_certificate(value), moment, labels)
+        yield row_of_terms("certificate", None, terms_of(value), moment, labels)
     elif headed(value, b"acl"):
         yield from (row_of_terms("entry", number, entry, moment, labels) for number, entry in enumerate(entries_of(value), 1))
     elif headed(value, b"sequence"):

@@ -46,6 +46,17 @@ class Members:
             raise shape(self.left[0], f"this is one member too many in `({head} ..)`", [(self.node.begin, "which begins here")])
 
 
+def list_of(head: bytes | None, what: str, *readers: tuple[str, Reader]) -> Reader:
+    """The reader of a list with this head, or with any, that has exactly these members. It says what the last one says."""
+    def reader(node: Node) -> object:
+        members, said = Members(node, head or node.head or b"", what), None
+        for name, read in readers:
+            said = read(members.next(name))
+        members.end()
+        return said
+    return reader
+
+
 def read_key(node: Node) -> None:
     members = Members(node, b"public-key", "a key")
     inner = members.next("(ALGORITHM PART ..)")
@@ -83,10 +94,7 @@ def read_hash(node: Node) -> bytes:
 def read_principal(node: Node) -> None:
     if node.head not in PRINCIPALS:
         raise shape(node, f"a principal must be {but_is(node, *PRINCIPALS)}")
-    if node.head == b"public-key":
-        read_key(node)
-    else:
-        read_hash(node)
+    (read_key if node.head == b"public-key" else read_hash)(node)
 
 
 def read_name(node: Node) -> tuple[bool, int]:
@@ -120,14 +128,11 @@ def read_date(node: Node) -> None:
         raise Wrong("BadDate", node.begin, 'a date is a string YYYY-MM-DD_HH:MM:SS in quotes, in UTC')
 
 
-def read_version(node: Node) -> None:
-    members = Members(node, b"version", "a version")
-    number = members.next("the version's string")
-    if number.members is not None:
-        raise shape(number, "a version is a string")
-    if not number.is_plain(b"0"):
-        raise Wrong("UnknownVersion", number.begin, "the version is 0")
-    members.end()
+def read_number(node: Node) -> None:
+    if node.members is not None:
+        raise shape(node, "a version is a string")
+    if not node.is_plain(b"0"):
+        raise Wrong("UnknownVersion", node.begin, "the version is 0")
 
 
 def read_issuer(node: Node) -> bool:
@@ -141,21 +146,19 @@ def read_issuer(node: Node) -> bool:
     return True
 
 
-def only_member(read: Callable[[Node], object]) -> Reader:
-    """The reader of a field with one member."""
-    def reader(node: Node) -> object:
-        members = Members(node, node.head or b"", "a field")
-        said = read(members.next("the member of this field"))
-        members.end()
-        return said
-    return reader
+def any_value(node: Node) -> None:
+    """A member that nothing is required of."""
 
 
+def field_of(read: Reader) -> Reader:
+    return list_of(None, "a field", ("the member of this field", read))
+
+
+read_version = list_of(b"version", "a version", ("the version's string", read_number))
 FIELDS: dict[bytes, Reader] = {
-    b"not-before": only_member(read_date), b"not-after": only_member(read_date), b"tag": only_member(lambda node: read_tag(node, [0])),
-    b"issuer": only_member(read_issuer), b"subject": only_member(read_subject), b"version": read_version,
-    b"propagate": lambda node: Members(node, b"propagate", "a field").end(),
-    b"valid": lambda node: read_fields(node, node.rest, LIMITS)}
+    b"not-before": field_of(read_date), b"not-after": field_of(read_date), b"tag": field_of(lambda node: read_tag(node, [0])),
+    b"issuer": field_of(read_issuer), b"subject": field_of(read_subject), b"version": read_version,
+    b"propagate": list_of(None, "a field"), b"valid": lambda node: read_fields(node, node.rest, LIMITS)}
 
 
 def no_field(node: Node, allowed: tuple[bytes, ...]) -> str:
@@ -218,23 +221,19 @@ def read_certificate(node: Node) -> None:
     one_validity(said)
 
 
-def read_signature(node: Node) -> None:
-    members = Members(node, b"signature", "a signature")
-    read_hash(members.next("the hash"))
-    read_principal(members.next("the principal"))
-    members.next("the value")
-    members.end()
+def read_digest_of_row(node: Node) -> None:
+    if read_hash(node) != b"sha256":
+        raise Wrong("HashAlg", node.begin, "the hash of a row is by sha256")
 
 
 def read_operation(node: Node) -> None:
-    members = Members(node, b"do", "an operation")
-    if not members.left or not members.left[0].is_plain(b"hash"):
+    if not node.rest or not node.rest[0].is_plain(b"hash"):
         raise Wrong("UnknownOp", node.begin, "the only operation is `(do hash ALGORITHM)`")
-    members.next("hash")
-    read_algorithm(members.next("the algorithm"))
-    members.end()
+    list_of(b"do", "an operation", ("hash", any_value), ("the algorithm", read_algorithm))(node)
 
 
+read_signature = list_of(b"signature", "a signature", ("the hash", read_hash), ("the principal", read_principal), ("the value", any_value))
+read_row = list_of(b"by", "a row", ("the key", read_key), ("the hash", read_digest_of_row), ("the value of the signature", any_value))
 ITEMS: dict[bytes, Reader] = {b"public-key": read_key, b"do": read_operation, b"cert": read_certificate, b"signature": read_signature}
 
 
@@ -242,13 +241,3 @@ def read_item(node: Node) -> None:
     if node.head is None or node.head not in ITEMS:
         raise shape(node, f"an item must be {but_is(node, *ITEMS)}")
     ITEMS[node.head](node)
-
-
-def read_row(node: Node) -> None:
-    members = Members(node, b"by", "a row")
-    read_key(members.next("the key"))
-    digest = members.next("the hash")
-    if read_hash(digest) != b"sha256":
-        raise Wrong("HashAlg", digest.begin, "the hash of a row is by sha256")
-    members.next("the value of the signature")
-    members.end()
