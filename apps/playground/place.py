@@ -4,7 +4,7 @@ import unicodedata
 from typing import NamedTuple
 
 from spki_cert_tool.forms import Parser, Wrong
-from spki_cert_tool.places import fault_of, places_of, refusal, value_in
+from spki_cert_tool.places import places_of, read_text, refusal, value_in
 
 # What is underlined from a place on: a word, or one character.
 WORD = re.compile(r"\(?[\w\-./:*+=]+|.|$", re.DOTALL)
@@ -38,7 +38,7 @@ def items_of(text):
 
 def places(text, line):
     """The places of a refusal in a text as offsets, with remarks: the place itself first. Empty if the refusal has none there."""
-    wrong, _, inner = fault_of(text, line)
+    (wrong, _, inner), _ = read_text(text, line)
     if wrong is None or refusal(wrong, inner) != line:
         return []
     return [(inner[min(at, len(inner) - 1)] if inner else at, why) for at, why in places_of(wrong)]

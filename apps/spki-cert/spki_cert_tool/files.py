@@ -20,7 +20,7 @@ from .agent import AgentSigner
 from .certificates import DATE_FORMAT
 from .forms import MOST_OCTETS, Node, Wrong
 from .keys import BadKey, FileSigner, is_key_file, is_private, read_private, read_public
-from .places import fault_of, name_foreign, read_text, told, value_in
+from .places import name_foreign, read_text, told, value_in
 from .sexp import Value
 from .structures import MOMENT, Reader, read_certificate
 
@@ -193,7 +193,7 @@ def octets_of_key(path: str) -> Iterator[bytes]:
     except BadKey as why:
         raise Refused(f"{path}: {why}") from None
     except Wrong:
-        raise Refused(*told(path, fault_of(octets, "refused key"))) from None
+        raise Refused(*told(path, read_text(octets, "refused key")[0])) from None
 
 
 def remark_on_mode(path: str) -> Iterator[str]:

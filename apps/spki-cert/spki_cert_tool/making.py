@@ -9,7 +9,7 @@ from .certificates import Keys, certificates_in, entries_of, headed, members, re
 from .files import Refused, Signer, now
 from .forms import Node
 from .keys import hash_of, is_named_by_itself, principal_of, verifies
-from .places import fault_of, place_shown, told, value_in
+from .places import place_shown, read_text, told, value_in
 from .sexp import Value, canonical, laid_out, on_one_line
 from .tag_words import contains, is_everything, lacks, remarks
 
@@ -98,7 +98,7 @@ def list_without(subject: Value, before: bytes) -> tuple[bytes, int]:
 
 def needs_no_refusal(what: str, text: bytes) -> None:
     """Refuses a text here that a service would refuse."""
-    found = fault_of(text, f"refused {what}")
+    found = read_text(text, f"refused {what}")[0]
     if found[0] is not None:
         raise Refused("a service would refuse this:", *told(f"the {what}", found))
 

@@ -10,6 +10,7 @@ from functools import partial
 from typing import Optional
 
 from .forms import FORM_FAULTS, MOST_OCTETS, Node, Parser, Place, Wrong, meant, without_braces
+from .sexp import canonical
 from .structures import Members, Reader, but_is, read_date, read_entry, read_item, read_key, read_row, read_version
 from .tags import read_request, read_tag
 
@@ -83,19 +84,15 @@ def part_of(name: str, read: Callable[[], object]) -> None:
         raise
 
 
-def read_numbered(name: str, read: Reader, nodes: list[Node]) -> None:
-    for number, node in enumerate(nodes, 1):
-        read_one(name, number, read, node)
-
-
-def read_one(name: str, number: int, read: Reader, node: Node) -> None:
-    """Reads an entry, an item or a row. A fault gets the place where it begins."""
-    try:
-        part_of(f"{name} {number}", partial(read, node))
-    except Wrong as wrong:
-        word = {"acl": "entry", "sequence": "item"}.get(name, "row")
-        wrong.others.append((node.begin, f"{word} {number} begins here"))
-        raise
+def read_numbered(name: str, read: Reader, nodes: list[Node], first: int = 1) -> None:
+    """Reads entries, items or rows. A fault gets the place where the one begins that it is in."""
+    for number, node in enumerate(nodes, first):
+        try:
+            part_of(f"{name} {number}", partial(read, node))
+        except Wrong as wrong:
+            word = {"acl": "entry", "sequence": "item"}.get(name, "row")
+            wrong.others.append((node.begin, f"{word} {number} begins here"))
+            raise
 
 
 def read_list(node: Node) -> None:
@@ -120,7 +117,7 @@ def read_sequence(node: Node) -> None:
         if item and not waits and head == b"signature":
             raise Wrong(f"sequence {number} StraySignature", item.begin, "no certificate waits for this signature")
         if item:
-            read_one("sequence", number, read_item, item)
+            read_numbered("sequence", read_item, [item], number)
             waits = (number, item) if head == b"cert" else None if head == b"signature" else waits
 
 
@@ -198,14 +195,6 @@ def kind_of(node: Node, word: str) -> str | None:
     return BY_WORD.get(word, word if word in READERS else None)
 
 
-def canonical_length(node: Node) -> int:
-    """How many octets the canonical form of a value has."""
-    if node.members is not None:
-        return 2 + sum(map(canonical_length, node.members))
-    strings = [it for it in (node.hint, node.body) if it is not None]
-    return sum(len(f"{len(it)}:") + len(it) for it in strings) + 2 * (node.hint is not None)
-
-
 def words_of(given: str) -> tuple[str, str]:
     """The part that a refusal names, and the word after it, each empty if there is none."""
     word, fault, *_ = *given.split()[1:3], "", ""
@@ -217,26 +206,16 @@ def read_as(node: Node, given: str) -> None:
     word, fault = words_of(given)
     if fault in FORM_FAULTS[1:]:
         return
-    kind, length = kind_of(node, word), canonical_length(node)
+    kind, length = kind_of(node, word), len(canonical(node.value))
     if kind and length > MOST_OCTETS:
         raise Wrong("TooLong", node.begin, f"the canonical form has {length:,} octets, and may have {MOST_OCTETS:,}")
     if kind:
         READERS[kind](node)
 
 
-def of_form(given: str) -> str:
-    """The word of a refusal for the form of a text: that of the part, if the refusal that is given has it."""
-    word, fault = words_of(given)
-    return word if word in NAMED and fault in FORM_FAULTS else "form"
-
-
-def fault_of(text: bytes, given: str = "") -> Found:
-    """What is wrong with a text, or None; the text in which its places are, and the places of that text's octets in the text."""
-    return read_text(text, given)[0]
-
-
 def read_text(text: bytes, given: str = "") -> tuple[Found, Node]:
-    """The same, and the value of the text, which is an empty list where the text has no form."""
+    """What is wrong with a text, or None; the text in which its places are, and the places of that text's octets in the text. And the value
+    of the text, which is an empty list where the text has no form."""
     node, inner, places = Node(0, members=[]), text, None
     try:
         inner, places, closing = without_braces(text)
@@ -249,7 +228,8 @@ def read_text(text: bytes, given: str = "") -> tuple[Found, Node]:
         if wrong.kind in FORM_FAULTS:
             if places and wrong.kind != "TooDeep":
                 wrong.kind, wrong.why = "Bad", f"what is in the braces is no canonical form: {wrong.why}"
-            wrong.kind = f"{of_form(given)} {wrong.kind}"
+            word, fault = words_of(given)
+            wrong.kind = f"{word if word in NAMED and fault in FORM_FAULTS else 'form'} {wrong.kind}"
         if places is None:
             name_foreign(text, wrong)
         if not text.strip():
