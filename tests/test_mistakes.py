@@ -282,7 +282,7 @@ class OfChains(Room):
         self.assertEqual([[it.terms.comment for it in chain] for chain in chains], [["", "0"]])
         self.assertLess(steps.most - steps.left, 100)
         net = [[b"public-key", [b"test", b"%d" % number]] for number in range(40)]
-        knots = [certificates.Signed(certificates.terms_of_certificate([b"cert", [b"issuer", one], [b"subject", other], [b"tag", [b"*"]]]), b"", 1)
+        knots = [certificates.Signed(certificates.terms_of([b"cert", [b"issuer", one], [b"subject", other], [b"tag", [b"*"]]]), b"", 1)
                  for one in net for other in net]
         entry = certificates.terms_of_entry([b"entry", net[0], [b"tag", [b"*"]]])
         steps = certificates.Steps()

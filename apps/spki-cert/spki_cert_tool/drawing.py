@@ -13,7 +13,6 @@ from typing import TYPE_CHECKING
 
 from .asking import Answer, Asked, answered, asked_of_case, case_of, furthest
 from .certificates import Keys, entries_of, field, headed, keys_in, members, terms_of
-from .forms import Parser
 from .labels import Labels
 from .sexp import Value, canonical, on_one_line
 
@@ -63,8 +62,7 @@ class Drawing:
 
     def of(self, value: Value) -> bytes:
         """The shape of a subject."""
-        names = members(value)[1:] if headed(value, b"name") else []
-        principal = members(value)[0] if names else value
+        principal, *names = members(value) if headed(value, b"name") else [value]
         identity = canonical([self.keys.named(principal) or principal, *names])
         label = [f"{' '.join(on_one_line(name) for name in names)} of"] if names else []
         label += [self.labels.of(principal)] if self.labels is not None else self.in_lines(on_one_line(principal))
@@ -215,17 +213,10 @@ def svg_of(value: Value, labels: Labels) -> bytes:
         drawing.entries(value)
     else:
         drawing.links([b"sequence", value] if headed(value, b"cert") else value)
-    return text_of_lines(svg_of_drawing(drawing, "Certificates", 840))
+    return "\n".join([*svg_of_drawing(drawing, "Certificates", 840), ""]).encode()
 
 
 def svg_of_answer(asked: Asked, answer: Answer) -> bytes:
     """The chain of an answer as SVG."""
-    def reduced(entry: int) -> Value:
-        return Parser(answer.reduced[entry - 1].split(" ", 2)[2].encode()).whole().value
-
-    drawing = drawing_of_case(case_of(asked, answer.sequence), answer.reasons, reduced, asked.labels, PICTURE_WIDTH)
-    return text_of_lines(svg_of_drawing(drawing, "The chain of a request", 840))
-
-
-def text_of_lines(lines: Iterable[str]) -> bytes:
-    return "\n".join(lines).encode() + b"\n"
+    drawing = drawing_of_case(case_of(asked, answer.sequence), answer.reasons, answer.left, asked.labels, PICTURE_WIDTH)
+    return "\n".join([*svg_of_drawing(drawing, "The chain of a request", 840), ""]).encode()

@@ -11,7 +11,6 @@ where they are used, because that takes a tenth of a second.
 from __future__ import annotations
 
 import base64
-import contextlib
 import hashlib
 import importlib.util
 import re
@@ -182,7 +181,8 @@ def read_public(octets: bytes, asking: Asking, number: int | None = None) -> Val
     one = found[(number or 1) - 1]
     if is_text(one):
         return key_of_text(one)
-    needs_no_word(foreign(one))
+    if why := foreign(one):
+        raise BadKey(why)
     return key_of(public_in(one)) if OPENSSH.match(one) or PEM.search(one) else key_of_text(one)
 
 
@@ -197,12 +197,6 @@ def pieces_of(octets: bytes) -> list[bytes]:
 def no_passphrase() -> bytes:
     """No passphrase is asked for where a key is only looked at."""
     raise BadKey(ENCRYPTED)
-
-
-def needs_no_word(why: str | None) -> None:
-    """Refuses what is known to be no key that is used."""
-    if why:
-        raise BadKey(why)
 
 
 def public_in(octets: bytes) -> object:
@@ -222,16 +216,25 @@ def public_part(octets: bytes) -> bytes | None:
     """The line of the public key that the file of a private key of OpenSSH has in clear. None if it is another file."""
     if b"BEGIN OPENSSH" not in octets:
         return None
-    body, at = b"", len(b"openssh-key-v1\0")
-    with contextlib.suppress(ValueError):
-        body = base64.b64decode(octets.partition(b"KEY-----")[2].partition(b"-----END")[0])
-    for _ in range(3):
-        at += 4 + int.from_bytes(body[at:at + 4], "big")
-    blob = body[at + 8:at + 8 + int.from_bytes(body[at + 4:at + 8], "big")]
-    kind = blob[4:4 + int.from_bytes(blob[:4], "big")]
-    if not re.fullmatch(rb"[\w@.-]+", kind):
-        raise BadKey("no whole private key of OpenSSH: was it copied to its end?")
-    return kind + b" " + base64.b64encode(blob)
+    try:
+        rest = base64.b64decode(octets.partition(b"KEY-----")[2].partition(b"-----END")[0]).removeprefix(b"openssh-key-v1\0")
+        for _ in range(3):
+            _, rest = taken(rest)
+        blob, _ = taken(rest[4:])
+        kind, _ = taken(blob)
+        if re.fullmatch(rb"[\w@.-]+", kind):
+            return kind + b" " + base64.b64encode(blob)
+    except (ValueError, BadKey):
+        pass
+    raise BadKey("no whole private key of OpenSSH: was it copied to its end?")
+
+
+def taken(octets: bytes) -> tuple[bytes, bytes]:
+    """The first string of some octets, as SSH has it with its length, and what follows it."""
+    end = 4 + int.from_bytes(octets[:4], "big")
+    if len(octets) < max(end, 4):
+        raise BadKey("ssh-agent sent an answer that is not whole")
+    return octets[4:end], octets[end:]
 
 
 def key_of_text(octets: bytes) -> Value:
@@ -246,20 +249,21 @@ def read_private(octets: bytes, asking: Asking) -> Private:
     """The private key of the octets of a file. `asking` gives the passphrase if it is encrypted. Raises BadKey."""
     from cryptography.exceptions import UnsupportedAlgorithm
     line, is_asked = public_part(octets), False
-    needs_no_word(foreign(line or octets))
+    if why := foreign(line or octets):
+        raise BadKey(why)
     try:
         if octets.lstrip().startswith(b"("):
             return private_of_text(octets)
         try:
             private = loaded(octets, None)
-        except (TypeError, ValueError) as why:
-            if isinstance(why, ValueError) and "password" not in str(why):
+        except (TypeError, ValueError) as fault:
+            if isinstance(fault, ValueError) and "password" not in str(fault):
                 raise
             if line and importlib.util.find_spec("bcrypt") is None:
                 raise BadKey(NEEDS_BCRYPT) from None
             is_asked, private = True, loaded(octets, asking())
-    except (ValueError, TypeError, ArithmeticError, UnsupportedAlgorithm) as why:
-        raise BadKey(NEEDS_BCRYPT if "bcrypt" in str(why) else "this is not the passphrase of the key, or the file is damaged" if is_asked
+    except (ValueError, TypeError, ArithmeticError, UnsupportedAlgorithm) as fault:
+        raise BadKey(NEEDS_BCRYPT if "bcrypt" in str(fault) else "this is not the passphrase of the key, or the file is damaged" if is_asked
                      else f"no private key that can be read: was it copied to its end? And {USED}") from None
     key_of(private.public_key())
     return private
