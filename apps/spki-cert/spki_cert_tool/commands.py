@@ -14,14 +14,14 @@ from collections.abc import Callable, Iterable
 from typing import NoReturn
 
 from .arguments import NEW_KEY, completion, parser_of_commands
-from .certificates import headed, members
+from .certificates import headed, members, terms_of
 from .ending import end
 from .files import (DAY_ENDS, READ, TERMINAL, Refused, key_at, locked, moment_of, node_of, now, octets_of, passphrase_for, put, remark_on_mode, say,
                     signer_at, tell, text_at, value_headed, value_of, write, write_all)
 from .forms import Wrong
 from .keys import BadKey, file_of, hash_of, kind_of, new_private, openssh_line, principal_of
 from .labels import Labels
-from .making import (Wish, certificate_of, entry_of, list_with, list_without, named, signed_sequence, text_of, warnings_of, warnings_of_certificate,
+from .making import (certificate_of, fields_of, list_with, list_without, named, signed_sequence, text_of, warnings_of, warnings_of_certificate,
                      warnings_of_list)
 from .places import value_in
 from .sexp import Value, canonical, on_one_line
@@ -72,11 +72,14 @@ def new_key(given: argparse.Namespace) -> int:
 def sign(given: argparse.Namespace) -> int:
     """Signs a certificate, if nothing is probably a mistake, and its issuer can give what it says."""
     from .asking import what_cannot_be_given
-    wish = wish_of(given)
+    fields, subject = fields_given(given), subject_of(given)
     chain = value_of(given.chain, "sequence") if given.chain else None
     signer = signer_at(given.by)
-    certificate = certificate_of(wish, signer.key)
-    warnings = [*remark_on_mode(given.by), *warnings_of_certificate(wish, chain, [*map(request_of, given.tries)])]
+    certificate = certificate_of(signer.key, subject, fields, os.fsencode(given.name) if given.name is not None else None)
+    terms = terms_of(certificate)
+    # (who says 30 days means whole days: a chain that ends some hours before gives them)
+    needed = now(given.days - 1) if given.days is not None else terms.ends
+    warnings = [*remark_on_mode(given.by), *warnings_of_certificate(terms, given.tag, needed, chain, [*map(request_of, given.tries)])]
     try:
         cannot = what_cannot_be_given(chain, certificate, signer.key, os.path.basename(given.by)) if chain is not None else []
     except Refused as why:
@@ -102,12 +105,11 @@ def entry(given: argparse.Namespace) -> int:
 
 def add(given: argparse.Namespace) -> int:
     """Writes an entry for a subject, into an access list if there is one."""
-    wish = wish_of(given)
-    made = entry_of(wish)
+    made: Value = [b"entry", subject_of(given), *fields_given(given)]
     is_there = given.acl == "-" or given.acl is not None and os.path.exists(given.acl)
     before = list_at(given.acl) if is_there else b"(acl)"
     text = list_with(made, before)
-    if not is_confirmed(given.yes, "--yes", [*warnings_of(wish, [*map(request_of, given.tries)]), *warnings_of_list(made, before)]):
+    if not is_confirmed(given.yes, "--yes", [*warnings_of(terms_of(made), given.tag, [*map(request_of, given.tries)]), *warnings_of_list(made, before)]):
         return UNCONFIRMED
     write(given.acl or given.output, text if given.acl else text_of(made), force=given.force, edits=is_there)
     return say("entries added: 1", is_aside=given.acl == "-") if given.acl else DONE
@@ -138,14 +140,13 @@ def is_confirmed(is_wanted: bool, option: str, warnings: Iterable[str]) -> bool:
     return is_wanted or not said
 
 
-def wish_of(given: argparse.Namespace) -> Wish:
-    """What the certificate or the entry is to say."""
+def fields_given(given: argparse.Namespace) -> list[Value]:
+    """The fields of the certificate or of the entry."""
     if given.tag is None and given.name is None:
         raise Refused("a right needs --tag")
-    tag = node_of(os.fsencode(given.tag), "--tag", lambda node: read_tag(node, [0])) if given.tag is not None else None
+    tag = node_of(os.fsencode(given.tag), "--tag", lambda node: read_tag(node, [0])).value if given.tag is not None else None
     ends = now(given.days) if given.days is not None else moment_of(given.until, DAY_ENDS) if given.until is not None else None
-    return Wish(subject_of(given), os.fsencode(given.name) if given.name is not None else None, tag, given.tag or "",
-                moment_of(given.begins) if given.begins is not None else None, ends, given.propagate, given.comment or "")
+    return fields_of(tag, moment_of(given.begins) if given.begins is not None else None, ends, given.propagate, given.comment or "")
 
 
 def subject_of(given: argparse.Namespace) -> Value:
@@ -155,7 +156,8 @@ def subject_of(given: argparse.Namespace) -> Value:
             raise Refused("a certificate needs --to, or --named for a name of the issuer")
         return named(None, given.named)
     is_itself = given.to.lstrip().startswith(("(", "{"))
-    subject = named(node_of(os.fsencode(given.to), "--to", read_subject).value if is_itself else principal_of(key_at(given.to, given.number)), given.named)
+    to = node_of(os.fsencode(given.to), "--to", read_subject).value if is_itself else principal_of(key_at(given.to, given.number))
+    subject = named(to, given.named)
     if given.command == "entry" and headed(subject, b"name") and not headed(members(subject)[0], *PRINCIPALS):
         raise Refused(f"--to {given.to}: a name in an entry needs the key that defines it: give --to KEY --named NAME")
     return subject

@@ -3,55 +3,26 @@ from __future__ import annotations
 
 import os
 from collections.abc import Iterator
-from dataclasses import dataclass
 
-from .certificates import Keys, certificates_in, entries_of, headed, members, remarks_on_window, terms_of
+from .certificates import Keys, Terms, certificates_in, entries_of, headed, members, remarks_on_window, terms_of
 from .files import Refused, Signer, now
-from .forms import Node
 from .keys import hash_of, is_named_by_itself, principal_of, verifies
 from .places import place_shown, read_text, told, value_in
 from .sexp import Value, canonical, laid_out, on_one_line
 from .tag_words import contains, is_everything, lacks, remarks
 
 
-@dataclass(frozen=True)
-class Wish:
-    """What a certificate, or an entry of an access list, is to say."""
-
-    subject: Value
-    """A principal, or a name, which may be one of the issuer."""
-    name: bytes | None
-    """The name that the certificate defines, or None if it gives a right."""
-    tag: Node | None
-    tag_text: str
-    begins: bytes | None
-    ends: bytes | None
-    delegates: bool
-    comment: str
-
-
-def certificate_of(wish: Wish, key: Value) -> Value:
-    """The certificate of a wish by the holder of a key."""
+def certificate_of(key: Value, subject: Value, fields: list[Value], name: bytes | None = None) -> Value:
+    """The certificate by the holder of a key, which gives a right or defines a name. The subject is a principal, or a name."""
     issuer = principal_of(key)
-    return [b"cert", [b"issuer", [b"name", issuer, wish.name] if wish.name is not None else issuer], [b"subject", wish.subject], *fields_of(wish)]
+    return [b"cert", [b"issuer", [b"name", issuer, name] if name is not None else issuer], [b"subject", subject], *fields]
 
 
-def entry_of(wish: Wish) -> Value:
-    """The entry of an access list for a wish."""
-    return [b"entry", wish.subject, *fields_of(wish)]
-
-
-def fields_of(wish: Wish) -> Iterator[Value]:
+def fields_of(tag: Value | None, begins: bytes | None, ends: bytes | None, delegates: bool = False, comment: str = "") -> list[Value]:
     """The fields that certificates and entries have alike."""
-    if wish.delegates:
-        yield [b"propagate"]
-    if wish.tag is not None:
-        yield [b"tag", wish.tag.value]
-    for head, moment in ((b"not-before", wish.begins), (b"not-after", wish.ends)):
-        if moment is not None:
-            yield [head, moment]
-    if wish.comment:
-        yield [b"comment", os.fsencode(wish.comment)]
+    fields: list[Value] = [[b"propagate"]] if delegates else []
+    given = (b"tag", tag), (b"not-before", begins), (b"not-after", ends), (b"comment", os.fsencode(comment) or None)
+    return fields + [[head, value] for head, value in given if value is not None]
 
 
 def list_with(entry: Value, before: bytes) -> bytes:
@@ -106,14 +77,15 @@ def needs_no_refusal(what: str, text: bytes) -> None:
 # ---- what is probably a mistake
 
 
-def warnings_of_certificate(wish: Wish, chain: Value | None, tries: list[Value]) -> Iterator[str]:
-    """What is probably a mistake in a certificate. It is made only if that is confirmed."""
-    if wish.ends is None:
+def warnings_of_certificate(terms: Terms, tag_text: str, needed: bytes | None, chain: Value | None, tries: list[Value]) -> Iterator[str]:
+    """What is probably a mistake in a certificate. It is made only if that is confirmed. The chain must not end before the moment that is
+    needed, if there is one."""
+    if terms.ends is None:
         yield "it has no end: give --days or --until; otherwise it counts until a service ends it by `spki-cert end`"
-    yield from warnings_of(wish, tries)
+    yield from warnings_of(terms, tag_text, tries)
     for each in certificates_in(chain) if chain is not None else []:
         ends = each.terms.ends
-        if ends is not None and (wish.ends is None or wish.ends > ends):
+        if ends is not None and (needed is None or needed > ends):
             yield f"item {each.number} of the chain ends earlier, on {ends.decode()}, and the right ends with it"
         yield from (f"item {each.number} of the chain: {why}" for why in not_tried(each.terms.tag, tries))
 
@@ -125,24 +97,19 @@ def warnings_of_list(made: Value, before: bytes) -> Iterator[str]:
     yield from (f"entry {number} of the list gives all of this already" for number, it in enumerate(entries, 1) if contains(it, new, keys))
 
 
-def warnings_of(wish: Wish, tries: list[Value]) -> Iterator[str]:
+def warnings_of(terms: Terms, tag_text: str, tries: list[Value]) -> Iterator[str]:
     """The same of what certificates and entries have alike. An entry needs no end, since it can be removed from its list."""
-    yield from (why for _, why in remarks_on_window(wish.begins, wish.ends, now()))
-    principal = members(wish.subject)[0] if headed(wish.subject, b"name") else wish.subject
-    if headed(principal, b"hash") and members(principal)[0] == b"sha1":
+    yield from (why for _, why in remarks_on_window(terms.begins, terms.ends, now()))
+    if headed(terms.principal, b"hash") and members(terms.principal)[0] == b"sha1":
         yield "its subject is a hash by sha1, which names no key under the strict policy"
-    if wish.tag is not None:
-        yield from of_tag(wish.tag, wish.tag_text, tries)
-
-
-def of_tag(tag: Node, text: str, tries: list[Value]) -> Iterator[str]:
-    """What is probably a mistake in a tag."""
-    if is_everything(tag.value):
+    if terms.tag is None:
+        return
+    if is_everything(terms.tag):
         yield "its tag is `(*)`, which contains every request: narrow it, for example `(packages read)`, or keep it if that is meant"
-    for at, why in remarks(tag):
-        where, around = place_shown(text.encode(), None, at)
+    for at, why in remarks(value_in(os.fsencode(tag_text))):
+        where, around = place_shown(os.fsencode(tag_text), None, at)
         yield f"--tag, {where}: {why}\n{around}"
-    yield from not_tried(tag.value, tries)
+    yield from not_tried(terms.tag, tries)
 
 
 def not_tried(tag: Value | None, tries: list[Value]) -> Iterator[str]:
