@@ -1,7 +1,9 @@
 """What entries and certificates say: who gives what to whom, until when, and whether it may be delegated."""
 from __future__ import annotations
 
+import contextlib
 import hashlib
+import re
 from collections import deque
 from collections.abc import Iterable, Iterator
 from dataclasses import dataclass
@@ -72,9 +74,11 @@ class Terms:
         begins = f"from {self.begins.decode()} " if self.begins else ""
         return begins + (f"until {self.ends.decode()}" if self.ends else "without end")
 
-    def contains_moment(self, moment: bytes) -> bool:
-        """Whether a moment is in the window."""
-        return (self.begins is None or self.begins <= moment) and (self.ends is None or moment <= self.ends)
+    def state(self, moment: bytes) -> str:
+        """Whether it is valid at a moment, in words."""
+        if self.ends is not None and self.ends < moment:
+            return "ENDED"
+        return "NOT YET VALID" if self.begins is not None and self.begins > moment else "valid now"
 
 
 def terms_of(value: Value) -> Terms:
@@ -105,11 +109,10 @@ def remarks_on_window(begins: bytes | None, ends: bytes | None, moment: bytes, w
 
 
 def is_in_calendar(moment: bytes) -> bool:
-    try:
-        datetime.strptime(moment.decode(), DATE_FORMAT)
-    except ValueError:
-        return moment.endswith(b":60")
-    return True
+    """Whether a calendar has a moment. A minute may have a leap second."""
+    with contextlib.suppress(ValueError):
+        return bool(datetime.strptime(re.sub(":60$", ":59", moment.decode()), DATE_FORMAT))
+    return False
 
 
 def entries_of(access_list: Value) -> list[Terms]:

@@ -17,7 +17,7 @@ from datetime import datetime, timedelta, timezone
 from typing import Any, TextIO, Union
 
 from .agent import AgentSigner
-from .certificates import DATE_FORMAT
+from .certificates import DATE_FORMAT, is_in_calendar
 from .forms import MOST_OCTETS, Node, Wrong
 from .keys import BadKey, FileSigner, is_key_file, is_private, read_private, read_public
 from .places import name_foreign, read_text, told, value_in
@@ -224,10 +224,8 @@ def moment_of(text: str, day: str = "_00:00:00") -> bytes:
             right = f"{year:04}-{rest[0]:02}-{rest[1]:02}" + (f"_{rest[2]:02}:{rest[3]:02}:{rest[4]:02}" if parts[4] else "")
         why = "give no zone: each moment is in UTC" if parts and parts[7] else "no date in the form that is read"
         raise Refused(f"{text or 'an empty date'}: {why}; write {right}, in UTC")
-    try:
-        datetime.strptime(whole.removesuffix(":60"), DATE_FORMAT.removesuffix(":%S") if whole.endswith(":60") else DATE_FORMAT)
-    except ValueError:
-        raise Refused(f"{text}: no calendar has this day; write YYYY-MM-DD, in UTC") from None
+    if not is_in_calendar(whole.encode()):
+        raise Refused(f"{text}: no calendar has this day; write YYYY-MM-DD, in UTC")
     return whole.encode()
 
 

@@ -140,13 +140,8 @@ class FileSigner:
 
 def verifies(key: Value, message: bytes, value: Value) -> bool:
     """Whether a value is a signature of a message by an SPKI key."""
+    from spki_verify import verify
     return verify(canonical(key), message, canonical(value))
-
-
-def verify(key: bytes, message: bytes, value: bytes) -> bool:
-    """The same of canonical forms, as a guard of the module `spki` asks for it."""
-    from spki_verify import verify as verify_texts
-    return verify_texts(key, message, value)
 
 
 # ---- files

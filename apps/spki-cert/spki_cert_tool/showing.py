@@ -13,20 +13,13 @@ FAULTS = {"KeyNotShown": "the key of its issuer is not here, so the signature is
 Row = dict[str, object]
 
 
-def state_of(terms: Terms, moment: bytes) -> str:
-    """Whether something is valid at a moment."""
-    if terms.contains_moment(moment):
-        return "valid now"
-    return "ENDED" if terms.ends is not None and terms.ends < moment else "NOT YET VALID"
-
-
 def row_of_terms(kind: str, number: int | None, terms: Terms, moment: bytes, labels: Labels) -> Row:
     """What an entry or a certificate says, as a row."""
     return {"kind": kind, "number": number, "issuer": labels.of(terms.issuer),
             "name": terms.name.decode(errors="replace") if terms.name is not None else None,
             "subject": labels.of_subject(terms.subject), "tag": on_one_line(terms.tag) if terms.tag is not None else None,
             "from": terms.begins.decode() if terms.begins else None, "until": terms.ends.decode() if terms.ends else None,
-            "window": terms.window, "delegates": terms.delegates, "comment": terms.comment or None, "state": state_of(terms, moment)}
+            "window": terms.window, "delegates": terms.delegates, "comment": terms.comment or None, "state": terms.state(moment)}
 
 
 def rows_of(value: Value, moment: bytes, labels: Labels) -> Iterator[Row]:
