@@ -1,5 +1,4 @@
 """The words of the command line of `spki-cert`, and its help."""
-from __future__ import annotations
 
 import argparse
 import functools
@@ -170,7 +169,8 @@ the public key. OpenSSH reads both.""", "key new alice", "file --type --comment 
 Signs a certificate, and writes it with its signature as a sequence, which its subject shows to the service.
 What is probably a mistake is made only with --yes: a certificate without an end, for (*), for longer than its
 issuer has the right, with a tag that grants nothing, or if a request of --try is not granted. What the issuer
-cannot give by --chain is signed only with --anyway.""", "sign --by alice --to bob.pub --tag '(packages (* set read write))' --days 30 -o to-bob.sexp",
+cannot give by --chain is signed only with --anyway.""",
+             "sign --by alice --to bob.pub --tag '(packages (* set read write))' --days 30 -o to-bob.sexp",
              f"{FIELDS} --by --chain --anyway --output --propagate --try --tag"),
     "name": ("sign a certificate that defines a name", """\
 Signs a certificate that defines a name: the issuer calls the subject so. Rights that are given to the name are the subject's.""",

@@ -17,10 +17,9 @@ from .certificates import field as field_of
 from .files import Refused, now
 from .forms import Parser, meant
 from .keys import hash_of, principal_of
-from .labels import Labels
 from .making import sequence_with
 from .sexp import Value, canonical, on_one_line, read
-from .showing import FAULTS
+from .showing import FAULTS, Labels
 from .tag_words import lacks
 
 if TYPE_CHECKING:

@@ -1,5 +1,4 @@
 """What entries and certificates say: who gives what to whom, until when, and whether it may be delegated."""
-from __future__ import annotations
 
 import contextlib
 import hashlib

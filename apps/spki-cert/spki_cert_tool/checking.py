@@ -1,5 +1,4 @@
 """Checks files: what a service would refuse, with the place, and what is legal and probably a mistake."""
-from __future__ import annotations
 
 import itertools
 import os
@@ -13,9 +12,8 @@ from .keys import ENCRYPTED, BadKey, is_key_file, is_private, is_text, kind_of, 
 from .places import BY_HEAD, line_and_column, places_of, read_text, refusal
 from .sexp import on_one_line
 from .showing import FAULTS, what_is
-from .structures import read_certificate, read_entry, read_hash, read_signature
+from .structures import read_certificate, read_entry, read_hash, read_signature, read_tag
 from .tag_words import contains, is_everything, remarks
-from .tags import read_tag
 
 S_EXPRESSIONS, OTHER_KEYS = (".sexp", ".csexp", ".tsexp"), (".pub", ".pem", ".key")
 OTHERS = {b"cert": read_certificate, b"signature": read_signature, b"hash": read_hash, b"entry": read_entry}
@@ -59,20 +57,14 @@ def files_below(paths: list[str]) -> Iterator[tuple[str, bool]]:
             yield from ((it, False) for it in found if os.path.isfile(it) or os.path.islink(it))
 
 
-def is_of_interest(path: str, octets: bytes) -> bool:
-    """Whether a file is an S-expression or a key, by its name or by how it begins."""
-    begin = octets.lstrip()[:1]
-    _, end = os.path.splitext(path)
-    return end in S_EXPRESSIONS + OTHER_KEYS or is_key_file(octets) or not end and begin in (b"(", b"{")
-
-
 def remarks_on(path: str, moment: bytes, is_given: bool = True) -> tuple[str | None, list[Remark]]:
     """What a file is, and what is said of it. It is None if it is none that is read: one of a folder, by its name and how it begins."""
     try:
         octets = octets_of(path)
     except Refused as why:
         return "no file that can be read", [Remark(path, 1, 1, True, why.lines[0].removeprefix(f"{path}: "))]
-    if not is_given and not is_of_interest(path, octets):
+    suffix, is_list = os.path.splitext(path)[1], octets.lstrip()[:1] in (b"(", b"{")
+    if not (is_given or suffix in S_EXPRESSIONS + OTHER_KEYS or is_key_file(octets) or not suffix and is_list):
         return None, []
     if is_key_file(octets) or is_private(octets) and not is_text(octets):
         return of_key_file(path, octets)

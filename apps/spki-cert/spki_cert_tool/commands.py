@@ -1,5 +1,4 @@
 """The commands of `spki-cert`, and its exit statuses."""
-from __future__ import annotations
 
 import argparse
 import base64
@@ -20,13 +19,12 @@ from .files import (DAY_ENDS, READ, TERMINAL, Refused, key_at, locked, moment_of
                     signer_at, tell, text_at, value_headed, value_of, write, write_all)
 from .forms import Wrong
 from .keys import BadKey, file_of, hash_of, kind_of, new_private, openssh_line, principal_of
-from .labels import Labels
 from .making import (certificate_of, fields_of, list_with, list_without, named, signed_sequence, text_of, warnings_of, warnings_of_certificate,
                      warnings_of_list)
 from .places import value_in
 from .sexp import Value, canonical, on_one_line
-from .structures import PRINCIPALS, read_subject
-from .tags import read_tag
+from .showing import Labels, lines_of, rows_of, what_is
+from .structures import PRINCIPALS, read_subject, read_tag
 
 DONE, NO, REFUSED, FAILED, UNCONFIRMED = 0, 1, 2, 3, 4
 ENDING = (signal.SIGHUP, signal.SIGINT, signal.SIGQUIT, signal.SIGTERM)
@@ -109,7 +107,8 @@ def add(given: argparse.Namespace) -> int:
     is_there = given.acl == "-" or given.acl is not None and os.path.exists(given.acl)
     before = list_at(given.acl) if is_there else b"(acl)"
     text = list_with(made, before)
-    if not is_confirmed(given.yes, "--yes", [*warnings_of(terms_of(made), given.tag, [*map(request_of, given.tries)]), *warnings_of_list(made, before)]):
+    warnings = [*warnings_of(terms_of(made), given.tag, [*map(request_of, given.tries)]), *warnings_of_list(made, before)]
+    if not is_confirmed(given.yes, "--yes", warnings):
         return UNCONFIRMED
     write(given.acl or given.output, text if given.acl else text_of(made), force=given.force, edits=is_there)
     return say("entries added: 1", is_aside=given.acl == "-") if given.acl else DONE
@@ -187,7 +186,6 @@ def moment_given(given: argparse.Namespace) -> bytes:
 
 
 def show(given: argparse.Namespace) -> int:
-    from .showing import lines_of, rows_of, what_is
     labels, moment = labels_of(given), moment_given(given)
     values = [(path, value_headed(path, SHOWN, NOT_SHOWN)) for path in given.files]
     if given.braces:

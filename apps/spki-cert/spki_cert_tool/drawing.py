@@ -13,8 +13,8 @@ from typing import TYPE_CHECKING
 
 from .asking import Answer, Asked, answered, asked_of_case, case_of, furthest
 from .certificates import Keys, entries_of, field, headed, keys_in, members, terms_of
-from .labels import Labels
 from .sexp import Value, canonical, on_one_line
+from .showing import Labels
 
 if TYPE_CHECKING:
     from spki import Reason

@@ -1,5 +1,4 @@
 """Reads the files and words that a command is given. One function writes files: whole or not at all, and never over what was read or holds a key."""
-from __future__ import annotations
 
 import contextlib
 import errno
@@ -320,17 +319,13 @@ def locked(path: str) -> Iterator[int]:
     except OSError as why:
         raise Refused(f"{path}: the folder {why.filename}: {why.strerror}; nothing was written") from None
     try:
-        while not has_locked(folder):
+        while True:
+            with contextlib.suppress(BlockingIOError):
+                fcntl.flock(folder, fcntl.LOCK_EX | fcntl.LOCK_NB)
+                break
             if time.monotonic() > end:
                 raise Refused(f"{path}: another program has locked it for {SECONDS_TO_LOCK} seconds; nothing was written")
             time.sleep(0.05)
         yield folder
     finally:
         os.close(folder)
-
-
-def has_locked(folder: int) -> bool:
-    with contextlib.suppress(BlockingIOError):
-        fcntl.flock(folder, fcntl.LOCK_EX | fcntl.LOCK_NB)
-        return True
-    return False

@@ -7,6 +7,7 @@ from __future__ import annotations
 import base64
 import difflib
 import re
+import unicodedata
 from collections.abc import Iterable
 from dataclasses import dataclass, field
 
@@ -14,6 +15,7 @@ from .sexp import Value
 
 MOST_OCTETS, MOST_LISTS, MOST_NODES = 1_048_576, 64, 1024
 SPACES = re.compile(rb"[ \t\n\v\f\r]*")
+LETTERS = re.compile(rb"[\w\-./:*+=\x80-\xff]+")
 TOKEN = re.compile(rb"[A-Za-z\-./_:*+=][A-Za-z0-9\-./_:*+=]*")
 LENGTH = re.compile(rb"0|[1-9][0-9]*")
 BODIES = {b'"': re.compile(rb'(?:[^"\\]|\\.)*', re.DOTALL), b"#": re.compile(rb"[0-9A-Fa-f\s]*"), b"|": re.compile(rb"[A-Za-z0-9+/=\s]*")}
@@ -71,12 +73,14 @@ class Wrong(Exception):
 def said_of(text: bytes, at: int) -> str | None:
     """What is said of an octet that begins no value, and was probably meant to."""
     octet, character = text[at:at + 1], text[at:at + 4].decode(errors="ignore")[:1]
-    if octet >= b"\x80" and character:
-        if character in "“”„‟«»‘’‚":
+    if octet >= b"\x80" and character and text.startswith(character.encode(), at):
+        if character in "“”„‟«»‘’‚‹›´":
             return f"`{character}` is a quotation mark of a word processor: write `\"`"
         if not character.isprintable():
-            return f"this is the character U+{ord(character):04X}, which is no space here: write a plain one"
-        return f"a string with `{character}` needs quotes"
+            name = unicodedata.name(character, "without a name").lower()
+            return f"this is the invisible character U+{ord(character):04X}, {name}, which is no space here: delete it, or write a plain one"
+        word = next(it[0] for it in LETTERS.finditer(text) if it.end() > at)
+        return f"a string with `{character}` needs quotes: `\"{word.decode(errors='replace')}\"`"
     if octet == b";":
         return "`;` begins no comment: there are no comments, only the field `(comment \"..\")`"
     if octet in b"?!,$%&@~'<>\\^`":
@@ -167,8 +171,8 @@ class Parser:
         places = [(begin, "this list is not closed") for begin in reversed(self.opened)]
         if begun is not None:
             is_marked = self.text[begun:begun + 1] in BODIES
-            raise Wrong("Short", len(self.text), "this string is not whole: its last mark is missing" if is_marked else "the text ends before the value is whole",
-                        [(begun, "this string is not whole"), *places], begun if is_marked else None)
+            why = "this string is not whole: its last mark is missing" if is_marked else "the text ends before the value is whole"
+            raise Wrong("Short", len(self.text), why, [(begun, "this string is not whole"), *places], begun if is_marked else None)
         if self.unclosed is not None:
             begin, end = self.unclosed
             raise Wrong("Short", end, "a `)` is missing, and by the indentation of the next line it is missing here",

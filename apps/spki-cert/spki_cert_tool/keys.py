@@ -197,8 +197,7 @@ def no_passphrase() -> bytes:
 def public_in(octets: bytes) -> object:
     """The public key of one line of OpenSSH, or of one block of PEM."""
     from cryptography.exceptions import UnsupportedAlgorithm
-    from cryptography.hazmat.primitives.serialization import load_pem_public_key
-    from cryptography.hazmat.primitives.serialization.ssh import load_ssh_public_key
+    from cryptography.hazmat.primitives.serialization import load_pem_public_key, load_ssh_public_key
     try:
         return load_pem_public_key(octets) if PEM.search(octets) else load_ssh_public_key(octets)
     except UnsupportedAlgorithm:
@@ -243,33 +242,28 @@ def key_of_text(octets: bytes) -> Value:
 def read_private(octets: bytes, asking: Asking) -> Private:
     """The private key of the octets of a file. `asking` gives the passphrase if it is encrypted. Raises BadKey."""
     from cryptography.exceptions import UnsupportedAlgorithm
+    from cryptography.hazmat.primitives.serialization import load_pem_private_key
+    from cryptography.hazmat.primitives.serialization.ssh import load_ssh_private_key
     line, is_asked = public_part(octets), False
+    load: Any = load_ssh_private_key if line else load_pem_private_key
     if why := foreign(line or octets):
         raise BadKey(why)
     try:
         if octets.lstrip().startswith(b"("):
             return private_of_text(octets)
         try:
-            private = loaded(octets, None)
+            private = load(octets, None)
         except (TypeError, ValueError) as fault:
             if isinstance(fault, ValueError) and "password" not in str(fault):
                 raise
             if line and importlib.util.find_spec("bcrypt") is None:
                 raise BadKey(NEEDS_BCRYPT) from None
-            is_asked, private = True, loaded(octets, asking())
+            is_asked, private = True, load(octets, asking())
     except (ValueError, TypeError, ArithmeticError, UnsupportedAlgorithm) as fault:
         raise BadKey(NEEDS_BCRYPT if "bcrypt" in str(fault) else "this is not the passphrase of the key, or the file is damaged" if is_asked
                      else f"no private key that can be read: was it copied to its end? And {USED}") from None
     key_of(private.public_key())
-    return private
-
-
-def loaded(octets: bytes, passphrase: bytes | None) -> Private:
-    """The private key of PEM or of OpenSSH."""
-    from cryptography.hazmat.primitives.serialization import load_pem_private_key
-    from cryptography.hazmat.primitives.serialization.ssh import load_ssh_private_key
-    load: Any = load_ssh_private_key if b"BEGIN OPENSSH" in octets else load_pem_private_key
-    return cast("Private", load(octets, passphrase))
+    return cast("Private", private)
 
 
 def private_of_text(octets: bytes) -> Private:

@@ -2,7 +2,6 @@
 
 A text headed `case`, `intersect`, `accepted`, `acl`, `sequence` or `public-key` is read as that, another value only as an S-expression.
 """
-from __future__ import annotations
 
 import re
 from collections.abc import Callable
@@ -11,8 +10,7 @@ from typing import Optional
 
 from .forms import FORM_FAULTS, MOST_OCTETS, Node, Parser, Place, Wrong, meant, without_braces
 from .sexp import canonical
-from .structures import Members, Reader, but_is, read_date, read_entry, read_item, read_key, read_row, read_version
-from .tags import read_request, read_tag
+from .structures import Members, Reader, but_is, read_date, read_entry, read_item, read_key, read_request, read_row, read_tag, read_version
 
 WIDTH = 60
 PARTS = (b"acl", b"accepted", b"sequence", b"key", b"request", b"at")
@@ -21,7 +19,7 @@ PEM_END = rb"-----.*?(?:-----END [A-Z0-9 ]+-----|\Z)"
 USED = "only Ed25519, RSA of 2048 bits or more and ECDSA with the curve P-256 are used; `spki-cert key new FILE` makes a key"
 # What is neither a key that is used nor an S-expression, and what can be done with it.
 FOREIGN = [
-    (rb"\A\xef\xbb\xbf", "a byte order mark is before the text; save the file as UTF-8 without one"),
+    (rb"\A\xef\xbb\xbf", "a byte order mark is before the text, and is invisible: delete it, or save the file as UTF-8 without one"),
     (rb"\A(?:\xff\xfe|\xfe\xff|[ -~]\0|\0[ -~])", "this is UTF-16; save the file as UTF-8"),
     (rb"\A\x30(?:[\x81-\x84]|.\x30.\x06|.\x02\x01)", "this is binary (DER); `openssl pkey -inform DER -in FILE` writes a private key in PEM, "
      "with `-pubin` a public one, and `openssl x509 -inform DER -noout -pubkey -in FILE` the key of a certificate"),
@@ -41,7 +39,8 @@ FOREIGN = [
 # Keys in a form that is no S-expression, where one is wanted.
 PASTED = [(pattern, f"this is {called}, and no S-expression; {wanted}") for pattern, called, wanted in [
     (rb"(?:ssh-|ecdsa-)[\w@.-]{1,64}\s{1,64}AAAA[A-Za-z0-9+/=]*[^()\n]*", "a key as OpenSSH writes it", "`spki-cert key FILE` writes it as one"),
-    (rb"-----BEGIN [A-Z0-9 ]*PRIVATE KEY" + PEM_END, "a private key, which belongs into no list", "`spki-cert key FILE` writes the public one"),
+    (rb"-----BEGIN [A-Z0-9 ]*PRIVATE KEY" + PEM_END, "a private key, which belongs into no list",
+     "keep it secret, and replace it if somebody saw it; `spki-cert key FILE` writes the public one"),
     (rb"-----BEGIN [A-Z0-9 ]+" + PEM_END, "a key in PEM", "`spki-cert key FILE` writes it as one")]]
 INSIDE = "; replace the whole `(public-key ..)` by that S-expression"
 EMPTY = {"acl": "an access list begins as `(acl)`, and `spki-cert entry --acl FILE` adds an entry",

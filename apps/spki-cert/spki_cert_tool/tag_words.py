@@ -1,5 +1,4 @@
 """Why a tag does not contain a request, and what in a tag is probably a mistake."""
-from __future__ import annotations
 
 import operator
 import re
