@@ -1,5 +1,4 @@
 """A client of ssh-agent (draft-ietf-sshm-ssh-agent): lists its keys and lets it sign, so that a key on a token can sign a certificate."""
-
 import base64
 import os
 import socket

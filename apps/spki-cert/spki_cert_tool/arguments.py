@@ -1,5 +1,4 @@
 """The words of the command line of `spki-cert`, and its help."""
-
 import argparse
 import functools
 import itertools

@@ -1,5 +1,4 @@
 """What entries and certificates say: who gives what to whom, until when, and whether it may be delegated."""
-
 import contextlib
 import hashlib
 import re

@@ -1,5 +1,4 @@
 """Checks files: what a service would refuse, with the place, and what is legal and probably a mistake."""
-
 import itertools
 import os
 from collections.abc import Iterator

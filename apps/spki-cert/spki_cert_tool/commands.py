@@ -1,5 +1,4 @@
 """The commands of `spki-cert`, and its exit statuses."""
-
 import argparse
 import base64
 import contextlib
@@ -9,7 +8,7 @@ import signal
 import sys
 import termios
 import warnings
-from collections.abc import Callable, Iterable
+from collections.abc import Callable, Iterable, Iterator
 from typing import NoReturn
 
 from .arguments import NEW_KEY, completion, parser_of_commands
@@ -230,17 +229,13 @@ def ask(given: argparse.Namespace) -> int:
     return DONE if answer.entry is not None else NO
 
 
-def sequences_below(paths: list[str]) -> list[str]:
+def sequences_below(paths: list[str]) -> Iterator[str]:
     """The files that are given, and those of folders that are sequences."""
     from .checking import files_below
-    return [path for path, is_given in files_below(paths) if is_given or begins_as_sequence(path)]
-
-
-def begins_as_sequence(path: str) -> bool:
-    try:
-        return value_in(octets_of(path)).head == b"sequence"
-    except Wrong:
-        return False
+    for path, is_given in files_below(paths):
+        with contextlib.suppress(Wrong):
+            if is_given or value_in(octets_of(path)).head == b"sequence":
+                yield path
 
 
 def check(given: argparse.Namespace) -> int:
@@ -263,8 +258,7 @@ def check(given: argparse.Namespace) -> int:
 
 
 COMMANDS: dict[str, Command] = {"key": key, NEW_KEY: new_key, "sign": sign, "name": sign, "entry": entry, "show": show, "ask": ask, "check": check,
-                                "end": end,
-                                "completion": lambda _: say(completion())}
+                                "end": end, "completion": lambda _: say(completion())}
 
 
 def main() -> int:
@@ -312,7 +306,3 @@ def run() -> NoReturn:
     except SystemExit as end:
         status = end.code if isinstance(end.code, int) else DONE
     os._exit(status)
-
-
-if __name__ == "__main__":
-    run()

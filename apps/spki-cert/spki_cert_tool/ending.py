@@ -5,7 +5,6 @@ and a comment may follow. The last line is `end COUNT SHA256`: the number of dig
 that was cut, or changed by another program, is noticed by each reader. A digest is that of the canonical form of a certificate, which its
 signature signs. No text of a certificate gets into the file.
 """
-
 import argparse
 import contextlib
 import hashlib

@@ -1,5 +1,4 @@
 """Reads the files and words that a command is given. One function writes files: whole or not at all, and never over what was read or holds a key."""
-
 import contextlib
 import errno
 import fcntl

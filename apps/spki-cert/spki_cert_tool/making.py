@@ -1,5 +1,4 @@
 """Makes certificates and entries: what is asked for, what is probably a mistake, and the signed sequence."""
-
 import os
 from collections.abc import Iterator
 

@@ -2,7 +2,6 @@
 
 A text headed `case`, `intersect`, `accepted`, `acl`, `sequence` or `public-key` is read as that, another value only as an S-expression.
 """
-
 import re
 from collections.abc import Callable
 from functools import partial

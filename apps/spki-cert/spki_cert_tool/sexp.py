@@ -1,5 +1,4 @@
 """S-expressions as Python has them: a string is `bytes`, a string with a display hint a pair of `bytes`, a list a `list`."""
-
 import base64
 import re
 from typing import Union

@@ -1,6 +1,5 @@
 """Shows lists, certificates, sequences and cases in words: who, to whom, what, until when, and whether it may be delegated. Keys are called by
 labels from files of keys, else by the beginning of their hashes."""
-
 import contextlib
 import glob
 import os

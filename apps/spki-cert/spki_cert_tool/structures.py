@@ -1,6 +1,5 @@
 """Reads keys, hashes, names, entries, certificates and signatures, and tags, which are patterns for requests: docs/FORMATS.md, "Keys, hashes,
 dates, entries, certificates" and "Tags"."""
-
 import re
 from collections.abc import Callable
 

@@ -1,5 +1,4 @@
 """Why a tag does not contain a request, and what in a tag is probably a mistake."""
-
 import operator
 import re
 from collections.abc import Iterator
