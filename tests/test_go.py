@@ -24,7 +24,7 @@ from support import TESTS, TOP, canonical, read
 
 SPKI_CERT = os.path.join(TOP, "apps", "spki-cert", "spki-cert")
 FUZZED = [(golang.MODULE, "./verify", "FuzzSignature"),
-          *((golang.DAEMON, ".", name) for name in ("FuzzConnection", "FuzzHeaders", "FuzzSequence", "FuzzPath"))]
+          *((golang.DAEMON, ".", name) for name in ("FuzzConnection", "FuzzHeaders", "FuzzPlain", "FuzzSequence", "FuzzPath"))]
 FUZZ_TIME = "120s"
 KINDS = {"ed25519": ["ed25519"], "rsa": ["RSA", "-pkeyopt", "rsa_keygen_bits:2048"], "p256": ["EC", "-pkeyopt", "ec_paramgen_curve:P-256"]}
 

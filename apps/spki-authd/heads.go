@@ -32,6 +32,9 @@ func (h *heads) next() (*http.Request, error) {
 	if err := h.readLines(); err != nil {
 		return nil, err
 	}
+	if plain := plainRequest(h.lines); plain != nil {
+		return plain, nil
+	}
 	if hasEmptyLength(h.lines) {
 		return nil, errOther
 	}
@@ -54,7 +57,7 @@ func (h *heads) readLines() error {
 		if err != nil {
 			return err
 		}
-		if line := string(h.lines[begin:]); line == "\r\n" || line == "\n" {
+		if line := h.lines[begin:]; len(line) <= 2 && len(bytes.TrimRight(line, "\r\n")) == 0 {
 			return nil
 		}
 		begin = len(h.lines)
