@@ -12,8 +12,8 @@ var unusual = map[string]bool{
 	"Connection": true, "Content-Length": true, "Expect": true, "Pragma": true, "Trailer": true, "Transfer-Encoding": true, "Upgrade": true,
 }
 
-// The headers of most requests.
-const mostHeaders = 16
+// The headers of most requests. A map has room for as many in two parts.
+const mostHeaders = 13
 
 // plainRequest returns the request of a head that web servers usually send: HTTP/1.1, one host, no body, and in each line a name, a colon and
 // visible characters. It is the one that http.ReadRequest returns, in a fifth of the time. Of every other head it returns nil: net/http reads or
