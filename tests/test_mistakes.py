@@ -352,9 +352,9 @@ class OfTheRightOfAChain(OfChains):
         near, far, later = ((moment + datetime.timedelta(hours=it)).strftime("%Y-%m-%d_%H:%M:%S") for it in (-23, -25, 1))
         for ends, given, is_told in ((near, ("--days", "30"), False), (far, ("--days", "30"), True), (near, ("--until", later), True)):
             with self.subTest(ends=ends, given=given):
-                self.done("sign", "--by", "alice", "--to", "bob.pub", "--tag", "(packages)", "--propagate", "--until", ends, "--force", "-o", "b.sexp")
-                said = self.done("sign", "--by", "bob", "--to", "carol.pub", "--tag", "(packages)", "--chain", "b.sexp", *given, "--force", "-o", "c.sexp",
-                                 wanted=4 if is_told else 0)
+                signs = "sign", "--tag", "(packages)", "--force", "-o"
+                self.done(*signs, "b.sexp", "--by", "alice", "--to", "bob.pub", "--propagate", "--until", ends)
+                said = self.done(*signs, "c.sexp", "--by", "bob", "--to", "carol.pub", "--chain", "b.sexp", *given, wanted=4 if is_told else 0)
                 self.assertEqual("item 1 of the chain ends earlier" in said, is_told, said)
 
     def test_certificates_of_a_key_for_itself_are_no_burden(self):

@@ -39,11 +39,6 @@ class Remark:
         return f"{self.path}:{self.line}:{self.column}: {'refused: ' if self.is_refused else ''}{self.text}"
 
 
-def remark(path: str, text: bytes, places: list[int] | None, at: int, is_refused: bool, why: str) -> Remark:
-    """A remark on the place at an offset. In braces it is on the place where they have the octet."""
-    return Remark(path, *(line_and_column(text, at) if places is None else (1, 1)), is_refused, why)
-
-
 def files_below(paths: list[str]) -> Iterator[tuple[str, bool]]:
     """The files of some paths, in order, without hidden ones and what is no file; and whether each is given itself."""
     for path in paths:
@@ -74,27 +69,27 @@ def of_key_file(path: str, octets: bytes) -> tuple[str, list[Remark]]:
     """What a key of OpenSSH or PEM is, or a private key, and what is said of it."""
     found, kind, pieces = list[Remark](), "a file of keys", [octets] if is_private(octets) else pieces_of(octets)[:MOST_KEYS]
     for piece in pieces:
-        at = octets.find(piece)
         try:
             key = read_public(piece, no_passphrase)
             kind = f"{'a private' if is_private(octets) else 'a public'} key, {kind_of(key)}"
         except (BadKey, Wrong) as why:
             is_encrypted = is_private(octets) and str(why) == ENCRYPTED
             kind = "a private key, encrypted" if is_encrypted else kind
-            found += [] if is_encrypted else [remark(path, octets, None, at, True, str(why) if isinstance(why, BadKey) else why.why)]
+            line, column = line_and_column(octets, octets.find(piece))
+            found += [] if is_encrypted else [Remark(path, line, column, True, str(why) if isinstance(why, BadKey) else why.why)]
     found += [Remark(path, 1, 1, False, why.removeprefix(f"{path} is ")) for why in remark_on_mode(path)]
     return f"{len(pieces)} public keys" if len(pieces) > 1 else kind, found
 
 
 def of_text(path: str, octets: bytes, moment: bytes) -> tuple[str, list[Remark]]:
-    """What an S-expression is, and what is said of it."""
+    """What an S-expression is, and what is said of it. What is in braces has the place where they begin."""
     (wrong, text, places), node = read_text(octets)
     if wrong is None and node.head not in BY_HEAD:
         wrong = fault_of_other(node)
-    if wrong is not None:
-        at, why = places_of(wrong)[0]
-        return "refused", [remark(path, text, places, at, True, f"{refusal(wrong, places).removeprefix('refused ')}: {why}")]
-    return kind_of_text(node), [remark(path, text, places, at, False, why) for at, why in probable_mistakes(node, moment)]
+    said = [*probable_mistakes(node, moment)] if wrong is None else places_of(wrong)[:1]
+    begin = f"{refusal(wrong, places).removeprefix('refused ')}: " if wrong is not None else ""
+    found = [Remark(path, *(line_and_column(text, at) if places is None else (1, 1)), wrong is not None, begin + why) for at, why in said]
+    return "refused" if wrong is not None else kind_of_text(node), found
 
 
 def kind_of_text(node: Node) -> str:

@@ -15,7 +15,7 @@ from .arguments import NEW_KEY, completion, parser_of_commands
 from .certificates import headed, members, terms_of
 from .ending import end
 from .files import (DAY_ENDS, READ, TERMINAL, Refused, key_at, locked, moment_of, node_of, now, octets_of, passphrase_for, put, remark_on_mode, say,
-                    signer_at, tell, text_at, value_headed, value_of, write, write_all)
+                    signer_at, tell, text_at, value_headed, value_of, write)
 from .forms import Wrong
 from .keys import BadKey, file_of, hash_of, kind_of, new_private, openssh_line, principal_of
 from .making import (certificate_of, fields_of, list_with, list_without, named, signed_sequence, text_of, warnings_of, warnings_of_certificate,
@@ -39,9 +39,9 @@ def key(given: argparse.Namespace) -> int:
     keys = [(path, key_at(path, given.number, True)) for path in given.files]
     if given.json:
         rows = [{"file": path, "key": on_one_line(it), "hash": on_one_line(hash_of(it)), "algorithm": kind_of(it)} for path, it in keys]
-        write(given.output, json.dumps(rows, indent=1).encode() + b"\n", force=given.force)
+        write((given.output, json.dumps(rows, indent=1).encode() + b"\n"), force=given.force)
     else:
-        write(given.output, b"".join(text_of(hash_of(it) if given.hash else it) for _, it in keys), force=given.force)
+        write((given.output, b"".join(text_of(hash_of(it) if given.hash else it) for _, it in keys)), force=given.force)
     return DONE
 
 
@@ -57,8 +57,8 @@ def new_key(given: argparse.Namespace) -> int:
     private = new_private(given.type)
     octets = file_of(private, passphrase, given.pem)
     comment = os.fsencode(given.comment or os.path.basename(path))
-    write(path, octets, 0o600)
-    write(f"{path}.pub", openssh_line(private.public_key()) + b" " + comment + b"\n")
+    write((path, octets), mode=0o600)
+    write((f"{path}.pub", openssh_line(private.public_key()) + b" " + comment + b"\n"))
     put(f"made {path}, which is secret, and {path}.pub\n")
     return DONE
 
@@ -83,7 +83,7 @@ def sign(given: argparse.Namespace) -> int:
         cannot = list(why.lines)
     if not all([is_confirmed(given.anyway, "--anyway", cannot), is_confirmed(given.yes, "--yes", warnings)]):
         return UNCONFIRMED
-    write(given.output, text_of(signed_sequence(certificate, signer, chain)), force=given.force)
+    write((given.output, text_of(signed_sequence(certificate, signer, chain))), force=given.force)
     return DONE
 
 
@@ -109,7 +109,7 @@ def add(given: argparse.Namespace) -> int:
     warnings = [*warnings_of(terms_of(made), given.tag, [*map(request_of, given.tries)]), *warnings_of_list(made, before)]
     if not is_confirmed(given.yes, "--yes", warnings):
         return UNCONFIRMED
-    write(given.acl or given.output, text if given.acl else text_of(made), force=given.force, edits=is_there)
+    write((given.acl or given.output, text if given.acl else text_of(made)), force=given.force, edits=is_there)
     return say("entries added: 1", is_aside=given.acl == "-") if given.acl else DONE
 
 
@@ -117,7 +117,7 @@ def remove(given: argparse.Namespace) -> int:
     """Removes the entries for a subject from an access list."""
     text, count = list_without(subject_of(given), list_at(given.acl))
     if count or given.acl == "-":
-        write(given.acl, text, edits=True)
+        write((given.acl, text), edits=True)
     say(f"entries removed: {count}{'' if count else f'; no entry of {given.acl} is for this subject'}", is_aside=given.acl == "-")
     return DONE if count else NO
 
@@ -192,7 +192,7 @@ def show(given: argparse.Namespace) -> int:
         return DONE
     if given.svg:
         from .drawing import svg_of
-        write(given.svg, svg_of(values[0][1], labels), force=given.force)
+        write((given.svg, svg_of(values[0][1], labels)), force=given.force)
     if given.json:
         return say(json.dumps([{"file": path, "shows": [*rows_of(value, moment, labels)]} for path, value in values], indent=1))
     for path, value in values if given.svg != "-" else []:
@@ -220,7 +220,7 @@ def ask(given: argparse.Namespace) -> int:
     if given.svg:
         from .drawing import svg_of_answer
         parts.append((given.svg, svg_of_answer(asked, answer)))
-    write_all(parts, force=given.force)
+    write(*parts, force=given.force)
     is_aside = "-" in (given.sequence, given.save, given.svg)
     if given.json:
         reasons = [it._asdict() for it in answer.reasons]

@@ -178,13 +178,6 @@ def page(width: float, height: float, title: str, *parts: Iterable[str]) -> Iter
     yield "</svg>"
 
 
-def coloured_arrow(x: float, y1: float, y2: float, beside: list[str], colour: str) -> Iterator[str]:
-    """An arrow downwards with lines of text to the right of it."""
-    yield f'<path class="line {colour}" marker-end="url(#end)" d="M{x:g} {y1:g} L{x:g} {y2:g}"/>'
-    for place, line in enumerate(beside):
-        yield from said(f"{x + 14:g}", y1 + 24 + 16 * place, line, f"small left {colour}")
-
-
 def svg_of_drawing(drawing: Drawing, title: str, width: float = 620) -> Iterator[str]:
     """A picture as SVG: from top to bottom, each arrow with the boxes where it begins and ends. Where an arrow begins at the box before,
     that box is not drawn again."""
@@ -197,7 +190,9 @@ def svg_of_drawing(drawing: Drawing, title: str, width: float = 620) -> Iterator
         shape = drawing.shapes[node]
         top = y + (24 + 16 * len(arrow.lines) if is_end else 20 if last else 0)
         if is_end:
-            parts += coloured_arrow(x + 210, y, top - 2, arrow.lines, arrow.colour)
+            parts.append(f'<path class="line {arrow.colour}" marker-end="url(#end)" d="M{x + 210} {y} L{x + 210} {top - 2}"/>')
+            for place, line in enumerate(arrow.lines):
+                parts += said(x + 224, y + 24 + 16 * place, line, f"small left {arrow.colour}")
         parts += box(x, top, 420, 22 + 18 * len(shape.lines), shape.lines, KINDS.get(shape.colour, "box"))
         y, last = top + 22 + 18 * len(shape.lines), node
     return page(width, y + 20, title, parts)

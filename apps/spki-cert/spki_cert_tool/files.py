@@ -256,14 +256,9 @@ def target_of(path: str, force: bool, edits: bool = False) -> tuple[str, os.stat
         raise Refused(f"{path}: {why.strerror}; nothing was written") from None
 
 
-def write(path: str | None, octets: bytes, mode: int = 0o644, force: bool = False, edits: bool = False) -> None:
-    """Writes a file whole or not at all, or standard output if there is no path. With `force` it may be there already, and with `edits`
-    it is one that was read: it keeps its mode and its owner."""
-    write_all([(path, octets)], mode, force, edits)
-
-
-def write_all(parts: list[tuple[str | None, bytes]], mode: int = 0o644, force: bool = False, edits: bool = False) -> None:
-    """Writes several files, after none of them is refused."""
+def write(*parts: tuple[str | None, bytes], mode: int = 0o644, force: bool = False, edits: bool = False) -> None:
+    """Writes files, each whole or not at all, after none of them is refused; what has no path goes to standard output. With `force` a file may
+    be there already, and with `edits` it is one that was read: it keeps its mode and its owner."""
     targets = [(path, *target_of(path, force, edits), octets) for path, octets in parts if path is not None and path != "-"]
     places = [place for _, place, _, _ in targets]
     if len(set(places)) < len(places):

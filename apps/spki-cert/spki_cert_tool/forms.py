@@ -155,12 +155,6 @@ class Parser:
         return Wrong("Trailing", behind, "this `)` ends the value, and by its indentation the next line belongs to it; is it one too many?",
                      [(behind, "this follows the value"), begins], node.end - 1)
 
-    def look_at_indentation(self, list_begin: int, end: int, at: int) -> None:
-        """Keeps the first member that begins a line no further right than its list, which was perhaps to end before it."""
-        is_below = b"\n" in self.text[end:at] and column(self.text, at) <= column(self.text, list_begin)
-        if self.unclosed is None and not self.is_canonical and is_below:
-            self.unclosed = list_begin, end
-
     def skip(self, at: int) -> int:
         return at if self.is_canonical else spaces_end(self.text, at)
 
@@ -197,7 +191,10 @@ class Parser:
         members: list[Node] = []
         next_at = self.skip(at + 1)
         while self.octet(next_at) != b")":
-            self.look_at_indentation(at, members[-1].end if members else at + 1, next_at)
+            end = members[-1].end if members else at + 1
+            # (a member that begins a line no further right than its list: this was perhaps to end before it)
+            if b"\n" in self.text[end:next_at] and column(self.text, next_at) <= column(self.text, at) and not self.is_canonical:
+                self.unclosed = self.unclosed or (at, end)
             members.append(self.value(next_at, "a member or `)`"))
             next_at = self.skip(members[-1].end)
         self.opened.pop()

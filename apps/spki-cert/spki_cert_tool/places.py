@@ -142,11 +142,7 @@ def read_outline(node: Node) -> None:
             raise Wrong("case Shape", part.begin, f"this part must be {but_is(part, head)}; the order is {order}")
         if place > 2 and len(part.rest) != 1:
             raise Wrong("case Shape", part.begin, f"`({head.decode()} ..)` has one member, and this has {len(part.rest)}")
-    read_policy(parts[len(PARTS):])
-
-
-def read_policy(nodes: list[Node]) -> None:
-    for place, member in enumerate(nodes):
+    for place, member in enumerate(parts[len(PARTS):]):
         policy = member.rest
         if place or member.head != b"policy" or len(policy) != 1 or not policy[0].is_plain(b"strict"):
             raise Wrong("case Shape", member.begin, "the moment is followed by `(policy strict)` or nothing" + (
