@@ -8,7 +8,7 @@ from collections.abc import Sequence
 from typing import IO, Any, NoReturn
 
 from . import __version__
-from .files import Refused, put
+from .files import DAY_ENDS, Refused, moment_of, put
 from .forms import meant
 from .keys import KINDS
 
@@ -97,7 +97,7 @@ def plain(text: str) -> str:
 
 FLAG: dict[str, Any] = {"action": "store_true"}
 FILE: dict[str, Any] = {"metavar": "FILE", "type": some}
-DATE: dict[str, Any] = {"metavar": "DATE", "type": some}
+DATE: dict[str, Any] = {"metavar": "DATE", "type": lambda text: moment_of(some(text))}
 MANY: dict[str, Any] = {"action": "append", "default": []}
 # What argparse is told of each option and word. Where a command has its own, the name of the command is in front.
 OPTIONS: dict[str, dict[str, Any]] = {
@@ -129,7 +129,7 @@ OPTIONS: dict[str, dict[str, Any]] = {
     "--try": {"metavar": "WORD", "nargs": "+", **MANY, "dest": "tries", "help": "a request that the tag is to contain, by its words"},
     "--from": {**DATE, "dest": "begins", "help": "valid from this day or moment on"},
     "--days": {"metavar": "N", "type": count_of, "help": "valid for so many days from now"},
-    "--until": {**DATE, "help": "valid until this day or moment, in UTC"},
+    "--until": {**DATE, "type": lambda text: moment_of(some(text), DAY_ENDS), "help": "valid until this day or moment, in UTC"},
     "--comment": {"metavar": "TEXT", "type": plain, "help": "a comment, which grants nothing"},
     f"{NEW_KEY} --comment": {"metavar": "TEXT", "type": plain, "help": "what the key is called; the name of the file if it is not given"},
     "--yes": {**FLAG, "help": "make it although it is probably a mistake"},

@@ -14,7 +14,7 @@ from typing import NoReturn
 from .arguments import NEW_KEY, completion, parser_of_commands
 from .certificates import headed, members, terms_of
 from .ending import end
-from .files import (DAY_ENDS, READ, TERMINAL, Refused, key_at, locked, moment_of, node_of, now, octets_of, passphrase_for, put, remark_on_mode, say,
+from .files import (READ, TERMINAL, Refused, key_at, locked, node_of, now, octets_of, passphrase_for, put, remark_on_mode, say,
                     signer_at, tell, text_at, value_headed, value_of, write)
 from .forms import Wrong
 from .keys import BadKey, file_of, hash_of, kind_of, new_private, openssh_line, principal_of
@@ -143,8 +143,7 @@ def fields_given(given: argparse.Namespace) -> list[Value]:
     if given.tag is None and given.name is None:
         raise Refused("a right needs --tag")
     tag = node_of(os.fsencode(given.tag), "--tag", lambda node: read_tag(node, [0])).value if given.tag is not None else None
-    ends = now(given.days) if given.days is not None else moment_of(given.until, DAY_ENDS) if given.until is not None else None
-    return fields_of(tag, moment_of(given.begins) if given.begins is not None else None, ends, given.propagate, given.comment or "")
+    return fields_of(tag, given.begins, now(given.days) if given.days is not None else given.until, given.propagate, given.comment or "")
 
 
 def subject_of(given: argparse.Namespace) -> Value:
@@ -173,19 +172,13 @@ def request_of(words: list[str]) -> Value:
 def labels_of(given: argparse.Namespace, *paths: str) -> Labels:
     """What keys are called: by the paths that are given, and by SPKI_LABELS."""
     labels = Labels()
-    more = os.environ.get("SPKI_LABELS")
-    for path in [*given.labels, *([more] if more else []), *paths]:
+    for path in (it for it in (*given.labels, os.environ.get("SPKI_LABELS", ""), *paths) if it):
         labels.add_path(path)
     return labels
 
 
-def moment_given(given: argparse.Namespace) -> bytes:
-    """The moment that is given, or now."""
-    return moment_of(given.at) if given.at is not None else now()
-
-
 def show(given: argparse.Namespace) -> int:
-    labels, moment = labels_of(given), moment_given(given)
+    labels, moment = labels_of(given), given.at or now()
     values = [(path, value_headed(path, SHOWN, NOT_SHOWN)) for path in given.files]
     if given.braces:
         put(b"".join(b"{%s}\n" % base64.b64encode(canonical(value)) for _, value in values))
@@ -210,7 +203,7 @@ def ask(given: argparse.Namespace) -> int:
     else:
         key = key_at(given.key)
         labels = labels_of(given, *(path for path in [given.key, *filter(os.path.isdir, given.cert)] if path != "-"))
-        asked = Asked(value_of(given.acl, "acl"), key, request_of(given.words), moment_given(given), labels,
+        asked = Asked(value_of(given.acl, "acl"), key, request_of(given.words), given.at or now(), labels,
                       [value_of(path, "sequence") for path in sequences_below(given.cert)], not given.open)
     answer = answered(asked)
     lines = list(Words(asked, answer).lines())

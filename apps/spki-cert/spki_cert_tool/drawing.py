@@ -69,10 +69,6 @@ class Drawing:
         self.shapes.setdefault(identity, Shape(label))
         return identity
 
-    def box(self, name: bytes, colour: str, *lines: str) -> bytes:
-        self.shapes[name] = Shape(list(lines), colour)
-        return name
-
     def arrow(self, begin: bytes, end: bytes, colour: str, *lines: str) -> None:
         self.arrows.append(Arrow(begin, end, [line for line in lines if line], colour))
 
@@ -83,10 +79,10 @@ class Drawing:
 
     def entries(self, access_list: Value, only: int | None = None) -> None:
         """The access list, with an arrow for each of its entries or for one of them."""
-        begin = self.box(b"list", "blue", "access list")
+        self.shapes[b"list"] = Shape(["access list"], "blue")
         for number, entry in enumerate(entries_of(access_list), 1):
             if only in (None, number):
-                self.arrow(begin, self.of(entry.subject), BLACK, f"entry {number}", *self.terms(entry.value))
+                self.arrow(b"list", self.of(entry.subject), BLACK, f"entry {number}", *self.terms(entry.value))
 
     def links(self, sequence: Value, stops: int | None = None, cause: str = "") -> None:
         """An arrow for each certificate up to the one that stops the chain, which is red."""
@@ -102,11 +98,11 @@ class Drawing:
         key, request, moment = members(case)[3:6]
         colour = GREEN if word == "grants" else RED
         said = [f"yes entry {entry}"] if word == "grants" else [f"{word}:", MEANINGS[word]]
-        end = self.box(b"request", colour, *self.in_lines(on_one_line(request)), *self.in_lines(on_one_line(moment)))
+        self.shapes[b"request"] = Shape([*self.in_lines(on_one_line(request)), *self.in_lines(on_one_line(moment))], colour)
         tag = self.in_lines(f"left: {on_one_line(field(left, b'tag') or b'')}")
-        self.arrow(self.of(members(field(left, b"subject") or b"")[0]), end, colour, *said, *tag)
+        self.arrow(self.of(members(field(left, b"subject") or b"")[0]), b"request", colour, *said, *tag)
         if word == "NotTheKey":
-            self.arrow(self.of(members(key)[0]), end, BLACK, "asks")
+            self.arrow(self.of(members(key)[0]), b"request", BLACK, "asks")
 
 
 def drawing_of_case(case: Value, reasons: list[Reason], reduced: Callable[[int], Value], labels: Labels | None = None, width: int = WIDTH) -> Drawing:

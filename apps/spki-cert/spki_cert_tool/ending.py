@@ -39,13 +39,6 @@ class Edited(NamedTuple):
     octets: bytes
 
 
-class Meant(NamedTuple):
-    """A certificate that a command names: what it is called in messages, and its digest."""
-
-    called: str
-    digest: str
-
-
 # ---- the text of the file
 
 
@@ -157,24 +150,24 @@ def write_lines(file: Edited, lines: list[bytes]) -> None:
 # ---- the certificates that are meant
 
 
-def meant_at(path: str, place: int | None) -> Meant:
-    """The last certificate of a file, or that at a place: those of a sequence, or the one that is alone."""
+def meant_at(path: str, place: int | None) -> tuple[str, str]:
+    """The digest of the last certificate of a file, or of that at a place, and what it is called: one of a sequence, or the one that is alone."""
     value = value_headed(path, (b"sequence",), "only a certificate of a sequence, or one that is alone, is ended")
     certificates = [value] if headed(value, b"cert") else [each.terms.value for each in certificates_in(value)]
     count = len(certificates)
     number = count if place is None else place
     if not 1 <= number <= count:
         raise Refused(f"{path}: there is no certificate{'' if place is None else f' {place}'}; it has {count}")
-    return Meant(f"{path}, certificate {number} of {count}", digest_of(certificates[number - 1]).hex())
+    return digest_of(certificates[number - 1]).hex(), f"{path}, certificate {number} of {count}"
 
 
-def meant_by(given: argparse.Namespace) -> list[Meant]:
-    """All certificates that the command line names, each once."""
+def meant_by(given: argparse.Namespace) -> dict[str, str]:
+    """The digests of all certificates that the command line names, with what they are called there."""
     for digest in given.digest:
         if not DIGITS.fullmatch(digest):
             raise Refused(f"--digest {digest}: a digest has 64 hexadecimal digits")
-    meant = [meant_at(path, given.place) for path in given.files] + [Meant(it.lower(), it.lower()) for it in given.digest]
-    return [*{it.digest: it for it in reversed(meant)}.values()][::-1]
+    found = [meant_at(path, given.place) for path in given.files] + [(it.lower(), it.lower()) for it in given.digest]
+    return {digest: dict(reversed(found))[digest] for digest, _ in found}
 
 
 # ---- the commands
@@ -196,26 +189,26 @@ def add(given: argparse.Namespace) -> int:
     with edited(given.ended) as file:
         lines = lines_in(file.octets, given.ended)
         there = digests_of(lines)
-        lines += [f"{it.digest} # {comment}".encode() for it in meant if it.digest not in there]
+        lines += [f"{digest} # {comment}".encode() for digest in meant if digest not in there]
         count = len(digests_of(lines)) - len(there)
         if count:
             write_lines(file, lines)
-    return say(*(f"{it.called}: {'it had ended before' if it.digest in there else 'ended'}" for it in meant),
+    return say(*(f"{called}: {'it had ended before' if digest in there else 'ended'}" for digest, called in meant.items()),
                f"digests added: {count}" + ("; they count from the next reload of spki-authd on" if count else ""))
 
 
 def undo(given: argparse.Namespace) -> int:
     """Takes digests out of the file: all that are named, or none."""
     meant = meant_by(given)
-    digests = {it.digest for it in meant}
     with edited(given.ended) as file:
         lines = lines_in(file.octets, given.ended)
-        missing = [it for it in meant if it.digest not in digests_of(lines)]
+        missing = [called for digest, called in meant.items() if digest not in digests_of(lines)]
         if missing:
-            tell(*(f"spki-cert: {it.called}: it has not ended; nothing was written" for it in missing))
+            tell(*(f"spki-cert: {called}: it has not ended; nothing was written" for called in missing))
             return NO
-        write_lines(file, [line for line in lines if line[:64].decode(errors="replace") not in digests])
-    return say(*(f"{it.called}: taken out" for it in meant), f"digests taken out: {len(digests)}; the next reload needs `spki-authd -reload -fewer`")
+        write_lines(file, [line for line in lines if line[:64].decode(errors="replace") not in meant])
+    return say(*(f"{called}: taken out" for called in meant.values()),
+               f"digests taken out: {len(meant)}; the next reload needs `spki-authd -reload -fewer`")
 
 
 def listed(row: re.Match[bytes]) -> str:
