@@ -5,8 +5,8 @@ import re
 from collections import deque
 from collections.abc import Iterable, Iterator
 from dataclasses import dataclass
-from typing import ClassVar
 from datetime import datetime
+from typing import ClassVar, NamedTuple
 
 from .keys import hash_of, verifies
 from .sexp import Value, canonical
@@ -118,8 +118,7 @@ def entries_of(access_list: Value) -> list[Terms]:
     return [terms_of(member) for member in members(access_list) if headed(member, b"entry")]
 
 
-@dataclass(frozen=True)
-class Signed:
+class Signed(NamedTuple):
     """A certificate of a sequence with its signature, and the number of its item."""
 
     terms: Terms

@@ -2,7 +2,7 @@
 import itertools
 import os
 from collections.abc import Iterator
-from dataclasses import dataclass
+from typing import NamedTuple
 
 from .certificates import Keys, certificates_in, fault_of_signature, keys_in, remarks_on_window, terms_of
 from .files import Refused, octets_of, remark_on_mode
@@ -24,8 +24,7 @@ MOST_KEYS = 1000
 MOST_COMPARED, MOST_PRODUCTS = 64, 50_000_000
 
 
-@dataclass(frozen=True)
-class Remark:
+class Remark(NamedTuple):
     """What is said of a place in a file."""
 
     path: str

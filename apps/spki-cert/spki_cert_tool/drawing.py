@@ -7,9 +7,8 @@ from __future__ import annotations
 
 import textwrap
 from collections.abc import Callable, Iterable, Iterator
-from dataclasses import dataclass
 from html import escape
-from typing import TYPE_CHECKING
+from typing import TYPE_CHECKING, NamedTuple
 
 from .asking import Answer, Asked, answered, asked_of_case, case_of, furthest
 from .certificates import Keys, entries_of, field, headed, keys_in, members, terms_of
@@ -29,16 +28,14 @@ MEANINGS = {
     "TagLacks": "the request is not in the tag", "WindowLacks": "the moment is not in the validity"}
 
 
-@dataclass(frozen=True)
-class Shape:
+class Shape(NamedTuple):
     """A subject, or a box with a colour."""
 
     lines: list[str]
     colour: str = ""
 
 
-@dataclass(frozen=True)
-class Arrow:
+class Arrow(NamedTuple):
     """An arrow between two shapes, by their names, with lines of text beside it."""
 
     begin: bytes

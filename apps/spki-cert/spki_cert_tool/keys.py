@@ -1,12 +1,6 @@
 """Keys that people have, as keys of SPKI, and back; signing and verifying. The forms are those of docs/FORMATS.md, "Keys and signatures
-of services":
-
-    (public-key (ecc (curve Ed25519) (flags eddsa) (q #..#)))     (sig-val (eddsa (r #..#) (s #..#)))
-    (public-key (rsa (n #..#) (e #..#)))                          (sig-val (rsa (s #..#)))
-    (public-key (ecc (curve "NIST P-256") (q #04..#)))            (sig-val (ecdsa (r #..#) (s #..#)))
-
-libgcrypt and GnuPG read the same. `cryptography` reads the files and signs. The package `spki_verify` verifies by it. Both are imported
-where they are used, because that takes a tenth of a second.
+of services", which libgcrypt and GnuPG read too. `cryptography` reads the files and signs. The package `spki_verify` verifies by it. Both are
+imported where they are used, because that takes a tenth of a second.
 """
 from __future__ import annotations
 

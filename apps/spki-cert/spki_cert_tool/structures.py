@@ -281,7 +281,6 @@ def read_tag(node: Node, nodes: list[int]) -> None:
             return (read_prefix if word.body == b"prefix" else read_range)(node, behind)
     for member in behind:
         read_tag(member, nodes)
-    return None
 
 
 def read_prefix(node: Node, behind: list[Node]) -> None:
@@ -315,4 +314,3 @@ def read_request(node: Node) -> None:
         raise Wrong("StarInRequest", head.begin, "a list in a request does not begin with `*`")
     for member in node.members:
         read_request(member)
-    return None

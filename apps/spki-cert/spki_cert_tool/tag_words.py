@@ -34,9 +34,9 @@ def lacks(tag: Value, request: Value, place: str = "the request") -> str | None:
 
 def lacks_star(tag: Value, request: Value, place: str) -> str | None:
     """The same of a tag that begins with the star."""
-    word, behind = (members(tag) or [b""])[0], members(tag)[1:]
-    if len(members(tag)) == 0:
+    if tag == [b"*"]:
         return None
+    word, *behind = members(tag)
     if word == b"set":
         said = [lacks(member, request, place) for member in behind]
         if None in said:
