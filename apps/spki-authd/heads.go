@@ -29,17 +29,32 @@ func newHeads(connection io.Reader) *heads {
 
 // next reads a request. A line `Content-Length:` without a number is refused: net/http drops it, and others may read a body behind it.
 func (h *heads) next() (*http.Request, error) {
+	if plain := h.plain(); plain != nil {
+		return plain, nil
+	}
 	if err := h.readLines(); err != nil {
 		return nil, err
-	}
-	if plain := plainRequest(h.lines); plain != nil {
-		return plain, nil
 	}
 	if hasEmptyLength(h.lines) {
 		return nil, errOther
 	}
 	h.whole.Reset(io.MultiReader(bytes.NewReader(h.lines), h.all))
 	return http.ReadRequest(h.whole)
+}
+
+// plain reads the request whose head has arrived as a whole, if it is plain. Otherwise it reads nothing.
+func (h *heads) plain() *http.Request {
+	arrived, _ := h.all.Peek(h.all.Buffered())
+	end := bytes.Index(arrived, endOfHead)
+	if end < 0 {
+		return nil
+	}
+	head := arrived[:end+len(endOfHead)]
+	made := plainRequest(head)
+	if made != nil {
+		_, _ = h.all.Discard(len(head))
+	}
+	return made
 }
 
 // readLines reads the lines up to the first that is empty.
@@ -64,7 +79,10 @@ func (h *heads) readLines() error {
 	}
 }
 
-var lengthName = []byte("content-length:")
+var (
+	endOfHead  = []byte("\r\n\r\n")
+	lengthName = []byte("content-length:")
+)
 
 // hasEmptyLength says whether a line gives a body's length without a number.
 func hasEmptyLength(lines []byte) bool {
