@@ -18,7 +18,7 @@ from .files import (READ, TERMINAL, Refused, key_at, locked, node_of, now, octet
                     signer_at, tell, text_at, value_headed, value_of, write)
 from .forms import Wrong
 from .keys import BadKey, file_of, hash_of, kind_of, new_private, openssh_line, principal_of
-from .making import (certificate_of, fields_of, list_with, list_without, named, signed_sequence, text_of, warnings_of, warnings_of_certificate,
+from .making import (certificate_of, fields_of, list_with, list_without, signed_sequence, text_of, warnings_of, warnings_of_certificate,
                      warnings_of_list)
 from .places import value_in
 from .sexp import Value, canonical, on_one_line
@@ -151,10 +151,12 @@ def subject_of(given: argparse.Namespace) -> Value:
     if given.to is None:
         if not given.named:
             raise Refused("a certificate needs --to, or --named for a name of the issuer")
-        return named(None, given.named)
+        return [b"name", *map(os.fsencode, given.named)]
     is_itself = given.to.lstrip().startswith(("(", "{"))
     to = node_of(os.fsencode(given.to), "--to", read_subject).value if is_itself else principal_of(key_at(given.to, given.number))
-    subject = named(to, given.named)
+    if headed(to, b"name") and given.named:
+        raise Refused("--to is a name already, so --named is one too many")
+    subject: Value = [b"name", to, *map(os.fsencode, given.named)] if given.named else to
     if given.command == "entry" and headed(subject, b"name") and not headed(members(subject)[0], *PRINCIPALS):
         raise Refused(f"--to {given.to}: a name in an entry needs the key that defines it: give --to KEY --named NAME")
     return subject

@@ -121,12 +121,3 @@ def not_tried(tag: Value | None, tries: list[Value]) -> Iterator[str]:
 def text_of(value: Value) -> bytes:
     """A text of a value for people to read."""
     return laid_out(value).encode() + b"\n"
-
-
-def named(principal: Value | None, names: list[str]) -> Value:
-    """A name of a key, or of the issuer if there is none, or the principal if there is no name."""
-    if headed(principal or b"", b"name") and names:
-        raise Refused("--to is a name already, so --named is one too many")
-    if principal is not None and not names:
-        return principal
-    return [b"name", *([principal] if principal is not None else []), *map(os.fsencode, names)]
