@@ -9,9 +9,9 @@ import built
 from served import Site
 from support import canonical
 from spki_cert_tool.files import now, signer_at
-from spki_cert_tool.forms import Parser
 from spki_cert_tool.keys import digest_of
-from spki_cert_tool.making import Wish, certificate_of, signed_sequence
+from spki_cert_tool.making import certificate_of, fields_of, signed_sequence
+from spki_cert_tool.places import read_text
 from spki_cert_tool.sexp import Value
 
 READ = "(files read (* prefix /web/))"
@@ -66,8 +66,8 @@ def in_braces(value: Any) -> str:
 def sequence(site: Site, by: str, to: str, tag: str, *, days: int = 9, begins: int = 0, chain: Value | None = None) -> Any:
     """The sequence of a certificate, which may not be delegated."""
     signer, key = (signer_at(site.at(f"keys/{who}")) for who in (by, to))
-    wish = Wish(key.key, None, Parser(tag.encode()).whole(), tag, now(begins), now(days), False, "")
-    return signed_sequence(certificate_of(wish, signer.key), signer, chain)
+    fields = fields_of(read_text(tag.encode())[1].value, now(begins), now(days))
+    return signed_sequence(certificate_of(signer.key, key.key, fields), signer, chain)
 
 
 class Attackers:
@@ -105,8 +105,8 @@ class Attackers:
     def name(self) -> Value:
         """A certificate by which Ann only calls Ben something."""
         signer = signer_at(self.site.at("keys/ann"))
-        wish = Wish(signer_at(self.site.at("keys/ben")).key, b"readers", None, "", None, now(9), False, "")
-        return signed_sequence(certificate_of(wish, signer.key), signer, None)
+        certificate = certificate_of(signer.key, signer_at(self.site.at("keys/ben")).key, fields_of(None, None, now(9)), b"readers")
+        return signed_sequence(certificate, signer, None)
 
     def certificates_of_tls(self) -> None:
         """Certificates for TLS that only attackers make."""

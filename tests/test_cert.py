@@ -30,7 +30,7 @@ from model import answers, guard, tags as model_tags, values as model_values
 from spki_cert_tool import arguments, asking, commands, keys, sexp, tag_words
 from spki_cert_tool.certificates import Keys, certificates_in, fault_of_signature, keys_in
 from spki_cert_tool.checking import remarks_on
-from spki_cert_tool.labels import Labels
+from spki_cert_tool.showing import Labels
 from spki_cert_tool.places import read_text, value_in
 
 sys.path.append(os.path.join(TOP, "bindings", "python"))

@@ -22,7 +22,7 @@ import needs
 import test_guide
 from model import advanced, values
 from support import TOP, output_of, text_of
-from spki_cert_tool import commands, ending
+from spki_cert_tool import commands, ending, files
 
 COMMAND = os.path.join(TOP, "apps", "spki-cert", "spki-cert")
 A, B, C = (letter * 64 for letter in "abc")
@@ -256,9 +256,7 @@ class Ends(Case):
 
     def test_locked(self) -> None:
         """A writer that holds the file for long does not hang the next one."""
-        handle = ending.opened(self.at(ENDED))
-        self.addCleanup(os.close, handle)
-        with mock.patch.object(ending, "SECONDS_TO_LOCK", 0):
+        with files.locked(self.at(ENDED)), mock.patch.object(files, "SECONDS_TO_LOCK", 0):
             said = self.ended("first", wanted=2)
         self.assertIn("another program has locked it", said)
         self.is_unchanged(whole(), said)

@@ -167,7 +167,7 @@ class Refusals(unittest.TestCase):
 
     def finds(self, place: str, command: str, text: bytes, wanted: tuple[int, bytes]) -> None:
         """The tool must find the refusal where the answer is wanted."""
-        wrong, inner, places = LOCATE.fault_of(text, READ_AS.get(command, "refused form"))
+        (wrong, inner, places), _ = LOCATE.read_text(text, READ_AS.get(command, "refused form"))
         found = f"{LOCATE.refusal(wrong, places)}\n".encode() if wrong else b""
         show_places(wrong, inner, places)
         status, answer = wanted
@@ -195,7 +195,7 @@ class Refusals(unittest.TestCase):
             for name, text in parts.items():
                 with self.subTest(number, part=name):
                     wanted = refusal_of_part(name, text)
-                    wrong, inner, places = LOCATE.fault_of(text, wanted or f"refused {name}")
+                    (wrong, inner, places), _ = LOCATE.read_text(text, wanted or f"refused {name}")
                     found = LOCATE.refusal(wrong, places) if wrong else None
                     show_places(wrong, inner, places)
                     self.assertEqual(found, wanted, f"question {number}, {name}: {text!r}")

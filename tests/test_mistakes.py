@@ -2,6 +2,7 @@
 signal or random word ends it by a traceback."""
 import base64
 import contextlib
+import datetime
 import os
 import random
 import re
@@ -282,9 +283,9 @@ class OfChains(Room):
         self.assertEqual([[it.terms.comment for it in chain] for chain in chains], [["", "0"]])
         self.assertLess(steps.most - steps.left, 100)
         net = [[b"public-key", [b"test", b"%d" % number]] for number in range(40)]
-        knots = [certificates.Signed(certificates.terms_of_certificate([b"cert", [b"issuer", one], [b"subject", other], [b"tag", [b"*"]]]), b"", 1)
+        knots = [certificates.Signed(certificates.terms_of([b"cert", [b"issuer", one], [b"subject", other], [b"tag", [b"*"]]]), b"", 1)
                  for one in net for other in net]
-        entry = certificates.terms_of_entry([b"entry", net[0], [b"tag", [b"*"]]])
+        entry = certificates.terms_of([b"entry", net[0], [b"tag", [b"*"]]])
         steps = certificates.Steps()
         self.assertEqual(list(certificates.chains([entry], knots, certificates.Keys(), holder, steps)), [])
         self.assertLess(steps.left, 0)
@@ -344,6 +345,17 @@ class OfTheRightOfAChain(OfChains):
         self.done(*words, "--yes")
         self.assertIn("item 1 of the chain: its tag does not contain the request `(packages write)`", self.done(
             *words, "--try", "packages", "write", wanted=4))
+
+    def test_a_right_for_the_same_days_does_not_warn(self):
+        """Days are whole days: a chain that ends some hours before gives them. A moment that is given is meant."""
+        moment = datetime.datetime.now(datetime.timezone.utc) + datetime.timedelta(30)
+        near, far, later = ((moment + datetime.timedelta(hours=it)).strftime("%Y-%m-%d_%H:%M:%S") for it in (-23, -25, 1))
+        for ends, given, is_told in ((near, ("--days", "30"), False), (far, ("--days", "30"), True), (near, ("--until", later), True)):
+            with self.subTest(ends=ends, given=given):
+                signs = "sign", "--tag", "(packages)", "--force", "-o"
+                self.done(*signs, "b.sexp", "--by", "alice", "--to", "bob.pub", "--propagate", "--until", ends)
+                said = self.done(*signs, "c.sexp", "--by", "bob", "--to", "carol.pub", "--chain", "b.sexp", *given, wanted=4 if is_told else 0)
+                self.assertEqual("item 1 of the chain ends earlier" in said, is_told, said)
 
     def test_certificates_of_a_key_for_itself_are_no_burden(self):
         os.mkdir(self.at("many"))

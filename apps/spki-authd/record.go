@@ -4,6 +4,7 @@ import (
 	"net/http"
 	"strconv"
 	"strings"
+	"sync/atomic"
 	"time"
 )
 
@@ -84,7 +85,7 @@ func (r *record) response(now time.Time, isLast bool) []byte {
 	made := append(make([]byte, 0, roomForAnswer), "HTTP/1.1 "...)
 	made = strconv.AppendInt(made, int64(r.Status), 10)
 	made = append(append(append(made, ' '), http.StatusText(r.Status)...), "\r\nCache-Control: no-store\r\nContent-Length: 0\r\nDate: "...)
-	made = now.UTC().AppendFormat(made, http.TimeFormat)
+	made = append(made, secondOf(now).date...)
 	header := func(name, value string) {
 		made = append(append(append(append(made, "\r\n"...), name...), ": "...), value...)
 	}
@@ -121,7 +122,28 @@ type event struct {
 	EndedDigest string `json:"ended_digest,omitempty"`
 }
 
-// stamp returns a moment as the log has it.
+// A second is how the log and answers write a second of the clock.
+type second struct {
+	unix      int64
+	log, date string
+}
+
+// The second that was written last. To write one takes a microsecond.
+var present atomic.Pointer[second]
+
+// secondOf returns how a moment's second is written.
+func secondOf(moment time.Time) *second {
+	if known := present.Load(); known != nil && known.unix == moment.Unix() {
+		return known
+	}
+	moment = moment.UTC()
+	made := &second{moment.Unix(), moment.Format("2006-01-02T15:04:05"), moment.Format(http.TimeFormat)}
+	present.Store(made)
+	return made
+}
+
+// stamp returns a moment as the log has it, in milliseconds.
 func stamp(moment time.Time) string {
-	return moment.UTC().Format("2006-01-02T15:04:05.000Z")
+	parts := int64(moment.Nanosecond()/int(time.Millisecond)) + 1000
+	return secondOf(moment).log + "." + strconv.FormatInt(parts, 10)[1:] + "Z"
 }

@@ -1,12 +1,10 @@
 """A client of ssh-agent (draft-ietf-sshm-ssh-agent): lists its keys and lets it sign, so that a key on a token can sign a certificate."""
-from __future__ import annotations
-
 import base64
 import os
 import socket
 import struct
 
-from .keys import ED25519, RSA, BadKey, openssh_line, public_of, value_of_numbers, value_of_octets
+from .keys import ED25519, RSA, BadKey, openssh_line, public_of, taken, value_of_numbers, value_of_octets
 from .sexp import Value
 
 REQUEST_IDENTITIES, IDENTITIES, SIGN_REQUEST, SIGN_RESPONSE = 11, 12, 13, 14
@@ -17,14 +15,6 @@ MOST_OCTETS, SECONDS = 262144, 60
 def string(octets: bytes) -> bytes:
     """A string with its length, as SSH has it."""
     return struct.pack(">I", len(octets)) + octets
-
-
-def taken(octets: bytes) -> tuple[bytes, bytes]:
-    """The first string of some octets, and what follows it."""
-    if len(octets) < 4 or len(octets) - 4 < int.from_bytes(octets[:4], "big"):
-        raise BadKey("ssh-agent sent an answer that is not whole")
-    end = 4 + int.from_bytes(octets[:4], "big")
-    return octets[4:end], octets[end:]
 
 
 def asked(kind: int, body: bytes, wanted: int) -> bytes:

@@ -1,6 +1,4 @@
 """The words of the command line of `spki-cert`, and its help."""
-from __future__ import annotations
-
 import argparse
 import functools
 import itertools
@@ -10,7 +8,7 @@ from collections.abc import Sequence
 from typing import IO, Any, NoReturn
 
 from . import __version__
-from .files import Refused, put
+from .files import DAY_ENDS, Refused, moment_of, put
 from .forms import meant
 from .keys import KINDS
 
@@ -30,22 +28,6 @@ exit status: 0 done, yes, or nothing found; 1 no, or something found; 2 a file o
 writing failed, or a signal ended it; 4 a certificate or an entry was not made, because it is probably a mistake: --yes
 makes it, or for --chain --anyway
 Files are OpenSSH, PEM or S-expressions, and `-` is a stream. SPKI_LABELS names a file or folder as --labels does."""
-KEY_HELP = """Writes the SPKI key of a key of OpenSSH, PEM (SPKI, PKCS#8, PKCS#1) or an S-expression: Ed25519, RSA or ECDSA P-256.
-Of a private key it writes the public one. `spki-cert key new FILE` makes a new key: `spki-cert key new --help`."""
-NEW_KEY_HELP = """Makes a key. FILE is the private key, with mode 600 and a passphrase that is asked for on the terminal, and FILE.pub
-the public key. OpenSSH reads both."""
-SIGN_HELP = """Signs a certificate, and writes it with its signature as a sequence, which its subject shows to the service.
-What is probably a mistake is made only with --yes: a certificate without an end, for (*), for longer than its
-issuer has the right, with a tag that grants nothing, or if a request of --try is not granted. What the issuer
-cannot give by --chain is signed only with --anyway."""
-ENTRY_HELP = """Writes an entry of an access list: what a key, a hash or a name may do. With --acl it is put at the end of that list, which is
-made if it is not there. What is probably a mistake is written only with --yes, as by `spki-cert sign`."""
-NAME_HELP = """Signs a certificate that defines a name: the issuer calls the subject so. Rights that are given to the name are the subject's."""
-SHOW_HELP = """Shows access lists, certificates, sequences and cases: who, to whom, what, until when, delegated or not, and valid or not."""
-ASK_HELP = """Decides a request by an access list and certificates, as a service does, and says why or why not. All certificates
-that are given are looked through for a chain from the list to the key. The words after the options are the request."""
-CHECK_HELP = """Checks each file that is given, and each file of a folder: S-expressions (.sexp, .csexp, .tsexp, or no suffix) and keys. Prints
-what a service would refuse, with line and column, and what is legal and probably a mistake. Lines with `refused:` are errors."""
 
 
 class Once(argparse._StoreAction):
@@ -114,105 +96,135 @@ def plain(text: str) -> str:
 
 
 FLAG: dict[str, Any] = {"action": "store_true"}
+FILE: dict[str, Any] = {"metavar": "FILE", "type": some}
+DATE: dict[str, Any] = {"metavar": "DATE", "type": lambda text: moment_of(some(text))}
 MANY: dict[str, Any] = {"action": "append", "default": []}
-# The options that several commands have, with what argparse is told of each.
+# What argparse is told of each option and word. Where a command has its own, the name of the command is in front.
 OPTIONS: dict[str, dict[str, Any]] = {
+    "files": {"metavar": "FILE", "nargs": "+"},
+    "key files": {"metavar": "FILE", "nargs": "+", "help": "a key"},
+    "end files": {"metavar": "FILE", "nargs": "*", "help": "a sequence, whose last certificate is meant, or a certificate"},
+    "file": {**FILE, "help": "the private key to make; the public key is FILE.pub"},
+    "paths": {"metavar": "PATH", "nargs": "+"},
+    "words": {"metavar": "WORD", "nargs": "*", "help": "the strings of the request"},
+    "--hash": {**FLAG, "help": "write the hash of the key, which may name it"},
+    "--type": {"choices": KINDS, "default": KINDS[0], "help": "ed25519 if it is not given"},
+    "--pem": {**FLAG, "help": "write the private key in PEM, which TLS programs read, instead of OpenSSH's form"},
+    "--no-passphrase": {**FLAG, "help": "do not encrypt it"},
     "--json": {**FLAG, "help": "write JSON, for programs"},
-    "--output": {"metavar": "FILE", "type": some, "help": "where to write it, instead of standard output"},
+    "--output": {**FILE, "help": "where to write it, instead of standard output"},
     "--force": {**FLAG, "help": "write over a file that is there, unless it is read or holds a key"},
-    "--svg": {"metavar": "FILE", "type": some, "help": "draw the chain, or the first file, as a picture"},
+    "--svg": {**FILE, "help": "draw the chain, or the first file, as a picture"},
     "--labels": {"metavar": "PATH", **MANY, "help": "what keys are called: public keys with comments, as authorized_keys has them, or a folder"},
-    "--at": {"metavar": "DATE", "type": some, "help": "the moment, as 2026-03-01 or 2026-03-01_12:00:00 in UTC; now if it is not given"},
+    "--at": {**DATE, "help": "the moment, as 2026-03-01 or 2026-03-01_12:00:00 in UTC; now if it is not given"},
+    "--braces": {**FLAG, "help": "write each file on one line in braces instead, as `Authorization: SPKI {..}` has it"},
     "--key": {"metavar": "N", "type": count_of, "dest": "number", "help": "which key of a file of public keys, if it has several"},
     "--by": {"metavar": "KEY", "required": True, "type": some, "help": "who signs: a private key, or a public key that ssh-agent holds"},
     "--to": {"metavar": "KEY", "type": some, "help": "the subject: a file with its key, or an S-expression as '(hash sha256 #..#)'"},
     "--named": {"metavar": "NAME", **MANY, "type": plain, "help": "a name of --to, instead of the key itself, or without --to of the issuer"},
+    "--name": {"metavar": "NAME", "required": True, "type": plain, "help": "the name that the issuer gives to the subject"},
     "--tag": {"metavar": "TAG", "help": "the requests that are allowed, as '(packages read (* prefix /web/))'"},
+    "sign --tag": {"metavar": "TAG", "required": True, "help": "the requests that are allowed, as '(packages read (* prefix /web/))'"},
     "--propagate": {**FLAG, "help": "the subject may delegate the right"},
     "--try": {"metavar": "WORD", "nargs": "+", **MANY, "dest": "tries", "help": "a request that the tag is to contain, by its words"},
-    "--from": {"metavar": "DATE", "type": some, "dest": "begins", "help": "valid from this day or moment on"},
+    "--from": {**DATE, "dest": "begins", "help": "valid from this day or moment on"},
+    "--days": {"metavar": "N", "type": count_of, "help": "valid for so many days from now"},
+    "--until": {**DATE, "type": lambda text: moment_of(some(text), DAY_ENDS), "help": "valid until this day or moment, in UTC"},
     "--comment": {"metavar": "TEXT", "type": plain, "help": "a comment, which grants nothing"},
+    f"{NEW_KEY} --comment": {"metavar": "TEXT", "type": plain, "help": "what the key is called; the name of the file if it is not given"},
     "--yes": {**FLAG, "help": "make it although it is probably a mistake"},
-    "--chain": {"metavar": "FILE", "type": some, "help": "the sequence by which the issuer has the right: it is verified, and written in front"},
-    "--anyway": {**FLAG, "help": "make it although by --chain its issuer cannot give it"}}
+    "end --yes": {**FLAG, "help": "adopt it although it has no digests, or fewer than it says"},
+    "--chain": {**FILE, "help": "the sequence by which the issuer has the right: it is verified, and written in front"},
+    "--anyway": {**FLAG, "help": "make it although by --chain its issuer cannot give it"},
+    "--acl": {**FILE, "help": "the access list to put it in, which is made if it is not there"},
+    "--remove": {**FLAG, "help": "remove the entries for --to from the list instead"},
+    "ask --acl": {**FILE, "help": "the access list"},
+    "ask --key": {**FILE, "help": "the key that requests"},
+    "--cert": {"metavar": "PATH", "nargs": "+", "action": "extend", "default": [],
+               "help": "sequences with certificates, or folders of them; put -- before the request if it is the last option"},
+    "--case": {**FILE, "help": "a whole case instead, whose rows say which signatures are valid"},
+    "--open": {**FLAG, "help": "the open policy, under which hashes by SHA-1 name keys"},
+    "--save": {**FILE, "help": "write the case of the decision, for `spki check`"},
+    "--sequence": {**FILE, "help": "write the certificates of the decision, in order, to be shown to the service"},
+    "--ended": {"metavar": "FILE", "required": True, "help": "the file of the digests that no longer count"},
+    "--place": {"metavar": "N", "type": int, "help": "the N-th certificate of FILE, instead of the last one"},
+    "--digest": {"metavar": "HEX", **MANY, "help": "the SHA-256 of a certificate, as the log of spki-authd has it"},
+    "--reason": {"metavar": "TEXT", "default": "", "help": "why it ends: it is written behind the digest, with the date"},
+    "address": {"metavar": "URL"},
+    "request words": {"metavar": "OPTION", "nargs": "*", "help": "after --: more options of curl"},
+    "request --cert": {**FILE, "help": "the sequence with the certificates of this key, which is sent and signed too"},
+    "--method": {"metavar": "METHOD", "help": "GET if it is not given, and PUT with --body"},
+    "--body": {**FILE, "help": "the body of the request, whose digest is signed"},
+    "--keep": {**FLAG, "help": "ask the service to keep the certificates of --cert for this key"},
+    "--curl": {**FLAG, "help": "have curl send the request"},
+    "--undo": {**FLAG, "help": "take the digests out again: spki-authd then needs -reload -fewer"},
+    "--list": {**FLAG, "help": "print the digests with date and reason, and the last line of the file"},
+    "--adopt": {**FLAG, "help": "take the lines of a file without a last line, or with a wrong one, as they are"}}
 SHORT = {"--output": ["-o"]}
-FIELDS = ("--to", "--key", "--named", "--from", "--comment", "--yes", "--force")
-SIGNS = (*FIELDS, "--by", "--chain", "--anyway", "--output")
-RIGHT = ("--propagate", "--try")
-SHOWS = ("--labels", "--at", "--json", "--svg", "--force")
+FIELDS = "--to --key --named --from --comment --yes --force --days|--until"
+# What each command does, in one line and in several, an example, and its options and words. Of those between `|` one may be given.
+COMMANDS: dict[str, tuple[str | None, str | None, str, str]] = {
+    "key": ("write a key as SPKI has it, or make one: key new FILE", """\
+Writes the SPKI key of a key of OpenSSH, PEM (SPKI, PKCS#8, PKCS#1) or an S-expression: Ed25519, RSA or ECDSA P-256.
+Of a private key it writes the public one. `spki-cert key new FILE` makes a new key: `spki-cert key new --help`.""",
+            "key --hash ~/.ssh/id_ed25519.pub", "files --key --json --output --force --hash"),
+    NEW_KEY: (None, """\
+Makes a key. FILE is the private key, with mode 600 and a passphrase that is asked for on the terminal, and FILE.pub
+the public key. OpenSSH reads both.""", "key new alice", "file --type --comment --pem --no-passphrase"),
+    "sign": ("sign a certificate that gives a right", """\
+Signs a certificate, and writes it with its signature as a sequence, which its subject shows to the service.
+What is probably a mistake is made only with --yes: a certificate without an end, for (*), for longer than its
+issuer has the right, with a tag that grants nothing, or if a request of --try is not granted. What the issuer
+cannot give by --chain is signed only with --anyway.""",
+             "sign --by alice --to bob.pub --tag '(packages (* set read write))' --days 30 -o to-bob.sexp",
+             f"{FIELDS} --by --chain --anyway --output --propagate --try --tag"),
+    "name": ("sign a certificate that defines a name", """\
+Signs a certificate that defines a name: the issuer calls the subject so. Rights that are given to the name are the subject's.""",
+             "name --by alice --name builders --to bob.pub --days 365 -o bob-builds.sexp", f"{FIELDS} --by --chain --anyway --output --name"),
+    "entry": ("write an entry of an access list", """\
+Writes an entry of an access list: what a key, a hash or a name may do. With --acl it is put at the end of that list, which is
+made if it is not there. What is probably a mistake is written only with --yes, as by `spki-cert sign`.""",
+              "entry --to alice.pub --tag '(packages)' --propagate --acl acl.sexp", f"{FIELDS} --tag --propagate --try --output|--acl --remove"),
+    "show": ("say in words what a list, a certificate, a sequence or a case says", """\
+Shows access lists, certificates, sequences and cases: who, to whom, what, until when, delegated or not, and valid or not.""",
+             "show acl.sexp to-bob.sexp", "files --labels --at --json --svg --force --braces"),
+    "ask": ("decide a request, and say why", """\
+Decides a request by an access list and certificates, as a service does, and says why or why not. All certificates
+that are given are looked through for a chain from the list to the key. The words after the options are the request.""",
+            "ask --acl acl.sexp --key bob.pub --cert to-bob.sexp -- packages read /web/index.html",
+            "words --labels --at --json --svg --force --acl --key --cert --case --open --save --sequence"),
+    "check": ("say what is wrong in files, and what is probably a mistake", """\
+Checks each file that is given, and each file of a folder: S-expressions (.sexp, .csexp, .tsexp, or no suffix) and keys. Prints
+what a service would refuse, with line and column, and what is legal and probably a mistake. Lines with `refused:` are errors.""",
+              "check certificates/", "paths --json"),
+    "end": ("end a certificate before its date", """\
+Ends certificates before their date: puts their digests into the file that `spki-authd` reads as "ended". They count from the next
+reload on. Of a FILE its last certificate is meant, or that of --place. Without FILE and --digest it makes the file if it is not there.
+
+The file has a last line with the number and the digest of the others, and is refused if it was cut or changed by hand.""",
+            "end to-bob.sexp --reason 'laptop stolen' --ended ended", "files --ended --place --digest --reason --undo|--list|--adopt --yes"),
+    "request": ("sign an HTTP request, and print its fields or have curl send it", """\
+Signs an HTTP request (RFC 9421), and prints the fields that prove it: curl takes them by `-H @-`. They count for this request
+alone, once, and for 300 seconds. With --curl it has curl send the request, and the words after -- are more options of curl. KEY is
+the file of a private key, or of the public one of a key that ssh-agent holds.""",
+                "request --by alice https://files.example.org/web/index.html", "address words --by --cert --method --body --keep --curl"),
+    "completion": ("write the completion of bash: eval \"$(spki-cert completion)\"", None, "", "")}
 
 
 def parser_of_commands() -> argparse.ArgumentParser:
     """The words of the command line."""
     parser = Words(prog="spki-cert", description=DESCRIPTION, epilog=EPILOG)
     parser.add_argument("--version", action="version", version=f"spki-cert {__version__}", help="write the version")
+    parser.set_defaults(name=None, tag=None, propagate=False, tries=[])
     commands = parser.add_subparsers(dest="command", required=True, metavar="COMMAND")
-
-    def added(name: str, told: str, long: str, epilog: str, *options: str) -> argparse.ArgumentParser:
-        command = commands.add_parser(name, help=told, description=long, epilog=epilog)
-        for option in options:
-            command.add_argument(*SHORT.get(option, []), option, **OPTIONS[option])
-        return command
-
-    key = added("key", "write a key as SPKI has it, or make one: key new FILE", KEY_HELP,
-                "example: spki-cert key --hash ~/.ssh/id_ed25519.pub", "--key", "--json", "--output", "--force")
-    key.add_argument("files", metavar="FILE", nargs="+", help="a key")
-    key.add_argument("--hash", action="store_true", help="write the hash of the key, which may name it")
-    new = commands.add_parser(NEW_KEY, prog="spki-cert key new", description=NEW_KEY_HELP, epilog="example: spki-cert key new alice")
-    new.add_argument("file", metavar="FILE", type=some, help="the private key to make; the public key is FILE.pub")
-    new.add_argument("--type", choices=KINDS, default=KINDS[0], help="ed25519 if it is not given")
-    new.add_argument("--comment", metavar="TEXT", type=plain, help="what the key is called; the name of the file if it is not given")
-    new.add_argument("--pem", action="store_true", help="write the private key in PEM, which TLS programs read, instead of OpenSSH's form")
-    new.add_argument("--no-passphrase", action="store_true", help="do not encrypt it")
-    with_rights(
-        added("sign", "sign a certificate that gives a right", SIGN_HELP, "example: spki-cert sign --by alice --to bob.pub "
-              "--tag '(packages (* set read write))' --days 30 -o to-bob.sexp", *SIGNS, *RIGHT),
-        added("name", "sign a certificate that defines a name", NAME_HELP, "example: spki-cert name --by alice --name builders --to bob.pub "
-              "--days 365 -o bob-builds.sexp", *SIGNS),
-        added("entry", "write an entry of an access list", ENTRY_HELP, "example: spki-cert entry --to alice.pub --tag '(packages)' --propagate "
-              "--acl acl.sexp", *FIELDS, "--tag", *RIGHT))
-    show = added("show", "say in words what a list, a certificate, a sequence or a case says", SHOW_HELP,
-                 "example: spki-cert show acl.sexp to-bob.sexp", *SHOWS)
-    show.add_argument("files", metavar="FILE", nargs="+")
-    show.add_argument("--braces", action="store_true", help="write each file on one line in braces instead, as `Authorization: SPKI {..}` has it")
-    with_ask(added("ask", "decide a request, and say why", ASK_HELP,
-                   "example: spki-cert ask --acl acl.sexp --key bob.pub --cert to-bob.sexp -- packages read /web/index.html", *SHOWS))
-    check = added("check", "say what is wrong in files, and what is probably a mistake", CHECK_HELP,
-                  "example: spki-cert check certificates/", "--json")
-    check.add_argument("paths", metavar="PATH", nargs="+")
-    commands.add_parser("completion", help="write the completion of bash: eval \"$(spki-cert completion)\"")
-    from .ending import with_end
-    from .requesting import REQUEST_HELP, with_request
-    with_end(commands.add_parser("end", help="end a certificate before its date"))
-    with_request(added("request", "sign an HTTP request, and print its fields or have curl send it", REQUEST_HELP,
-                       "example: spki-cert request --by alice https://files.example.org/web/index.html"))
+    for name, (told, long, example, words) in COMMANDS.items():
+        is_listed: dict[str, Any] = {"help": told} if told else {"prog": "spki-cert key new"}
+        command = commands.add_parser(name, description=long, epilog=f"example: spki-cert {example}" if example else None, **is_listed)
+        for group in words.split():
+            place = command.add_mutually_exclusive_group() if "|" in group else command
+            for word in group.split("|"):
+                place.add_argument(*SHORT.get(word, []), word, **OPTIONS.get(f"{name} {word}", OPTIONS.get(word, {})))
     return parser
-
-
-def with_rights(sign: argparse.ArgumentParser, name: argparse.ArgumentParser, entry: argparse.ArgumentParser) -> None:
-    sign.add_argument("--tag", required=True, **OPTIONS["--tag"])
-    name.add_argument("--name", metavar="NAME", required=True, type=plain, help="the name that the issuer gives to the subject")
-    output = entry.add_mutually_exclusive_group()
-    output.add_argument("-o", "--output", **OPTIONS["--output"])
-    output.add_argument("--acl", metavar="FILE", type=some, help="the access list to put it in, which is made if it is not there")
-    entry.add_argument("--remove", action="store_true", help="remove the entries for --to from the list instead")
-    for each in (sign, name, entry):
-        each.set_defaults(name=None, tag=None, propagate=False, tries=[])
-        ends = each.add_mutually_exclusive_group()
-        ends.add_argument("--days", metavar="N", type=count_of, help="valid for so many days from now")
-        ends.add_argument("--until", metavar="DATE", type=some, help="valid until this day or moment, in UTC")
-
-
-def with_ask(ask: argparse.ArgumentParser) -> None:
-    ask.add_argument("--acl", metavar="FILE", type=some, help="the access list")
-    ask.add_argument("--key", metavar="FILE", type=some, help="the key that requests")
-    ask.add_argument("--cert", metavar="PATH", nargs="+", action="extend", default=[],
-                     help="sequences with certificates, or folders of them; put -- before the request if it is the last option")
-    ask.add_argument("--case", metavar="FILE", type=some, help="a whole case instead, whose rows say which signatures are valid")
-    ask.add_argument("--open", action="store_true", help="the open policy, under which hashes by SHA-1 name keys")
-    ask.add_argument("--save", metavar="FILE", type=some, help="write the case of the decision, for `spki check`")
-    ask.add_argument("--sequence", metavar="FILE", type=some, help="write the certificates of the decision, in order, to be shown to the service")
-    ask.add_argument("words", metavar="WORD", nargs="*", help="the strings of the request")
 
 
 COMPLETION = """_spki_cert() {{

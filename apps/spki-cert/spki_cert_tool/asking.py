@@ -7,7 +7,7 @@ from __future__ import annotations
 
 import itertools
 import sys
-from collections.abc import Hashable, Iterable, Iterator
+from collections.abc import Hashable, Iterator
 from dataclasses import dataclass, field, replace
 from typing import TYPE_CHECKING
 
@@ -16,11 +16,10 @@ from .certificates import (Keys, Signed, Steps, Terms, certificates_in, chains, 
 from .certificates import field as field_of
 from .files import Refused, now
 from .forms import Parser, meant
-from .keys import principal_of, verify
-from .labels import Labels
+from .keys import hash_of, principal_of
 from .making import sequence_with
 from .sexp import Value, canonical, on_one_line, read
-from .showing import FAULTS
+from .showing import FAULTS, Labels
 from .tag_words import lacks
 
 if TYPE_CHECKING:
@@ -51,11 +50,10 @@ class Asked:
 
     def verify(self, key: bytes, message: bytes, value: bytes) -> bool:
         """Whether a signature counts."""
+        from spki_verify import verify_texts
         if self.accepted is None:
-            return message == self.unsigned or verify(key, message, value)
-        from .keys import hash_of
-        row = [b"by", read(key), hash_of(read(message)), read(value)]
-        return row in self.accepted
+            return message == self.unsigned or verify_texts(key=key, message=message, value=value)
+        return [b"by", read(key), hash_of(read(message)), read(value)] in self.accepted
 
 
 @dataclass
@@ -74,6 +72,10 @@ class Answer:
     @property
     def chosen(self) -> Reason | None:
         return furthest(self.reasons)
+
+    def left(self, entry: int) -> Value:
+        """What is left of an entry at the end of the chain."""
+        return Parser(self.reduced[entry - 1].split(" ", 2)[2].encode()).whole().value
 
 
 def furthest(reasons: list[Reason]) -> Reason | None:
@@ -135,8 +137,8 @@ def rank(answer: Answer) -> tuple[bool, int]:
 def sequences_to(asked: Asked, steps: Steps) -> Iterator[Value]:
     """The sequences of the chains that lead from an entry to the key, of all certificates at hand: of those whose signatures are valid, and if
     there is none, of all, so that it can be said what stops them."""
-    keys = Keys([asked.key, *itertools.chain.from_iterable(map(keys_in, asked.sequences)), *asked.labels.keys.by_hash.values()])
-    certificates = list(itertools.chain.from_iterable(map(certificates_in, asked.sequences)))
+    keys = Keys([asked.key, *(key for one in asked.sequences for key in keys_in(one)), *asked.labels.keys.by_hash.values()])
+    certificates = [it for one in asked.sequences for it in certificates_in(one)]
     valid = [it for it in certificates if asked.accepted is not None or fault_of_signature(it, keys) is None]
     entries, count = entries_of(asked.access_list), 0
     for chain in itertools.islice(chains(entries, valid, keys, asked.key, steps), MOST_CHAINS):
@@ -154,7 +156,6 @@ def case_of(asked: Asked, sequence: Value) -> Value:
         key = keys.named(each.terms.issuer or b"")
         value = members(each.signature)[2]
         if key is not None and asked.verify(canonical(key), canonical(each.terms.value), canonical(value)):
-            from .keys import hash_of
             rows.append([b"by", key, hash_of(each.terms.value), value])
     policy: list[Value] = [[b"policy", b"strict"]] if asked.is_strict else []
     return [b"case", asked.access_list, [b"accepted", *rows], sequence, [b"key", asked.key], [b"request", asked.request], [b"at", asked.moment],
@@ -209,15 +210,12 @@ class Words:
         if chosen.word == "grants":
             yield f"  so entry {chosen.entry} grants it"
             return
-        item = self.item(chosen)
+        item = next((it for it in self.chain if it.number == chosen.item), None)
         said = {"TagLacks": self.tag_lacks, "WindowLacks": self.window_lacks, "NotTheKey": self.not_the_key}.get(chosen.word)
         if said is not None:
             yield from (f"  {line} ({chosen.word})" for line in said(chosen))
         elif item is not None:
             yield f"  item {item.number}: {self.stop(item, chosen)} ({chosen.word})"
-
-    def item(self, chosen: Reason) -> Signed | None:
-        return next((it for it in self.chain if it.number == chosen.item), None)
 
     def before(self, chosen: Reason) -> list[tuple[str, Terms]]:
         """The entry and the certificates before the item that stops the chain, each with its name."""
@@ -238,8 +236,7 @@ class Words:
                 yield f"{name} begins on {terms.begins.decode()}"
 
     def not_the_key(self, chosen: Reason) -> Iterator[str]:
-        holder = self.holder(chosen)
-        _, names, _ = subject_of_chain([terms for _, terms in self.before(chosen)])
+        holder, names = self.holder(chosen)
         if names:
             defined = {it.terms.name: self.labels.of(it.terms.issuer) for one in self.asked.sequences for it in certificates_in(one) if it.terms.name}
             others = [f"; there is {on_one_line(name)} of {issuer}, which is another name" for name, issuer in defined.items()
@@ -248,40 +245,28 @@ class Words:
         else:
             yield f"the right ends at {holder}, and {self.asker} is another key"
 
-    def holder(self, chosen: Reason) -> str:
-        """Who has the right where the chain stops."""
-        principal, names, _ = subject_of_chain([terms for _, terms in self.before(chosen)])
-        return self.labels.of_subject([b"name", principal, *names] if names else principal)
+    def holder(self, chosen: Reason) -> tuple[str, list[Value]]:
+        """Who has the right where the chain stops, if the certificates before join, and by which names."""
+        principal: Value = b""
+        names: list[Value] = []
+        for _, terms in self.before(chosen):
+            principal, names = terms.principal, [*terms.names, *(names[1:] if terms.name is not None else [])]
+        return self.labels.of_subject([b"name", principal, *names] if names else principal), names
 
     def stop(self, item: Signed, chosen: Reason) -> str:
         """Why a certificate stops the chain."""
         if chosen.word in FAULTS:
             return FAULTS[chosen.word]
-        issuer, holder = self.labels.of(item.terms.issuer), self.holder(chosen)
-        names = subject_of_chain(it for _, it in self.before(chosen))[1]
+        issuer, (holder, names) = self.labels.of(item.terms.issuer), self.holder(chosen)
         is_meant = meant(item.terms.name, [string_of(it) or b"" for it in names[:1]])
         if chosen.word == "NoTag":
-            return f"its tag and the tags before it have no request in common: {self.tags(chosen, item)}"
+            tags = [terms.tag for _, terms in self.before(chosen)] + [item.terms.tag]
+            return f"its tag and the tags before it have no request in common: {' and '.join(on_one_line(tag) for tag in tags if tag is not None)}"
         return {
             "NotIssuer": f"{issuer} issues it, and the right is with {holder} there",
             "NotTheName": f"it defines {on_one_line(item.terms.name or b'')} of {issuer}, and the right is with {holder} there{is_meant}",
             "NoDelegation": f"{issuer} may not delegate the right: what comes before it has no (propagate)",
             "NoValidity": f"it is valid {item.terms.window}, and no moment of that is in the windows before it"}[chosen.word]
-
-    def tags(self, chosen: Reason, item: Signed) -> str:
-        tags = [terms.tag for _, terms in self.before(chosen)] + [item.terms.tag]
-        return " and ".join(on_one_line(tag) for tag in tags if tag is not None)
-
-
-def subject_of_chain(chain: Iterable[Terms]) -> tuple[Value, list[Value], bool]:
-    """Where a chain leads, if its certificates join: the principal, the names that are left, and whether the right may be delegated."""
-    principal: Value = b""
-    names: list[Value] = []
-    delegates = True
-    for terms in chain:
-        names = [*terms.names, *(names[1:] if terms.name is not None else [])]
-        principal, delegates = terms.principal, delegates if terms.name is not None else terms.delegates
-    return principal, names, delegates
 
 
 def asked_of_case(case: Value, labels: Labels) -> Asked:
@@ -319,7 +304,7 @@ def left_of(subject: Value, sequence: Value, certificate: Value, key: Value, lab
         answer = answer_of(guard, asked, sequence)
     if answer.chosen is not None and answer.chosen.word not in JOINED:
         return b"", [line.strip() for line in Words(asked, answer).end(answer.chosen)]
-    return only(field_of(Parser(answer.reduced[0].split(" ", 2)[2].encode()).whole().value, b"tag")) or b"", []
+    return only(field_of(answer.left(1), b"tag")) or b"", []
 
 
 def unordered(tag: Value) -> Hashable:

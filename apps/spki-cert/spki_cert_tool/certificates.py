@@ -1,12 +1,12 @@
 """What entries and certificates say: who gives what to whom, until when, and whether it may be delegated."""
-from __future__ import annotations
-
+import contextlib
 import hashlib
+import re
 from collections import deque
 from collections.abc import Iterable, Iterator
 from dataclasses import dataclass
-from typing import ClassVar
 from datetime import datetime
+from typing import ClassVar, NamedTuple
 
 from .keys import hash_of, verifies
 from .sexp import Value, canonical
@@ -72,41 +72,27 @@ class Terms:
         begins = f"from {self.begins.decode()} " if self.begins else ""
         return begins + (f"until {self.ends.decode()}" if self.ends else "without end")
 
-    def contains_moment(self, moment: bytes) -> bool:
-        """Whether a moment is in the window."""
-        return (self.begins is None or self.begins <= moment) and (self.ends is None or moment <= self.ends)
+    def state(self, moment: bytes) -> str:
+        """Whether it is valid at a moment, in words."""
+        if self.ends is not None and self.ends < moment:
+            return "ENDED"
+        return "NOT YET VALID" if self.begins is not None and self.begins > moment else "valid now"
 
 
-def limit_of(value: Value, head: bytes) -> bytes | None:
-    """A limit of the window, given directly or in `(valid ..)`."""
-    return string_of(only(field(value, head) or field(field(value, b"valid") or b"", head)))
-
-
-def comment_of(value: Value) -> str:
-    """The comment of an entry or a certificate."""
-    strings = map(string_of, members(field(value, b"comment") or b""))
-    return " ".join(it.decode(errors="replace") for it in strings if it is not None)
-
-
-def terms_of(value: Value, issuer: Value | None, name: bytes | None, subject: Value) -> Terms:
-    """The terms of an entry or a certificate, of which the parts that differ are given."""
-    return Terms(value, issuer, name, subject, only(field(value, b"tag")), limit_of(value, b"not-before"), limit_of(value, b"not-after"),
-                 field(value, b"propagate") is not None, comment_of(value))
-
-
-def terms_of_entry(value: Value) -> Terms:
-    return terms_of(value, None, None, members(value)[0])
-
-
-def terms_of_certificate(value: Value) -> Terms:
-    """The terms of a certificate. A relative name is one of the issuer."""
-    issuer, subject, name = only(field(value, b"issuer")) or b"", only(field(value, b"subject")) or b"", None
-    if headed(issuer, b"name"):
-        issuer, defined = members(issuer)[0], members(issuer)[1]
-        name = string_of(defined)
-    if headed(subject, b"name") and not headed(members(subject)[0], b"public-key", b"hash"):
-        subject = [b"name", issuer, *members(subject)]
-    return terms_of(value, issuer, name, subject)
+def terms_of(value: Value) -> Terms:
+    """The terms of an entry or a certificate. A relative name is one of the issuer. A limit of the window may be in `(valid ..)`."""
+    issuer, name, subject = None, None, members(value)[0]
+    if headed(value, b"cert"):
+        issuer, subject = only(field(value, b"issuer")) or b"", only(field(value, b"subject")) or b""
+        if headed(issuer, b"name"):
+            issuer, name = members(issuer)[0], string_of(members(issuer)[1])
+        if headed(subject, b"name") and not headed(members(subject)[0], b"public-key", b"hash"):
+            subject = [b"name", issuer, *members(subject)]
+    valid = field(value, b"valid") or b""
+    begins, ends = (string_of(only(field(value, head) or field(valid, head))) for head in (b"not-before", b"not-after"))
+    comments = map(string_of, members(field(value, b"comment") or b""))
+    return Terms(value, issuer, name, subject, only(field(value, b"tag")), begins, ends, field(value, b"propagate") is not None,
+                 " ".join(it.decode(errors="replace") for it in comments if it is not None))
 
 
 def remarks_on_window(begins: bytes | None, ends: bytes | None, moment: bytes, what: str = "it") -> Iterator[tuple[bytes, str]]:
@@ -121,20 +107,18 @@ def remarks_on_window(begins: bytes | None, ends: bytes | None, moment: bytes, w
 
 
 def is_in_calendar(moment: bytes) -> bool:
-    try:
-        datetime.strptime(moment.decode(), DATE_FORMAT)
-    except ValueError:
-        return moment.endswith(b":60")
-    return True
+    """Whether a calendar has a moment. A minute may have a leap second."""
+    with contextlib.suppress(ValueError):
+        return bool(datetime.strptime(re.sub(":60$", ":59", moment.decode()), DATE_FORMAT))
+    return False
 
 
 def entries_of(access_list: Value) -> list[Terms]:
     """The entries of an access list."""
-    return [terms_of_entry(member) for member in members(access_list) if headed(member, b"entry")]
+    return [terms_of(member) for member in members(access_list) if headed(member, b"entry")]
 
 
-@dataclass(frozen=True)
-class Signed:
+class Signed(NamedTuple):
     """A certificate of a sequence with its signature, and the number of its item."""
 
     terms: Terms
@@ -155,7 +139,7 @@ def certificates_in(sequence: Value) -> list[Signed]:
         if headed(item, b"cert"):
             waits = item, number
         elif headed(item, b"signature") and waits:
-            found.append(Signed(terms_of_certificate(waits[0]), item, waits[1]))
+            found.append(Signed(terms_of(waits[0]), item, waits[1]))
             waits = None
     return found
 

@@ -1,21 +1,18 @@
 """Checks files: what a service would refuse, with the place, and what is legal and probably a mistake."""
-from __future__ import annotations
-
 import itertools
 import os
 from collections.abc import Iterator
-from dataclasses import dataclass
+from typing import NamedTuple
 
-from .certificates import Keys, certificates_in, fault_of_signature, keys_in, remarks_on_window, terms_of_certificate, terms_of_entry
+from .certificates import Keys, certificates_in, fault_of_signature, keys_in, remarks_on_window, terms_of
 from .files import Refused, octets_of, remark_on_mode
 from .forms import Node, Wrong, meant
 from .keys import ENCRYPTED, BadKey, is_key_file, is_private, is_text, kind_of, no_passphrase, pieces_of, public_of, read_public
 from .places import BY_HEAD, line_and_column, places_of, read_text, refusal
 from .sexp import on_one_line
 from .showing import FAULTS, what_is
-from .structures import read_certificate, read_entry, read_hash, read_signature
+from .structures import read_certificate, read_entry, read_hash, read_signature, read_tag
 from .tag_words import contains, is_everything, remarks
-from .tags import read_tag
 
 S_EXPRESSIONS, OTHER_KEYS = (".sexp", ".csexp", ".tsexp"), (".pub", ".pem", ".key")
 OTHERS = {b"cert": read_certificate, b"signature": read_signature, b"hash": read_hash, b"entry": read_entry}
@@ -27,8 +24,7 @@ MOST_KEYS = 1000
 MOST_COMPARED, MOST_PRODUCTS = 64, 50_000_000
 
 
-@dataclass(frozen=True)
-class Remark:
+class Remark(NamedTuple):
     """What is said of a place in a file."""
 
     path: str
@@ -40,11 +36,6 @@ class Remark:
 
     def __str__(self) -> str:
         return f"{self.path}:{self.line}:{self.column}: {'refused: ' if self.is_refused else ''}{self.text}"
-
-
-def remark(path: str, text: bytes, places: list[int] | None, at: int, is_refused: bool, why: str) -> Remark:
-    """A remark on the place at an offset. In braces it is on the place where they have the octet."""
-    return Remark(path, *(line_and_column(text, at) if places is None else (1, 1)), is_refused, why)
 
 
 def files_below(paths: list[str]) -> Iterator[tuple[str, bool]]:
@@ -59,20 +50,14 @@ def files_below(paths: list[str]) -> Iterator[tuple[str, bool]]:
             yield from ((it, False) for it in found if os.path.isfile(it) or os.path.islink(it))
 
 
-def is_of_interest(path: str, octets: bytes) -> bool:
-    """Whether a file is an S-expression or a key, by its name or by how it begins."""
-    begin = octets.lstrip()[:1]
-    _, end = os.path.splitext(path)
-    return end in S_EXPRESSIONS + OTHER_KEYS or is_key_file(octets) or not end and begin in (b"(", b"{")
-
-
 def remarks_on(path: str, moment: bytes, is_given: bool = True) -> tuple[str | None, list[Remark]]:
     """What a file is, and what is said of it. It is None if it is none that is read: one of a folder, by its name and how it begins."""
     try:
         octets = octets_of(path)
     except Refused as why:
         return "no file that can be read", [Remark(path, 1, 1, True, why.lines[0].removeprefix(f"{path}: "))]
-    if not is_given and not is_of_interest(path, octets):
+    suffix, is_list = os.path.splitext(path)[1], octets.lstrip()[:1] in (b"(", b"{")
+    if not (is_given or suffix in S_EXPRESSIONS + OTHER_KEYS or is_key_file(octets) or not suffix and is_list):
         return None, []
     if is_key_file(octets) or is_private(octets) and not is_text(octets):
         return of_key_file(path, octets)
@@ -83,27 +68,27 @@ def of_key_file(path: str, octets: bytes) -> tuple[str, list[Remark]]:
     """What a key of OpenSSH or PEM is, or a private key, and what is said of it."""
     found, kind, pieces = list[Remark](), "a file of keys", [octets] if is_private(octets) else pieces_of(octets)[:MOST_KEYS]
     for piece in pieces:
-        at = octets.find(piece)
         try:
             key = read_public(piece, no_passphrase)
             kind = f"{'a private' if is_private(octets) else 'a public'} key, {kind_of(key)}"
         except (BadKey, Wrong) as why:
             is_encrypted = is_private(octets) and str(why) == ENCRYPTED
             kind = "a private key, encrypted" if is_encrypted else kind
-            found += [] if is_encrypted else [remark(path, octets, None, at, True, str(why) if isinstance(why, BadKey) else why.why)]
+            line, column = line_and_column(octets, octets.find(piece))
+            found += [] if is_encrypted else [Remark(path, line, column, True, str(why) if isinstance(why, BadKey) else why.why)]
     found += [Remark(path, 1, 1, False, why.removeprefix(f"{path} is ")) for why in remark_on_mode(path)]
     return f"{len(pieces)} public keys" if len(pieces) > 1 else kind, found
 
 
 def of_text(path: str, octets: bytes, moment: bytes) -> tuple[str, list[Remark]]:
-    """What an S-expression is, and what is said of it."""
+    """What an S-expression is, and what is said of it. What is in braces has the place where they begin."""
     (wrong, text, places), node = read_text(octets)
     if wrong is None and node.head not in BY_HEAD:
         wrong = fault_of_other(node)
-    if wrong is not None:
-        at, why = places_of(wrong)[0]
-        return "refused", [remark(path, text, places, at, True, f"{refusal(wrong, places).removeprefix('refused ')}: {why}")]
-    return kind_of_text(node), [remark(path, text, places, at, False, why) for at, why in probable_mistakes(node, moment)]
+    said = [*probable_mistakes(node, moment)] if wrong is None else places_of(wrong)[:1]
+    begin = f"{refusal(wrong, places).removeprefix('refused ')}: " if wrong is not None else ""
+    found = [Remark(path, *(line_and_column(text, at) if places is None else (1, 1)), wrong is not None, begin + why) for at, why in said]
+    return "refused" if wrong is not None else kind_of_text(node), found
 
 
 def kind_of_text(node: Node) -> str:
@@ -168,7 +153,7 @@ def of_parts(node: Node, moment: bytes) -> Iterator[tuple[int, str]]:
 def of_terms(node: Node, moment: bytes) -> Iterator[tuple[int, str]]:
     """What is probably a mistake in an entry or a certificate."""
     is_certificate = node.head == b"cert"
-    terms = terms_of_certificate(node.value) if is_certificate else terms_of_entry(node.value)
+    terms = terms_of(node.value)
     for field in node.members or []:
         if field.head == b"tag" and field.members:
             yield from remarks(field.members[1])
@@ -187,7 +172,7 @@ def of_terms(node: Node, moment: bytes) -> Iterator[tuple[int, str]]:
 
 def of_entries(node: Node) -> Iterator[tuple[int, str]]:
     """The entries of a list that give nothing that another one does not give. Of those for one subject the first ones are compared."""
-    entries = [(it, terms_of_entry(it.value)) for it in node.rest if it.head == b"entry"]
+    entries = [(it, terms_of(it.value)) for it in node.rest if it.head == b"entry"]
     keys, by_subject = Keys(it.principal for _, it in entries), dict[object, list[int]]()
     for number, (_, terms) in enumerate(entries):
         by_subject.setdefault(on_one_line([keys.named(terms.principal) or terms.principal, *terms.names]), []).append(number)

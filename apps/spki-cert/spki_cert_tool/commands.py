@@ -1,6 +1,4 @@
 """The commands of `spki-cert`, and its exit statuses."""
-from __future__ import annotations
-
 import argparse
 import base64
 import contextlib
@@ -10,25 +8,27 @@ import signal
 import sys
 import termios
 import warnings
-from collections.abc import Callable, Iterable
+from collections.abc import Callable, Iterable, Iterator
 from typing import NoReturn
 
 from .arguments import NEW_KEY, completion, parser_of_commands
-from .certificates import headed, members
-from .files import (DAY_ENDS, READ, TERMINAL, Refused, key_at, locked, moment_of, node_of, now, octets_of, passphrase_for, put, remark_on_mode,
-                    signer_at, tell, value_of, write, write_all)
+from .certificates import headed, members, terms_of
+from .ending import end
+from .files import (READ, TERMINAL, Refused, key_at, locked, node_of, now, octets_of, passphrase_for, put, remark_on_mode, say,
+                    signer_at, tell, text_at, value_headed, value_of, write)
 from .forms import Wrong
 from .keys import BadKey, file_of, hash_of, kind_of, new_private, openssh_line, principal_of
-from .labels import Labels
-from .making import (Wish, certificate_of, entry_of, list_with, list_without, named, signed_sequence, text_of, warnings_of, warnings_of_certificate,
+from .making import (certificate_of, fields_of, list_with, list_without, signed_sequence, text_of, warnings_of, warnings_of_certificate,
                      warnings_of_list)
-from .places import BY_HEAD, read_text, told, value_in
+from .places import value_in
 from .sexp import Value, canonical, on_one_line
-from .structures import PRINCIPALS, read_certificate, read_subject
-from .tags import read_tag
+from .showing import Labels, lines_of, rows_of, what_is
+from .structures import PRINCIPALS, read_subject, read_tag
 
 DONE, NO, REFUSED, FAILED, UNCONFIRMED = 0, 1, 2, 3, 4
 ENDING = (signal.SIGHUP, signal.SIGINT, signal.SIGQUIT, signal.SIGTERM)
+SHOWN = (b"acl", b"sequence", b"case")
+NOT_SHOWN = "only an access list, a certificate, a sequence or a case is shown; for a key there is `spki-cert key`"
 Command = Callable[[argparse.Namespace], int]
 
 
@@ -39,9 +39,9 @@ def key(given: argparse.Namespace) -> int:
     keys = [(path, key_at(path, given.number, True)) for path in given.files]
     if given.json:
         rows = [{"file": path, "key": on_one_line(it), "hash": on_one_line(hash_of(it)), "algorithm": kind_of(it)} for path, it in keys]
-        write(given.output, json.dumps(rows, indent=1).encode() + b"\n", force=given.force)
+        write((given.output, json.dumps(rows, indent=1).encode() + b"\n"), force=given.force)
     else:
-        write(given.output, b"".join(text_of(hash_of(it) if given.hash else it) for _, it in keys), force=given.force)
+        write((given.output, b"".join(text_of(hash_of(it) if given.hash else it) for _, it in keys)), force=given.force)
     return DONE
 
 
@@ -57,8 +57,8 @@ def new_key(given: argparse.Namespace) -> int:
     private = new_private(given.type)
     octets = file_of(private, passphrase, given.pem)
     comment = os.fsencode(given.comment or os.path.basename(path))
-    write(path, octets, 0o600)
-    write(f"{path}.pub", openssh_line(private.public_key()) + b" " + comment + b"\n")
+    write((path, octets), mode=0o600)
+    write((f"{path}.pub", openssh_line(private.public_key()) + b" " + comment + b"\n"))
     put(f"made {path}, which is secret, and {path}.pub\n")
     return DONE
 
@@ -69,18 +69,21 @@ def new_key(given: argparse.Namespace) -> int:
 def sign(given: argparse.Namespace) -> int:
     """Signs a certificate, if nothing is probably a mistake, and its issuer can give what it says."""
     from .asking import what_cannot_be_given
-    wish = wish_of(given)
+    fields, subject = fields_given(given), subject_of(given)
     chain = value_of(given.chain, "sequence") if given.chain else None
     signer = signer_at(given.by)
-    certificate = certificate_of(wish, signer.key)
-    warnings = [*remark_on_mode(given.by), *warnings_of_certificate(wish, chain, [*map(request_of, given.tries)])]
+    certificate = certificate_of(signer.key, subject, fields, os.fsencode(given.name) if given.name is not None else None)
+    terms = terms_of(certificate)
+    # (who says 30 days means whole days: a chain that ends some hours before gives them)
+    needed = now(given.days - 1) if given.days is not None else terms.ends
+    warnings = [*remark_on_mode(given.by), *warnings_of_certificate(terms, given.tag, needed, chain, [*map(request_of, given.tries)])]
     try:
         cannot = what_cannot_be_given(chain, certificate, signer.key, os.path.basename(given.by)) if chain is not None else []
     except Refused as why:
         cannot = list(why.lines)
     if not all([is_confirmed(given.anyway, "--anyway", cannot), is_confirmed(given.yes, "--yes", warnings)]):
         return UNCONFIRMED
-    write(given.output, text_of(signed_sequence(certificate, signer, chain)), force=given.force)
+    write((given.output, text_of(signed_sequence(certificate, signer, chain))), force=given.force)
     return DONE
 
 
@@ -99,14 +102,14 @@ def entry(given: argparse.Namespace) -> int:
 
 def add(given: argparse.Namespace) -> int:
     """Writes an entry for a subject, into an access list if there is one."""
-    wish = wish_of(given)
-    made = entry_of(wish)
+    made: Value = [b"entry", subject_of(given), *fields_given(given)]
     is_there = given.acl == "-" or given.acl is not None and os.path.exists(given.acl)
     before = list_at(given.acl) if is_there else b"(acl)"
     text = list_with(made, before)
-    if not is_confirmed(given.yes, "--yes", [*warnings_of(wish, [*map(request_of, given.tries)]), *warnings_of_list(made, before)]):
+    warnings = [*warnings_of(terms_of(made), given.tag, [*map(request_of, given.tries)]), *warnings_of_list(made, before)]
+    if not is_confirmed(given.yes, "--yes", warnings):
         return UNCONFIRMED
-    write(given.acl or given.output, text if given.acl else text_of(made), force=given.force, edits=is_there)
+    write((given.acl or given.output, text if given.acl else text_of(made)), force=given.force, edits=is_there)
     return say("entries added: 1", is_aside=given.acl == "-") if given.acl else DONE
 
 
@@ -114,7 +117,7 @@ def remove(given: argparse.Namespace) -> int:
     """Removes the entries for a subject from an access list."""
     text, count = list_without(subject_of(given), list_at(given.acl))
     if count or given.acl == "-":
-        write(given.acl, text, edits=True)
+        write((given.acl, text), edits=True)
     say(f"entries removed: {count}{'' if count else f'; no entry of {given.acl} is for this subject'}", is_aside=given.acl == "-")
     return DONE if count else NO
 
@@ -123,20 +126,7 @@ def list_at(path: str) -> bytes:
     """The text of an access list that is edited. It must be one that a service takes."""
     if path != "-" and os.path.exists(path) and not os.path.isfile(path):
         raise Refused(f"{path}: this is no regular file, and only such a list is edited; nothing was written")
-    octets = octets_of(path)
-    found, _ = read_text(octets, "refused acl")
-    if found[0] is not None:
-        raise Refused(*told(path, found))
-    return octets
-
-
-def say(*lines: str, is_aside: bool = False) -> int:
-    """Writes lines to standard output, or to standard error beside what standard output gets."""
-    if is_aside:
-        tell(*lines)
-    else:
-        put("".join(f"{line}\n" for line in lines))
-    return DONE
+    return text_at(path, "refused acl")[0]
 
 
 def is_confirmed(is_wanted: bool, option: str, warnings: Iterable[str]) -> bool:
@@ -148,14 +138,12 @@ def is_confirmed(is_wanted: bool, option: str, warnings: Iterable[str]) -> bool:
     return is_wanted or not said
 
 
-def wish_of(given: argparse.Namespace) -> Wish:
-    """What the certificate or the entry is to say."""
+def fields_given(given: argparse.Namespace) -> list[Value]:
+    """The fields of the certificate or of the entry."""
     if given.tag is None and given.name is None:
         raise Refused("a right needs --tag")
-    tag = node_of(given.tag, "--tag", lambda node: read_tag(node, [0])) if given.tag is not None else None
-    ends = now(given.days) if given.days is not None else moment_of(given.until, DAY_ENDS) if given.until is not None else None
-    return Wish(subject_of(given), os.fsencode(given.name) if given.name is not None else None, tag, given.tag or "",
-                moment_of(given.begins) if given.begins is not None else None, ends, given.propagate, given.comment or "")
+    tag = node_of(os.fsencode(given.tag), "--tag", lambda node: read_tag(node, [0])).value if given.tag is not None else None
+    return fields_of(tag, given.begins, now(given.days) if given.days is not None else given.until, given.propagate, given.comment or "")
 
 
 def subject_of(given: argparse.Namespace) -> Value:
@@ -163,9 +151,12 @@ def subject_of(given: argparse.Namespace) -> Value:
     if given.to is None:
         if not given.named:
             raise Refused("a certificate needs --to, or --named for a name of the issuer")
-        return named(None, given.named)
+        return [b"name", *map(os.fsencode, given.named)]
     is_itself = given.to.lstrip().startswith(("(", "{"))
-    subject = named(node_of(given.to, "--to", read_subject).value if is_itself else principal_of(key_at(given.to, given.number)), given.named)
+    to = node_of(os.fsencode(given.to), "--to", read_subject).value if is_itself else principal_of(key_at(given.to, given.number))
+    if headed(to, b"name") and given.named:
+        raise Refused("--to is a name already, so --named is one too many")
+    subject: Value = [b"name", to, *map(os.fsencode, given.named)] if given.named else to
     if given.command == "entry" and headed(subject, b"name") and not headed(members(subject)[0], *PRINCIPALS):
         raise Refused(f"--to {given.to}: a name in an entry needs the key that defines it: give --to KEY --named NAME")
     return subject
@@ -183,40 +174,20 @@ def request_of(words: list[str]) -> Value:
 def labels_of(given: argparse.Namespace, *paths: str) -> Labels:
     """What keys are called: by the paths that are given, and by SPKI_LABELS."""
     labels = Labels()
-    more = os.environ.get("SPKI_LABELS")
-    for path in [*given.labels, *([more] if more else []), *paths]:
+    for path in (it for it in (*given.labels, os.environ.get("SPKI_LABELS", ""), *paths) if it):
         labels.add_path(path)
     return labels
 
 
-def moment_given(given: argparse.Namespace) -> bytes:
-    """The moment that is given, or now."""
-    return moment_of(given.at) if given.at is not None else now()
-
-
-def shown_value(path: str) -> Value:
-    """The value of a file that can be shown."""
-    octets = octets_of(path)
-    found, node = read_text(octets)
-    if found[0] is not None:
-        raise Refused(*told(path, found))
-    if node.head == b"cert":
-        node_of(octets.decode(errors="surrogateescape"), path, read_certificate)
-    elif BY_HEAD.get(node.head or b"") not in ("acl", "sequence", "case"):
-        raise Refused(f"{path}: only an access list, a certificate, a sequence or a case is shown; for a key there is `spki-cert key`")
-    return node.value
-
-
 def show(given: argparse.Namespace) -> int:
-    from .showing import lines_of, rows_of, what_is
-    labels, moment = labels_of(given), moment_given(given)
-    values = [(path, shown_value(path)) for path in given.files]
+    labels, moment = labels_of(given), given.at or now()
+    values = [(path, value_headed(path, SHOWN, NOT_SHOWN)) for path in given.files]
     if given.braces:
         put(b"".join(b"{%s}\n" % base64.b64encode(canonical(value)) for _, value in values))
         return DONE
     if given.svg:
         from .drawing import svg_of
-        write(given.svg, svg_of(values[0][1], labels), force=given.force)
+        write((given.svg, svg_of(values[0][1], labels)), force=given.force)
     if given.json:
         return say(json.dumps([{"file": path, "shows": [*rows_of(value, moment, labels)]} for path, value in values], indent=1))
     for path, value in values if given.svg != "-" else []:
@@ -234,7 +205,7 @@ def ask(given: argparse.Namespace) -> int:
     else:
         key = key_at(given.key)
         labels = labels_of(given, *(path for path in [given.key, *filter(os.path.isdir, given.cert)] if path != "-"))
-        asked = Asked(value_of(given.acl, "acl"), key, request_of(given.words), moment_given(given), labels,
+        asked = Asked(value_of(given.acl, "acl"), key, request_of(given.words), given.at or now(), labels,
                       [value_of(path, "sequence") for path in sequences_below(given.cert)], not given.open)
     answer = answered(asked)
     lines = list(Words(asked, answer).lines())
@@ -244,7 +215,7 @@ def ask(given: argparse.Namespace) -> int:
     if given.svg:
         from .drawing import svg_of_answer
         parts.append((given.svg, svg_of_answer(asked, answer)))
-    write_all(parts, force=given.force)
+    write(*parts, force=given.force)
     is_aside = "-" in (given.sequence, given.save, given.svg)
     if given.json:
         reasons = [it._asdict() for it in answer.reasons]
@@ -253,17 +224,13 @@ def ask(given: argparse.Namespace) -> int:
     return DONE if answer.entry is not None else NO
 
 
-def sequences_below(paths: list[str]) -> list[str]:
+def sequences_below(paths: list[str]) -> Iterator[str]:
     """The files that are given, and those of folders that are sequences."""
     from .checking import files_below
-    return [path for path, is_given in files_below(paths) if is_given or begins_as_sequence(path)]
-
-
-def begins_as_sequence(path: str) -> bool:
-    try:
-        return value_in(octets_of(path)).head == b"sequence"
-    except Wrong:
-        return False
+    for path, is_given in files_below(paths):
+        with contextlib.suppress(Wrong):
+            if is_given or value_in(octets_of(path)).head == b"sequence":
+                yield path
 
 
 def check(given: argparse.Namespace) -> int:
@@ -285,22 +252,13 @@ def check(given: argparse.Namespace) -> int:
     return REFUSED if refused else NO if remarks else DONE
 
 
-def end(given: argparse.Namespace) -> int:
-    from .ending import end as end_certificates
-    return end_certificates(given)
-
-
 def request(given: argparse.Namespace) -> int:
     from .requesting import request as sign_request
     return sign_request(given)
 
 
-def write_completion(given: argparse.Namespace) -> int:
-    return say(completion())
-
-
 COMMANDS: dict[str, Command] = {"key": key, NEW_KEY: new_key, "sign": sign, "name": sign, "entry": entry, "show": show, "ask": ask, "check": check,
-                                "end": end, "request": request, "completion": write_completion}
+                                "end": end, "request": request, "completion": lambda _: say(completion())}
 
 
 def main() -> int:
@@ -348,7 +306,3 @@ def run() -> NoReturn:
     except SystemExit as end:
         status = end.code if isinstance(end.code, int) else DONE
     os._exit(status)
-
-
-if __name__ == "__main__":
-    run()

@@ -7,15 +7,13 @@ from __future__ import annotations
 
 import textwrap
 from collections.abc import Callable, Iterable, Iterator
-from dataclasses import dataclass
 from html import escape
-from typing import TYPE_CHECKING
+from typing import TYPE_CHECKING, NamedTuple
 
 from .asking import Answer, Asked, answered, asked_of_case, case_of, furthest
-from .certificates import Keys, entries_of, field, headed, keys_in, members, terms_of_certificate
-from .forms import Parser
-from .labels import Labels
+from .certificates import Keys, entries_of, field, headed, keys_in, members, terms_of
 from .sexp import Value, canonical, on_one_line
+from .showing import Labels
 
 if TYPE_CHECKING:
     from spki import Reason
@@ -30,16 +28,14 @@ MEANINGS = {
     "TagLacks": "the request is not in the tag", "WindowLacks": "the moment is not in the validity"}
 
 
-@dataclass(frozen=True)
-class Shape:
+class Shape(NamedTuple):
     """A subject, or a box with a colour."""
 
     lines: list[str]
     colour: str = ""
 
 
-@dataclass(frozen=True)
-class Arrow:
+class Arrow(NamedTuple):
     """An arrow between two shapes, by their names, with lines of text beside it."""
 
     begin: bytes
@@ -63,17 +59,12 @@ class Drawing:
 
     def of(self, value: Value) -> bytes:
         """The shape of a subject."""
-        names = members(value)[1:] if headed(value, b"name") else []
-        principal = members(value)[0] if names else value
+        principal, *names = members(value) if headed(value, b"name") else [value]
         identity = canonical([self.keys.named(principal) or principal, *names])
         label = [f"{' '.join(on_one_line(name) for name in names)} of"] if names else []
         label += [self.labels.of(principal)] if self.labels is not None else self.in_lines(on_one_line(principal))
         self.shapes.setdefault(identity, Shape(label))
         return identity
-
-    def box(self, name: bytes, colour: str, *lines: str) -> bytes:
-        self.shapes[name] = Shape(list(lines), colour)
-        return name
 
     def arrow(self, begin: bytes, end: bytes, colour: str, *lines: str) -> None:
         self.arrows.append(Arrow(begin, end, [line for line in lines if line], colour))
@@ -85,16 +76,16 @@ class Drawing:
 
     def entries(self, access_list: Value, only: int | None = None) -> None:
         """The access list, with an arrow for each of its entries or for one of them."""
-        begin = self.box(b"list", "blue", "access list")
+        self.shapes[b"list"] = Shape(["access list"], "blue")
         for number, entry in enumerate(entries_of(access_list), 1):
             if only in (None, number):
-                self.arrow(begin, self.of(entry.subject), BLACK, f"entry {number}", *self.terms(entry.value))
+                self.arrow(b"list", self.of(entry.subject), BLACK, f"entry {number}", *self.terms(entry.value))
 
     def links(self, sequence: Value, stops: int | None = None, cause: str = "") -> None:
         """An arrow for each certificate up to the one that stops the chain, which is red."""
         for number, item in enumerate(members(sequence), 1):
             if headed(item, b"cert") and number <= (stops or number):
-                terms = terms_of_certificate(item)
+                terms = terms_of(item)
                 said = [f"item {number} {cause}:", MEANINGS[cause]] if number == stops else [f"item {number}"]
                 begin = [b"name", terms.issuer or b"", terms.name] if terms.name is not None else terms.issuer or b""
                 self.arrow(self.of(begin), self.of(terms.subject), RED if number == stops else BLACK, *said, *self.terms(item))
@@ -104,11 +95,11 @@ class Drawing:
         key, request, moment = members(case)[3:6]
         colour = GREEN if word == "grants" else RED
         said = [f"yes entry {entry}"] if word == "grants" else [f"{word}:", MEANINGS[word]]
-        end = self.box(b"request", colour, *self.in_lines(on_one_line(request)), *self.in_lines(on_one_line(moment)))
+        self.shapes[b"request"] = Shape([*self.in_lines(on_one_line(request)), *self.in_lines(on_one_line(moment))], colour)
         tag = self.in_lines(f"left: {on_one_line(field(left, b'tag') or b'')}")
-        self.arrow(self.of(members(field(left, b"subject") or b"")[0]), end, colour, *said, *tag)
+        self.arrow(self.of(members(field(left, b"subject") or b"")[0]), b"request", colour, *said, *tag)
         if word == "NotTheKey":
-            self.arrow(self.of(members(key)[0]), end, BLACK, "asks")
+            self.arrow(self.of(members(key)[0]), b"request", BLACK, "asks")
 
 
 def drawing_of_case(case: Value, reasons: list[Reason], reduced: Callable[[int], Value], labels: Labels | None = None, width: int = WIDTH) -> Drawing:
@@ -180,13 +171,6 @@ def page(width: float, height: float, title: str, *parts: Iterable[str]) -> Iter
     yield "</svg>"
 
 
-def coloured_arrow(x: float, y1: float, y2: float, beside: list[str], colour: str) -> Iterator[str]:
-    """An arrow downwards with lines of text to the right of it."""
-    yield f'<path class="line {colour}" marker-end="url(#end)" d="M{x:g} {y1:g} L{x:g} {y2:g}"/>'
-    for place, line in enumerate(beside):
-        yield from said(f"{x + 14:g}", y1 + 24 + 16 * place, line, f"small left {colour}")
-
-
 def svg_of_drawing(drawing: Drawing, title: str, width: float = 620) -> Iterator[str]:
     """A picture as SVG: from top to bottom, each arrow with the boxes where it begins and ends. Where an arrow begins at the box before,
     that box is not drawn again."""
@@ -199,7 +183,9 @@ def svg_of_drawing(drawing: Drawing, title: str, width: float = 620) -> Iterator
         shape = drawing.shapes[node]
         top = y + (24 + 16 * len(arrow.lines) if is_end else 20 if last else 0)
         if is_end:
-            parts += coloured_arrow(x + 210, y, top - 2, arrow.lines, arrow.colour)
+            parts.append(f'<path class="line {arrow.colour}" marker-end="url(#end)" d="M{x + 210} {y} L{x + 210} {top - 2}"/>')
+            for place, line in enumerate(arrow.lines):
+                parts += said(x + 224, y + 24 + 16 * place, line, f"small left {arrow.colour}")
         parts += box(x, top, 420, 22 + 18 * len(shape.lines), shape.lines, KINDS.get(shape.colour, "box"))
         y, last = top + 22 + 18 * len(shape.lines), node
     return page(width, y + 20, title, parts)
@@ -215,17 +201,10 @@ def svg_of(value: Value, labels: Labels) -> bytes:
         drawing.entries(value)
     else:
         drawing.links([b"sequence", value] if headed(value, b"cert") else value)
-    return text_of_lines(svg_of_drawing(drawing, "Certificates", 840))
+    return "\n".join([*svg_of_drawing(drawing, "Certificates", 840), ""]).encode()
 
 
 def svg_of_answer(asked: Asked, answer: Answer) -> bytes:
     """The chain of an answer as SVG."""
-    def reduced(entry: int) -> Value:
-        return Parser(answer.reduced[entry - 1].split(" ", 2)[2].encode()).whole().value
-
-    drawing = drawing_of_case(case_of(asked, answer.sequence), answer.reasons, reduced, asked.labels, PICTURE_WIDTH)
-    return text_of_lines(svg_of_drawing(drawing, "The chain of a request", 840))
-
-
-def text_of_lines(lines: Iterable[str]) -> bytes:
-    return "\n".join(lines).encode() + b"\n"
+    drawing = drawing_of_case(case_of(asked, answer.sequence), answer.reasons, answer.left, asked.labels, PICTURE_WIDTH)
+    return "\n".join([*svg_of_drawing(drawing, "The chain of a request", 840), ""]).encode()

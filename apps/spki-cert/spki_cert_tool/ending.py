@@ -5,34 +5,22 @@ and a comment may follow. The last line is `end COUNT SHA256`: the number of dig
 that was cut, or changed by another program, is noticed by each reader. A digest is that of the canonical form of a certificate, which its
 signature signs. No text of a certificate gets into the file.
 """
-from __future__ import annotations
-
 import argparse
 import contextlib
-import fcntl
 import hashlib
 import os
 import re
-import shutil
-import signal
 import stat
-import sys
-import tempfile
-import time
 from collections.abc import Iterable, Iterator
 from typing import NamedTuple
 
-from .certificates import certificates_in
-from .files import Refused, node_of, now, octets_of
+from .certificates import certificates_in, headed
+from .files import Refused, locked, now, replace, say, tell, value_headed
 from .keys import digest_of
-from .places import BY_HEAD, read_text, told
-from .sexp import Value
-from .structures import read_certificate
 
 DONE, NO, UNCONFIRMED = 0, 1, 4
 # `spki-authd` reads no more octets.
 MOST_ENDED, MOST_REASON = 1 << 24, 200
-SECONDS_TO_LOCK = 30
 HEAD = b"# SHA-256 of certificates that no longer count. Only `spki-cert end` may change this file."
 DIGITS = re.compile(r"[0-9A-Fa-f]{64}")
 ENDED = re.compile(rb"([0-9a-f]{64})(?: # ([^\n]*))?")
@@ -42,41 +30,13 @@ BY_HAND = re.compile(rb"[ \t]*([0-9A-Fa-f]{64})?[ \t]*(?:#([^\n]*))?")
 DATED = re.compile(r"(\d{4}-\d\d-\d\d)(?: (.*))?")
 
 
-HELP = """Ends certificates before their date: puts their digests into the file that `spki-authd` reads as "ended". They count from the next
-reload on. Of a FILE its last certificate is meant, or that of --place. Without FILE and --digest it makes the file if it is not there.
+class Edited(NamedTuple):
+    """The file while no other writer changes it: its name, the handle of its folder, what it is (None if it is new), and its octets."""
 
-The file has a last line with the number and the digest of the others, and is refused if it was cut or changed by hand."""
-
-
-def with_end(end: argparse.ArgumentParser) -> None:
-    """The words of the command."""
-    end.description, end.formatter_class = HELP, argparse.RawDescriptionHelpFormatter
-    end.epilog = "example: spki-cert end to-bob.sexp --reason 'laptop stolen' --ended ended"
-    end.add_argument("files", metavar="FILE", nargs="*", help="a sequence, whose last certificate is meant, or a certificate")
-    end.add_argument("--ended", metavar="FILE", required=True, help="the file of the digests that no longer count")
-    end.add_argument("--place", metavar="N", type=int, help="the N-th certificate of FILE, instead of the last one")
-    end.add_argument("--digest", metavar="HEX", action="append", default=[], help="the SHA-256 of a certificate, as the log of spki-authd has it")
-    end.add_argument("--reason", metavar="TEXT", default="", help="why it ends: it is written behind the digest, with the date")
-    how = end.add_mutually_exclusive_group()
-    how.add_argument("--undo", action="store_true", help="take the digests out again: spki-authd then needs -reload -fewer")
-    how.add_argument("--list", action="store_true", help="print the digests with date and reason, and the last line of the file")
-    how.add_argument("--adopt", action="store_true", help="take the lines of a file without a last line, or with a wrong one, as they are")
-    end.add_argument("--yes", action="store_true", help="adopt it although it has no digests, or fewer than it says")
-
-
-class Locked(NamedTuple):
-    """The file while no other writer of this module changes it: its place, what it is, and its octets."""
-
-    place: str
-    about: os.stat_result
+    path: str
+    folder: int
+    about: os.stat_result | None
     octets: bytes
-
-
-class Meant(NamedTuple):
-    """A certificate that a command names: what it is called in messages, and its digest."""
-
-    called: str
-    digest: str
 
 
 # ---- the text of the file
@@ -107,19 +67,14 @@ def joined(lines: Iterable[bytes]) -> bytes:
     return b"".join(line + b"\n" for line in lines)
 
 
-def fault_of_line(line: bytes) -> bool:
-    """Whether a line before the last one is none that the file may have."""
-    return bool(line) and not line.startswith(b"#") and not ENDED.fullmatch(line)
-
-
 def lines_in(octets: bytes, path: str) -> list[bytes]:
     """The lines of the file before the last one, which must be that of these lines. Refused otherwise, with what differs."""
     *lines, last, behind = [b"", *octets.split(b"\n")]
     lines, met = lines[1:], LAST.fullmatch(last)
-    advice = f"compare it with a copy; then `spki-cert end --adopt --ended {visible(path)}` takes its lines as they are"
+    advice = f"compare it with a copy; then `spki-cert end --adopt --ended {path}` takes its lines as they are"
     if behind or met is None:
         raise Refused(f"{path}: the last line is not `end COUNT SHA256`: the file was cut, or written by hand; {advice}")
-    faulty = [number for number, line in enumerate(lines, 1) if fault_of_line(line)]
+    faulty = [number for number, line in enumerate(lines, 1) if line and not line.startswith(b"#") and not ENDED.fullmatch(line)]
     if faulty:
         raise Refused(f"{path}: line {faulty[0]} is no digest of 64 lowercase hexadecimal digits, no comment and not empty; {advice}")
     if last != last_line(lines):
@@ -150,200 +105,110 @@ def lines_by_hand(octets: bytes, path: str) -> tuple[list[bytes], bool]:
 # ---- the file
 
 
-def about_file(path: str) -> os.stat_result:
-    """What a file is, by its whole path. Only an ordinary file with one name is opened: opening a FIFO or a device may wait, or do something."""
+def read_ended(path: str) -> tuple[os.stat_result, bytes]:
+    """What the file is, and its octets. Only an ordinary file is opened: opening a FIFO or a device may wait, or do something. The file is
+    replaced as a whole, so one state of it is read."""
     about = os.stat(path)
     if not stat.S_ISREG(about.st_mode):
         raise Refused(f"{path}: it is no ordinary file")
-    return about
-
-
-def octets_ended(handle: int, path: str) -> bytes:
-    """All octets of the open file."""
-    with open(handle, "rb", closefd=False) as file:
+    with open(path, "rb") as file:
         octets = file.read(MOST_ENDED + 1)
     if len(octets) > MOST_ENDED:
         raise Refused(f"{path}: more than {MOST_ENDED} octets, which `spki-authd` does not read")
-    return octets
+    return about, octets
 
 
-def read_ended(path: str) -> bytes:
-    """The octets of the file, without a lock: it is replaced as a whole, so one state of it is read."""
-    about_file(path)
-    handle = os.open(path, os.O_RDONLY | os.O_NONBLOCK | os.O_CLOEXEC | os.O_NOCTTY)
-    try:
-        return octets_ended(handle, path)
-    finally:
-        os.close(handle)
-
-
-def opened(place: str) -> int:
-    """The file, opened and locked. Another writer replaces the file: so what is at its place is opened again once the lock is there."""
-    end = time.monotonic() + SECONDS_TO_LOCK
-    while True:
-        handle = os.open(place, os.O_RDWR | os.O_NONBLOCK | os.O_CLOEXEC | os.O_NOCTTY)
-        try:
-            fcntl.flock(handle, fcntl.LOCK_EX | fcntl.LOCK_NB)
-            if os.path.samestat(os.fstat(handle), os.stat(place)):
-                return handle
-        except BlockingIOError:
-            time.sleep(0.05)
-        except BaseException:
-            os.close(handle)
-            raise
-        os.close(handle)
-        if time.monotonic() > end:
-            raise Refused(f"{place}: another program has locked it for {SECONDS_TO_LOCK} seconds; nothing was written")
+def lines_of_file(path: str) -> list[bytes]:
+    """The lines of the file before the last one."""
+    return lines_in(read_ended(path)[1], path)
 
 
 @contextlib.contextmanager
-def locked(path: str) -> Iterator[Locked]:
+def edited(path: str) -> Iterator[Edited]:
     """The file, while no other writer changes it. It must be writable, and have no other name, since it is replaced."""
-    place = os.path.realpath(path)
-    about = about_file(place)
-    if not stat.S_IMODE(about.st_mode) & 0o222:
-        raise Refused(f"{path}: its mode {stat.S_IMODE(about.st_mode):04o} lets nobody write it; nothing was written")
-    handle = opened(place)
-    try:
-        about = os.fstat(handle)
+    with locked(path) as folder:
+        about, octets = read_ended(path)
+        if not about.st_mode & 0o222:
+            raise Refused(f"{path}: its mode {stat.S_IMODE(about.st_mode):04o} lets nobody write it; nothing was written")
         if about.st_nlink > 1:
             raise Refused(f"{path}: it has {about.st_nlink} names, of which only one would be changed; nothing was written")
-        yield Locked(place, about, octets_ended(handle, path))
-    finally:
-        os.close(handle)
+        yield Edited(path, folder, about, octets)
 
 
-def sync_folder(place: str) -> None:
-    """Has the name of a file that was written on the disk."""
-    folder = os.open(os.path.dirname(place), os.O_RDONLY | os.O_DIRECTORY)
+def write_lines(file: Edited, lines: list[bytes]) -> None:
+    """Replaces the file by one of these lines and their last line. A new one may be read by all."""
+    octets = joined([*lines, last_line(lines)])
+    if len(octets) > MOST_ENDED:
+        raise Refused(f"{file.path}: it would have more than {MOST_ENDED} octets, which `spki-authd` does not read; nothing was written")
+    replace(os.path.realpath(file.path), octets, 0o644, file.about)
     try:
-        os.fsync(folder)
+        os.fsync(file.folder)
     except OSError as why:
-        raise Refused(f"{place}: it is written, but the system does not say that it is on the disk: {why.strerror}") from None
-    finally:
-        os.close(folder)
-
-
-def put(place: str, octets: bytes, before: os.stat_result | None) -> None:
-    """Writes the whole file or nothing. What is replaced keeps its mode, its owner and its group; a new file is one that all may read. A signal
-    waits until the file is in its place."""
-    blocked, made = signal.pthread_sigmask(signal.SIG_BLOCK, signal.valid_signals()), ""
-    try:
-        handle, made = tempfile.mkstemp(prefix=".ended-", dir=os.path.dirname(place))
-        with open(handle, "wb") as file:
-            if before is None:
-                os.fchmod(handle, 0o644)
-            else:
-                os.fchown(handle, before.st_uid, before.st_gid)
-                shutil.copystat(place, made)
-            file.write(octets)
-            file.flush()
-            os.fsync(handle)
-        if before is None:
-            os.link(made, place)
-        else:
-            os.replace(made, place)
-        sync_folder(place)
-    finally:
-        with contextlib.suppress(FileNotFoundError):
-            os.unlink(made)
-        signal.pthread_sigmask(signal.SIG_SETMASK, blocked)
+        raise Refused(f"{file.path}: it is written, but the system does not say that it is on the disk: {why.strerror}") from None
 
 
 # ---- the certificates that are meant
 
 
-def certificates_at(path: str) -> list[Value]:
-    """The certificates of a file: those of a sequence, or the one that is alone. Refused as a service would, with the place."""
-    octets = octets_of(path)
-    found, node = read_text(octets)
-    if found[0] is not None:
-        raise Refused(*told(path, found))
-    if node.head == b"cert":
-        return [node_of(octets.decode(errors="surrogateescape"), path, read_certificate).value]
-    if BY_HEAD.get(node.head or b"") != "sequence":
-        raise Refused(f"{path}: only a certificate of a sequence, or one that is alone, is ended")
-    return [each.terms.value for each in certificates_in(node.value)]
-
-
-def meant_at(path: str, place: int | None) -> Meant:
-    """The last certificate of a file, or that at a place."""
-    certificates = certificates_at(path)
+def meant_at(path: str, place: int | None) -> tuple[str, str]:
+    """The digest of the last certificate of a file, or of that at a place, and what it is called: one of a sequence, or the one that is alone."""
+    value = value_headed(path, (b"sequence",), "only a certificate of a sequence, or one that is alone, is ended")
+    certificates = [value] if headed(value, b"cert") else [each.terms.value for each in certificates_in(value)]
     count = len(certificates)
     number = count if place is None else place
     if not 1 <= number <= count:
         raise Refused(f"{path}: there is no certificate{'' if place is None else f' {place}'}; it has {count}")
-    return Meant(f"{path}, certificate {number} of {count}", digest_of(certificates[number - 1]).hex())
+    return digest_of(certificates[number - 1]).hex(), f"{path}, certificate {number} of {count}"
 
 
-def meant_by(given: argparse.Namespace) -> list[Meant]:
-    """All certificates that the command line names, each once."""
+def meant_by(given: argparse.Namespace) -> dict[str, str]:
+    """The digests of all certificates that the command line names, with what they are called there."""
     for digest in given.digest:
         if not DIGITS.fullmatch(digest):
             raise Refused(f"--digest {digest}: a digest has 64 hexadecimal digits")
-    meant = [meant_at(path, given.place) for path in given.files] + [Meant(it.lower(), it.lower()) for it in given.digest]
-    return [*{it.digest: it for it in reversed(meant)}.values()][::-1]
+    found = [meant_at(path, given.place) for path in given.files] + [(it.lower(), it.lower()) for it in given.digest]
+    return {digest: dict(reversed(found))[digest] for digest, _ in found}
 
 
 # ---- the commands
 
 
-class Outcome(NamedTuple):
-    """The status of a command, what it writes to standard output once all is done, and to standard error."""
-
-    status: int
-    lines: list[str]
-    complaints: list[str] = []
-
-
-def write_lines(file: Locked, lines: list[bytes], path: str) -> None:
-    """Replaces the file by one of these lines and their last line."""
-    octets = joined([*lines, last_line(lines)])
-    if len(octets) > MOST_ENDED:
-        raise Refused(f"{path}: it would have more than {MOST_ENDED} octets, which `spki-authd` does not read; nothing was written")
-    put(file.place, octets, file.about)
-
-
-def make(given: argparse.Namespace) -> Outcome:
+def make(given: argparse.Namespace) -> int:
     """Makes the file without digests if it is not there. Otherwise it must be whole."""
-    place = os.path.realpath(given.ended)
-    if os.path.lexists(place):
-        count = len(rows_of(lines_in(read_ended(place), given.ended)))
-        return Outcome(DONE, [f"{visible(given.ended)}: it is there already, and whole; digests: {count}"])
-    if not os.path.isdir(os.path.dirname(place)):
-        raise Refused(f"{given.ended}: there is no folder {os.path.dirname(place)}")
-    put(place, joined([HEAD, last_line([HEAD])]), None)
-    return Outcome(DONE, [f"{visible(given.ended)}: made; digests: 0"])
+    with locked(given.ended) as folder:
+        if os.path.lexists(os.path.realpath(given.ended)):
+            return say(f"{given.ended}: it is there already, and whole; digests: {len(rows_of(lines_of_file(given.ended)))}")
+        write_lines(Edited(given.ended, folder, None, b""), [HEAD])
+    return say(f"{given.ended}: made; digests: 0")
 
 
-def add(given: argparse.Namespace) -> Outcome:
+def add(given: argparse.Namespace) -> int:
     """Ends certificates. Those that have ended are said, and are not written twice."""
     meant = meant_by(given)
     comment = f"{now()[:10].decode()} {visible(given.reason)[:MOST_REASON]}".rstrip()
-    with locked(given.ended) as file:
+    with edited(given.ended) as file:
         lines = lines_in(file.octets, given.ended)
         there = digests_of(lines)
-        lines += [f"{it.digest} # {comment}".encode() for it in meant if it.digest not in there]
+        lines += [f"{digest} # {comment}".encode() for digest in meant if digest not in there]
         count = len(digests_of(lines)) - len(there)
         if count:
-            write_lines(file, lines, given.ended)
-    return Outcome(DONE, [*(f"{it.called}: {'it had ended before' if it.digest in there else 'ended'}" for it in meant),
-                          f"digests added: {count}" + ("; they count from the next reload of spki-authd on" if count else "")])
+            write_lines(file, lines)
+    return say(*(f"{called}: {'it had ended before' if digest in there else 'ended'}" for digest, called in meant.items()),
+               f"digests added: {count}" + ("; they count from the next reload of spki-authd on" if count else ""))
 
 
-def undo(given: argparse.Namespace) -> Outcome:
+def undo(given: argparse.Namespace) -> int:
     """Takes digests out of the file: all that are named, or none."""
     meant = meant_by(given)
-    digests = {it.digest for it in meant}
-    with locked(given.ended) as file:
+    with edited(given.ended) as file:
         lines = lines_in(file.octets, given.ended)
-        missing = [it for it in meant if it.digest not in digests_of(lines)]
-        if not missing:
-            write_lines(file, [line for line in lines if line[:64].decode(errors="replace") not in digests], given.ended)
-    if missing:
-        return Outcome(NO, [], [f"{it.called}: it has not ended; nothing was written" for it in missing])
-    return Outcome(DONE, [*(f"{it.called}: taken out" for it in meant),
-                          f"digests taken out: {len(digests)}; the next reload needs `spki-authd -reload -fewer`"])
+        missing = [called for digest, called in meant.items() if digest not in digests_of(lines)]
+        if missing:
+            tell(*(f"spki-cert: {called}: it has not ended; nothing was written" for called in missing))
+            return NO
+        write_lines(file, [line for line in lines if line[:64].decode(errors="replace") not in meant])
+    return say(*(f"{called}: taken out" for called in meant.values()),
+               f"digests taken out: {len(meant)}; the next reload needs `spki-authd -reload -fewer`")
 
 
 def listed(row: re.Match[bytes]) -> str:
@@ -353,48 +218,42 @@ def listed(row: re.Match[bytes]) -> str:
     return f"{row[1].decode()} {date} {reason or ''}".rstrip()
 
 
-def list_all(given: argparse.Namespace) -> Outcome:
+def list_all(given: argparse.Namespace) -> int:
     """Prints all digests, and the last line, by which two copies of the file are compared."""
-    lines = lines_in(read_ended(os.path.realpath(given.ended)), given.ended)
-    return Outcome(DONE, [*map(listed, rows_of(lines)), last_line(lines).decode()])
+    lines = lines_of_file(given.ended)
+    return say(*map(listed, rows_of(lines)), last_line(lines).decode())
 
 
-def adopt(given: argparse.Namespace) -> Outcome:
+def adopt(given: argparse.Namespace) -> int:
     """Takes the lines of a file that people have written or changed, and gives it its last line."""
-    with locked(given.ended) as file:
+    with edited(given.ended) as file:
         lines, is_as_said = lines_by_hand(file.octets, given.ended)
         rows = rows_of(lines)
-        taken = [*map(listed, rows), f"digests: {len(rows)}"]
-        if not given.yes and not (rows and is_as_said):
-            differs = "its last line says another number of digests" if rows else "it has no digests"
-            return Outcome(UNCONFIRMED, taken, [f"{given.ended}: {differs}: was it cut? Nothing was written; --yes takes it as it is"])
-        write_lines(file, lines, given.ended)
-    return Outcome(DONE, taken)
-
-
-def check_words(given: argparse.Namespace) -> None:
-    """Refuses words that do not go together."""
-    names_some = bool(given.files or given.digest)
-    faults = [text for is_fault, text in (
-        (given.place is not None and len(given.files) != 1, "--place goes with one FILE"),
-        (given.undo and not names_some, "--undo needs a FILE or --digest"),
-        ((given.list or given.adopt) and names_some, "--list and --adopt are about all digests: they go with no FILE and no --digest"),
-        (given.yes and not given.adopt, "--yes goes with --adopt"),
-        (given.reason and (given.undo or not names_some), "--reason goes with what is ended")) if is_fault]
-    if faults:
-        raise Refused(faults[0])
+        is_taken = given.yes or bool(rows) and is_as_said
+        if is_taken:
+            write_lines(file, lines)
+    say(*map(listed, rows), f"digests: {len(rows)}")
+    if not is_taken:
+        differs = "its last line says another number of digests" if rows else "it has no digests"
+        tell(f"spki-cert: {given.ended}: {differs}: was it cut? Nothing was written; --yes takes it as it is")
+    return DONE if is_taken else UNCONFIRMED
 
 
 def end(given: argparse.Namespace) -> int:
     """Ends certificates, undoes that, lists what has ended, or makes or adopts the file."""
-    check_words(given)
-    does = (undo if given.undo else list_all if given.list else adopt if given.adopt else add if given.files or given.digest else make)
+    names_some = bool(given.files or given.digest)
+    for is_fault, text in (
+            (given.place is not None and len(given.files) != 1, "--place goes with one FILE"),
+            (given.undo and not names_some, "--undo needs a FILE or --digest"),
+            ((given.list or given.adopt) and names_some, "--list and --adopt are about all digests: they go with no FILE and no --digest"),
+            (given.yes and not given.adopt, "--yes goes with --adopt"),
+            (given.reason and (given.undo or not names_some), "--reason goes with what is ended")):
+        if is_fault:
+            raise Refused(text)
+    does = undo if given.undo else list_all if given.list else adopt if given.adopt else add if names_some else make
     try:
-        outcome = does(given)
+        return does(given)
     except FileNotFoundError:
-        raise Refused(f"{given.ended}: it is not there; `spki-cert end --ended {visible(given.ended)}` makes it") from None
+        raise Refused(f"{given.ended}: it is not there; `spki-cert end --ended {given.ended}` makes it") from None
     except OSError as why:
         raise Refused(f"{given.ended}: {why.strerror}; nothing was written") from None
-    print(*outcome.lines, sep="\n", end="\n" if outcome.lines else "", flush=True)
-    print(*(f"spki-cert: {line}\n" for line in outcome.complaints), sep="", end="", file=sys.stderr)
-    return outcome.status

@@ -1,6 +1,4 @@
 """Reads the files and words that a command is given. One function writes files: whole or not at all, and never over what was read or holds a key."""
-from __future__ import annotations
-
 import contextlib
 import errno
 import fcntl
@@ -11,18 +9,22 @@ import signal
 import stat
 import sys
 import termios
+import time
 from collections.abc import Iterator
 from datetime import datetime, timedelta, timezone
-from typing import Any, TextIO
+from typing import Any, TextIO, Union
 
-from .certificates import DATE_FORMAT
+from .agent import AgentSigner
+from .certificates import DATE_FORMAT, is_in_calendar
 from .forms import MOST_OCTETS, Node, Wrong
-from .keys import BadKey, FileSigner, Signer, is_key_file, is_private, read_private, read_public
-from .places import fault_of, name_foreign, read_text, told, value_in
+from .keys import BadKey, FileSigner, is_key_file, is_private, read_private, read_public
+from .places import name_foreign, read_text, told, value_in
 from .sexp import Value
-from .structures import MOMENT, Reader
+from .structures import MOMENT, Reader, read_certificate
 
 DAY_ENDS = "_23:59:59"
+SECONDS_TO_LOCK = 30
+Signer = Union[FileSigner, AgentSigner]
 CONTROLS = re.compile("[\0-\x08\x0b-\x1f\x7f-\x9f]")
 # The files that this command has read, by device and inode, and whether it has read standard input. None of them is written over.
 READ: set[tuple[int, int]] = set()
@@ -78,6 +80,15 @@ def tell(*lines: str) -> None:
         said(sys.stderr, "".join(f"{line}\n" for line in lines))
 
 
+def say(*lines: str, is_aside: bool = False) -> int:
+    """Writes lines to standard output, or to standard error beside what standard output gets."""
+    if is_aside:
+        tell(*lines)
+    else:
+        put("".join(f"{line}\n" for line in lines))
+    return 0
+
+
 # ---- reading
 
 
@@ -102,18 +113,32 @@ def octets_of(path: str) -> bytes:
         raise Refused(f"{path}: {why.strerror}") from None
 
 
-def value_of(path: str, kind: str) -> Value:
-    """The value of a file, which must be of a kind: acl, sequence, case. Refused as a service would, with the place."""
+def text_at(path: str, given: str = "") -> tuple[bytes, Node]:
+    """The octets of a file, and its value. Refused as a service would, with the place."""
     octets = octets_of(path)
-    found, node = read_text(octets, f"refused {kind}")
+    found, node = read_text(octets, given)
     if found[0] is not None:
         raise Refused(*told(path, found))
+    return octets, node
+
+
+def value_of(path: str, kind: str) -> Value:
+    """The value of a file, which must be of a kind: acl, sequence, case."""
+    return text_at(path, f"refused {kind}")[1].value
+
+
+def value_headed(path: str, heads: tuple[bytes, ...], wanted: str) -> Value:
+    """The value of a file, which must be a certificate or have one of these heads."""
+    octets, node = text_at(path)
+    if node.head == b"cert":
+        node_of(octets, path, read_certificate)
+    elif node.head not in heads:
+        raise Refused(f"{path}: {wanted}")
     return node.value
 
 
-def node_of(text: str, what: str, read: Reader) -> Node:
-    """The value of a word of the command line, read by a reader of its structure."""
-    octets = os.fsencode(text)
+def node_of(octets: bytes, what: str, read: Reader) -> Node:
+    """The value of a text, which has this name, read by a reader of its structure."""
     try:
         node = value_in(octets)
         read(node)
@@ -121,7 +146,7 @@ def node_of(text: str, what: str, read: Reader) -> Node:
     except Wrong as wrong:
         name_foreign(octets, wrong)
         if wrong.kind == "Trailing" and not octets.lstrip().startswith((b"(", b"{")):
-            wrong.why = f"these are several values; a list is in parentheses, as '({text})'"
+            wrong.why = f"these are several values; a list is in parentheses, as '({octets.decode(errors='surrogateescape')})'"
         raise Refused(*told(what, (wrong, octets, None))) from None
 
 
@@ -143,29 +168,30 @@ def passphrase_for(path: str) -> bytes:
 
 def key_at(path: str, number: int | None = None, is_private_too: bool = False) -> Value:
     """The public key of a file in any form: the one with this number, where there are several."""
-    octets = octets_of(path)
-    try:
+    with octets_of_key(path) as octets:
         if is_private(octets) and not is_private_too:
             raise BadKey(f"this is a private key, which nobody else may have; give the public one{', ' + path + '.pub' if path != '-' else ''}")
         return read_public(octets, lambda: passphrase_for(path), number)
-    except BadKey as why:
-        raise Refused(f"{path}: {why}") from None
-    except Wrong:
-        raise Refused(*told(path, fault_of(octets, "refused key"))) from None
 
 
 def signer_at(path: str) -> Signer:
     """Who signs: the private key of a file, or for a public key ssh-agent."""
-    from .agent import AgentSigner
-    octets = octets_of(path)
-    try:
+    with octets_of_key(path) as octets:
         if is_private(octets):
             return FileSigner(read_private(octets, lambda: passphrase_for(path)))
         return AgentSigner(read_public(octets, lambda: b""))
+
+
+@contextlib.contextmanager
+def octets_of_key(path: str) -> Iterator[bytes]:
+    """The octets of a file, while its key is read. What is wrong with it is said with its name."""
+    octets = octets_of(path)
+    try:
+        yield octets
     except BadKey as why:
         raise Refused(f"{path}: {why}") from None
     except Wrong:
-        raise Refused(*told(path, fault_of(octets, "refused key"))) from None
+        raise Refused(*told(path, read_text(octets, "refused key")[0])) from None
 
 
 def remark_on_mode(path: str) -> Iterator[str]:
@@ -196,10 +222,8 @@ def moment_of(text: str, day: str = "_00:00:00") -> bytes:
             right = f"{year:04}-{rest[0]:02}-{rest[1]:02}" + (f"_{rest[2]:02}:{rest[3]:02}:{rest[4]:02}" if parts[4] else "")
         why = "give no zone: each moment is in UTC" if parts and parts[7] else "no date in the form that is read"
         raise Refused(f"{text or 'an empty date'}: {why}; write {right}, in UTC")
-    try:
-        datetime.strptime(whole.removesuffix(":60"), DATE_FORMAT.removesuffix(":%S") if whole.endswith(":60") else DATE_FORMAT)
-    except ValueError:
-        raise Refused(f"{text}: no calendar has this day; write YYYY-MM-DD, in UTC") from None
+    if not is_in_calendar(whole.encode()):
+        raise Refused(f"{text}: no calendar has this day; write YYYY-MM-DD, in UTC")
     return whole.encode()
 
 
@@ -232,14 +256,9 @@ def target_of(path: str, force: bool, edits: bool = False) -> tuple[str, os.stat
         raise Refused(f"{path}: {why.strerror}; nothing was written") from None
 
 
-def write(path: str | None, octets: bytes, mode: int = 0o644, force: bool = False, edits: bool = False) -> None:
-    """Writes a file whole or not at all, or standard output if there is no path. With `force` it may be there already, and with `edits`
-    it is one that was read: it keeps its mode and its owner."""
-    write_all([(path, octets)], mode, force, edits)
-
-
-def write_all(parts: list[tuple[str | None, bytes]], mode: int = 0o644, force: bool = False, edits: bool = False) -> None:
-    """Writes several files, after none of them is refused."""
+def write(*parts: tuple[str | None, bytes], mode: int = 0o644, force: bool = False, edits: bool = False) -> None:
+    """Writes files, each whole or not at all, after none of them is refused; what has no path goes to standard output. With `force` a file may
+    be there already, and with `edits` it is one that was read: it keeps its mode and its owner."""
     targets = [(path, *target_of(path, force, edits), octets) for path, octets in parts if path is not None and path != "-"]
     places = [place for _, place, _, _ in targets]
     if len(set(places)) < len(places):
@@ -253,16 +272,18 @@ def write_all(parts: list[tuple[str | None, bytes]], mode: int = 0o644, force: b
 
 
 def replace(place: str, octets: bytes, mode: int, before: os.stat_result | None) -> None:
-    """Puts a file in its place, by a temporary one beside it. A signal waits until it is there."""
+    """Puts a file in its place, by a temporary one beside it. What is replaced keeps its mode, its owner and its attributes. A signal waits
+    until the file is there."""
+    import shutil
     import tempfile
-    folder, blocked = os.path.dirname(place), signal.pthread_sigmask(signal.SIG_BLOCK, signal.valid_signals())
-    made = ""
+    blocked, made = signal.pthread_sigmask(signal.SIG_BLOCK, signal.valid_signals()), ""
     try:
-        handle, made = tempfile.mkstemp(prefix=".spki-cert-", dir=folder)
+        handle, made = tempfile.mkstemp(prefix=".spki-cert-", dir=os.path.dirname(place))
         with open(handle, "wb") as file:
             os.fchmod(handle, mode if before is None else stat.S_IMODE(before.st_mode))
             if before is not None:
                 os.fchown(handle, before.st_uid, before.st_gid)
+                shutil.copystat(place, made)
             file.write(octets)
             file.flush()
             os.fsync(handle)
@@ -278,21 +299,27 @@ def replace(place: str, octets: bytes, mode: int, before: os.stat_result | None)
             # (a file system without links)
             os.rename(made, place)
     finally:
-        if made:
-            with contextlib.suppress(FileNotFoundError):
-                os.unlink(made)
+        with contextlib.suppress(FileNotFoundError):
+            os.unlink(made)
         signal.pthread_sigmask(signal.SIG_SETMASK, blocked)
 
 
 @contextlib.contextmanager
-def locked(path: str) -> Iterator[None]:
-    """Holds the lock of the folder of a file that is edited, so that no other edit is lost."""
+def locked(path: str) -> Iterator[int]:
+    """Holds the lock of the folder of a file that is edited, so that no other edit is lost. It gives the folder's handle."""
+    end = time.monotonic() + SECONDS_TO_LOCK
     try:
         folder = os.open(os.path.dirname(os.path.realpath(path)), os.O_RDONLY)
-        fcntl.flock(folder, fcntl.LOCK_EX)
     except OSError as why:
-        raise Refused(f"{path}: {why.strerror}; nothing was written") from None
+        raise Refused(f"{path}: the folder {why.filename}: {why.strerror}; nothing was written") from None
     try:
-        yield
+        while True:
+            with contextlib.suppress(BlockingIOError):
+                fcntl.flock(folder, fcntl.LOCK_EX | fcntl.LOCK_NB)
+                break
+            if time.monotonic() > end:
+                raise Refused(f"{path}: another program has locked it for {SECONDS_TO_LOCK} seconds; nothing was written")
+            time.sleep(0.05)
+        yield folder
     finally:
         os.close(folder)

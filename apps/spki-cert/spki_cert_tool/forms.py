@@ -7,6 +7,7 @@ from __future__ import annotations
 import base64
 import difflib
 import re
+import unicodedata
 from collections.abc import Iterable
 from dataclasses import dataclass, field
 
@@ -14,6 +15,7 @@ from .sexp import Value
 
 MOST_OCTETS, MOST_LISTS, MOST_NODES = 1_048_576, 64, 1024
 SPACES = re.compile(rb"[ \t\n\v\f\r]*")
+LETTERS = re.compile(rb"[\w\-./:*+=\x80-\xff]+")
 TOKEN = re.compile(rb"[A-Za-z\-./_:*+=][A-Za-z0-9\-./_:*+=]*")
 LENGTH = re.compile(rb"0|[1-9][0-9]*")
 BODIES = {b'"': re.compile(rb'(?:[^"\\]|\\.)*', re.DOTALL), b"#": re.compile(rb"[0-9A-Fa-f\s]*"), b"|": re.compile(rb"[A-Za-z0-9+/=\s]*")}
@@ -61,22 +63,24 @@ class Node:
 class Wrong(Exception):
     """Why a text is refused: the kind of fault, the offset of its place, a remark, and further places with remarks."""
 
-    def __init__(self, kind: str, at: int, why: str, others: Iterable[Place] = ()) -> None:
+    def __init__(self, kind: str, at: int, why: str, others: Iterable[Place] = (), shown_at: int | None = None) -> None:
         super().__init__(kind, at, why)
         self.kind, self.at, self.why, self.others = kind, at, why, list(others)
-        self.shown_at: int | None = None
+        self.shown_at = shown_at
         """The place that is shown first, if it is not the one where the fault is found."""
 
 
 def said_of(text: bytes, at: int) -> str | None:
     """What is said of an octet that begins no value, and was probably meant to."""
     octet, character = text[at:at + 1], text[at:at + 4].decode(errors="ignore")[:1]
-    if octet >= b"\x80" and character:
-        if character in "“”„‟«»‘’‚":
+    if octet >= b"\x80" and character and text.startswith(character.encode(), at):
+        if character in "“”„‟«»‘’‚‹›´":
             return f"`{character}` is a quotation mark of a word processor: write `\"`"
         if not character.isprintable():
-            return f"this is the character U+{ord(character):04X}, which is no space here: write a plain one"
-        return f"a string with `{character}` needs quotes"
+            name = unicodedata.name(character, "without a name").lower()
+            return f"this is the invisible character U+{ord(character):04X}, {name}, which is no space here: delete it, or write a plain one"
+        word = next(it[0] for it in LETTERS.finditer(text) if it.end() > at)
+        return f"a string with `{character}` needs quotes: `\"{word.decode(errors='replace')}\"`"
     if octet == b";":
         return "`;` begins no comment: there are no comments, only the field `(comment \"..\")`"
     if octet in b"?!,$%&@~'<>\\^`":
@@ -86,8 +90,7 @@ def said_of(text: bytes, at: int) -> str | None:
 
 def spaces_end(text: bytes, at: int) -> int:
     """The offset after the whitespace that begins at an offset."""
-    found = SPACES.match(text, at)
-    return found.end() if found else at
+    return found_at(SPACES, text, at).end()
 
 
 def column(text: bytes, at: int) -> int:
@@ -146,22 +149,11 @@ class Parser:
         if node.head in (b"acl", b"sequence") and self.text.startswith(b"(" + node.head, behind):
             return Wrong("Trailing", behind, "a second list begins here; a text is one value: put all into one "
                          f"`({node.head.decode()} ..)`", [begins])
-        if not self.begins_line(behind) or column(self.text, behind) <= column(self.text, node.begin):
+        is_behind_others = self.text[self.text.rfind(b"\n", 0, behind) + 1:behind].strip()
+        if is_behind_others or column(self.text, behind) <= column(self.text, node.begin):
             return Wrong("Trailing", behind, "a second value begins here; a text is one value", [begins])
-        wrong = Wrong("Trailing", behind, "this `)` ends the value, and by its indentation the next line belongs to it; is it one too many?",
-                      [(behind, "this follows the value"), begins])
-        wrong.shown_at = node.end - 1
-        return wrong
-
-    def begins_line(self, at: int) -> bool:
-        """Whether nothing but spaces is before an offset on its line."""
-        return not self.text[self.text.rfind(b"\n", 0, at) + 1:at].strip()
-
-    def look_at_indentation(self, list_begin: int, end: int, at: int) -> None:
-        """Keeps the first member that begins a line no further right than its list, which was perhaps to end before it."""
-        is_below = b"\n" in self.text[end:at] and column(self.text, at) <= column(self.text, list_begin)
-        if self.unclosed is None and not self.is_canonical and is_below:
-            self.unclosed = list_begin, end
+        return Wrong("Trailing", behind, "this `)` ends the value, and by its indentation the next line belongs to it; is it one too many?",
+                     [(behind, "this follows the value"), begins], node.end - 1)
 
     def skip(self, at: int) -> int:
         return at if self.is_canonical else spaces_end(self.text, at)
@@ -172,7 +164,9 @@ class Parser:
             return self.text[at:at + 1]
         places = [(begin, "this list is not closed") for begin in reversed(self.opened)]
         if begun is not None:
-            raise self.cut_off(begun, places)
+            is_marked = self.text[begun:begun + 1] in BODIES
+            why = "this string is not whole: its last mark is missing" if is_marked else "the text ends before the value is whole"
+            raise Wrong("Short", len(self.text), why, [(begun, "this string is not whole"), *places], begun if is_marked else None)
         if self.unclosed is not None:
             begin, end = self.unclosed
             raise Wrong("Short", end, "a `)` is missing, and by the indentation of the next line it is missing here",
@@ -180,13 +174,6 @@ class Parser:
         count = f": {len(self.opened)} `)` are missing" if len(self.opened) > 1 else ": a `)` is missing" if self.opened else ""
         raise Wrong("Short", len(self.text.rstrip()), f"the text ends before the value is whole{count}" if self.text.strip() else "there is no value",
                     places)
-
-    def cut_off(self, begun: int, places: list[Place]) -> Wrong:
-        """The fault of a string that the end of the text cuts off. If a mark begins it, the one that ends it was probably left out."""
-        wrong = Wrong("Short", len(self.text), "the text ends before the value is whole", [(begun, "this string is not whole"), *places])
-        if self.text[begun:begun + 1] in BODIES:
-            wrong.why, wrong.shown_at = "this string is not whole: its last mark is missing", begun
-        return wrong
 
     def value(self, at: int, wanted: str) -> Node:
         octet = self.octet(at)
@@ -204,7 +191,10 @@ class Parser:
         members: list[Node] = []
         next_at = self.skip(at + 1)
         while self.octet(next_at) != b")":
-            self.look_at_indentation(at, members[-1].end if members else at + 1, next_at)
+            end = members[-1].end if members else at + 1
+            # (a member that begins a line no further right than its list: this was perhaps to end before it)
+            if b"\n" in self.text[end:next_at] and column(self.text, next_at) <= column(self.text, at) and not self.is_canonical:
+                self.unclosed = self.unclosed or (at, end)
             members.append(self.value(next_at, "a member or `)`"))
             next_at = self.skip(members[-1].end)
         self.opened.pop()
@@ -247,9 +237,7 @@ class Parser:
             why = "a length is followed by a colon" if self.is_canonical else "a length has no leading zero"
             raise Wrong("Bad", at, why, [(begin, "the length begins here")])
         why = "put hexadecimal digits between two `#`" if DIGITS.match(self.text, begin) else "put quotes around a string that begins with a digit"
-        wrong = Wrong("Bad", at, f"{why}; otherwise the digits are the length of a string", [(at, "no length is followed by this")])
-        wrong.shown_at = begin
-        raise wrong
+        raise Wrong("Bad", at, f"{why}; otherwise the digits are the length of a string", [(at, "no length is followed by this")], begin)
 
     def marked(self, begin: int, at: int, length: int | None) -> tuple[bytes, int]:
         """The string between two marks, of which the first is at an offset."""

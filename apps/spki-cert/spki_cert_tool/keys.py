@@ -1,22 +1,15 @@
 """Keys that people have, as keys of SPKI, and back; signing and verifying. The forms are those of docs/FORMATS.md, "Keys and signatures
-of services":
-
-    (public-key (ecc (curve Ed25519) (flags eddsa) (q #..#)))     (sig-val (eddsa (r #..#) (s #..#)))
-    (public-key (rsa (n #..#) (e #..#)))                          (sig-val (rsa (s #..#)))
-    (public-key (ecc (curve "NIST P-256") (q #04..#)))            (sig-val (ecdsa (r #..#) (s #..#)))
-
-libgcrypt and GnuPG read the same. `cryptography` reads the files and signs. The package `spki_verify` verifies by it. Both are imported
-where they are used, because that takes a tenth of a second.
+of services", which libgcrypt and GnuPG read too. `cryptography` reads the files and signs. The package `spki_verify` verifies by it. Both are
+imported where they are used, because that takes a tenth of a second.
 """
 from __future__ import annotations
 
 import base64
-import contextlib
 import hashlib
 import importlib.util
 import re
 from collections.abc import Callable
-from typing import TYPE_CHECKING, Any, Protocol, Union, cast
+from typing import TYPE_CHECKING, Any, Union, cast
 
 from .forms import Parser
 from .places import USED, foreign, value_in
@@ -44,17 +37,6 @@ Asking = Callable[[], bytes]
 
 class BadKey(Exception):
     """What is said of a file that has no key that can be used."""
-
-
-class Signer(Protocol):
-    """Who holds a private key, in a file or in an agent."""
-
-    @property
-    def key(self) -> Value:
-        """The public key."""
-
-    def sign(self, message: bytes) -> Value:
-        """The value of a signature of these octets."""
 
 
 def digest_of(value: Value) -> bytes:
@@ -152,13 +134,8 @@ class FileSigner:
 
 def verifies(key: Value, message: bytes, value: Value) -> bool:
     """Whether a value is a signature of a message by an SPKI key."""
-    return verify(canonical(key), message, canonical(value))
-
-
-def verify(key: bytes, message: bytes, value: bytes) -> bool:
-    """The same of canonical forms."""
     from spki_verify import verify_texts
-    return verify_texts(key=key, message=message, value=value)
+    return verify_texts(key=canonical(key), message=message, value=canonical(value))
 
 
 # ---- files
@@ -193,7 +170,8 @@ def read_public(octets: bytes, asking: Asking, number: int | None = None) -> Val
     one = found[(number or 1) - 1]
     if is_text(one):
         return key_of_text(one)
-    needs_no_word(foreign(one))
+    if why := foreign(one):
+        raise BadKey(why)
     return key_of(public_in(one)) if OPENSSH.match(one) or PEM.search(one) else key_of_text(one)
 
 
@@ -210,17 +188,10 @@ def no_passphrase() -> bytes:
     raise BadKey(ENCRYPTED)
 
 
-def needs_no_word(why: str | None) -> None:
-    """Refuses what is known to be no key that is used."""
-    if why:
-        raise BadKey(why)
-
-
 def public_in(octets: bytes) -> object:
     """The public key of one line of OpenSSH, or of one block of PEM."""
     from cryptography.exceptions import UnsupportedAlgorithm
-    from cryptography.hazmat.primitives.serialization import load_pem_public_key
-    from cryptography.hazmat.primitives.serialization.ssh import load_ssh_public_key
+    from cryptography.hazmat.primitives.serialization import load_pem_public_key, load_ssh_public_key
     try:
         return load_pem_public_key(octets) if PEM.search(octets) else load_ssh_public_key(octets)
     except UnsupportedAlgorithm:
@@ -233,16 +204,25 @@ def public_part(octets: bytes) -> bytes | None:
     """The line of the public key that the file of a private key of OpenSSH has in clear. None if it is another file."""
     if b"BEGIN OPENSSH" not in octets:
         return None
-    body, at = b"", len(b"openssh-key-v1\0")
-    with contextlib.suppress(ValueError):
-        body = base64.b64decode(octets.partition(b"KEY-----")[2].partition(b"-----END")[0])
-    for _ in range(3):
-        at += 4 + int.from_bytes(body[at:at + 4], "big")
-    blob = body[at + 8:at + 8 + int.from_bytes(body[at + 4:at + 8], "big")]
-    kind = blob[4:4 + int.from_bytes(blob[:4], "big")]
-    if not re.fullmatch(rb"[\w@.-]+", kind):
-        raise BadKey("no whole private key of OpenSSH: was it copied to its end?")
-    return kind + b" " + base64.b64encode(blob)
+    try:
+        rest = base64.b64decode(octets.partition(b"KEY-----")[2].partition(b"-----END")[0]).removeprefix(b"openssh-key-v1\0")
+        for _ in range(3):
+            _, rest = taken(rest)
+        blob, _ = taken(rest[4:])
+        kind, _ = taken(blob)
+        if re.fullmatch(rb"[\w@.-]+", kind):
+            return kind + b" " + base64.b64encode(blob)
+    except (ValueError, BadKey):
+        pass
+    raise BadKey("no whole private key of OpenSSH: was it copied to its end?")
+
+
+def taken(octets: bytes) -> tuple[bytes, bytes]:
+    """The first string of some octets, as SSH has it with its length, and what follows it."""
+    end = 4 + int.from_bytes(octets[:4], "big")
+    if len(octets) < max(end, 4):
+        raise BadKey("ssh-agent sent an answer that is not whole")
+    return octets[4:end], octets[end:]
 
 
 def key_of_text(octets: bytes) -> Value:
@@ -256,32 +236,28 @@ def key_of_text(octets: bytes) -> Value:
 def read_private(octets: bytes, asking: Asking) -> Private:
     """The private key of the octets of a file. `asking` gives the passphrase if it is encrypted. Raises BadKey."""
     from cryptography.exceptions import UnsupportedAlgorithm
+    from cryptography.hazmat.primitives.serialization import load_pem_private_key
+    from cryptography.hazmat.primitives.serialization.ssh import load_ssh_private_key
     line, is_asked = public_part(octets), False
-    needs_no_word(foreign(line or octets))
+    load: Any = load_ssh_private_key if line else load_pem_private_key
+    if why := foreign(line or octets):
+        raise BadKey(why)
     try:
         if octets.lstrip().startswith(b"("):
             return private_of_text(octets)
         try:
-            private = loaded(octets, None)
-        except (TypeError, ValueError) as why:
-            if isinstance(why, ValueError) and "password" not in str(why):
+            private = load(octets, None)
+        except (TypeError, ValueError) as fault:
+            if isinstance(fault, ValueError) and "password" not in str(fault):
                 raise
             if line and importlib.util.find_spec("bcrypt") is None:
                 raise BadKey(NEEDS_BCRYPT) from None
-            is_asked, private = True, loaded(octets, asking())
-    except (ValueError, TypeError, ArithmeticError, UnsupportedAlgorithm) as why:
-        raise BadKey(NEEDS_BCRYPT if "bcrypt" in str(why) else "this is not the passphrase of the key, or the file is damaged" if is_asked
+            is_asked, private = True, load(octets, asking())
+    except (ValueError, TypeError, ArithmeticError, UnsupportedAlgorithm) as fault:
+        raise BadKey(NEEDS_BCRYPT if "bcrypt" in str(fault) else "this is not the passphrase of the key, or the file is damaged" if is_asked
                      else f"no private key that can be read: was it copied to its end? And {USED}") from None
     key_of(private.public_key())
-    return private
-
-
-def loaded(octets: bytes, passphrase: bytes | None) -> Private:
-    """The private key of PEM or of OpenSSH."""
-    from cryptography.hazmat.primitives.serialization import load_pem_private_key
-    from cryptography.hazmat.primitives.serialization.ssh import load_ssh_private_key
-    load: Any = load_ssh_private_key if b"BEGIN OPENSSH" in octets else load_pem_private_key
-    return cast("Private", load(octets, passphrase))
+    return cast("Private", private)
 
 
 def private_of_text(octets: bytes) -> Private:

@@ -1,57 +1,26 @@
 """Makes certificates and entries: what is asked for, what is probably a mistake, and the signed sequence."""
-from __future__ import annotations
-
 import os
 from collections.abc import Iterator
-from dataclasses import dataclass
 
-from .certificates import Keys, certificates_in, entries_of, headed, members, remarks_on_window, terms_of_entry
-from .files import Refused, now
-from .forms import Node
-from .keys import Signer, hash_of, is_named_by_itself, principal_of, verifies
-from .places import fault_of, place_shown, told, value_in
+from .certificates import Keys, Terms, certificates_in, entries_of, headed, members, remarks_on_window, terms_of
+from .files import Refused, Signer, now
+from .keys import hash_of, is_named_by_itself, principal_of, verifies
+from .places import place_shown, read_text, told, value_in
 from .sexp import Value, canonical, laid_out, on_one_line
 from .tag_words import contains, is_everything, lacks, remarks
 
 
-@dataclass(frozen=True)
-class Wish:
-    """What a certificate, or an entry of an access list, is to say."""
-
-    subject: Value
-    """A principal, or a name, which may be one of the issuer."""
-    name: bytes | None
-    """The name that the certificate defines, or None if it gives a right."""
-    tag: Node | None
-    tag_text: str
-    begins: bytes | None
-    ends: bytes | None
-    delegates: bool
-    comment: str
-
-
-def certificate_of(wish: Wish, key: Value) -> Value:
-    """The certificate of a wish by the holder of a key."""
+def certificate_of(key: Value, subject: Value, fields: list[Value], name: bytes | None = None) -> Value:
+    """The certificate by the holder of a key, which gives a right or defines a name. The subject is a principal, or a name."""
     issuer = principal_of(key)
-    return [b"cert", [b"issuer", [b"name", issuer, wish.name] if wish.name is not None else issuer], [b"subject", wish.subject], *fields_of(wish)]
+    return [b"cert", [b"issuer", [b"name", issuer, name] if name is not None else issuer], [b"subject", subject], *fields]
 
 
-def entry_of(wish: Wish) -> Value:
-    """The entry of an access list for a wish."""
-    return [b"entry", wish.subject, *fields_of(wish)]
-
-
-def fields_of(wish: Wish) -> Iterator[Value]:
+def fields_of(tag: Value | None, begins: bytes | None, ends: bytes | None, delegates: bool = False, comment: str = "") -> list[Value]:
     """The fields that certificates and entries have alike."""
-    if wish.delegates:
-        yield [b"propagate"]
-    if wish.tag is not None:
-        yield [b"tag", wish.tag.value]
-    for head, moment in ((b"not-before", wish.begins), (b"not-after", wish.ends)):
-        if moment is not None:
-            yield [head, moment]
-    if wish.comment:
-        yield [b"comment", os.fsencode(wish.comment)]
+    fields: list[Value] = [[b"propagate"]] if delegates else []
+    given = (b"tag", tag), (b"not-before", begins), (b"not-after", ends), (b"comment", os.fsencode(comment) or None)
+    return fields + [[head, value] for head, value in given if value is not None]
 
 
 def list_with(entry: Value, before: bytes) -> bytes:
@@ -86,8 +55,8 @@ def list_without(subject: Value, before: bytes) -> tuple[bytes, int]:
     """The text of an access list without the entries for a subject, and how many they were. What is around them stays as it is."""
     if before.lstrip().startswith(b"{"):
         before = text_of(value_in(before).value)
-    wanted, entries = terms_of_entry([b"entry", subject]), [it for it in value_in(before).members or [] if it.head == b"entry"]
-    terms = [terms_of_entry(it.value) for it in entries]
+    wanted, entries = terms_of([b"entry", subject]), [it for it in value_in(before).members or [] if it.head == b"entry"]
+    terms = [terms_of(it.value) for it in entries]
     keys = Keys(it.principal for it in (wanted, *terms))
     gone = [node for node, it in zip(entries, terms) if it.names == wanted.names and keys.are_one(it.principal, wanted.principal)]
     for node in reversed(gone):
@@ -98,7 +67,7 @@ def list_without(subject: Value, before: bytes) -> tuple[bytes, int]:
 
 def needs_no_refusal(what: str, text: bytes) -> None:
     """Refuses a text here that a service would refuse."""
-    found = fault_of(text, f"refused {what}")
+    found = read_text(text, f"refused {what}")[0]
     if found[0] is not None:
         raise Refused("a service would refuse this:", *told(f"the {what}", found))
 
@@ -106,43 +75,39 @@ def needs_no_refusal(what: str, text: bytes) -> None:
 # ---- what is probably a mistake
 
 
-def warnings_of_certificate(wish: Wish, chain: Value | None, tries: list[Value]) -> Iterator[str]:
-    """What is probably a mistake in a certificate. It is made only if that is confirmed."""
-    if wish.ends is None:
+def warnings_of_certificate(terms: Terms, tag_text: str, needed: bytes | None, chain: Value | None, tries: list[Value]) -> Iterator[str]:
+    """What is probably a mistake in a certificate. It is made only if that is confirmed. The chain must not end before the moment that is
+    needed, if there is one."""
+    if terms.ends is None:
         yield "it has no end: give --days or --until; otherwise it counts until a service ends it by `spki-cert end`"
-    yield from warnings_of(wish, tries)
+    yield from warnings_of(terms, tag_text, tries)
     for each in certificates_in(chain) if chain is not None else []:
         ends = each.terms.ends
-        if ends is not None and (wish.ends is None or wish.ends > ends):
+        if ends is not None and (needed is None or needed > ends):
             yield f"item {each.number} of the chain ends earlier, on {ends.decode()}, and the right ends with it"
         yield from (f"item {each.number} of the chain: {why}" for why in not_tried(each.terms.tag, tries))
 
 
 def warnings_of_list(made: Value, before: bytes) -> Iterator[str]:
     """What is probably a mistake in an entry for a list that has others."""
-    entries, new = entries_of(value_in(before).value), terms_of_entry(made)
+    entries, new = entries_of(value_in(before).value), terms_of(made)
     keys = Keys(it.principal for it in (*entries, new))
     yield from (f"entry {number} of the list gives all of this already" for number, it in enumerate(entries, 1) if contains(it, new, keys))
 
 
-def warnings_of(wish: Wish, tries: list[Value]) -> Iterator[str]:
+def warnings_of(terms: Terms, tag_text: str, tries: list[Value]) -> Iterator[str]:
     """The same of what certificates and entries have alike. An entry needs no end, since it can be removed from its list."""
-    yield from (why for _, why in remarks_on_window(wish.begins, wish.ends, now()))
-    principal = members(wish.subject)[0] if headed(wish.subject, b"name") else wish.subject
-    if headed(principal, b"hash") and members(principal)[0] == b"sha1":
+    yield from (why for _, why in remarks_on_window(terms.begins, terms.ends, now()))
+    if headed(terms.principal, b"hash") and members(terms.principal)[0] == b"sha1":
         yield "its subject is a hash by sha1, which names no key under the strict policy"
-    if wish.tag is not None:
-        yield from of_tag(wish.tag, wish.tag_text, tries)
-
-
-def of_tag(tag: Node, text: str, tries: list[Value]) -> Iterator[str]:
-    """What is probably a mistake in a tag."""
-    if is_everything(tag.value):
+    if terms.tag is None:
+        return
+    if is_everything(terms.tag):
         yield "its tag is `(*)`, which contains every request: narrow it, for example `(packages read)`, or keep it if that is meant"
-    for at, why in remarks(tag):
-        where, around = place_shown(text.encode(), None, at)
+    for at, why in remarks(value_in(os.fsencode(tag_text))):
+        where, around = place_shown(os.fsencode(tag_text), None, at)
         yield f"--tag, {where}: {why}\n{around}"
-    yield from not_tried(tag.value, tries)
+    yield from not_tried(terms.tag, tries)
 
 
 def not_tried(tag: Value | None, tries: list[Value]) -> Iterator[str]:
@@ -156,12 +121,3 @@ def not_tried(tag: Value | None, tries: list[Value]) -> Iterator[str]:
 def text_of(value: Value) -> bytes:
     """A text of a value for people to read."""
     return laid_out(value).encode() + b"\n"
-
-
-def named(principal: Value | None, names: list[str]) -> Value:
-    """A name of a key, or of the issuer if there is none, or the principal if there is no name."""
-    if headed(principal or b"", b"name") and names:
-        raise Refused("--to is a name already, so --named is one too many")
-    if principal is not None and not names:
-        return principal
-    return [b"name", *([principal] if principal is not None else []), *map(os.fsencode, names)]

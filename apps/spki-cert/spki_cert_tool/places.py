@@ -2,16 +2,14 @@
 
 A text headed `case`, `intersect`, `accepted`, `acl`, `sequence` or `public-key` is read as that, another value only as an S-expression.
 """
-from __future__ import annotations
-
 import re
 from collections.abc import Callable
 from functools import partial
 from typing import Optional
 
 from .forms import FORM_FAULTS, MOST_OCTETS, Node, Parser, Place, Wrong, meant, without_braces
-from .structures import Members, Reader, but_is, read_date, read_entry, read_item, read_key, read_row, read_version
-from .tags import read_request, read_tag
+from .sexp import canonical
+from .structures import Members, Reader, but_is, read_date, read_entry, read_item, read_key, read_request, read_row, read_tag, read_version
 
 WIDTH = 60
 PARTS = (b"acl", b"accepted", b"sequence", b"key", b"request", b"at")
@@ -20,7 +18,7 @@ PEM_END = rb"-----.*?(?:-----END [A-Z0-9 ]+-----|\Z)"
 USED = "only Ed25519, RSA of 2048 bits or more and ECDSA with the curve P-256 are used; `spki-cert key new FILE` makes a key"
 # What is neither a key that is used nor an S-expression, and what can be done with it.
 FOREIGN = [
-    (rb"\A\xef\xbb\xbf", "a byte order mark is before the text; save the file as UTF-8 without one"),
+    (rb"\A\xef\xbb\xbf", "a byte order mark is before the text, and is invisible: delete it, or save the file as UTF-8 without one"),
     (rb"\A(?:\xff\xfe|\xfe\xff|[ -~]\0|\0[ -~])", "this is UTF-16; save the file as UTF-8"),
     (rb"\A\x30(?:[\x81-\x84]|.\x30.\x06|.\x02\x01)", "this is binary (DER); `openssl pkey -inform DER -in FILE` writes a private key in PEM, "
      "with `-pubin` a public one, and `openssl x509 -inform DER -noout -pubkey -in FILE` the key of a certificate"),
@@ -40,7 +38,8 @@ FOREIGN = [
 # Keys in a form that is no S-expression, where one is wanted.
 PASTED = [(pattern, f"this is {called}, and no S-expression; {wanted}") for pattern, called, wanted in [
     (rb"(?:ssh-|ecdsa-)[\w@.-]{1,64}\s{1,64}AAAA[A-Za-z0-9+/=]*[^()\n]*", "a key as OpenSSH writes it", "`spki-cert key FILE` writes it as one"),
-    (rb"-----BEGIN [A-Z0-9 ]*PRIVATE KEY" + PEM_END, "a private key, which belongs into no list", "`spki-cert key FILE` writes the public one"),
+    (rb"-----BEGIN [A-Z0-9 ]*PRIVATE KEY" + PEM_END, "a private key, which belongs into no list",
+     "keep it secret, and replace it if somebody saw it; `spki-cert key FILE` writes the public one"),
     (rb"-----BEGIN [A-Z0-9 ]+" + PEM_END, "a key in PEM", "`spki-cert key FILE` writes it as one")]]
 INSIDE = "; replace the whole `(public-key ..)` by that S-expression"
 EMPTY = {"acl": "an access list begins as `(acl)`, and `spki-cert entry --acl FILE` adds an entry",
@@ -83,19 +82,15 @@ def part_of(name: str, read: Callable[[], object]) -> None:
         raise
 
 
-def read_numbered(name: str, read: Reader, nodes: list[Node]) -> None:
-    for number, node in enumerate(nodes, 1):
-        read_one(name, number, read, node)
-
-
-def read_one(name: str, number: int, read: Reader, node: Node) -> None:
-    """Reads an entry, an item or a row. A fault gets the place where it begins."""
-    try:
-        part_of(f"{name} {number}", partial(read, node))
-    except Wrong as wrong:
-        word = {"acl": "entry", "sequence": "item"}.get(name, "row")
-        wrong.others.append((node.begin, f"{word} {number} begins here"))
-        raise
+def read_numbered(name: str, read: Reader, nodes: list[Node], first: int = 1) -> None:
+    """Reads entries, items or rows. A fault gets the place where the one begins that it is in."""
+    for number, node in enumerate(nodes, first):
+        try:
+            part_of(f"{name} {number}", partial(read, node))
+        except Wrong as wrong:
+            word = {"acl": "entry", "sequence": "item"}.get(name, "row")
+            wrong.others.append((node.begin, f"{word} {number} begins here"))
+            raise
 
 
 def read_list(node: Node) -> None:
@@ -120,7 +115,7 @@ def read_sequence(node: Node) -> None:
         if item and not waits and head == b"signature":
             raise Wrong(f"sequence {number} StraySignature", item.begin, "no certificate waits for this signature")
         if item:
-            read_one("sequence", number, read_item, item)
+            read_numbered("sequence", read_item, [item], number)
             waits = (number, item) if head == b"cert" else None if head == b"signature" else waits
 
 
@@ -147,11 +142,7 @@ def read_outline(node: Node) -> None:
             raise Wrong("case Shape", part.begin, f"this part must be {but_is(part, head)}; the order is {order}")
         if place > 2 and len(part.rest) != 1:
             raise Wrong("case Shape", part.begin, f"`({head.decode()} ..)` has one member, and this has {len(part.rest)}")
-    read_policy(parts[len(PARTS):])
-
-
-def read_policy(nodes: list[Node]) -> None:
-    for place, member in enumerate(nodes):
+    for place, member in enumerate(parts[len(PARTS):]):
         policy = member.rest
         if place or member.head != b"policy" or len(policy) != 1 or not policy[0].is_plain(b"strict"):
             raise Wrong("case Shape", member.begin, "the moment is followed by `(policy strict)` or nothing" + (
@@ -198,14 +189,6 @@ def kind_of(node: Node, word: str) -> str | None:
     return BY_WORD.get(word, word if word in READERS else None)
 
 
-def canonical_length(node: Node) -> int:
-    """How many octets the canonical form of a value has."""
-    if node.members is not None:
-        return 2 + sum(map(canonical_length, node.members))
-    strings = [it for it in (node.hint, node.body) if it is not None]
-    return sum(len(f"{len(it)}:") + len(it) for it in strings) + 2 * (node.hint is not None)
-
-
 def words_of(given: str) -> tuple[str, str]:
     """The part that a refusal names, and the word after it, each empty if there is none."""
     word, fault, *_ = *given.split()[1:3], "", ""
@@ -217,26 +200,16 @@ def read_as(node: Node, given: str) -> None:
     word, fault = words_of(given)
     if fault in FORM_FAULTS[1:]:
         return
-    kind, length = kind_of(node, word), canonical_length(node)
+    kind, length = kind_of(node, word), len(canonical(node.value))
     if kind and length > MOST_OCTETS:
         raise Wrong("TooLong", node.begin, f"the canonical form has {length:,} octets, and may have {MOST_OCTETS:,}")
     if kind:
         READERS[kind](node)
 
 
-def of_form(given: str) -> str:
-    """The word of a refusal for the form of a text: that of the part, if the refusal that is given has it."""
-    word, fault = words_of(given)
-    return word if word in NAMED and fault in FORM_FAULTS else "form"
-
-
-def fault_of(text: bytes, given: str = "") -> Found:
-    """What is wrong with a text, or None; the text in which its places are, and the places of that text's octets in the text."""
-    return read_text(text, given)[0]
-
-
 def read_text(text: bytes, given: str = "") -> tuple[Found, Node]:
-    """The same, and the value of the text, which is an empty list where the text has no form."""
+    """What is wrong with a text, or None; the text in which its places are, and the places of that text's octets in the text. And the value
+    of the text, which is an empty list where the text has no form."""
     node, inner, places = Node(0, members=[]), text, None
     try:
         inner, places, closing = without_braces(text)
@@ -249,7 +222,8 @@ def read_text(text: bytes, given: str = "") -> tuple[Found, Node]:
         if wrong.kind in FORM_FAULTS:
             if places and wrong.kind != "TooDeep":
                 wrong.kind, wrong.why = "Bad", f"what is in the braces is no canonical form: {wrong.why}"
-            wrong.kind = f"{of_form(given)} {wrong.kind}"
+            word, fault = words_of(given)
+            wrong.kind = f"{word if word in NAMED and fault in FORM_FAULTS else 'form'} {wrong.kind}"
         if places is None:
             name_foreign(text, wrong)
         if not text.strip():

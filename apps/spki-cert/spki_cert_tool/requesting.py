@@ -11,25 +11,10 @@ import sys
 from .files import Refused, put, remark_on_mode, signer_at, tell, value_of
 from .sexp import canonical
 
-REQUEST_HELP = """Signs an HTTP request (RFC 9421), and prints the fields that prove it: curl takes them by `-H @-`. They count for this request
-alone, once, and for 300 seconds. With --curl it has curl send the request, and the words after -- are more options of curl. KEY is the file of a
-private key, or of the public one of a key that ssh-agent holds."""
 DONE, BY_SIGNAL = 0, 128
 KEEP = "X-Spki-Keep"
 METHOD = re.compile(r"[A-Z]{1,32}")
 ADDRESS = re.compile(r"https?://[^/?#@\s]+(?:[/?][!\"$-~]*)?")
-
-
-def with_request(parser: argparse.ArgumentParser) -> None:
-    """Adds the options of the command."""
-    parser.add_argument("--by", metavar="KEY", required=True, help="the key that signs")
-    parser.add_argument("--cert", metavar="FILE", help="the sequence with the certificates of this key, which is sent and signed too")
-    parser.add_argument("--method", metavar="METHOD", help="GET if it is not given, and PUT with --body")
-    parser.add_argument("--body", metavar="FILE", help="the body of the request, whose digest is signed")
-    parser.add_argument("--keep", action="store_true", help="ask the service to keep the certificates of --cert for this key")
-    parser.add_argument("--curl", action="store_true", help="have curl send the request")
-    parser.add_argument("address", metavar="URL")
-    parser.add_argument("words", metavar="OPTION", nargs="*", help="after --: more options of curl")
 
 
 def request(given: argparse.Namespace) -> int:

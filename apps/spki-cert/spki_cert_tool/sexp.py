@@ -1,6 +1,4 @@
 """S-expressions as Python has them: a string is `bytes`, a string with a display hint a pair of `bytes`, a list a `list`."""
-from __future__ import annotations
-
 import base64
 import re
 from typing import Union

@@ -1,23 +1,65 @@
-"""Shows lists, certificates, sequences and cases in words: who, to whom, what, until when, and whether it may be delegated."""
-from __future__ import annotations
-
+"""Shows lists, certificates, sequences and cases in words: who, to whom, what, until when, and whether it may be delegated. Keys are called by
+labels from files of keys, else by the beginning of their hashes."""
+import contextlib
+import glob
+import os
 from collections.abc import Iterator
 
-from .certificates import Keys, Terms, certificates_in, entries_of, fault_of_signature, headed, keys_in, members, terms_of_certificate
-from .keys import digest_of, hash_of, kind_of
-from .labels import Labels
-from .sexp import Value, on_one_line
+from .certificates import Keys, Terms, certificates_in, entries_of, fault_of_signature, headed, keys_in, members, string_of, terms_of
+from .files import octets_of
+from .forms import Wrong
+from .keys import OPENSSH, BadKey, digest_of, hash_of, is_private, kind_of, no_passphrase, read_public
+from .sexp import Value, canonical, on_one_line
 
+SHORT_KEY, SHORT_DIGITS = 40, 8
 FAULTS = {"KeyNotShown": "the key of its issuer is not here, so the signature is not tested", "DigestDiffers": "its signature has another digest",
           "SignerDiffers": "signed by another key than its issuer's", "NotAccepted": "the signature is not valid"}
 Row = dict[str, object]
 
 
-def state_of(terms: Terms, moment: bytes) -> str:
-    """Whether something is valid at a moment."""
-    if terms.contains_moment(moment):
-        return "valid now"
-    return "ENDED" if terms.ends is not None and terms.ends < moment else "NOT YET VALID"
+class Labels:
+    """Keys with their labels."""
+
+    def __init__(self) -> None:
+        self.keys = Keys()
+        self.labels: dict[bytes, str] = {}
+
+    def add(self, key: Value, label: str) -> None:
+        """Calls a key so, if it is called nothing yet."""
+        self.keys.add(key)
+        if label:
+            self.labels.setdefault(canonical(key), label)
+
+    def add_path(self, path: str) -> None:
+        """Takes the public keys of a file, or of the files of a folder: lines of OpenSSH with their comments, as authorized_keys has them, or
+        one key with the name of the file. What is no public key is left out."""
+        for file in sorted(filter(os.path.isfile, glob.glob(f"{glob.escape(path)}/*"))) if os.path.isdir(path) else [path]:
+            octets = octets_of(file)
+            stem = os.path.splitext(os.path.basename(file))[0]
+            for line, comment in OPENSSH.findall(octets) or [(octets, b"")] if not is_private(octets) else []:
+                with contextlib.suppress(BadKey, Wrong):
+                    self.add(read_public(line, no_passphrase), comment.decode(errors="replace").strip() or stem)
+
+    def of(self, principal: Value | None) -> str:
+        """What a principal is called."""
+        if principal is None:
+            return "the list"
+        key = self.keys.named(principal)
+        label = self.labels.get(canonical(key)) if key is not None else None
+        if label:
+            return label
+        text = on_one_line(principal)
+        if headed(principal, b"public-key") and len(text) <= SHORT_KEY:
+            return text
+        digest = digest_of(key) if key is not None else string_of(members(principal)[1]) or b""
+        return f"key {digest.hex()[:SHORT_DIGITS]}"
+
+    def of_subject(self, subject: Value) -> str:
+        """What a subject is called, which may be a name."""
+        if not headed(subject, b"name"):
+            return self.of(subject)
+        names = " ".join(on_one_line(name) for name in members(subject)[1:])
+        return f"{names} of {self.of(members(subject)[0])}"
 
 
 def row_of_terms(kind: str, number: int | None, terms: Terms, moment: bytes, labels: Labels) -> Row:
@@ -26,13 +68,13 @@ def row_of_terms(kind: str, number: int | None, terms: Terms, moment: bytes, lab
             "name": terms.name.decode(errors="replace") if terms.name is not None else None,
             "subject": labels.of_subject(terms.subject), "tag": on_one_line(terms.tag) if terms.tag is not None else None,
             "from": terms.begins.decode() if terms.begins else None, "until": terms.ends.decode() if terms.ends else None,
-            "window": terms.window, "delegates": terms.delegates, "comment": terms.comment or None, "state": state_of(terms, moment)}
+            "window": terms.window, "delegates": terms.delegates, "comment": terms.comment or None, "state": terms.state(moment)}
 
 
 def rows_of(value: Value, moment: bytes, labels: Labels) -> Iterator[Row]:
     """The rows of a list, a certificate, a sequence or a case."""
     if headed(value, b"cert"):
-        yield row_of_terms("certificate", None, terms_of_certificate(value), moment, labels)
+        yield row_of_terms("certificate", None, terms_of(value), moment, labels)
     elif headed(value, b"acl"):
         yield from (row_of_terms("entry", number, entry, moment, labels) for number, entry in enumerate(entries_of(value), 1))
     elif headed(value, b"sequence"):

@@ -1,15 +1,14 @@
-"""Reads keys, hashes, names, entries, certificates and signatures: docs/FORMATS.md, "Keys, hashes, dates, entries, certificates"."""
-from __future__ import annotations
-
+"""Reads keys, hashes, names, entries, certificates and signatures, and tags, which are patterns for requests: docs/FORMATS.md, "Keys, hashes,
+dates, entries, certificates" and "Tags"."""
 import re
 from collections.abc import Callable
 
-from .forms import Node, Wrong, meant, shape, shown
-from .tags import read_tag
+from .forms import MOST_NODES, Node, Wrong, meant, shape, shown
 
 MOMENT = re.compile(rb"\d{4}-(0[1-9]|1[0-2])-(0[1-9]|[12]\d|3[01])_([01]\d|2[0-3]):[0-5]\d:([0-5]\d|60)")
 DIGESTS = {b"sha1": 20, b"sha256": 32, b"sha512": 64}
 PRINCIPALS = (b"public-key", b"hash")
+STARS, ORDERINGS = (b"set", b"prefix", b"range"), (b"alpha", b"time", b"date")
 LIMITS = (b"not-before", b"not-after")
 ENTRY_FIELDS = (*LIMITS, b"valid", b"tag", b"propagate", b"comment")
 CERTIFICATE_FIELDS = (*ENTRY_FIELDS, b"issuer", b"subject", b"version", b"display", b"issuer-info", b"subject-info")
@@ -44,6 +43,17 @@ class Members:
         if self.left:
             head = (self.node.head or b"").decode(errors="replace")
             raise shape(self.left[0], f"this is one member too many in `({head} ..)`", [(self.node.begin, "which begins here")])
+
+
+def list_of(head: bytes | None, what: str, *readers: tuple[str, Reader]) -> Reader:
+    """The reader of a list with this head, or with any, that has exactly these members. It says what the last one says."""
+    def reader(node: Node) -> object:
+        members, said = Members(node, head or node.head or b"", what), None
+        for name, read in readers:
+            said = read(members.next(name))
+        members.end()
+        return said
+    return reader
 
 
 def read_key(node: Node) -> None:
@@ -83,10 +93,7 @@ def read_hash(node: Node) -> bytes:
 def read_principal(node: Node) -> None:
     if node.head not in PRINCIPALS:
         raise shape(node, f"a principal must be {but_is(node, *PRINCIPALS)}")
-    if node.head == b"public-key":
-        read_key(node)
-    else:
-        read_hash(node)
+    (read_key if node.head == b"public-key" else read_hash)(node)
 
 
 def read_name(node: Node) -> tuple[bool, int]:
@@ -120,14 +127,11 @@ def read_date(node: Node) -> None:
         raise Wrong("BadDate", node.begin, 'a date is a string YYYY-MM-DD_HH:MM:SS in quotes, in UTC')
 
 
-def read_version(node: Node) -> None:
-    members = Members(node, b"version", "a version")
-    number = members.next("the version's string")
-    if number.members is not None:
-        raise shape(number, "a version is a string")
-    if not number.is_plain(b"0"):
-        raise Wrong("UnknownVersion", number.begin, "the version is 0")
-    members.end()
+def read_number(node: Node) -> None:
+    if node.members is not None:
+        raise shape(node, "a version is a string")
+    if not node.is_plain(b"0"):
+        raise Wrong("UnknownVersion", node.begin, "the version is 0")
 
 
 def read_issuer(node: Node) -> bool:
@@ -141,21 +145,19 @@ def read_issuer(node: Node) -> bool:
     return True
 
 
-def only_member(read: Callable[[Node], object]) -> Reader:
-    """The reader of a field with one member."""
-    def reader(node: Node) -> object:
-        members = Members(node, node.head or b"", "a field")
-        said = read(members.next("the member of this field"))
-        members.end()
-        return said
-    return reader
+def any_value(node: Node) -> None:
+    """A member that nothing is required of."""
 
 
+def field_of(read: Reader) -> Reader:
+    return list_of(None, "a field", ("the member of this field", read))
+
+
+read_version = list_of(b"version", "a version", ("the version's string", read_number))
 FIELDS: dict[bytes, Reader] = {
-    b"not-before": only_member(read_date), b"not-after": only_member(read_date), b"tag": only_member(lambda node: read_tag(node, [0])),
-    b"issuer": only_member(read_issuer), b"subject": only_member(read_subject), b"version": read_version,
-    b"propagate": lambda node: Members(node, b"propagate", "a field").end(),
-    b"valid": lambda node: read_fields(node, node.rest, LIMITS)}
+    b"not-before": field_of(read_date), b"not-after": field_of(read_date), b"tag": field_of(lambda node: read_tag(node, [0])),
+    b"issuer": field_of(read_issuer), b"subject": field_of(read_subject), b"version": read_version,
+    b"propagate": list_of(None, "a field"), b"valid": lambda node: read_fields(node, node.rest, LIMITS)}
 
 
 def no_field(node: Node, allowed: tuple[bytes, ...]) -> str:
@@ -218,23 +220,19 @@ def read_certificate(node: Node) -> None:
     one_validity(said)
 
 
-def read_signature(node: Node) -> None:
-    members = Members(node, b"signature", "a signature")
-    read_hash(members.next("the hash"))
-    read_principal(members.next("the principal"))
-    members.next("the value")
-    members.end()
+def read_digest_of_row(node: Node) -> None:
+    if read_hash(node) != b"sha256":
+        raise Wrong("HashAlg", node.begin, "the hash of a row is by sha256")
 
 
 def read_operation(node: Node) -> None:
-    members = Members(node, b"do", "an operation")
-    if not members.left or not members.left[0].is_plain(b"hash"):
+    if not node.rest or not node.rest[0].is_plain(b"hash"):
         raise Wrong("UnknownOp", node.begin, "the only operation is `(do hash ALGORITHM)`")
-    members.next("hash")
-    read_algorithm(members.next("the algorithm"))
-    members.end()
+    list_of(b"do", "an operation", ("hash", any_value), ("the algorithm", read_algorithm))(node)
 
 
+read_signature = list_of(b"signature", "a signature", ("the hash", read_hash), ("the principal", read_principal), ("the value", any_value))
+read_row = list_of(b"by", "a row", ("the key", read_key), ("the hash", read_digest_of_row), ("the value of the signature", any_value))
 ITEMS: dict[bytes, Reader] = {b"public-key": read_key, b"do": read_operation, b"cert": read_certificate, b"signature": read_signature}
 
 
@@ -244,11 +242,75 @@ def read_item(node: Node) -> None:
     ITEMS[node.head](node)
 
 
-def read_row(node: Node) -> None:
-    members = Members(node, b"by", "a row")
-    read_key(members.next("the key"))
-    digest = members.next("the hash")
-    if read_hash(digest) != b"sha256":
-        raise Wrong("HashAlg", digest.begin, "the hash of a row is by sha256")
-    members.next("the value of the signature")
-    members.end()
+# ---- tags and requests
+
+
+def no_hint(node: Node) -> None:
+    if node.hint is not None:
+        raise Wrong("Hint", node.begin, "no string here has a display hint")
+
+
+def list_head(node: Node) -> Node:
+    """The first member of a list in a tag or a request, which is a string without a hint."""
+    if not node.members:
+        raise Wrong("EmptyList", node.begin, "a list here has members")
+    if node.members[0].members is not None:
+        raise Wrong("ListHead", node.members[0].begin, "the first member of a list here is a string")
+    no_hint(node.members[0])
+    return node.members[0]
+
+
+def read_tag(node: Node, nodes: list[int]) -> None:
+    """A tag. `nodes` counts in its one place."""
+    nodes[0] += 1
+    if nodes[0] > MOST_NODES:
+        raise Wrong("TooManyNodes", node.begin, f"the {MOST_NODES + 1}th node of the tag begins here")
+    if node.members is None:
+        return no_hint(node)
+    behind = node.members
+    if list_head(node).body == b"*":
+        if len(behind) == 1:
+            return None
+        word = behind[1]
+        if word.members is None:
+            no_hint(word)
+        if word.body not in STARS:
+            raise Wrong("UnknownStar", word.begin, "the star is followed by `set`, `prefix` or `range`" + meant(word.body, STARS))
+        behind = behind[2:]
+        if word.body != b"set":
+            return (read_prefix if word.body == b"prefix" else read_range)(node, behind)
+    for member in behind:
+        read_tag(member, nodes)
+
+
+def read_prefix(node: Node, behind: list[Node]) -> None:
+    if len(behind) != 1 or behind[0].members is not None:
+        raise Wrong("UnknownStar", node.begin, "`prefix` is followed by one string")
+    no_hint(behind[0])
+
+
+def read_range(node: Node, behind: list[Node]) -> None:
+    ordering = behind[0] if behind else node
+    if ordering.members is None:
+        no_hint(ordering)
+    if ordering.body not in ORDERINGS:
+        raise Wrong("RangeOrdering", ordering.begin, "`range` is followed by `alpha`, `time` or `date`" + meant(ordering.body, ORDERINGS))
+    for member in behind[1:]:
+        if member.members is None:
+            no_hint(member)
+    limits = behind[1:]
+    for words in ((b"g", b"ge"), (b"l", b"le")):
+        if len(limits) >= 2 and limits[0].is_plain(*words) and limits[1].is_plain():
+            limits = limits[2:]
+    if limits:
+        raise Wrong("RangeLimit", limits[0].begin, "the limits are at most one of `g s` and `ge s`, and then at most one of `l s` and `le s`")
+
+
+def read_request(node: Node) -> None:
+    if node.members is None:
+        return no_hint(node)
+    head = list_head(node)
+    if head.body == b"*":
+        raise Wrong("StarInRequest", head.begin, "a list in a request does not begin with `*`")
+    for member in node.members:
+        read_request(member)

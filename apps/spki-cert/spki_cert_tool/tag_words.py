@@ -1,6 +1,5 @@
 """Why a tag does not contain a request, and what in a tag is probably a mistake."""
-from __future__ import annotations
-
+import operator
 import re
 from collections.abc import Iterator
 
@@ -11,6 +10,7 @@ from .structures import MOMENT
 
 TIME = re.compile(rb"([01]\d|2[0-3]):[0-5]\d:([0-5]\d|60)")
 FORMS = {b"alpha": re.compile(rb".*", re.DOTALL), b"time": TIME, b"date": MOMENT}
+COMPARED = {b"g": operator.gt, b"ge": operator.ge, b"l": operator.lt, b"le": operator.le}
 ACTIONS = {b"read", b"write", b"get", b"put", b"post", b"delete", b"list", b"create", b"update", b"execute", b"admin", b"push", b"pull"}
 STARLESS = (b"set", b"prefix", b"range")
 
@@ -34,9 +34,9 @@ def lacks(tag: Value, request: Value, place: str = "the request") -> str | None:
 
 def lacks_star(tag: Value, request: Value, place: str) -> str | None:
     """The same of a tag that begins with the star."""
-    word, behind = (members(tag) or [b""])[0], members(tag)[1:]
-    if len(members(tag)) == 0:
+    if tag == [b"*"]:
         return None
+    word, *behind = members(tag)
     if word == b"set":
         said = [lacks(member, request, place) for member in behind]
         if None in said:
@@ -51,12 +51,7 @@ def is_in_range(behind: list[Value], request: bytes) -> bool:
     """Whether a string is in a range, of which the ordering and the limits are given."""
     ordering, limits = string_of(behind[0]) or b"", [string_of(it) or b"" for it in behind[1:]]
     given = dict(zip(limits[::2], limits[1::2]))
-    return FORMS[ordering].fullmatch(request) is not None and all(holds(word, request, limit) for word, limit in given.items())
-
-
-def holds(word: bytes, request: bytes, limit: bytes) -> bool:
-    """Whether a string is on the right side of a limit."""
-    return {b"g": request > limit, b"ge": request >= limit, b"l": request < limit, b"le": request <= limit}[word]
+    return FORMS[ordering].fullmatch(request) is not None and all(COMPARED[word](request, limit) for word, limit in given.items())
 
 
 def covers(wide: Value, narrow: Value) -> bool:

@@ -1,0 +1,21 @@
+package main
+
+import (
+	"strings"
+	"testing"
+	"time"
+)
+
+// TestMoments compares how moments are written with what package time writes.
+func TestMoments(t *testing.T) {
+	begin := time.Date(2026, 2, 28, 23, 59, 59, 999_999_999, time.FixedZone("east", 3600))
+	for _, moment := range []time.Time{begin, begin.Add(time.Nanosecond), begin.Add(time.Millisecond), begin.Add(-time.Hour), begin, {}, time.Unix(-1, 5)} {
+		if said, want := stamp(moment), moment.UTC().Format("2006-01-02T15:04:05.000Z"); said != want {
+			t.Errorf("%s, not %s", said, want)
+		}
+		made := record{Status: 200, Answer: answerYes}
+		if want := moment.UTC().Format(time.RFC1123); !strings.Contains(string(made.response(moment, false)), "\r\nDate: "+strings.Replace(want, "UTC", "GMT", 1)+"\r\n") {
+			t.Errorf("no date %s: %s", want, made.response(moment, false))
+		}
+	}
+}
