@@ -7,3 +7,4 @@ pub mod StructureFaults
 pub mod RefusedWholes
 pub mod Structures
 pub mod Inner
+pub mod Cost

@@ -2,10 +2,10 @@
 //! Each function is a law: it does nothing, and its contract is the fact.
 #![tactic(auto, using(crate::proofs::LawRules::laws))]
 
-ghost use Rattle.std.specs.Prelude.{◌≡◌, ◌↔◌, ◌⊎◌, ◌<◌, ℕ, false, codes, List, Option, Some, None};
+ghost use Rattle.std.specs.Prelude.{◌≡◌, ◌↔◌, ◌⊎◌, ◌<◌, ◌≤◌, ◌*◌, ℕ, false, codes, length, List, Option, Some, None};
 ghost use Rattle.spki_cert.specs.declared.fault.CertFaultKind.TheVariants.{Shape};
 ghost use Rattle.spki_cert.specs.Fields.{is_headed};
-ghost use Rattle.sexpr_core.specs.Value.{Value};
+ghost use Rattle.sexpr_core.specs.Value.{Value, canon};
 ghost use Rattle.spki_cert.specs.declared.hash.HashAlg.{HashAlg};
 ghost use Rattle.spki_cert.specs.declared.fault.CertFault.{CertFault};
 ghost use Rattle.spki_cert.specs.declared.principal.Principal.{Principal};
@@ -19,6 +19,7 @@ ghost use Rattle.spki_cert.specs.Readings.{KeyOf, HashOf, DateOf};
 ghost use Rattle.spki_cert.specs.Fields.{PrincipalOf, WhoOf, SubjectOf, IssuerOf, AreFields, IsLimitField, IsField, IsCertField};
 ghost use Rattle.spki_cert.specs.FieldFaults.{key_fault, hash_fault, date_fault, principal_fault, subject_fault, entry_subject_fault, issuer_fault, fields_fault, limit_fault, entry_field_fault, cert_field_fault};
 ghost use Rattle.spki_cert.specs.StructureFaults.{entry_fault, entries_fault, acl_fault, IsRefusedAt, signature_fault, do_fault, cert_fault, item_fault, sequence_fault};
+ghost use Rattle.spki_cert.specs.Cost.{entry_weight, items_weight};
 ghost use Rattle.spki_cert.specs.RefusedWholes.{HasRefusedEntry, IsNoListOfEntries, HasWrongItem};
 ghost use Rattle.spki_cert.specs.Structures.{EntryOf, AclOf, AuthCertOf, NameCertOf, SignatureOf, DoHashOf, ItemOf, SeqOf};
 
@@ -114,4 +115,11 @@ pub fn refused_sequence()
     ensures item { (v : Value) (fault : CertFault) → sequence_fault v ≡ Some fault → 0 < fault.item → HasWrongItem v fault }
     ensures outer { (v : Value) (fault : CertFault) → sequence_fault v ≡ Some fault → fault.item ≡ 0
         → (is_headed (codes "sequence") v ≡ false) × (fault.kind ≡ Shape) }
+{}
+
+/// The weight of an entry, which bounds how much is read to test it, is below the octets of its canonical text. The weight of a
+/// sequence is at most four times the octets of its canonical text.
+pub fn weights()
+    ensures entry { (v : Value) (e : Entry) → EntryOf v e → entry_weight e < length (canon v) }
+    ensures sequence { (v : Value) (is : List SeqItem) → SeqOf v is → items_weight is ≤ 4 * length (canon v) }
 {}

@@ -8,3 +8,4 @@ pub mod Examples
 pub mod Memberships
 pub mod Audited
 pub mod Monotony
+pub mod Costs

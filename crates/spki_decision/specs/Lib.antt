@@ -6,3 +6,4 @@ pub mod Answered
 pub mod Requirements
 pub mod Explained
 pub mod Audited
+pub mod Cost

@@ -4,18 +4,23 @@
 //! the client's key. The request is in the entry's tag and in each certificate's tag. The moment is within the entry's window and within
 //! each certificate's window. The certificates are tested once for all entries.
 
-ghost use Rattle.std.specs.Prelude.{◌≡◌, ◌↔◌, true, List, IsTrue, IfOk};
+ghost use Rattle.std.specs.Prelude.{◌≡◌, ◌↔◌, ◌≤◌, ◌<◌, ◌+◌, true, List, length, IsTrue, IfOk};
 ghost use Rattle.spki_case.specs.View.{model};
 ghost use Rattle.spki_reduce.specs.Reduction.{Tuple, tags_of, windows_of, step_tuple, in_each, within_each};
 ghost use Rattle.spki_reduce.specs.Chain.{tuples_of, all_tags, all_windows};
 ghost use Rattle.spki_decision.specs.Granted.{Supported};
 ghost use Rattle.spki_decision.specs.Requirements.{IsMembership};
+ghost use Rattle.spki_cert.specs.Cost.{entry_weight};
+ghost use Rattle.spki_decision.specs.Cost.{content_weight, contents_weight, tuples_weight};
 
 use crate::required_subject::{RequiredSubject, required_subject};
 use spki_case::Case;
 use spki_cert::Entry;
 use spki_reduce::Step;
+use spki_tag::Ticks;
 use std::alloc::{AllocError, Global};
+use std::marker::Brand;
+use std::sync::ledger::{Blank, Ledger};
 
 /// What certificates require of an entry, so that both grant what a case asks.
 #[derive(Drop)]
@@ -26,7 +31,7 @@ pub struct Membership<'a> {
 
 impl<'a> Membership<'a> {
     /// What certificates with the tuples `steps` require of an entry, so that both grant what the case asks. If a
-    /// step's tag lacks the request, or its window the moment, no entry is enough. Takes time in proportion to the steps.
+    /// step's tag lacks the request, or its window the moment, no entry is enough. `of_counted` says how long it takes.
     ///
     /// # Errors
     ///
@@ -38,11 +43,45 @@ impl<'a> Membership<'a> {
     ) -> Result<Membership<'a>, AllocError>
         ensures { IfOk result (IsMembership (model case.now) (tuples_of steps.now)) }
     {
+        Membership::of_from::<Brand>(alloc, case, steps, Blank::new(1))
+    }
+
+    /// The same, counted in a ledger of its own.
+    fn of_from<L: Ledger>(
+        alloc: Global,
+        case: &Case<'a>,
+        steps: &[Step<'a>],
+        blank: Blank,
+    ) -> Result<Membership<'a>, AllocError>
+        requires name { blank.name ≡ L.name }
+        requires parts { blank.parts ≡ L.parts }
+        requires some { 0 < blank.parts }
+        ensures { IfOk result (IsMembership (model case.now) (tuples_of steps.now)) }
+    {
+        Membership::of_counted(alloc, case, steps, &mut Ticks::<L>::new(blank))
+    }
+
+    /// What certificates require of an entry, as `of`. A tick is a certificate, a tag or a name that is looked at, or an octet that is
+    /// compared. There are at most as many as the weights of the certificates' tuples together.
+    ///
+    /// # Errors
+    ///
+    /// `AllocError` if memory ran out.
+    pub fn of_counted<L: Ledger>(
+        alloc: Global,
+        case: &Case<'a>,
+        steps: &[Step<'a>],
+        ticks: &mut Ticks<L>,
+    ) -> Result<Membership<'a>, AllocError>
+        ensures answer { IfOk result (IsMembership (model case.now) (tuples_of steps.now)) }
+        ensures cost { ticks.new ≤ ticks.old + tuples_weight (tuples_of steps.now) }
+        ensures grows { ticks.old ≤ ticks.new }
+    {
         case.request.prove_well_formed();
-        if !all_contain(steps, case) {
+        if !all_contain(steps, case, ticks) {
             return Ok(Membership { required: None });
         }
-        let required = required_subject(alloc, steps, &case.key, case.policy)?;
+        let required = required_subject(alloc, steps, &case.key, case.policy, ticks)?;
         Ok(Membership { required })
     }
 
@@ -51,11 +90,39 @@ impl<'a> Membership<'a> {
         ensures { (tuples : List Tuple) → IsMembership (model case.now) tuples self.now
             → IsTrue result ↔ Supported (model case.now) tuples entry.now }
     {
+        self.grants_from::<Brand>(entry, case, Blank::new(1))
+    }
+
+    /// The same, counted in a ledger of its own.
+    fn grants_from<L: Ledger>(&self, entry: &Entry, case: &Case, blank: Blank) -> bool
+        requires name { blank.name ≡ L.name }
+        requires parts { blank.parts ≡ L.parts }
+        requires some { 0 < blank.parts }
+        ensures { (tuples : List Tuple) → IsMembership (model case.now) tuples self.now
+            → IsTrue result ↔ Supported (model case.now) tuples entry.now }
+    {
+        self.grants_counted(entry, case, &mut Ticks::<L>::new(blank))
+    }
+
+    /// Whether an entry and the certificates grant what this case asks, as `grants`. A tick is the entry, or a name or a tag in it that
+    /// is looked at, or an octet of it that is compared. Digests are not counted.
+    pub fn grants_counted<L: Ledger>(
+        &self,
+        entry: &Entry,
+        case: &Case,
+        ticks: &mut Ticks<L>,
+    ) -> bool
+        ensures answer { (tuples : List Tuple) → IsMembership (model case.now) tuples self.now
+            → IsTrue result ↔ Supported (model case.now) tuples entry.now }
+        ensures cost { ticks.new ≤ ticks.old + entry_weight entry.now }
+        ensures grows { ticks.old < ticks.new }
+    {
+        ticks.tick();
         match &self.required {
             None => false,
             Some(required) => {
-                required.is_met_by(&entry.subject, entry.propagate, case.policy)
-                    && entry.tag.holds(&case.request)
+                required.is_met_by(&entry.subject, entry.propagate, case.policy, ticks)
+                    && entry.tag.holds_counted(&case.request, ticks)
                     && entry.window.holds(&case.moment)
             }
         }
@@ -63,12 +130,15 @@ impl<'a> Membership<'a> {
 }
 
 /// Whether the tags of all steps contain the request of a case, and their windows its moment.
-fn all_contain(steps: &[Step], case: &Case) -> bool
-    ensures { IsTrue result ↔ ((in_each case.now.request (all_tags (tuples_of steps.now)) ≡ true)
+fn all_contain<L: Ledger>(steps: &[Step], case: &Case, ticks: &mut Ticks<L>) -> bool
+    ensures answer { IsTrue result ↔ ((in_each case.now.request (all_tags (tuples_of steps.now)) ≡ true)
         × (within_each case.now.moment (all_windows (tuples_of steps.now)) ≡ true)) }
+    ensures cost { ticks.new ≤ ticks.old + contents_weight (tuples_of steps.now) }
+    ensures each { IsTrue result → ticks.old + length steps.now ≤ ticks.new }
+    ensures grows { ticks.old ≤ ticks.new }
 {
     for step in steps {
-        if !contains(step, case) {
+        if !contains(step, case, ticks) {
             return false;
         }
     }
@@ -76,12 +146,17 @@ fn all_contain(steps: &[Step], case: &Case) -> bool
 }
 
 /// Whether the tag of a step contains the request of a case, and its window the moment. A definition has no tag.
-fn contains(step: &Step, case: &Case) -> bool
-    ensures { IsTrue result ↔ ((in_each case.now.request (tags_of (step_tuple step.now)) ≡ true)
+fn contains<L: Ledger>(step: &Step, case: &Case, ticks: &mut Ticks<L>) -> bool
+    ensures answer { IsTrue result ↔ ((in_each case.now.request (tags_of (step_tuple step.now)) ≡ true)
         × (within_each case.now.moment (windows_of (step_tuple step.now)) ≡ true)) }
+    ensures cost { ticks.new ≤ ticks.old + content_weight (step_tuple step.now) }
+    ensures grows { ticks.old < ticks.new }
 {
+    ticks.tick();
     match step {
-        Step::Auth(five) => five.tag.holds(&case.request) && five.window.holds(&case.moment),
+        Step::Auth(five) => {
+            five.tag.holds_counted(&case.request, ticks) && five.window.holds(&case.moment)
+        }
         Step::Name(four) => four.window.holds(&case.moment),
     }
 }

@@ -1,13 +1,18 @@
 //! The subject that certificates require of an entry, whatever their tags and windows are (RFC 2693, sections 6.3 and 6.4).
 
-ghost use Rattle.std.specs.Prelude.{◌≡◌, ◌≢◌, ◌↔◌, ◌∷◌, ◌++◌, ℕ, List, drop, IsTrue, IfOk, IfNone, IfSome};
+ghost use Rattle.std.specs.Prelude.{◌≡◌, ◌≢◌, ◌≤◌, ◌<◌, ◌+◌, ◌↔◌, ◌∷◌, ◌++◌, ℕ, List, drop, length, IsTrue, IfOk, IfNone, IfSome};
 ghost use Rattle.spki_reduce.specs.Reduction.{five, four, five_tuple, four_tuple, step_tuple};
 ghost use Rattle.spki_reduce.specs.Chain.{tuples_of};
+ghost use Rattle.spki_cert.specs.Naming.{names};
+ghost use Rattle.spki_cert.specs.Cost.{names_weight, principal_weight, subject_weight};
 ghost use Rattle.spki_decision.specs.Requirements.{Meets, IsRequiredBefore, IsRequiredBy};
+ghost use Rattle.spki_decision.specs.Cost.{path_weight, paths_weight};
 
-use spki_cert::{Key, Names, Octets, Policy, Subject};
+use spki_cert::{Key, Names, Octets, Policy, Principal, Subject};
 use spki_reduce::{Five, Four, Issuer, Step};
+use spki_tag::Ticks;
 use std::alloc::{AllocError, Global};
+use std::sync::ledger::Ledger;
 
 /// What an authorization's subject must be so that certificates lead from it to a key.
 #[derive(Drop)]
@@ -23,19 +28,22 @@ pub(crate) struct RequiredSubject<'a> {
 /// Returns the subject that an entry must have so that the certificates with the tuples `steps` lead from it to the
 /// key. None if there is no such subject.
 ///
-/// From the last step to the first, what is required after a step determines what is required before it. This takes time in
-/// proportion to the names of the steps' subjects.
+/// From the last step to the first, what is required after a step determines what is required before it. A tick is a step, or a name
+/// of its subject that is looked at, or an octet of it that is compared.
 ///
 /// # Errors
 ///
 /// `AllocError` if memory ran out.
-pub(crate) fn required_subject<'a>(
+pub(crate) fn required_subject<'a, L: Ledger>(
     alloc: Global,
     steps: &[Step<'a>],
     key: &Key<'a>,
     policy: Policy,
+    ticks: &mut Ticks<L>,
 ) -> Result<Option<RequiredSubject<'a>>, AllocError>
-    ensures { IfOk result (IsRequiredBy policy (tuples_of steps.now) key.now) }
+    ensures answer { IfOk result (IsRequiredBy policy (tuples_of steps.now) key.now) }
+    ensures cost { ticks.new ≤ ticks.old + paths_weight (tuples_of steps.now) }
+    ensures grows { ticks.old ≤ ticks.new }
 {
     let mut required = RequiredSubject {
         key: key.share(),
@@ -44,7 +52,7 @@ pub(crate) fn required_subject<'a>(
     };
     for done in 0..steps.len() {
         let step = &steps[steps.len() - 1 - done];
-        match required.before(alloc, step, policy)? {
+        match required.before(alloc, step, policy, ticks)? {
             None => return Ok(None),
             Some(earlier) => required = earlier,
         }
@@ -55,40 +63,55 @@ pub(crate) fn required_subject<'a>(
 impl<'a> RequiredSubject<'a> {
     /// Whether a subject is as required: it names the key under the policy, has exactly the names, and may delegate if
     /// that is required. `propagate` says whether it may. Allocates nothing.
-    pub(crate) fn is_met_by(&self, subject: &Subject, propagate: bool, policy: Policy) -> bool
-        ensures { IsTrue result ↔ Meets policy self.now subject.now.principal subject.now.names propagate }
+    pub(crate) fn is_met_by<L: Ledger>(
+        &self,
+        subject: &Subject,
+        propagate: bool,
+        policy: Policy,
+        ticks: &mut Ticks<L>,
+    ) -> bool
+        ensures answer { IsTrue result ↔ Meets policy self.now subject.now.principal subject.now.names propagate }
+        ensures cost { ticks.new ≤ ticks.old + subject_weight subject.now }
+        ensures grows { ticks.old ≤ ticks.new }
     {
         (propagate || !self.delegation)
-            && are_same_names(&subject.names, &self.names)
-            && subject.principal.names(&self.key, policy)
+            && are_same_names(&subject.names, &self.names, ticks)
+            && is_name_of(&subject.principal, &self.key, policy, ticks)
     }
 
     /// The subject that is required before a step, if `self` is required after it. None if there is none.
-    fn before(
+    fn before<L: Ledger>(
         self,
         alloc: Global,
         step: &Step<'a>,
         policy: Policy,
+        ticks: &mut Ticks<L>,
     ) -> Result<Option<RequiredSubject<'a>>, AllocError>
-        ensures { IfOk result (IsRequiredBefore policy (step_tuple step.now) self.entry) }
+        ensures answer { IfOk result (IsRequiredBefore policy (step_tuple step.now) self.entry) }
+        ensures cost { ticks.new ≤ ticks.old + path_weight (step_tuple step.now) }
+        ensures grows { ticks.old < ticks.new }
     {
+        ticks.tick();
         match step {
-            Step::Auth(next) => Ok(self.before_delegation(alloc, next, policy)),
-            Step::Name(definition) => self.before_definition(alloc, definition, policy),
+            Step::Auth(next) => Ok(self.before_delegation(alloc, next, policy, ticks)),
+            Step::Name(definition) => self.before_definition(alloc, definition, policy, ticks),
         }
     }
 
     /// The subject that is required before an authorization: its issuer's key, without names, who may delegate. None if
     /// the authorization's own subject is not as required, or if its issuer is the owner of the access list.
-    fn before_delegation(
+    fn before_delegation<L: Ledger>(
         self,
         alloc: Global,
         next: &Five<'a>,
         policy: Policy,
+        ticks: &mut Ticks<L>,
     ) -> Option<RequiredSubject<'a>>
-        ensures { IsRequiredBefore policy (five (five_tuple next.now)) self.entry result }
+        ensures answer { IsRequiredBefore policy (five (five_tuple next.now)) self.entry result }
+        ensures cost { ticks.new ≤ ticks.old + subject_weight next.now.subject }
+        ensures grows { ticks.old ≤ ticks.new }
     {
-        if !self.is_met_by(&next.subject, next.propagate, policy) {
+        if !self.is_met_by(&next.subject, next.propagate, policy, ticks) {
             return None;
         }
         match &next.issuer {
@@ -104,20 +127,24 @@ impl<'a> RequiredSubject<'a> {
     /// The subject that is required before a name's definition: the defined name, and after it the required names
     /// without those of the definition's subject. It may delegate if `self` may. None if the definition's subject does
     /// not name the required key, or if the required names do not begin with its names. Err if memory ran out.
-    fn before_definition(
+    fn before_definition<L: Ledger>(
         self,
         alloc: Global,
         definition: &Four<'a>,
         policy: Policy,
+        ticks: &mut Ticks<L>,
     ) -> Result<Option<RequiredSubject<'a>>, AllocError>
-        ensures { IfOk result (IsRequiredBefore policy (four (four_tuple definition.now)) self.entry) }
+        ensures answer { IfOk result (IsRequiredBefore policy (four (four_tuple definition.now)) self.entry) }
+        ensures cost { ticks.new ≤ ticks.old + 1 + subject_weight definition.now.subject }
+        ensures grows { ticks.old ≤ ticks.new }
     {
-        if !definition.subject.principal.names(&self.key, policy) {
+        if !is_name_of(&definition.subject.principal, &self.key, policy, ticks) {
             return Ok(None);
         }
-        let Some(rest) = names_after(self.names, &definition.subject.names) else {
+        let Some(rest) = names_after(self.names, &definition.subject.names, ticks) else {
             return Ok(None);
         };
+        ticks.tick();
         let mut name = Vec::new(alloc);
         name.push(definition.name.share())?;
         Ok(Some(RequiredSubject {
@@ -129,13 +156,20 @@ impl<'a> RequiredSubject<'a> {
 }
 
 /// The names that remain if those of `front` are removed from the beginning. None if `names` do not begin with them.
-#[tactic(auto, using(crate::proofs::Memberships::begins_more, crate::proofs::Memberships::begins_not))]
-fn names_after<'a>(names: Names<'a>, front: &Names) -> Option<Names<'a>>
+#[tactic(auto, using(crate::proofs::Memberships::begins_more, crate::proofs::Memberships::begins_not, crate::proofs::Costs::names_step))]
+fn names_after<'a, L: Ledger>(
+    names: Names<'a>,
+    front: &Names,
+    ticks: &mut Ticks<L>,
+) -> Option<Names<'a>>
     ensures some { IfSome result (λ rest. names.entry ≡ front.now ++ rest) }
     ensures none { IfNone result ((rest : List (List ℕ)) → names.entry ≢ front.now ++ rest) }
+    ensures cost { ticks.new ≤ ticks.old + names_weight front.now }
+    ensures grows { ticks.old ≤ ticks.new }
 {
     let mut rest = names;
     for place in 0..front.len() {
+        look_at(front.at(place), ticks);
         if !has_first(&rest, front.at(place)) {
             return None;
         }
@@ -154,18 +188,46 @@ fn has_first(names: &Names, name: &Octets) -> bool
     }
 }
 
-/// Whether both have the same names in the same order.
-#[tactic(auto, using(crate::proofs::Memberships::same_more))]
-fn are_same_names(one: &Names, other: &Names) -> bool
-    ensures { IsTrue result ↔ (one.now ≡ other.now) }
+/// Whether both have the same names in the same order. Each name of the first and each of its octets is a tick.
+#[tactic(auto, using(crate::proofs::Memberships::same_more, crate::proofs::Costs::names_step))]
+fn are_same_names<L: Ledger>(one: &Names, other: &Names, ticks: &mut Ticks<L>) -> bool
+    ensures answer { IsTrue result ↔ (one.now ≡ other.now) }
+    ensures cost { ticks.new ≤ ticks.old + names_weight one.now }
+    ensures grows { ticks.old ≤ ticks.new }
 {
     if one.len() != other.len() {
         return false;
     }
     for place in 0..one.len() {
+        look_at(one.at(place), ticks);
         if !one.at(place).same(other.at(place)) {
             return false;
         }
     }
     true
+}
+
+/// Counts a name and its octets.
+fn look_at<L: Ledger>(name: &Octets, ticks: &mut Ticks<L>)
+    ensures { ticks.new ≡ ticks.old + 1 + length name.now }
+{
+    ticks.tick();
+    ticks.read(name.as_slice().len());
+}
+
+/// Whether a principal names a key, as `Principal::names`. Each octet of the principal is a tick.
+fn is_name_of<L: Ledger>(
+    principal: &Principal,
+    key: &Key,
+    policy: Policy,
+    ticks: &mut Ticks<L>,
+) -> bool
+    ensures answer { result ≡ names policy principal.now key.now }
+    ensures cost { ticks.new ≡ ticks.old + principal_weight principal.now }
+{
+    match principal {
+        Principal::Key(own) => ticks.read(own.as_slice().len()),
+        Principal::Hash { digest, .. } => ticks.read(digest.as_slice().len()),
+    }
+    principal.names(key, policy)
 }

@@ -12,3 +12,4 @@ pub mod Exact
 pub mod FaultWalk
 pub mod Named
 pub mod Faultless
+pub mod Weights

@@ -11,3 +11,4 @@ pub mod Meet
 pub mod Places
 pub mod TagForms
 pub mod Inner
+pub mod Cost

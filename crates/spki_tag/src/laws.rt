@@ -3,7 +3,8 @@
 
 ghost use Rattle.std.specs.Prelude.{◌≡◌, ◌*◌, ◌≤◌, ◌↔◌, ◌&&◌, ℕ, List, None, Some, true, false, length, nat_eq};
 ghost use Rattle.std.specs.List.{starts_with};
-ghost use Rattle.sexpr_core.specs.Value.{HasOctets, Value};
+ghost use Rattle.sexpr_core.specs.Value.{HasOctets, Value, canon};
+ghost use Rattle.spki_tag.specs.Cost.{weight};
 ghost use Rattle.spki_tag.specs.Faults.{request_fault, tag_fault, tags_in};
 ghost use Rattle.spki_tag.specs.declared.fault.TagFault.{TagFault};
 ghost use Rattle.spki_tag.specs.Meet.{may_share, places_where, tags_at, least_above, strict_limit, from, meet, nothing, row, StarRule, SetRule, StringRule, PrefixRule, PrefixesApart, RangeRule, PrefixAsRange, OrderingRule, TimesAndDates, ListRule, HeadsApart, ListsAndStrings};
@@ -45,6 +46,12 @@ pub fn request_fault_none()
 #[tactic(auto, using(crate::proofs::FaultWalk::tags_count))]
 pub fn tags_counted()
     ensures { (t : Tag) → IsTag t → length (tags_in (tag_value t)) ≡ nodes t }
+{}
+
+/// The weight of a tag that was read is at most the octets of its canonical text.
+#[tactic(auto, using(crate::proofs::Weights::read_weight))]
+pub fn read_weight()
+    ensures { (w : Tag) → weight (normal w) ≤ length (canon (tag_value w)) }
 {}
 
 /// The normal form of a written tag is in normal form, contains the same requests and has no more nodes.

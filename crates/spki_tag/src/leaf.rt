@@ -1,14 +1,17 @@
 //! Tags without members (RFC 2693, section 6.3.1).
 
-ghost use Rattle.std.specs.Prelude.{◌≡◌, ℕ, List, IfOk};
+ghost use Rattle.std.specs.Prelude.{◌≡◌, ◌+◌, ℕ, List, IfOk};
+ghost use Rattle.spki_tag.specs.Cost.{limit_octets, weight};
 ghost use Rattle.spki_tag.specs.Leaves.{ordering_of, limit_of, leaf_tag};
 ghost use Rattle.spki_tag.specs.Request.{Requests, string, list};
 ghost use Rattle.spki_tag.specs.Tag.{contains, is_ordered, is_within, is_above, is_below};
 
 use crate::moment::{is_date, is_time};
 use crate::prefix::Prefix;
+use crate::ticks::Ticks;
 use std::alloc::AllocError;
 use std::sync::ArcSlice;
+use std::sync::ledger::Ledger;
 
 /// Octets of a tag. An intersection shares them with the tags that it was made of.
 pub(crate) type SharedOctets = ArcSlice<u8>;
@@ -98,6 +101,16 @@ pub(crate) fn copied_limit(limit: &Option<Limit>) -> Result<Option<Limit>, Alloc
     }
 }
 
+/// Counts the octets of a limit as read.
+fn read_limit<L: Ledger>(limit: &Option<Limit>, ticks: &mut Ticks<L>)
+    ensures { ticks.new ≡ ticks.old + limit_octets (limit_of limit.now) }
+{
+    match limit {
+        None => {}
+        Some(limit) => ticks.read(limit.octets.as_slice().len()),
+    }
+}
+
 impl Leaf {
     /// Whether the tag contains the request that is this string.
     pub(crate) fn holds(&self, octets: &[u8]) -> bool
@@ -111,6 +124,23 @@ impl Leaf {
                 is_ordered(*ordering, octets) && is_above(low, octets) && is_below(up, octets)
             }
         }
+    }
+
+    /// Whether the tag contains the request that is this string. Each octet of its strings is a tick.
+    pub(crate) fn holds_counted<L: Ledger>(&self, octets: &[u8], ticks: &mut Ticks<L>) -> bool
+        ensures answer { result ≡ contains (leaf_tag self.now) (string octets.now) }
+        ensures cost { ticks.new + 1 ≡ ticks.old + weight (leaf_tag self.now) }
+    {
+        match self {
+            Leaf::Star => {}
+            Leaf::String(wanted) => ticks.read(wanted.as_slice().len()),
+            Leaf::Prefix(prefix) => ticks.read(prefix.octets().len()),
+            Leaf::Range(_, low, up) => {
+                read_limit(low, ticks);
+                read_limit(up, ticks);
+            }
+        }
+        self.holds(octets)
     }
 
     /// Whether the tag contains every request that is a list. If not, it contains none of them.

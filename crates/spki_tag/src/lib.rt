@@ -21,6 +21,7 @@ mod reader;
 mod request;
 mod sets;
 mod tag;
+mod ticks;
 mod writer;
 
 pub use fault::{MeetFault, TagFault};
@@ -31,3 +32,4 @@ pub use merge::merged;
 pub use moment::{is_date, is_time};
 pub use request::Ground;
 pub use tag::Tag;
+pub use ticks::Ticks;

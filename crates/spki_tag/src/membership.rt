@@ -1,31 +1,59 @@
 //! Whether a tag contains a request.
 
-ghost use Rattle.std.specs.Prelude.{◌≡◌};
+ghost use Rattle.std.specs.Prelude.{◌≡◌, ◌≤◌, ◌+◌, ◌<◌, IsTrue, false, length};
 ghost use Rattle.spki_tag.specs.Request as spec;
 ghost use Rattle.spki_tag.specs.Tag.{tags, contains, contain_each, some_contains};
+ghost use Rattle.spki_tag.specs.Cost.{weight, weight_all};
 
 use crate::request::{Ground, GroundNode};
 use crate::tag::{Node, Tag};
+use crate::ticks::Ticks;
+use std::marker::Brand;
+use std::sync::ledger::{Blank, Ledger};
 
 impl Tag {
     /// Whether the tag contains a request (RFC 2693, section 6.3.1). A list contains the lists with the same head whose
     /// members are in its own, place by place; further members of the request may be anything.
-    #[cycle(holds)]
     pub fn holds(&self, request: &Ground) -> bool
         ensures { result ≡ contains self.now request.now }
     {
+        self.holds_from::<Brand>(request, Blank::new(1))
+    }
+
+    /// The same, counted in a ledger of its own.
+    fn holds_from<L: Ledger>(&self, request: &Ground, blank: Blank) -> bool
+        requires name { blank.name ≡ L.name }
+        requires parts { blank.parts ≡ L.parts }
+        requires some { 0 < blank.parts }
+        ensures { result ≡ contains self.now request.now }
+    {
+        let mut ticks = Ticks::<L>::new(blank);
+        self.holds_counted(request, &mut ticks)
+    }
+
+    /// Whether the tag contains a request, as `holds`. A tick is a tag that is looked at, or an octet of its strings that is
+    /// compared. There are at most as many as the weight of the tag, whatever the request is: by the law `read_weight` at most the octets
+    /// of the text that it was read from.
+    #[cycle(holds)]
+    pub fn holds_counted<L: Ledger>(&self, request: &Ground, ticks: &mut Ticks<L>) -> bool
+        ensures answer { result ≡ contains self.now request.now }
+        ensures cost { ticks.new ≤ ticks.old + weight self.now }
+        ensures grows { ticks.old < ticks.new }
+    {
+        ticks.tick();
         match &self.node {
             Node::Leaf(leaf) => match &request.node {
-                GroundNode::String(octets) => leaf.holds(octets),
+                GroundNode::String(octets) => leaf.holds_counted(octets, ticks),
                 GroundNode::List(_, _) => leaf.holds_lists(),
             },
             Node::List(head, further, _) => match &request.node {
                 GroundNode::String(_) => false,
                 GroundNode::List(other, others) => {
-                    head.as_slice() == other.as_slice() && each_holds(further, others)
+                    ticks.read(head.as_slice().len());
+                    head.as_slice() == other.as_slice() && each_holds(further, others, ticks)
                 }
             },
-            Node::Set(members, _) => some_holds(members, request),
+            Node::Set(members, _) => some_holds(members, request, ticks),
         }
     }
 }
@@ -33,14 +61,17 @@ impl Tag {
 /// Whether each tag contains the request at the same place. False if there are fewer requests than tags. Further
 /// requests may be anything.
 #[cycle(holds)]
-fn each_holds(members: &[Tag], requests: &[Ground]) -> bool
-    ensures { result ≡ contain_each (tags members.now) (spec.requests requests.now) }
+fn each_holds<L: Ledger>(members: &[Tag], requests: &[Ground], ticks: &mut Ticks<L>) -> bool
+    ensures answer { result ≡ contain_each (tags members.now) (spec.requests requests.now) }
+    ensures cost { ticks.new ≤ ticks.old + weight_all (tags members.now) }
+    ensures grows { ticks.old ≤ ticks.new }
+    ensures each { IsTrue result → ticks.old + length members.now ≤ ticks.new }
 {
     if requests.len() < members.len() {
         return false;
     }
     for i in 0..members.len() {
-        if !members[i].holds(&requests[i]) {
+        if !members[i].holds_counted(&requests[i], ticks) {
             return false;
         }
     }
@@ -49,11 +80,14 @@ fn each_holds(members: &[Tag], requests: &[Ground]) -> bool
 
 /// Whether at least one of the tags contains the request.
 #[cycle(holds)]
-fn some_holds(members: &[Tag], request: &Ground) -> bool
-    ensures { result ≡ some_contains (tags members.now) request.now }
+fn some_holds<L: Ledger>(members: &[Tag], request: &Ground, ticks: &mut Ticks<L>) -> bool
+    ensures answer { result ≡ some_contains (tags members.now) request.now }
+    ensures cost { ticks.new ≤ ticks.old + weight_all (tags members.now) }
+    ensures grows { ticks.old ≤ ticks.new }
+    ensures each { result ≡ false → ticks.old + length members.now ≤ ticks.new }
 {
     for member in members {
-        if member.holds(request) {
+        if member.holds_counted(request, ticks) {
             return true;
         }
     }

@@ -4,10 +4,10 @@ use Rattle.spki_reduce.specs.Reduction.{four_tuple}
 use Rattle.spki_decision.proofs.Memberships.{defined_before}
 use Rattle.spki_decision.proofs.required_subject.RequiredSubject.before_definition.Goals as goal
 
-pub returns : goal.returns
-returns c =
+pub returns-clause-answer : goal.returns-clause-answer
+returns-clause-answer g c =
     let definition = four_tuple c.args.definition.now in
-    let named : names c.args.policy definition.principal c.args.self.key ≡ true = sym c.names.ensures ∙ c.if-not-names.false in
+    let named : names c.args.policy definition.principal c.args.self.key ≡ true = sym c.is_name_of.ensures.answer ∙ c.if-not-is_name_of.false in
     let begun : c.args.self.names ≡ definition.names ++ c.in-Some.rest = rw c.in-Some.is at c.names_after.ensures.some in
     let name = c.of.ensures ∙ c.in_ok-push.ensures.items ∙ ap (λ ns. ns ++ c.share.result ∷ []) c.new-name.ensures.items
     ∙ ap (λ n. n ∷ []) c.share.ensures in

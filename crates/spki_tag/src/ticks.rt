@@ -1,0 +1,51 @@
+//! What work is done, counted at no cost.
+
+ghost use Rattle.std.specs.Prelude.{◌≡◌, ◌+◌, ◌<◌};
+
+use std::marker::Model;
+use std::sync::ledger::{Blank, Book, Ledger, Share};
+
+/// A count of work. It takes no octets and no time, since it exists only in contracts. Only `tick` and `read` change it, and they
+/// only add. In a contract it is a number.
+#[derive(Drop)]
+pub struct Ticks<L: Ledger> {
+    book: Book<L>,
+    share: Share<L>,
+}
+
+impl<L: Ledger> Model for Ticks<L> {
+    ghost use Rattle.std.specs.Prelude.{ℕ, ◌<◌};
+
+    ghost Value = { ℕ };
+
+    ghost view = { λ t. t.book.total };
+
+    ghost invariant = { λ t. 0 < t.share.parts };
+}
+
+impl<L: Ledger> Ticks<L> {
+    /// No ticks yet, in the ledger of this blank.
+    pub fn new(blank: Blank) -> Ticks<L>
+        requires name { blank.name ≡ L.name }
+        requires parts { blank.parts ≡ L.parts }
+        requires some { 0 < blank.parts }
+        ensures { result ≡ 0 }
+    {
+        let (book, share) = blank.open::<L>();
+        Ticks { book, share }
+    }
+
+    /// Counts one value that is looked at.
+    pub fn tick(&mut self)
+        ensures { self.new ≡ self.old + 1 }
+    {
+        self.book.add(&mut self.share, 1);
+    }
+
+    /// Counts octets that are read or compared.
+    pub fn read(&mut self, octets: usize)
+        ensures { self.new ≡ self.old + octets }
+    {
+        self.book.add(&mut self.share, octets as u64);
+    }
+}
