@@ -109,6 +109,15 @@ func (d *daemon) health() (string, error) {
 	fmt.Fprintf(&text, "log of grants: lines %d, failures %d\n", d.granted.written.Load(), d.granted.failed.Load())
 	fmt.Fprintf(&text, "other lines: %d, lost %d\n", d.other.written.Load(), d.other.failed.Load()+d.other.dropped.Load())
 	fmt.Fprintf(&text, "clock: went back %d times\n", d.clock.times.Load())
+	for _, each := range present.lists {
+		if each.store != nil {
+			line, fault := each.store.told()
+			text.WriteString(line)
+			if fault != nil {
+				faults = append(faults, fault.Error())
+			}
+		}
+	}
 	if len(faults) > 0 {
 		return text.String(), errors.New(strings.Join(faults, "; "))
 	}
