@@ -13,6 +13,7 @@ import tempfile
 import threading
 import time
 import unittest
+import urllib.parse
 from typing import Any
 
 import built
@@ -460,6 +461,57 @@ class Replicated(Served):
             self.assertEqual(daemons[1].status(alice), 200)
             connection.execute("SELECT pg_wal_replay_resume()")
         daemons[0].becomes(200, alice)
+
+    @needs.needs("haproxy")
+    def test_behind_haproxy(self) -> None:
+        """HAProxy asks only daemons that decide: not one whose replica is behind, nor one that is gone."""
+        alice, check = self.people["alice"], self.people["bob"]
+        with self.server.replica() as replica, contextlib.ExitStack() as stack:
+            self.beats(self.server.address)
+            daemons = [self.around("behind", replica), self.around("direct", self.server)]
+            front = os.path.join(self.room, "front")
+            config = self.file(PROXY.format(front=front, certificate=urllib.parse.quote(check.certificate).replace("%", "%%"),
+                                            one=daemons[0].daemon.socket, other=daemons[1].daemon.socket).encode(), "haproxy.cfg")
+            process = subprocess.Popen(["haproxy", "-f", config], stdout=subprocess.DEVNULL, stderr=subprocess.DEVNULL)
+            stack.enter_context(databases.ended(process))
+
+            def is_always(wanted: int) -> bool:
+                with contextlib.suppress(OSError):
+                    return all(daemons[0].daemon.ask(alice, "GET", "/web/a", door=front).status == wanted for _ in range(10))
+                return False
+
+            self.added(alice)
+            databases.waits(lambda: is_always(503), "HAProxy asks nobody: the key of the check has no entry")
+            self.added(check)
+            databases.waits(lambda: is_always(200), "HAProxy asks both")
+            with psycopg.connect(replica.address, autocommit=True) as connection:
+                connection.execute("SELECT pg_wal_replay_pause()")
+                daemons[0].becomes(503, alice)
+                databases.waits(lambda: is_always(200), "HAProxy asks the other daemon alone")
+                connection.execute("SELECT pg_wal_replay_resume()")
+            daemons[0].becomes(200, alice)
+            databases.waits(lambda: is_always(200), "HAProxy asks both again")
+            daemons[1].kill()
+            databases.waits(lambda: is_always(200), "HAProxy asks the daemon that is left")
+
+
+PROXY = """
+defaults
+    mode http
+    timeout client 60s
+    timeout server 60s
+    timeout connect 60s
+frontend front
+    bind unix@{front}
+    default_backend daemons
+backend daemons
+    option httpchk
+    http-check send meth GET uri / hdr X-Original-Method GET hdr X-Original-URI /web/check hdr X-Client-Cert '{certificate}'
+    http-check expect status 200
+    default-server check inter 200ms fall 1 rise 1
+    server one unix@{one}
+    server other unix@{other}
+"""
 
 
 def follows(replica: databases.Server, primary: databases.Server) -> None:

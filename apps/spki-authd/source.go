@@ -125,7 +125,8 @@ func (s *storeOf) settings() string {
 			made = append(made, name+"="+quotedSetting(value))
 		}
 	}
-	return strings.Join(append(made, fmt.Sprintf("port=%d", s.Port), "application_name=spki-authd"), " ")
+	// (a plan that was made while the table was small must not read all of it later)
+	return strings.Join(append(made, fmt.Sprintf("port=%d", s.Port), "application_name=spki-authd", "enable_seqscan=off", "jit=off"), " ")
 }
 
 // quotedSetting returns a value in quotes.

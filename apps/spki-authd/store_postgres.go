@@ -52,7 +52,7 @@ var errVersion = errors.New("the store is of another version than this daemon re
 // The columns of a state, and the tables that have them.
 const (
 	stateColumns = "s.version, s.changes, b.number, (extract(epoch FROM b.moment) * 1000000)::bigint"
-	stateTables  = "@.state s CROSS JOIN @.heartbeat b"
+	stateTables  = "@.state s JOIN @.heartbeat b ON s.one AND b.one"
 	microseconds = "(extract(epoch FROM c.moment) * 1000000)::bigint"
 )
 
@@ -69,7 +69,7 @@ func openReader(of *storeOf, patience time.Duration) (reader, error) {
 	}
 	for ask, text := range map[int]string{
 		askRows: "SELECT " + stateColumns + ", e.number, e.text FROM " + stateTables + " LEFT JOIN LATERAL (SELECT number, text FROM @.entries" +
-			fmt.Sprintf(" WHERE principal IN ($1, $2, $3) ORDER BY number LIMIT %d) e ON true ORDER BY e.number", mostRows+1),
+			fmt.Sprintf(" WHERE principal IN ($1, $2, $3) LIMIT %d) e ON true ORDER BY e.number", mostRows+1),
 		askSince: "SELECT " + stateColumns + ", c.number, " + microseconds + ", c.what, c.digest FROM " + stateTables +
 			fmt.Sprintf(" LEFT JOIN LATERAL (SELECT * FROM (SELECT number, moment, what, digest FROM @.changes WHERE number >= $1 ORDER BY number LIMIT %d) l)"+
 				" c ON true ORDER BY c.number", mostChanges+2),

@@ -98,7 +98,7 @@ type stored struct {
 }
 
 // newStored returns a site where Alice has entry 7.
-func newStored(t *testing.T) *stored {
+func newStored(t testing.TB) *stored {
 	t.Helper()
 	made := &stored{site: newSite(t, ""), table: &table{texts: map[int]string{}, places: map[int]string{}}, time: time.Now()}
 	open := func(entries []byte) (*guard.Guard, error) {
