@@ -73,11 +73,11 @@ func (a *access) readEnded(path string) error {
 // digestOfLists returns the digest of the one list, or that of the places and digests of several.
 func (a *access) digestOfLists() string {
 	if len(a.lists) == 1 {
-		return a.lists[0].digest
+		return a.lists[0].stamp()
 	}
 	hash := sha256.New()
 	for _, each := range a.lists {
-		fmt.Fprintf(hash, "%s%s %s\n", each.Host, each.Prefix, each.digest)
+		fmt.Fprintf(hash, "%s%s %s\n", each.Host, each.Prefix, each.stamp())
 	}
 	return hex.EncodeToString(hash.Sum(nil))
 }

@@ -134,6 +134,9 @@ func (d *decider) ask(question guard.Question, host, path string) (*access, *lis
 			return nil, nil, nil, err
 		}
 		opened, err := at.guard.Ask(question)
+		if at.isPassing {
+			at.guard.Close()
+		}
 		if !errors.Is(err, guard.ErrClosed) {
 			return access, at, opened, err
 		}

@@ -26,6 +26,8 @@ type list struct {
 	// Where the entries are in a store: what reads it, or, of those that a question needs, their numbers.
 	store   *store
 	numbers []int
+	// Whether one question alone is asked at it.
+	isPassing bool
 }
 
 var errLists = errors.New(`either "list" is the file of the access list, or "lists" has the files of several`)

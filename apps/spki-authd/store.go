@@ -1,6 +1,7 @@
 package main
 
 import (
+	"bytes"
 	"crypto/sha1"
 	"crypto/sha256"
 	"crypto/sha512"
@@ -172,9 +173,8 @@ func (s *store) read(name digest, key []byte) (*list, error) {
 	}
 	s.mutex.Lock()
 	defer s.mutex.Unlock()
-	if s.seen.history == before.history && found.changes >= s.seen.changes {
-		s.kept.add(name, places, made, size)
-	}
+	isPresent := s.seen.history == before.history && found.changes >= s.seen.changes
+	made.isPassing = !isPresent || !s.kept.add(name, places, made, size)
 	return made, nil
 }
 
@@ -182,6 +182,9 @@ func (s *store) read(name digest, key []byte) (*list, error) {
 func (s *store) listOf(found found) (*list, int, error) {
 	size := 0
 	for _, text := range found.texts {
+		if !bytes.HasPrefix(text, []byte("(5:entry")) {
+			return nil, 0, errHostile
+		}
 		size += len(text)
 	}
 	if len(found.texts) > mostRows || size > mostList-len("(3:acl)") {

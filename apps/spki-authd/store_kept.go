@@ -39,14 +39,14 @@ func (k *keptRows) get(name digest) *list {
 	return element.Value.(*keptRow).list
 }
 
-// add keeps a list of a key.
-func (k *keptRows) add(name digest, places [][]byte, rows *list, octets int) {
+// add keeps a list of a key, and says whether it does.
+func (k *keptRows) add(name digest, places [][]byte, rows *list, octets int) bool {
 	if before, isKept := k.byName[name]; isKept {
 		k.remove(before)
 	}
 	row := &keptRow{name, places, rows, octetsRow + octetsEach*octets}
 	if row.size > k.most {
-		return
+		return false
 	}
 	element := k.order.PushFront(row)
 	k.byName[name] = element
@@ -56,6 +56,7 @@ func (k *keptRows) add(name digest, places [][]byte, rows *list, octets int) {
 	for k.size += row.size; k.size > k.most; {
 		k.remove(k.order.Back())
 	}
+	return true
 }
 
 // drop forgets the list that an entry with this principal belongs to.

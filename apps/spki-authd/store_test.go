@@ -186,9 +186,9 @@ func TestStoreDecides(t *testing.T) {
 func TestStaleStore(t *testing.T) {
 	s := newStored(t)
 	s.is(t, "fresh", 200)
-	s.time = s.time.Add(10 * time.Second)
+	s.time = s.time.Add(10*time.Second - time.Millisecond)
 	s.is(t, "as old as may be", 200)
-	s.time = s.time.Add(time.Millisecond)
+	s.time = s.time.Add(2 * time.Millisecond)
 	_ = s.store.pollOnce()
 	s.is(t, "a heartbeat that stopped", 503)
 	s.beat()
