@@ -218,6 +218,7 @@ func TestQuestionsToStore(t *testing.T) {
 	if err := r.store.pollOnce(); err != nil {
 		t.Fatal(err)
 	}
+	random := rand.New(rand.NewSource(r.random.Int63()))
 	end, ended := make(chan struct{}), make(chan struct{})
 	go func() {
 		defer close(ended)
@@ -231,7 +232,7 @@ func TestQuestionsToStore(t *testing.T) {
 		}
 	}()
 	questions, _ := strconv.Atoi(os.Getenv(envQuestions))
-	random, met := rand.New(rand.NewSource(r.random.Int63())), map[string]int{}
+	met := map[string]int{}
 	for count := 0; count < questions && !t.Failed(); count++ {
 		if count%20 == 0 {
 			if err := r.store.pollOnce(); err != nil {
@@ -257,14 +258,8 @@ func TestQuestionsToStore(t *testing.T) {
 // wasSoSince says whether an answer is that of a list since a change, or of the one that is being made now.
 func (r *rig) wasSoSince(first int64, question guard.Question, answer string) bool {
 	for at := first; ; at++ {
-		r.mutex.Lock()
-		isThere := at < int64(len(r.history))
-		var entries map[int]string
-		if isThere {
-			entries = r.history[at]
-		}
-		r.mutex.Unlock()
-		if !isThere {
+		entries := r.after(at)
+		if entries == nil {
 			// (the change that was made while the question was asked is noted in a moment)
 			return r.isSoSoon(at, question, answer)
 		}
@@ -277,12 +272,19 @@ func (r *rig) wasSoSince(first int64, question guard.Question, answer string) bo
 // isSoSoon waits for a change that is being made, and says whether an answer is that of the list then.
 func (r *rig) isSoSoon(at int64, question guard.Question, answer string) bool {
 	for end := time.Now().Add(time.Minute); time.Now().Before(end); time.Sleep(time.Millisecond) {
-		r.mutex.Lock()
-		isThere := at < int64(len(r.history))
-		r.mutex.Unlock()
-		if isThere {
-			return r.wholeAnswer(r.history[at], question) == answer
+		if entries := r.after(at); entries != nil {
+			return r.wholeAnswer(entries, question) == answer
 		}
 	}
 	return false
+}
+
+// after returns the entries after a change, or nil if it is not made yet.
+func (r *rig) after(change int64) map[int]string {
+	r.mutex.Lock()
+	defer r.mutex.Unlock()
+	if change >= int64(len(r.history)) {
+		return nil
+	}
+	return r.history[change]
 }
