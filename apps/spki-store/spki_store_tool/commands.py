@@ -9,10 +9,9 @@ import time
 from collections.abc import Callable, Sequence
 
 import psycopg
-import spki
 
 from .tables import Store
-from .texts import MOST, Wrong, alone, batches, entry_of, fault_of, principal_of
+from .texts import MOST, Wrong, advanced, alone, batches, entry_of, fault_of, principal_of
 from .transfer import MOST_AT_ONCE, differences, exported, forget, imported
 
 DONE, FOUND, REFUSED, FAILED = 0, 1, 2, 3
@@ -92,7 +91,7 @@ def log(store: Store, given: argparse.Namespace) -> int:
             "SELECT * FROM (SELECT number, moment, who, what, entry, digest, text FROM {changes} ORDER BY number DESC LIMIT %s) last ORDER BY number",
             given.last):
         put(" ".join([str(number), moment.isoformat(timespec="milliseconds"), repr(who), what, str(entry or ""), digest.hex(),
-                      *[spki.advanced(each).decode().rstrip("\n") for each in (text,) if each is not None]]))
+                      *[advanced(each) for each in (text,) if each is not None]]))
     return DONE
 
 
@@ -101,7 +100,7 @@ def diff(store: Store, given: argparse.Namespace) -> int:
     count = 0
     for row, text in differences(store, given.file):
         count += 1
-        put(f"{f'- {row.number}' if row else '+'} {spki.advanced(text).decode()}".rstrip("\n"))
+        put(f"{f'- {row.number}' if row else '+'} {advanced(text)}")
     put(f"entries that differ: {count}")
     return FOUND if count else DONE
 
@@ -179,7 +178,7 @@ def done(words: Sequence[str] | None = None) -> int:
             return int(given.does(store, given))
         finally:
             store.close()
-    except (Wrong, spki.Refused, psycopg.IntegrityError, psycopg.ProgrammingError, psycopg.DataError, psycopg.InternalError) as why:
+    except (Wrong, psycopg.IntegrityError, psycopg.ProgrammingError, psycopg.DataError, psycopg.InternalError) as why:
         print(f"spki-store: {first_line(why)}", file=sys.stderr)
         return REFUSED
     except (psycopg.Error, OSError) as why:

@@ -1,4 +1,6 @@
-"""Access lists of any length as texts in canonical form, and their entries."""
+"""Access lists of any length as texts in canonical form, and their entries.
+
+The library is loaded where a text is read: the heartbeat needs none."""
 from __future__ import annotations
 
 import contextlib
@@ -7,8 +9,6 @@ import mmap
 import os
 from collections.abc import Iterable, Iterator
 from typing import TypeVar
-
-import spki
 
 # What the library reads at once.
 MOST = 1 << 20
@@ -74,10 +74,20 @@ def opened(path: str) -> Iterator[mmap.mmap | bytes]:
 
 def canonical(text: bytes) -> bytes:
     """The canonical form of a text of one value."""
+    import spki
     try:
         return spki.canonical(text)
     except spki.Refused as refusal:
         raise Wrong(refusal.line) from None
+
+
+def advanced(text: bytes) -> str:
+    """A text in canonical form on one line, for people to read."""
+    import spki
+    try:
+        return spki.advanced(text).decode().rstrip("\n")
+    except spki.Refused as refusal:
+        return f"{text!r}: {refusal.line}"
 
 
 def entry_of(text: bytes) -> bytes:
@@ -90,6 +100,7 @@ def entry_of(text: bytes) -> bytes:
 
 def fault_of(texts: list[bytes]) -> tuple[int, str] | None:
     """The place of the first text that is no entry in canonical form, and why. None if all are."""
+    import spki
     whole = BEGIN + b"".join(texts) + END
     with contextlib.suppress(spki.Refused):
         if len(whole) <= MOST and spki.canonical(whole) == whole:
@@ -104,6 +115,7 @@ def fault_of(texts: list[bytes]) -> tuple[int, str] | None:
 
 def alone(text: bytes) -> str | None:
     """Why a text is no entry in canonical form. None if it is one."""
+    import spki
     try:
         if spki.canonical(text) != text:
             return "the text is not in canonical form"
@@ -115,6 +127,7 @@ def alone(text: bytes) -> str | None:
 
 def principal_of(text: bytes) -> bytes:
     """What an entry in canonical form is found by: the digest of its hash, or the SHA-256 digest of its key."""
+    import spki
     at = 15 if text[8:15] == b"(4:name" else 8
     principal = text[at:end_of(text, at)]
     if spki.string_at(principal, 0) not in (b"public-key", b"hash"):
