@@ -281,8 +281,10 @@ class Around:
         databases.waits(lambda: self.status(who, shown) == wanted, f"{wanted} for {os.path.basename(who.path)} from {self.room}")
 
     def kill(self) -> None:
-        self.process.kill()
-        self.process.communicate()
+        """Ends the daemon at once, if it still runs."""
+        if self.process.poll() is None:
+            self.process.kill()
+            self.process.communicate()
 
 
 @needs.needs("openssl", "import cryptography")
@@ -430,6 +432,7 @@ class Replicated(Served):
             for it in daemons:
                 it.becomes(401, bob)
             self.server.kill()
+            self.addCleanup(self.server.start)
             for it in daemons:
                 it.becomes(503, alice)
             replicas[0].promote()
