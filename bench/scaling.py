@@ -15,11 +15,11 @@ import math
 import random
 from collections import OrderedDict
 
-# Measured: bench/store.py and BenchmarkStored, in seconds of a processor, octets.
-HIT, MISS, ROWS, HTTP = 12e-6, 95e-6, 70e-6, 60e-6
-OCTETS, KEPT = 560, 2560
-ADDS = 900
+# Measured: bench/store.py and BenchmarkStored, in seconds of a processor, octets. That of a decision whose rows are read is on the clock, and so more.
+HIT, MISS, ROWS, HTTP = 10e-6, 160e-6, 160e-6, 65e-6
+OCTETS, ADDS = 459, 217
 # Assumed.
+KEPT = 2560
 ENTRIES, RATE, SKEW = 10 ** 9, 10 ** 6, 1.0
 CORES, BUSY, CACHE, LEAST = 16, 0.6, 32 << 30, 3
 DELAY, DELAY_SPREAD = 0.005, 1.0
@@ -124,7 +124,8 @@ def main():
     chosen = random.Random(SEED)
     told("measured", "daemon, HTTP and log of a request; decision kept, decision read", f"{HTTP * 1e6:.0f}, {HIT * 1e6:.0f}, {MISS * 1e6:.0f} µs")
     told("measured", "PostgreSQL, processor time of the rows of a decision", f"{ROWS * 1e6:.0f} µs")
-    told("measured", "octets of an entry in all tables; of a kept key", f"{OCTETS}, {KEPT}")
+    told("measured", "octets of an entry in all tables", f"{OCTETS}")
+    told("assumed", "octets of a kept key", f"{KEPT}")
     told("assumed", "entries, decisions a second, Zipf's exponent", f"{ENTRIES:,}, {RATE:,}, {SKEW}")
     told("assumed", "cores of a machine, share in use, cache of a daemon, least replicas", f"{CORES}, {BUSY}, {CACHE >> 30} GiB, {LEAST}")
     told("assumed", "median delay of a replica, its log-normal spread", f"{DELAY * 1e3:.0f} ms, {DELAY_SPREAD}")

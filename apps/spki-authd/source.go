@@ -126,7 +126,7 @@ func (s *storeOf) settings() string {
 		}
 	}
 	// (a plan that was made while the table was small must not read all of it later)
-	return strings.Join(append(made, fmt.Sprintf("port=%d", s.Port), "application_name=spki-authd", "enable_seqscan=off", "jit=off"), " ")
+	return strings.Join(append(made, fmt.Sprintf("port=%d", s.Port), "application_name=spki-authd", "enable_seqscan=off", "jit=off", "plan_cache_mode=force_generic_plan"), " ")
 }
 
 // quotedSetting returns a value in quotes.

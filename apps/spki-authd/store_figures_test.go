@@ -116,9 +116,11 @@ func (f *figures) cold() {
 // single asks for kept keys, and for keys that are not kept.
 func (f *figures) single() {
 	random := rand.New(rand.NewSource(2))
-	none := func() int { f.store.kept.clear(); return random.Intn(min(f.keys, 100_000)) }
-	for turn := 0; turn < 20_000; turn++ {
-		f.asks(none())
+	some := min(f.keys, 10_000)
+	none := func() int { f.store.kept.clear(); return random.Intn(some) }
+	for turn := 0; turn < 2*some; turn++ {
+		f.store.kept.clear()
+		f.asks(turn % some)
 	}
 	f.several("miss", 10_000, none)
 	f.asks(7)
@@ -163,7 +165,7 @@ func (f *figures) load() {
 		times = append(times, some...)
 	}
 	hits, misses := f.store.count.hits-before.hits, f.store.count.misses-before.misses
-	fmt.Printf("figure load rate %.0f hits %.3f\n", float64(len(times))/took.Seconds(), float64(hits)/float64(hits+misses))
+	fmt.Printf("figure rate second %.0f hits %.3f\n", float64(len(times))/took.Seconds(), float64(hits)/float64(hits+misses))
 	printFigure("load", times)
 }
 
