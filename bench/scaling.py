@@ -15,7 +15,7 @@ import math
 import random
 from collections import OrderedDict
 
-# Measured: bench/store.py and BenchmarkStored, in seconds of a processor, octets. That of a decision whose rows are read is on the clock, and so more.
+# Measured: bench/store.py and BenchmarkStored, in seconds of a processor, octets. A decision whose rows are read is on the clock, and so more.
 HIT, MISS, ROWS, HTTP = 10e-6, 160e-6, 160e-6, 65e-6
 OCTETS, ADDS = 459, 217
 # Assumed.
