@@ -5,7 +5,6 @@ import (
 	"errors"
 	"fmt"
 	"strings"
-	"sync"
 	"testing"
 	"time"
 
@@ -14,7 +13,6 @@ import (
 
 // A table is a store in memory: its entries, and what a poll would tell of its changes.
 type table struct {
-	mutex  sync.Mutex
 	texts  map[int]string
 	places map[int]string
 	news   []change

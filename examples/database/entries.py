@@ -10,6 +10,7 @@ import hashlib
 
 import spki
 
+PRINCIPALS = (b"public-key", b"hash")
 ALGORITHMS = ("sha1", "sha256", "sha512")
 
 
@@ -27,9 +28,11 @@ def entry(principal, *fields, names=()):
     """The text of an entry for a principal, or for names that begin with one. `fields` are `(tag ..)`, `(propagate)` and so on.
 
     Principal and fields are texts of one value each, in any of the three forms. Each is read by itself, and none can run into another.
-    Raises `spki.Refused` if they make no entry.
+    Raises `spki.Refused` or `ValueError` if they make no entry.
     """
     principal = spki.canonical(principal)
+    if spki.string_at(principal, 0) not in PRINCIPALS:
+        raise ValueError("a principal is a public key or a hash")
     subject = b"(4:name%s%s)" % (principal, b"".join(map(string, names))) if names else principal
     made = b"(5:entry%s%s)" % (subject, b"".join(map(spki.canonical, fields)))
     list_of([made]).close()

@@ -29,6 +29,9 @@ BEGIN
         ELSIF octet = 41 THEN
             depth := depth - 1;
             IF depth = outside AND found IS NULL AND at > begun THEN
+                IF is_hash THEN
+                    RAISE check_violation USING MESSAGE = 'the hash has no digest';
+                END IF;
                 found := sha256(substring(text FROM begun + 1 FOR at - begun + 1));
             END IF;
             EXIT WHEN depth = 0;
