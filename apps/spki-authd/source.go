@@ -6,7 +6,6 @@ import (
 	"errors"
 	"fmt"
 	"io"
-	"net"
 	"regexp"
 	"strings"
 	"time"
@@ -132,28 +131,6 @@ func (s *storeOf) settings() string {
 // quotedSetting returns a value in quotes.
 func quotedSetting(value string) string {
 	return "'" + strings.NewReplacer(`\`, `\\`, `'`, `\'`).Replace(value) + "'"
-}
-
-// A patient connection waits for each octet at most so long. Otherwise a network that is cut holds a request for minutes.
-type patient struct {
-	net.Conn
-	patience time.Duration
-}
-
-// Read reads, or fails in time.
-func (p *patient) Read(octets []byte) (int, error) {
-	if err := p.SetReadDeadline(time.Now().Add(p.patience)); err != nil {
-		return 0, err
-	}
-	return p.Conn.Read(octets)
-}
-
-// Write writes, or fails in time.
-func (p *patient) Write(octets []byte) (int, error) {
-	if err := p.SetWriteDeadline(time.Now().Add(p.patience)); err != nil {
-		return 0, err
-	}
-	return p.Conn.Write(octets)
 }
 
 // nameLists names the lists by their sources.
