@@ -4,6 +4,9 @@ package main
 
 import (
 	"context"
+	"crypto/sha1"
+	"crypto/sha256"
+	"crypto/sha512"
 	"database/sql/driver"
 	"errors"
 	"fmt"
@@ -68,8 +71,8 @@ func openReader(of *storeOf, patience time.Duration) (reader, error) {
 		made.slots <- nil
 	}
 	for ask, text := range map[int]string{
-		askRows: "SELECT " + stateColumns + ", e.number, e.text FROM " + stateTables + " LEFT JOIN LATERAL (SELECT number, text FROM @.entries" +
-			fmt.Sprintf(" WHERE principal IN ($1, $2, $3) LIMIT %d) e ON true ORDER BY e.number", mostRows+1),
+		askRows: "SELECT " + stateColumns + ", e.number, e.text FROM " + stateTables + " LEFT JOIN LATERAL (" + rowsOf(sha1.Size, 1) + " UNION ALL " +
+			rowsOf(sha256.Size, 2) + " UNION ALL " + rowsOf(sha512.Size, 3) + fmt.Sprintf(" LIMIT %d) e ON true ORDER BY e.number", mostRows+1),
 		askSince: "SELECT " + stateColumns + ", c.number, " + microseconds + ", c.what, c.digest FROM " + stateTables +
 			fmt.Sprintf(" LEFT JOIN LATERAL (SELECT * FROM (SELECT number, moment, what, digest FROM @.changes WHERE number >= $1 ORDER BY number LIMIT %d) l)"+
 				" c ON true ORDER BY c.number", mostChanges+2),
@@ -80,6 +83,11 @@ func openReader(of *storeOf, patience time.Duration) (reader, error) {
 		made.texts[ask] = strings.ReplaceAll(text, "@", of.Schema)
 	}
 	return made, nil
+}
+
+// rowsOf returns the part of a statement for principals whose digests have so many octets, each of which has an index of its own.
+func rowsOf(octets, parameter int) string {
+	return fmt.Sprintf("SELECT number, text FROM @.entries WHERE octet_length(principal) = %d AND principal = $%d", octets, parameter)
 }
 
 // A dialer connects, and waits for each answer at most so long.

@@ -68,7 +68,10 @@ CREATE TABLE @SCHEMA@.entries (
     principal bytea NOT NULL GENERATED ALWAYS AS (@SCHEMA@.principal_of(text)) STORED CHECK (octet_length(principal) IN (20, 32, 64)),
     text bytea NOT NULL CHECK (octet_length(text) <= 1048576)
 );
-CREATE INDEX entries_by_principal ON @SCHEMA@.entries (principal, number);
+-- One index by the length of the digest: those by SHA-1 and SHA-512 are small where few entries are for such hashes, and so cost no read of a disk.
+CREATE INDEX entries_by_sha1 ON @SCHEMA@.entries (principal, number) WHERE octet_length(principal) = 20;
+CREATE INDEX entries_by_sha256 ON @SCHEMA@.entries (principal, number) WHERE octet_length(principal) = 32;
+CREATE INDEX entries_by_sha512 ON @SCHEMA@.entries (principal, number) WHERE octet_length(principal) = 64;
 
 -- The certificates that have ended early, by their SHA-256 digests. They stay.
 CREATE TABLE @SCHEMA@.ended (certificate bytea PRIMARY KEY CHECK (octet_length(certificate) = 32), remark text NOT NULL DEFAULT '');

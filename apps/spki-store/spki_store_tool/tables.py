@@ -15,6 +15,8 @@ from .texts import Wrong
 SCHEMA = os.path.join(os.path.dirname(os.path.abspath(__file__)), "schema.sql")
 NAME = re.compile(r"[a-z_][a-z0-9_]{0,40}\Z")
 VERSION = 1
+# The octets of a digest by SHA-1, SHA-256 and SHA-512.
+LENGTHS = (20, 32, 64)
 # The rows that a reader of all rows has in memory.
 PAGE = 2000
 
@@ -110,5 +112,8 @@ class Store:
 
     def found(self, principals: list[bytes]) -> list[tuple[int, bytes]]:
         """The number and the text of each entry that is found by one of these, in order."""
-        return [(number, text) for number, text in
-                self.rows("SELECT number, text FROM {entries} WHERE principal = ANY(%s) ORDER BY number", principals)]
+        known = [each for each in principals if len(each) in LENGTHS]
+        # (each length has an index of its own)
+        found = " UNION ALL ".join(f"SELECT number, text FROM {{entries}} WHERE octet_length(principal) = {len(each)} AND principal = %s"
+                                   for each in known)
+        return self.rows(f"{found} ORDER BY number", *known) if known else []
