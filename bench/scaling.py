@@ -16,8 +16,8 @@ import random
 from collections import OrderedDict
 
 # Measured: bench/store.py and BenchmarkStored, in seconds of a processor, octets. A decision whose rows are read is on the clock, and so more.
-HIT, MISS, ROWS, HTTP = 10e-6, 160e-6, 160e-6, 65e-6
-OCTETS, ADDS = 459, 217
+HIT, MISS, ROWS, HTTP = 6e-6, 200e-6, 160e-6, 65e-6
+OCTETS, ADDS = 438, 217
 # Assumed.
 KEPT = 2560
 ENTRIES, RATE, SKEW = 10 ** 9, 10 ** 6, 1.0

@@ -3,6 +3,7 @@
 package main
 
 import (
+	"errors"
 	"fmt"
 	"math/rand"
 	"net/http"
@@ -79,16 +80,26 @@ func key(number int) []byte {
 func (f *figures) asks(number int) time.Duration {
 	question := guard.Question{Sequence: nothingShown.text, Key: key(number), Words: []string{"files", "read", "/web/x"}, Time: time.Now()}
 	begun := time.Now()
-	found, err := f.store.list(&question)
-	if err != nil {
-		f.Fatal(err)
-	}
-	decision, err := found.guard.Decide(question, nil)
+	decision, err := f.decides(question)
 	took := time.Since(begun)
 	if err != nil || !decision.Granted() {
 		f.Fatal(number, decision, err)
 	}
 	return took
+}
+
+// decides decides as the daemon does: a list that another goroutine had dropped meanwhile is asked for again.
+func (f *figures) decides(question guard.Question) (guard.Decision, error) {
+	for {
+		found, err := f.store.list(&question)
+		if err != nil {
+			return guard.Decision{}, err
+		}
+		decision, err := found.guard.Decide(question, nil)
+		if !errors.Is(err, guard.ErrClosed) {
+			return decision, err
+		}
+	}
 }
 
 // printFigure prints the median and the 99th percentile.
