@@ -4,18 +4,20 @@
 # web server. `apt-get install ./spki_*.deb` installs one. Beside them are SHA256SUMS and the list of all files inside, in SPDX 2.3.
 # Equal sources, programs and libraries give equal octets. All times are that of the last commit, or SOURCE_DATE_EPOCH, in seconds since 1970.
 # --maintainer says who answers for the packages; without it DEBFULLNAME and DEBEMAIL do. --arm64 makes packages of the library for ARM too, from
-# the folder aarch64-unknown-linux-gnu beside LIBRARY, or built. Needs Debian's dpkg, binutils, gcc, golang-go and python3.
-# Usage: ./packages.sh [--maintainer 'NAME <ADDRESS>'] [--arm64] [FOLDER [PROGRAM [LIBRARY]]]
+# the folder aarch64-unknown-linux-gnu beside LIBRARY, or built. --postgres builds the daemon with the driver for lists in PostgreSQL, which is in
+# golang-github-lib-pq-dev. Needs Debian's dpkg, binutils, gcc, golang-go and python3.
+# Usage: ./packages.sh [--maintainer 'NAME <ADDRESS>'] [--arm64] [--postgres] [FOLDER [PROGRAM [LIBRARY]]]
 #        the packages go to FOLDER, or here; the rest is as for install.sh
 set -euo pipefail
 export LC_ALL=C
 umask 022
 here=$(realpath "$(dirname "$0")")
-maintainer=${DEBFULLNAME:+${DEBEMAIL:+$DEBFULLNAME <$DEBEMAIL>}} arm=
+maintainer=${DEBFULLNAME:+${DEBEMAIL:+$DEBFULLNAME <$DEBEMAIL>}} arm= driver=()
 while [[ ${1:-} == --* ]]; do
     case $1 in
         --maintainer) maintainer=${2:?a maintainer is \'NAME <ADDRESS>\'}; shift ;;
         --arm64) arm=aarch64-unknown-linux-gnu ;;
+        --postgres) driver=(-modfile=postgres.mod -tags spki_postgres) ;;
         *) echo "packages.sh: $1 is no option" >&2; exit 2 ;;
     esac
     shift
@@ -123,7 +125,7 @@ build_daemon() {
     local flags
     flags="-g -O2 -DSPKI_OF_LIBRARY_$(sha256sum < "$1" | cut -c 1-64)"
     (cd "$here/apps/spki-authd" && GOFLAGS=-mod=mod GOPROXY=off GOENV=off GOWORK=off GOTOOLCHAIN=local CGO_ENABLED=1 CGO_CFLAGS=$flags \
-        CGO_LDFLAGS="-L$(dirname "$1")" go build -trimpath -buildvcs=false -buildmode=pie \
+        CGO_LDFLAGS="-L$(dirname "$1")" go build "${driver[@]}" -trimpath -buildvcs=false -buildmode=pie \
         -ldflags '-s -w -buildid= -linkmode=external -extldflags "-Wl,-z,relro -Wl,-z,now"' -o "$2" .)
 }
 

@@ -77,6 +77,8 @@ NEEDS = [Need(*words) for words in [
     ("prlimit", "util-linux", "`spki-authd` on a full disk"),
     ("ss", "iproute2", "the queue of `spki-authd` where /proc is hidden"),
     ("/usr/lib/postgresql/*/bin/initdb", "postgresql", "entries in PostgreSQL"),
+    ("/usr/lib/python3/dist-packages/psycopg", "python3-psycopg", "`spki-store`, and entries in PostgreSQL"),
+    ("/usr/share/gocode/src/github.com/lib/pq/conn.go", "golang-github-lib-pq-dev", "`spki-authd` with a list in PostgreSQL"),
     ("dpkg-deb", "dpkg", "the Debian packages"),
     ("dpkg-parsechangelog", "dpkg-dev", "the changelog of the Debian packages, as dpkg reads it"),
     ("lintian", "lintian", "what lintian says of the Debian packages"),

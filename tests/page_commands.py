@@ -72,9 +72,11 @@ NOT_RUN = [
     ("*", r"pkg-config --cflags --libs spki", "tests/test_installed.py asks it of what is installed"),
     ("CONTRIBUTING.md", r"apt-get install .*", "it installs all that the tests use: tests/test_needs.py compares the line"),
     ("*", r"examples/nginx/run\.sh( stay)?", "tests/test_nginx.py runs it, and tests/test_operating.py the page in its folder"),
-    ("*", r"examples/signed/run\.py( .*)?|examples/database/story\.py( --postgres)?", "tests/test_examples.py runs them"),
+    ("*", r"examples/signed/run\.py( .*)?|examples/database/story\.py .*", "tests/test_examples.py runs them"),
     ("*", r"(sudo )?(systemctl|useradd|usermod|runuser|install -d|ldconfig|chown|cp \S+ /etc/\S+) .*", "a server's services, users and owners"),
     ("apps/spki-authd/*", r"cd apps/spki-authd && go build .*", "tests/test_go.py builds the daemon"),
+    ("apps/spki-store/*", r"(cd apps/spki-authd && )?go build .*|go mod edit .*|createdb .*|spki-store .*|pg_ctl promote",
+     "tests/test_store.py builds the daemon, runs the commands on a server of its own, and promotes a replica"),
 ]
 
 

@@ -17,7 +17,8 @@ import needs
 from support import TESTS
 
 # The modules that take longest begin first. A class whose tests ask the program alone, each by itself, is divided.
-LONGEST_FIRST = ("test_model", "test_clibrary", "test_go", "test_bindings", "test_hostile", "test_guide", "test_service", "test_database")
+LONGEST_FIRST = ("test_model", "test_clibrary", "test_go", "test_bindings", "test_hostile", "test_guide", "test_service", "test_store",
+                 "test_database")
 APART, MOST_TOGETHER = ("test_tables", "test_locate"), 60
 FAULT_LENGTH = 6000
 # A line of a test that is shown although it passes begins so.

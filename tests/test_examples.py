@@ -4,6 +4,7 @@ import os
 import unittest
 
 import built
+import databases
 import needs
 from support import EXAMPLES, output_of
 
@@ -32,13 +33,10 @@ class OfProgram(Example):
         self.passes("lsh.py", built.program())
 
 
-@needs.needs("import cryptography", *needs.LIBRARY)
+@needs.needs("import cryptography", *needs.LIBRARY, *databases.NEEDED)
 class OfDatabase(Example):
     """The story of a service with a database."""
 
-    def test_sqlite(self) -> None:
-        self.passes("database/story.py", SPKI_LIBRARY=built.shared())
-
-    @needs.needs(needs.INITDB)
-    def test_postgres(self) -> None:
-        self.passes("database/story.py", "--postgres", SPKI_LIBRARY=built.shared())
+    def test_story(self) -> None:
+        with databases.Server() as server:
+            self.passes("database/story.py", server.address, SPKI_LIBRARY=built.shared())

@@ -193,13 +193,13 @@ class Daemon:
         done = subprocess.run([self.program, *words, "-config", self.config], stdout=subprocess.PIPE, stderr=subprocess.PIPE, text=True, timeout=600)
         return done.returncode, done.stdout, done.stderr
 
-    def ask(self, who: Person, method: str, target: str, sequence: bytes = b"") -> http.client.HTTPResponse:
-        """The answer to a request."""
+    def ask(self, who: Person, method: str, target: str, sequence: bytes = b"", door: str = "") -> http.client.HTTPResponse:
+        """The answer to a request, at another socket if one is given."""
         headers = {"X-Original-Method": method, "X-Original-URI": target, "X-Client-Cert": urllib.parse.quote(who.certificate)}
         if sequence:
             shown = subprocess.run([built.program(), "transport"], input=sequence, stdout=subprocess.PIPE, check=True).stdout
             headers["Authorization"] = f"SPKI {shown.decode().strip()}"
-        connection = OverSocket(self.socket)
+        connection = OverSocket(door or self.socket)
         try:
             connection.request("GET", "/", headers=headers)
             response = connection.getresponse()

@@ -10,10 +10,10 @@ from support import TESTS, TOP
 MARK = "#!/usr/bin/env python3"
 LINE_LENGTH = 150
 # The folders whose modules are imported by their names alone, and the one whose modules have names that others have too.
-MODULES = ("tests", "examples", "examples/signed", "examples/database", "bindings/python", "bench", "apps/spki-cert")
+MODULES = ("tests", "examples", "examples/signed", "examples/database", "bindings/python", "bench", "apps/spki-cert", "apps/spki-store")
 PAGE = "apps/playground"
 # The folders whose modules mypy reads apart from those of other folders.
-APART = ("tests", "bench", "apps/playground", "apps/spki-cert", "bindings")
+APART = ("tests", "bench", "apps/playground", "apps/spki-cert", "apps/spki-store", "bindings")
 
 
 def scripts() -> list[str]:

@@ -39,7 +39,7 @@ func readAccess(c *config, now time.Time) (*access, error) {
 	}
 	made := &access{ended: nothingEnded, read: now}
 	for _, at := range c.places() {
-		read, err := readList(at.List, policy, c.Limits)
+		read, err := at.read(policy, c)
 		if err != nil {
 			made.close()
 			return nil, err
@@ -73,11 +73,11 @@ func (a *access) readEnded(path string) error {
 // digestOfLists returns the digest of the one list, or that of the places and digests of several.
 func (a *access) digestOfLists() string {
 	if len(a.lists) == 1 {
-		return a.lists[0].digest
+		return a.lists[0].stamp()
 	}
 	hash := sha256.New()
 	for _, each := range a.lists {
-		fmt.Fprintf(hash, "%s%s %s\n", each.Host, each.Prefix, each.digest)
+		fmt.Fprintf(hash, "%s%s %s\n", each.Host, each.Prefix, each.stamp())
 	}
 	return hex.EncodeToString(hash.Sum(nil))
 }
@@ -86,7 +86,9 @@ func (a *access) digestOfLists() string {
 func (a *access) entries() int {
 	count := 0
 	for _, each := range a.lists {
-		count += each.guard.Entries()
+		if each.store == nil {
+			count += each.guard.Entries()
+		}
 	}
 	return count
 }
@@ -94,7 +96,9 @@ func (a *access) entries() int {
 // close frees the lists, once the questions that they were asked are closed too.
 func (a *access) close() {
 	for _, each := range a.lists {
-		each.guard.Close()
+		if each.store == nil {
+			each.guard.Close()
+		}
 	}
 }
 
@@ -111,6 +115,9 @@ func (a *access) listOf(host, path string) *list {
 // hasEnded says whether the certificate with a digest has ended early.
 func (a *access) hasEnded(certificate digest) bool {
 	_, hasEnded := a.ended.digests[certificate]
+	for _, each := range a.lists {
+		hasEnded = hasEnded || each.store != nil && each.store.hasEnded(certificate)
+	}
 	return hasEnded
 }
 

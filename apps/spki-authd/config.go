@@ -25,7 +25,8 @@ type config struct {
 	Headers         headers `json:"headers"`
 	CertificateForm string  `json:"certificate_form"`
 	PathPrefix      string  `json:"path_prefix"`
-	List            string  `json:"list"`
+	List            string  `json:"-"`
+	Source          source  `json:"list"`
 	Lists           []place `json:"lists"`
 	Ended           string  `json:"ended"`
 	Log             string  `json:"log"`
@@ -107,6 +108,7 @@ func parseConfig(octets []byte) (*config, error) {
 
 // setUsual puts in what was left out.
 func (c *config) setUsual() {
+	c.nameLists()
 	setText(&c.SocketMode, "0660")
 	setText(&c.Policy, "strict")
 	setText(&c.LogSync, syncSeconds)

@@ -97,7 +97,7 @@ func (d *decider) judge(made record, key guard.ProvenKey, path, sequence string)
 	case err != nil:
 		return made.ended(answerOf(err), err)
 	case decision.Granted():
-		made.Answer, made.Entry = answerYes, decision.Entry()
+		made.Answer, made.Entry = answerYes, made.number(decision.Entry())
 	case sequence == "":
 		made.Answer = answerUnknown
 	}
@@ -113,7 +113,7 @@ func (d *decider) decideKnown(made *record, question guard.Question, path string
 	}
 	defer opened.Close()
 	valid := known.notEnded(access)
-	made.List, made.Certificates, made.Cached = at.digest, known.names, valid
+	made.List, made.numbers, made.Certificates, made.Cached = at.digest, at.numbers, known.names, valid
 	if valid < len(known.names) {
 		made.Certificates = known.names[:valid+1]
 		made.setEnded(known.names[valid])
@@ -131,10 +131,16 @@ func (d *decider) decideKnown(made *record, question guard.Question, path string
 func (d *decider) ask(question guard.Question, host, path string) (*access, *list, *guard.Asked, error) {
 	for {
 		access, at, err := d.keeper.at(host, path)
+		if err == nil && at.store != nil {
+			at, err = at.store.list(&question)
+		}
 		if err != nil {
 			return nil, nil, nil, err
 		}
 		opened, err := at.guard.Ask(question)
+		if at.isPassing {
+			at.guard.Close()
+		}
 		if !errors.Is(err, guard.ErrClosed) {
 			return access, at, opened, err
 		}
@@ -156,7 +162,7 @@ func (d *decider) decideAnew(made *record, question guard.Question, path, sequen
 	signatures := opened.Signatures()
 	found := shownBy(signatures)
 	standing := found.notEnded(access)
-	made.List, made.Certificates = at.digest, found.names
+	made.List, made.numbers, made.Certificates = at.digest, at.numbers, found.names
 	if standing < len(signatures) {
 		made.Certificates = found.names[:standing+1]
 		made.setEnded(found.names[standing])
@@ -175,18 +181,19 @@ func (d *decider) decideAnew(made *record, question guard.Question, path, sequen
 		d.sequences.add(sequence, found)
 	}
 	if err == nil && !decision.Granted() && d.config.Explain {
-		made.Reasons = explained(opened, made.Unverified)
+		made.Reasons = made.explained(opened)
 	}
 	return decision, err
 }
 
 // explained returns why a request that was decided is denied. Signatures that were not verified, since they could not help, count as valid: so
 // the reasons are what else is missing. What is marked here is asked for reasons alone.
-func explained(opened *guard.Asked, unverified int) string {
-	if err := markFirst(opened, unverified); err != nil {
+func (r *record) explained(opened *guard.Asked) string {
+	if err := markFirst(opened, r.Unverified); err != nil {
 		return err.Error()
 	}
-	return reasonsOf(opened.Explain())
+	explanation, err := opened.Explain()
+	return reasonsOf(explanation, err, r.number)
 }
 
 // verified returns how many signatures are valid, up to the first that is not.
@@ -216,14 +223,15 @@ func answerOf(err error) answer {
 	return answerFailed
 }
 
-// reasonsOf returns why a request is denied, without the entries for other keys.
-func reasonsOf(explanation guard.Explanation, err error) string {
+// reasonsOf returns why a request is denied, without the entries for other keys. The number of an entry follows from its place.
+func reasonsOf(explanation guard.Explanation, err error, number func(place int) int) string {
 	if err != nil {
 		return err.Error()
 	}
 	var lines []string
 	for _, reason := range explanation.Reasons() {
 		if reason.Word != "NotIssuer" && reason.Word != "NotTheKey" {
+			reason.Entry = number(reason.Entry)
 			lines = append(lines, reason.String())
 		}
 	}

@@ -104,11 +104,20 @@ func (d *daemon) health() (string, error) {
 	fmt.Fprintf(&text, "started: %s\n", age(d.begun))
 	fmt.Fprintf(&text, "last reload: %s, %s\n", age(last.at), how)
 	fmt.Fprintf(&text, "reloads: %d, refused %d\n", d.keeper.all.Load()-1, d.keeper.refused.Load())
-	fmt.Fprintf(&text, "lists: %d, entries %d, read %s\nlist: %s\n", len(present.lists), present.entries(), age(present.read), present.digest)
+	fmt.Fprintf(&text, "lists: %d, entries %d, read %s\nlist: %s\n", len(present.lists), present.entries(), age(present.read), present.digestNow())
 	fmt.Fprintf(&text, "ended: %d, %s\n", present.ended.count, present.ended.digest)
 	fmt.Fprintf(&text, "log of grants: lines %d, failures %d\n", d.granted.written.Load(), d.granted.failed.Load())
 	fmt.Fprintf(&text, "other lines: %d, lost %d\n", d.other.written.Load(), d.other.failed.Load()+d.other.dropped.Load())
 	fmt.Fprintf(&text, "clock: went back %d times\n", d.clock.times.Load())
+	for _, each := range present.lists {
+		if each.store != nil {
+			line, fault := each.store.told()
+			text.WriteString(line)
+			if fault != nil {
+				faults = append(faults, fault.Error())
+			}
+		}
+	}
 	if len(faults) > 0 {
 		return text.String(), errors.New(strings.Join(faults, "; "))
 	}

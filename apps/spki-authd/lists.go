@@ -13,7 +13,8 @@ import (
 type place struct {
 	Host   string `json:"host"`
 	Prefix string `json:"prefix"`
-	List   string `json:"list"`
+	List   string `json:"-"`
+	Source source `json:"list"`
 }
 
 // A list is an access list that was read, and its place.
@@ -22,6 +23,11 @@ type list struct {
 	guard *guard.Guard
 	// The digest of the file's octets, for the log.
 	digest string
+	// Where the entries are in a store: what reads it, or, of those that a question needs, their numbers.
+	store   *store
+	numbers []int
+	// Whether one question alone is asked at it.
+	isPassing bool
 }
 
 var errLists = errors.New(`either "list" is the file of the access list, or "lists" has the files of several`)
@@ -64,7 +70,7 @@ func (p *place) check(before []place) error {
 // places returns the places of all lists.
 func (c *config) places() []place {
 	if c.List != "" {
-		return []place{{Prefix: "/", List: c.List}}
+		return []place{{Prefix: "/", List: c.List, Source: c.Source}}
 	}
 	return c.Lists
 }

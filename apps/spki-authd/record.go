@@ -43,6 +43,16 @@ type record struct {
 	Microseconds int64    `json:"microseconds"`
 	// The number of the rule that says which request it is, or 0.
 	rule int
+	// The numbers of the entries that were asked, where they are in a store.
+	numbers []int
+}
+
+// number returns the number of the entry at a place from 1, and 0 for 0.
+func (r *record) number(place int) int {
+	if place > 0 && place <= len(r.numbers) {
+		return r.numbers[place-1]
+	}
+	return place
 }
 
 // ended returns the record of a request that a fault ends.

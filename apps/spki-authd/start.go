@@ -87,6 +87,12 @@ func (d *decider) test(out io.Writer) error {
 		}
 	}
 	for _, each := range d.keeper.present.Load().lists {
+		if each.store != nil {
+			if err := each.store.test(out); err != nil {
+				return fmt.Errorf("%s: %w", each.List, err)
+			}
+			continue
+		}
 		fmt.Fprintf(out, "%s: %d entries\n", each.List, each.guard.Entries())
 	}
 	return nil

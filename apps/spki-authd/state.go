@@ -12,7 +12,7 @@ var errStates = errors.New("the daemons have different lists or ended certificat
 // state returns one line that is the same for two daemons with the same lists and the same ended certificates.
 func (d *daemon) state() string {
 	present := d.keeper.present.Load()
-	return fmt.Sprintf("list %s entries %d ended %d %s\n", present.digest, present.entries(), present.ended.count, present.ended.digest)
+	return fmt.Sprintf("list %s entries %d ended %d %s\n", present.digestNow(), present.entries(), present.ended.count, present.ended.digest)
 }
 
 // checkStates prints the states of daemons by their control sockets, and says whether they are the same.

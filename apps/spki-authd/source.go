@@ -1,0 +1,174 @@
+package main
+
+import (
+	"bytes"
+	"encoding/json"
+	"errors"
+	"fmt"
+	"io"
+	"regexp"
+	"strings"
+	"time"
+
+	"conguraki/spki/guard"
+)
+
+// A source says where the entries of an access list are: in a file, or in a store in PostgreSQL.
+type source struct {
+	file  string
+	store *storeOf
+}
+
+// A storeOf is how a store is read, which `spki-store` makes.
+type storeOf struct {
+	Host         string `json:"host"`
+	Port         int    `json:"port"`
+	Database     string `json:"database"`
+	User         string `json:"user"`
+	PassFile     string `json:"passfile"`
+	Root         string `json:"root"`
+	Schema       string `json:"schema"`
+	StaleSeconds int    `json:"stale_seconds"`
+	Connections  int    `json:"connections"`
+	CacheMiB     *int   `json:"cache_mib"`
+
+	// What reads it, once it is opened. It stays open while files are read again.
+	opened *store
+}
+
+const (
+	usualPort, usualSchema, usualStale, usualConnections, usualCacheMiB = 5432, "spki", 10, 8, 64
+	// A beat each second, and what a poll takes: with less a late beat would be a stale store.
+	leastStale = 3
+)
+
+var (
+	schemaName = regexp.MustCompile(`^[a-z_][a-z0-9_]{0,40}$`)
+
+	errSource = errors.New(`a list is the path of a file, or {"postgres": {..}}`)
+)
+
+// UnmarshalJSON reads the path of a file or `{"postgres": {..}}`.
+func (s *source) UnmarshalJSON(text []byte) error {
+	if json.Unmarshal(text, &s.file) == nil {
+		return nil
+	}
+	var named struct {
+		Postgres *storeOf `json:"postgres"`
+	}
+	decoder := json.NewDecoder(bytes.NewReader(text))
+	decoder.DisallowUnknownFields()
+	if err := decoder.Decode(&named); err != nil {
+		return fmt.Errorf("%w: %v", errSource, err)
+	}
+	if named.Postgres == nil {
+		return errSource
+	}
+	s.store = named.Postgres
+	return s.store.check()
+}
+
+// name returns what a list is called in messages.
+func (s *source) name() string {
+	if s.store == nil {
+		return s.file
+	}
+	return "postgres " + s.store.Schema + " at " + s.store.Host
+}
+
+// check puts in what was left out, and says what is wrong.
+func (s *storeOf) check() error {
+	setText(&s.Schema, usualSchema)
+	for field, usual := range map[*int]int{&s.Port: usualPort, &s.StaleSeconds: usualStale, &s.Connections: usualConnections} {
+		if *field == 0 {
+			*field = usual
+		}
+	}
+	if s.CacheMiB == nil {
+		size := usualCacheMiB
+		s.CacheMiB = &size
+	}
+	switch {
+	case s.Host == "" || s.Database == "" || s.User == "":
+		return errors.New(`"postgres" needs "host", "database" and "user"`)
+	case !schemaName.MatchString(s.Schema):
+		return fmt.Errorf(`"schema" is %q, and must be small letters, digits and _`, s.Schema)
+	case !s.isSocket() && s.Root == "":
+		return errors.New(`a "host" that is not the folder of a socket needs "root", the file of the authority that signs its certificate`)
+	case s.StaleSeconds < leastStale:
+		return fmt.Errorf(`"stale_seconds" is %d, and must be at least %d`, s.StaleSeconds, leastStale)
+	case s.Port < 1 || s.Port > 65535 || s.Connections < 1 || *s.CacheMiB < 0:
+		return errors.New(`"port", "connections" or "cache_mib" is too small or too large`)
+	}
+	return nil
+}
+
+// isSocket says whether the server is asked at a Unix socket.
+func (s *storeOf) isSocket() bool {
+	return strings.HasPrefix(s.Host, "/")
+}
+
+// stale returns the age from which on a state of the store decides nothing.
+func (s *storeOf) stale() time.Duration {
+	return time.Duration(s.StaleSeconds) * time.Second
+}
+
+// settings returns the settings as a driver takes them, for a server of its own certificate if it is not at a socket.
+func (s *storeOf) settings() string {
+	made := []string{"sslmode=disable"}
+	if !s.isSocket() {
+		made = []string{"sslmode=verify-full", "sslrootcert=" + quotedSetting(s.Root)}
+	}
+	for name, value := range map[string]string{"host": s.Host, "dbname": s.Database, "user": s.User, "passfile": s.PassFile} {
+		if value != "" {
+			made = append(made, name+"="+quotedSetting(value))
+		}
+	}
+	// (a plan that was made while the table was small must not read all of it later)
+	return strings.Join(append(made, fmt.Sprintf("port=%d", s.Port), "application_name=spki-authd", "enable_seqscan=off", "jit=off", "plan_cache_mode=force_generic_plan"), " ")
+}
+
+// quotedSetting returns a value in quotes.
+func quotedSetting(value string) string {
+	return "'" + strings.NewReplacer(`\`, `\\`, `'`, `\'`).Replace(value) + "'"
+}
+
+// nameLists names the lists by their sources.
+func (c *config) nameLists() {
+	c.List = c.Source.name()
+	for number := range c.Lists {
+		c.Lists[number].List = c.Lists[number].Source.name()
+	}
+}
+
+// read reads a list, or opens its store. A store that does not answer is none that cannot be read: requests are answered with 503 until it does.
+func (p *place) read(policy guard.Policy, c *config) (*list, error) {
+	if p.Source.store == nil {
+		return readList(p.List, policy, c.Limits)
+	}
+	of := p.Source.store
+	if of.opened == nil {
+		reader, err := openReader(of, c.Limits.time()/partOfGrant)
+		if err != nil {
+			return nil, err
+		}
+		open := func(entries []byte) (*guard.Guard, error) {
+			return guard.Open(append(append([]byte("(3:acl"), entries...), ')'), policy, c.Limits.ofQuestion())
+		}
+		if of.opened, err = newStore(of, reader, open, time.Now); err != nil {
+			return nil, err
+		}
+		go of.opened.poll()
+	}
+	return &list{store: of.opened, digest: hexDigest([]byte(p.List))}, nil
+}
+
+// test says how the store is, or why it cannot be used.
+func (s *store) test(out io.Writer) error {
+	if err := s.pollOnce(); err != nil {
+		return err
+	}
+	text, err := s.told()
+	fmt.Fprint(out, text)
+	return err
+}

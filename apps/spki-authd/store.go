@@ -1,0 +1,281 @@
+package main
+
+import (
+	"bytes"
+	"crypto/sha1"
+	"crypto/sha256"
+	"crypto/sha512"
+	"errors"
+	"fmt"
+	"sync"
+	"time"
+
+	"conguraki/spki/guard"
+)
+
+// A store decides by the entries that are in a database. A decision needs only those whose principal is the key of the first issuer, or the
+// client's key where no certificate is shown: docs/PROOFS.md, `decided_by_kept`. What was read is kept until a change of these entries is polled.
+type store struct {
+	of     *storeOf
+	reader reader
+	open   func(list []byte) (*guard.Guard, error)
+	// A guard without entries, which lists the signatures of a question.
+	empty *guard.Guard
+	now   func() time.Time
+	// The key of the first issuer by the text of a sequence, or nothing if no signature is listed.
+	firsts *recent[string, string]
+
+	mutex sync.RWMutex
+	seen  seen
+	fault error
+	kept  *keptRows
+	ended map[digest]struct{}
+	count storeCounts
+}
+
+// A reader asks the database. Each call is one statement, and so of one state.
+type reader interface {
+	// rows returns the entries that are found by one of these.
+	rows(places [][]byte) (found, error)
+	// since returns the changes from this number on, and the state.
+	since(number int64) (news, error)
+	// whole returns all ended certificates, and the state.
+	whole() (news, error)
+	// renew closes the connections.
+	renew()
+}
+
+// A storeState says which state of the store something is of: the number of its last change, the time of that change, which tells one history from another, and
+// the number and the time of the last beat, in microseconds since 1970.
+type storeState struct {
+	changes, token, beat, beaten int64
+}
+
+// A found has entries in the order of their numbers.
+type found struct {
+	storeState
+	numbers []int
+	texts   [][]byte
+}
+
+// A news has changes, or all ended certificates.
+type news struct {
+	storeState
+	// Whether the change from which on was asked is there, with the time that it had.
+	first   int64
+	changed [][]byte
+	ended   []digest
+	isCut   bool
+}
+
+// A seen is the state that was polled last. Histories are counted: in another one the same number can be another change.
+type seen struct {
+	storeState
+	history int
+	// When the present beat was seen first, and how old it was then by the time of day.
+	at  time.Time
+	lag time.Duration
+}
+
+// storeCounts count how often rows were kept, were read, and could not be read.
+type storeCounts struct {
+	hits, misses, failures uint64
+}
+
+// The time between two polls, and by how much the writer's clock may be ahead.
+const (
+	pollEvery = 250 * time.Millisecond
+	mostAhead = time.Second
+	// The most entries of one principal.
+	mostRows = 10_000
+)
+
+var (
+	errStale   = errors.New("the store is stale")
+	errNever   = errors.New("the store was not read yet")
+	errOlder   = errors.New("the store answers with an older state than before")
+	errMany    = fmt.Errorf("one principal has over %d entries or over 1 MiB of them", mostRows)
+	errHostile = errors.New("a row of the store is not one entry: `spki-store check` says which")
+)
+
+// newStore returns a store that was not read yet.
+func newStore(of *storeOf, reader reader, open func(list []byte) (*guard.Guard, error), now func() time.Time) (*store, error) {
+	empty, err := open(nil)
+	if err != nil {
+		return nil, err
+	}
+	return &store{of: of, reader: reader, open: open, empty: empty, now: now, firsts: newRecent[string, string](mostShown),
+		kept: newKeptRows(*of.CacheMiB << 20), ended: map[digest]struct{}{}, fault: errNever}, nil
+}
+
+// list returns the list of the entries that a question can need. It ends with a fault where the store is stale.
+func (s *store) list(question *guard.Question) (*list, error) {
+	key, err := s.keyOf(question)
+	if err != nil {
+		return nil, err
+	}
+	if err := s.isFresh(); err != nil {
+		return nil, err
+	}
+	name := sha256.Sum256(key)
+	if kept := s.keptOf(name); kept != nil {
+		return kept, nil
+	}
+	made, err := s.read(name, key)
+	if err == nil {
+		err = s.isFresh()
+	}
+	s.noteRead(err)
+	if err != nil {
+		return nil, fmt.Errorf("store: %w", err)
+	}
+	return made, nil
+}
+
+// keyOf returns the key whose entries a question needs.
+func (s *store) keyOf(question *guard.Question) ([]byte, error) {
+	text := string(question.Sequence)
+	first, isKnown := s.firsts.get(text)
+	if !isKnown {
+		asked, err := s.empty.Ask(*question)
+		if err != nil {
+			return nil, err
+		}
+		defer asked.Close()
+		err = asked.Each(func(_ int, signed guard.Signature) bool { first = string(signed.Key); return false })
+		if err != nil {
+			return nil, err
+		}
+		if len(text) <= mostShownOctets {
+			s.firsts.add(text, first)
+		}
+	}
+	if first == "" {
+		return question.Key, nil
+	}
+	return []byte(first), nil
+}
+
+// read reads the entries of a key, and keeps them if no later state was polled meanwhile.
+func (s *store) read(name digest, key []byte) (*list, error) {
+	before := s.seenNow()
+	places := placesOf(key)
+	found, err := s.reader.rows(places)
+	if err != nil {
+		return nil, err
+	}
+	if found.changes < before.changes || found.beat < before.beat {
+		return nil, errOlder
+	}
+	made, size, err := s.listOf(found)
+	if err != nil {
+		return nil, err
+	}
+	s.mutex.Lock()
+	defer s.mutex.Unlock()
+	isPresent := s.seen.history == before.history && found.changes >= s.seen.changes
+	made.isPassing = !isPresent || !s.kept.add(name, places, made, size)
+	return made, nil
+}
+
+// listOf returns a list of entries, and its octets.
+func (s *store) listOf(found found) (*list, int, error) {
+	size := 0
+	for _, text := range found.texts {
+		if !bytes.HasPrefix(text, []byte("(5:entry")) {
+			return nil, 0, errHostile
+		}
+		size += len(text)
+	}
+	if len(found.texts) > mostRows || size > mostList-len("(3:acl)") {
+		return nil, 0, errMany
+	}
+	joined := make([]byte, 0, size)
+	for _, text := range found.texts {
+		joined = append(joined, text...)
+	}
+	opened, err := s.open(joined)
+	if err != nil {
+		return nil, 0, fmt.Errorf("%w: %v", errHostile, err)
+	}
+	if opened.Entries() != len(found.numbers) {
+		opened.Close()
+		return nil, 0, errHostile
+	}
+	return &list{guard: opened, numbers: found.numbers, digest: fmt.Sprintf("change %d", found.changes)}, size, nil
+}
+
+// placesOf returns what the principals are found by that can name a key.
+func placesOf(key []byte) [][]byte {
+	first, second, third := sha1.Sum(key), sha256.Sum256(key), sha512.Sum512(key)
+	return [][]byte{first[:], second[:], third[:]}
+}
+
+// keptOf returns a list that is kept, or nil.
+func (s *store) keptOf(name digest) *list {
+	s.mutex.Lock()
+	defer s.mutex.Unlock()
+	kept := s.kept.get(name)
+	if kept != nil {
+		s.count.hits++
+	}
+	return kept
+}
+
+// noteRead counts what became of reading rows.
+func (s *store) noteRead(err error) {
+	s.mutex.Lock()
+	defer s.mutex.Unlock()
+	s.count.misses++
+	if err != nil {
+		s.count.failures++
+	}
+}
+
+// seenNow returns the state that was polled last.
+func (s *store) seenNow() seen {
+	s.mutex.RLock()
+	defer s.mutex.RUnlock()
+	return s.seen
+}
+
+// isFresh says whether the state that was polled last is young enough to decide by.
+func (s *store) isFresh() error {
+	s.mutex.RLock()
+	defer s.mutex.RUnlock()
+	if s.seen.at.IsZero() {
+		return fmt.Errorf("store: %w", s.fault)
+	}
+	age, err := s.seen.age(s.now())
+	if err == nil && age > s.of.stale() {
+		err = fmt.Errorf("%w: its last beat is %v old", errStale, age.Round(time.Millisecond))
+	}
+	if err != nil && s.fault != nil {
+		err = fmt.Errorf("%w; %v", err, s.fault)
+	}
+	return err
+}
+
+// age returns how old the state is: how old its beat was when it was seen first, by the time of day, and the time since by the monotonic clock. A
+// machine that slept has its monotonic clock stopped meanwhile, so the time of day counts where it says more.
+func (s *seen) age(now time.Time) (time.Duration, error) {
+	if s.lag < -mostAhead {
+		return 0, fmt.Errorf("%w: its beat is %v ahead of the daemon's clock", errStale, -s.lag)
+	}
+	age := now.Sub(s.at)
+	if s.lag > 0 {
+		age += s.lag
+	}
+	if byDay := now.Round(0).Sub(time.UnixMicro(s.beaten)); byDay > age {
+		age = byDay
+	}
+	return age, nil
+}
+
+// hasEnded says whether a certificate has ended early.
+func (s *store) hasEnded(certificate digest) bool {
+	s.mutex.RLock()
+	defer s.mutex.RUnlock()
+	_, hasEnded := s.ended[certificate]
+	return hasEnded
+}

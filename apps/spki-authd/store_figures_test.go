@@ -1,0 +1,199 @@
+//go:build spki_postgres
+
+package main
+
+import (
+	"errors"
+	"fmt"
+	"math/rand"
+	"net/http"
+	"net/http/httptest"
+	"os"
+	"runtime"
+	"sort"
+	"strconv"
+	"sync"
+	"testing"
+	"time"
+
+	"conguraki/spki/guard"
+)
+
+// bench/store.py sets these: how many keys have an entry, and what is measured.
+const (
+	envKeys = "SPKI_STORE_KEYS"
+	envWhat = "SPKI_STORE_WHAT"
+)
+
+// figures has a store of many entries and what is asked of it.
+type figures struct {
+	*testing.T
+	store *store
+	keys  int
+}
+
+// TestStoreFigures prints what decisions by a store take.
+func TestStoreFigures(t *testing.T) {
+	keys, _ := strconv.Atoi(os.Getenv(envKeys))
+	if keys == 0 {
+		t.Skip("bench/store.py names a store")
+	}
+	for _, what := range []struct {
+		name string
+		does func(f *figures)
+	}{{"cold", (*figures).cold}, {"single", (*figures).single}, {"load", (*figures).load}} {
+		if what.name == os.Getenv(envWhat) {
+			what.does(newFigures(t, keys))
+		}
+	}
+}
+
+// newFigures opens the store that the environment names.
+func newFigures(t *testing.T, keys int) *figures {
+	of := &storeOf{Host: os.Getenv(envHost), Database: "postgres", User: "postgres", Schema: os.Getenv(envSchema), StaleSeconds: 1 << 30}
+	if err := of.check(); err != nil {
+		t.Fatal(err)
+	}
+	reader, err := openReader(of, time.Minute)
+	if err != nil {
+		t.Fatal(err)
+	}
+	open := func(entries []byte) (*guard.Guard, error) {
+		return guard.Open([]byte("(3:acl"+string(entries)+")"), guard.Strict, guard.Limits{})
+	}
+	made, err := newStore(of, reader, open, time.Now)
+	if err != nil {
+		t.Fatal(err)
+	}
+	if err := made.pollOnce(); err != nil {
+		t.Fatal(err)
+	}
+	return &figures{t, made, keys}
+}
+
+// key writes the key with a number, as bench/store.py does.
+func key(number int) []byte {
+	return []byte(fmt.Sprintf("(10:public-key(4:test40:k%039d))", number))
+}
+
+// asks decides for a key, and says what that took.
+func (f *figures) asks(number int) time.Duration {
+	question := guard.Question{Sequence: nothingShown.text, Key: key(number), Words: []string{"files", "read", "/web/x"}, Time: time.Now()}
+	begun := time.Now()
+	decision, err := f.decides(question)
+	took := time.Since(begun)
+	if err != nil || !decision.Granted() {
+		f.Fatal(number, decision, err)
+	}
+	return took
+}
+
+// decides decides as the daemon does: a list that another goroutine had dropped meanwhile is asked for again.
+func (f *figures) decides(question guard.Question) (guard.Decision, error) {
+	for {
+		found, err := f.store.list(&question)
+		if err != nil {
+			return guard.Decision{}, err
+		}
+		decision, err := found.guard.Decide(question, nil)
+		if !errors.Is(err, guard.ErrClosed) {
+			return decision, err
+		}
+	}
+}
+
+// printFigure prints the median and the 99th percentile.
+func printFigure(name string, times []time.Duration) {
+	sort.Slice(times, func(one, other int) bool { return times[one] < times[other] })
+	fmt.Printf("figure %s p50 %.1f p99 %.1f\n", name, float64(times[len(times)/2].Nanoseconds())/1e3, float64(times[len(times)*99/100].Nanoseconds())/1e3)
+}
+
+// several asks for random keys.
+func (f *figures) several(name string, count int, number func() int) {
+	times := make([]time.Duration, count)
+	for place := range times {
+		times[place] = f.asks(number())
+	}
+	printFigure(name, times)
+}
+
+// cold asks for keys whose rows are in no memory, as far as bench/store.py can have it so.
+func (f *figures) cold() {
+	random := rand.New(rand.NewSource(1))
+	_, _ = f.store.reader.rows(placesOf([]byte("none")))
+	f.several("cold", 300, func() int { return random.Intn(f.keys) })
+}
+
+// single asks for kept keys, and for keys that are not kept.
+func (f *figures) single() {
+	random := rand.New(rand.NewSource(2))
+	some := min(f.keys, 10_000)
+	none := func() int { f.store.kept.clear(); return random.Intn(some) }
+	for turn := 0; turn < 2*some; turn++ {
+		f.store.kept.clear()
+		f.asks(turn % some)
+	}
+	f.several("miss", 10_000, none)
+	f.asks(7)
+	f.several("hit", 20_000, func() int { return 7 })
+}
+
+// min returns the lesser number.
+func min(one, other int) int {
+	if one < other {
+		return one
+	}
+	return other
+}
+
+// load has several goroutines ask at once, at nine kept keys of ten.
+func (f *figures) load() {
+	const each, hot = 20_000, 200
+	f.store.kept.most = 1 << 20
+	workers := 2 * runtime.NumCPU()
+	for number := 0; number < hot; number++ {
+		f.asks(number)
+	}
+	before, all, begun := f.store.count, make([][]time.Duration, workers), time.Now()
+	var group sync.WaitGroup
+	for worker := range all {
+		group.Add(1)
+		go func(worker int) {
+			defer group.Done()
+			random := rand.New(rand.NewSource(int64(worker)))
+			for turn := 0; turn < each; turn++ {
+				number := random.Intn(hot)
+				if turn%10 == 0 {
+					number = random.Intn(min(f.keys, 200_000))
+				}
+				all[worker] = append(all[worker], f.asks(number))
+			}
+		}(worker)
+	}
+	group.Wait()
+	took, times := time.Since(begun), []time.Duration{}
+	for _, some := range all {
+		times = append(times, some...)
+	}
+	hits, misses := f.store.count.hits-before.hits, f.store.count.misses-before.misses
+	fmt.Printf("figure rate second %.0f hits %.3f\n", float64(len(times))/took.Seconds(), float64(hits)/float64(hits+misses))
+	printFigure("load", times)
+}
+
+// BenchmarkStored measures a request by two certificates, as BenchmarkHandler does, where the list is a store whose rows are kept.
+func BenchmarkStored(b *testing.B) {
+	s := newStored(b)
+	s.grants = func([]byte) error { return nil }
+	_, carols := s.sequencesShown()
+	request := httptest.NewRequest(http.MethodGet, "/auth", nil)
+	for name, value := range map[string]string{
+		"X-Original-Method": "GET", "X-Original-Uri": "/web/docs/a/b", "X-Client-Cert": s.carol.escaped(), "Authorization": "SPKI " + carols,
+	} {
+		request.Header.Set(name, value)
+	}
+	for turn := 0; turn < b.N; turn++ {
+		if made := s.answerTo(request); made.Status != http.StatusOK {
+			b.Fatal(made.Status)
+		}
+	}
+}

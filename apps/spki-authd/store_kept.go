@@ -1,0 +1,90 @@
+package main
+
+import ordered "container/list"
+
+// A keptRows keeps lists of the entries of a key, up to so many octets: those that were asked for last. It has no mutex of its own.
+type keptRows struct {
+	most, size int
+	order      *ordered.List
+	byName     map[digest]*ordered.Element
+	byPlace    map[string]*ordered.Element
+}
+
+// A keptRow is what is kept for a key.
+type keptRow struct {
+	name   digest
+	places [][]byte
+	list   *list
+	size   int
+}
+
+// The octets of an entry's table in the library for each octet of its text, and those of a key without entries: about.
+const (
+	octetsEach = 3
+	octetsRow  = 2048
+)
+
+// newKeptRows returns what keeps lists of at most so many octets together.
+func newKeptRows(most int) *keptRows {
+	return &keptRows{most: most, order: ordered.New(), byName: map[digest]*ordered.Element{}, byPlace: map[string]*ordered.Element{}}
+}
+
+// get returns the list of a key, or nil.
+func (k *keptRows) get(name digest) *list {
+	element, isKept := k.byName[name]
+	if !isKept {
+		return nil
+	}
+	k.order.MoveToFront(element)
+	return element.Value.(*keptRow).list
+}
+
+// add keeps a list of a key, and says whether it does.
+func (k *keptRows) add(name digest, places [][]byte, rows *list, octets int) bool {
+	if before, isKept := k.byName[name]; isKept {
+		k.remove(before)
+	}
+	row := &keptRow{name, places, rows, octetsRow + octetsEach*octets}
+	if row.size > k.most {
+		return false
+	}
+	element := k.order.PushFront(row)
+	k.byName[name] = element
+	for _, place := range places {
+		k.byPlace[string(place)] = element
+	}
+	for k.size += row.size; k.size > k.most; {
+		k.remove(k.order.Back())
+	}
+	return true
+}
+
+// drop forgets the list that an entry with this principal belongs to.
+func (k *keptRows) drop(place []byte) {
+	if element, isKept := k.byPlace[string(place)]; isKept {
+		k.remove(element)
+	}
+}
+
+// clear forgets all lists.
+func (k *keptRows) clear() {
+	for k.order.Len() > 0 {
+		k.remove(k.order.Back())
+	}
+}
+
+// count returns the number of keys.
+func (k *keptRows) count() int {
+	return k.order.Len()
+}
+
+// remove forgets a list, and frees its memory once the questions are closed that it was asked.
+func (k *keptRows) remove(element *ordered.Element) {
+	row := k.order.Remove(element).(*keptRow)
+	k.size -= row.size
+	delete(k.byName, row.name)
+	for _, place := range row.places {
+		delete(k.byPlace, string(place))
+	}
+	row.list.guard.Close()
+}

@@ -1,0 +1,30 @@
+//go:build spki_postgres
+
+package main
+
+import (
+	"net"
+	"time"
+)
+
+// A patient connection waits for each octet at most so long. Otherwise a network that is cut holds a request for minutes.
+type patient struct {
+	net.Conn
+	patience time.Duration
+}
+
+// Read reads, or fails in time.
+func (p *patient) Read(octets []byte) (int, error) {
+	if err := p.SetReadDeadline(time.Now().Add(p.patience)); err != nil {
+		return 0, err
+	}
+	return p.Conn.Read(octets)
+}
+
+// Write writes, or fails in time.
+func (p *patient) Write(octets []byte) (int, error) {
+	if err := p.SetWriteDeadline(time.Now().Add(p.patience)); err != nil {
+		return 0, err
+	}
+	return p.Conn.Write(octets)
+}

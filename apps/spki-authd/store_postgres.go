@@ -1,0 +1,275 @@
+//go:build spki_postgres
+
+package main
+
+import (
+	"context"
+	"crypto/sha1"
+	"crypto/sha256"
+	"crypto/sha512"
+	"database/sql/driver"
+	"errors"
+	"fmt"
+	"io"
+	"net"
+	"strings"
+	"sync/atomic"
+	"time"
+
+	"github.com/lib/pq"
+)
+
+// A pool has connections to a server. A slot is an open connection, or nil for one that is not open.
+type pool struct {
+	connector *pq.Connector
+	patience  time.Duration
+	slots     chan *link
+	texts     [asks]string
+	// How often the connections were renewed: a connection of an earlier time is closed before it is used again.
+	times atomic.Int64
+}
+
+// A link is a connection and its prepared statements.
+type link struct {
+	driver.Conn
+	statements [asks]driver.Stmt
+	times      int64
+}
+
+// The statements, by what they ask for.
+const (
+	askRows = iota
+	askSince
+	askWhole
+	asks
+)
+
+// The version of the store, and the most changes that one poll reads.
+const (
+	storeVersion = 1
+	mostChanges  = 10_000
+)
+
+var errVersion = errors.New("the store is of another version than this daemon reads")
+
+// The columns of a state, and the tables that have them.
+const (
+	stateColumns = "s.version, s.changes, b.number, (extract(epoch FROM b.moment) * 1000000)::bigint"
+	stateTables  = "@.state s JOIN @.heartbeat b ON s.one AND b.one"
+	microseconds = "(extract(epoch FROM c.moment) * 1000000)::bigint"
+)
+
+// openReader returns what reads a store. It connects when it is asked first.
+func openReader(of *storeOf, patience time.Duration) (reader, error) {
+	connector, err := pq.NewConnector(of.settings())
+	if err != nil {
+		return nil, err
+	}
+	connector.Dialer(dialer{patience})
+	made := &pool{connector: connector, patience: patience, slots: make(chan *link, of.Connections)}
+	for count := 0; count < of.Connections; count++ {
+		made.slots <- nil
+	}
+	for ask, text := range map[int]string{
+		askRows: "SELECT " + stateColumns + ", e.number, e.text FROM " + stateTables + " LEFT JOIN LATERAL (" + rowsOf(sha1.Size, 1) + " UNION ALL " +
+			rowsOf(sha256.Size, 2) + " UNION ALL " + rowsOf(sha512.Size, 3) + fmt.Sprintf(" LIMIT %d) e ON true ORDER BY e.number", mostRows+1),
+		askSince: "SELECT " + stateColumns + ", c.number, " + microseconds + ", c.what, c.digest FROM " + stateTables +
+			fmt.Sprintf(" LEFT JOIN LATERAL (SELECT * FROM (SELECT number, moment, what, digest FROM @.changes WHERE number >= $1 ORDER BY number LIMIT %d) l)"+
+				" c ON true ORDER BY c.number", mostChanges+2),
+		askWhole: "SELECT " + stateColumns + ", " + microseconds + ", e.certificate FROM " + stateTables +
+			" LEFT JOIN @.changes c ON c.number = s.changes LEFT JOIN @.ended e ON true",
+	} {
+		// (the name of the schema was checked)
+		made.texts[ask] = strings.ReplaceAll(text, "@", of.Schema)
+	}
+	return made, nil
+}
+
+// rowsOf returns the part of a statement for principals whose digests have so many octets, each of which has an index of its own.
+func rowsOf(octets, parameter int) string {
+	return fmt.Sprintf("SELECT number, text FROM @.entries WHERE octet_length(principal) = %d AND principal = $%d", octets, parameter)
+}
+
+// A dialer connects, and waits for each answer at most so long.
+type dialer struct {
+	patience time.Duration
+}
+
+// Dial connects.
+func (d dialer) Dial(network, address string) (net.Conn, error) {
+	return d.DialTimeout(network, address, d.patience)
+}
+
+// DialTimeout connects in some time.
+func (d dialer) DialTimeout(network, address string, _ time.Duration) (net.Conn, error) {
+	made, err := net.DialTimeout(network, address, d.patience)
+	if err != nil {
+		return nil, err
+	}
+	return &patient{made, d.patience}, nil
+}
+
+// renew has each connection closed before it would be used again.
+func (p *pool) renew() {
+	p.times.Add(1)
+}
+
+// take returns a connection, which the caller gives back.
+func (p *pool) take() (*link, error) {
+	timer := time.NewTimer(p.patience)
+	defer timer.Stop()
+	var taken *link
+	select {
+	case taken = <-p.slots:
+	case <-timer.C:
+		return nil, errors.New("no connection is free")
+	}
+	times := p.times.Load()
+	if taken != nil && taken.times == times {
+		return taken, nil
+	}
+	if taken != nil {
+		taken.Close()
+	}
+	made, err := p.connector.Connect(context.Background())
+	if err != nil {
+		p.slots <- nil
+		return nil, err
+	}
+	return &link{Conn: made, times: times}, nil
+}
+
+// ask calls a function with each row of a statement, whose values are valid during the call alone.
+func (p *pool) ask(what int, use func(row []driver.Value) error, values ...driver.Value) error {
+	link, err := p.take()
+	if err != nil {
+		return err
+	}
+	if err = link.ask(what, p.texts[what], use, values); err != nil {
+		link.Close()
+		link = nil
+	}
+	p.slots <- link
+	return err
+}
+
+// ask asks on this connection. With an error the connection is used no more.
+func (l *link) ask(what int, text string, use func(row []driver.Value) error, values []driver.Value) error {
+	if l.statements[what] == nil {
+		made, err := l.Prepare(text)
+		if err != nil {
+			return err
+		}
+		l.statements[what] = made
+	}
+	//lint:ignore SA1019 a call with a context has a goroutine each: the connection itself waits at most so long
+	rows, err := l.statements[what].Query(values)
+	if err != nil {
+		return err
+	}
+	row := make([]driver.Value, len(rows.Columns()))
+	for {
+		if err = rows.Next(row); err != nil {
+			break
+		}
+		if err = use(row); err != nil {
+			break
+		}
+	}
+	if errors.Is(err, io.EOF) {
+		return rows.Close()
+	}
+	return err
+}
+
+// stateIn returns the state that a row begins with.
+func stateIn(row []driver.Value) (storeState, error) {
+	var numbers [4]int64
+	for place := range numbers {
+		number, isNumber := row[place].(int64)
+		if !isNumber {
+			return storeState{}, errVersion
+		}
+		numbers[place] = number
+	}
+	if numbers[0] != storeVersion {
+		return storeState{}, errVersion
+	}
+	return storeState{changes: numbers[1], beat: numbers[2], beaten: numbers[3]}, nil
+}
+
+// octetsIn returns octets of a row.
+func octetsIn(value driver.Value) []byte {
+	octets, _ := value.([]byte)
+	return append([]byte(nil), octets...)
+}
+
+// rows returns the entries that are found by one of these places.
+func (p *pool) rows(places [][]byte) (made found, err error) {
+	hasState := false
+	err = p.ask(askRows, func(row []driver.Value) (err error) {
+		made.storeState, err = stateIn(row)
+		hasState = true
+		if number, isThere := row[4].(int64); isThere {
+			made.numbers = append(made.numbers, int(number))
+			made.texts = append(made.texts, octetsIn(row[5]))
+		}
+		return err
+	}, places[0], places[1], places[2])
+	return made, withState(hasState, err)
+}
+
+// withState says that there is no state where there is none.
+func withState(hasState bool, err error) error {
+	if err == nil && !hasState {
+		return errVersion
+	}
+	return err
+}
+
+// since returns the changes behind a number, and whether the history up to it is the same.
+func (p *pool) since(number int64) (made news, err error) {
+	hasState, count := false, 0
+	err = p.ask(askSince, func(row []driver.Value) (err error) {
+		made.storeState, err = stateIn(row)
+		hasState = true
+		at, isThere := row[4].(int64)
+		if !isThere {
+			return err
+		}
+		moment, _ := row[5].(int64)
+		if made.token = moment; at == number {
+			made.first = moment
+			return err
+		}
+		count++
+		made.note(row[6], octetsIn(row[7]))
+		return err
+	}, number)
+	made.isCut = count > mostChanges
+	return made, withState(hasState, err)
+}
+
+// note notes a change.
+func (n *news) note(what driver.Value, place []byte) {
+	if text, isText := what.(string); isText && text == "end" && len(place) == len(digest{}) {
+		n.ended = append(n.ended, *(*digest)(place))
+		return
+	}
+	n.changed = append(n.changed, place)
+}
+
+// whole returns all ended certificates.
+func (p *pool) whole() (made news, err error) {
+	hasState := false
+	err = p.ask(askWhole, func(row []driver.Value) (err error) {
+		made.storeState, err = stateIn(row)
+		hasState = true
+		made.token, _ = row[4].(int64)
+		if octets := octetsIn(row[5]); len(octets) == len(digest{}) {
+			made.ended = append(made.ended, *(*digest)(octets))
+		}
+		return err
+	})
+	return made, withState(hasState, err)
+}

@@ -1,0 +1,290 @@
+//go:build spki_postgres
+
+package main
+
+import (
+	"database/sql/driver"
+	"encoding/hex"
+	"fmt"
+	"math/rand"
+	"os"
+	"sort"
+	"strconv"
+	"sync"
+	"testing"
+	"time"
+
+	"conguraki/spki/guard"
+	"conguraki/spki/verify"
+)
+
+// The tests of this file need a store without entries, by the environment: tests/test_store.py makes one.
+const (
+	envHost      = "SPKI_STORE_HOST"
+	envSchema    = "SPKI_STORE_SCHEMA"
+	envQuestions = "SPKI_STORE_QUESTIONS"
+	envSeed      = "SPKI_STORE_SEED"
+)
+
+// A rig is a store in PostgreSQL, what changes it, and all lists that it had, by the number of the last change.
+type rig struct {
+	t       *testing.T
+	store   *store
+	writer  *pool
+	random  *rand.Rand
+	people  []person
+	mutex   sync.Mutex
+	entries map[int]string
+	history []map[int]string
+}
+
+// newRig opens the store that the environment names.
+func newRig(t *testing.T) *rig {
+	t.Helper()
+	host := os.Getenv(envHost)
+	if host == "" {
+		t.Skip("no store: tests/test_store.py names one")
+	}
+	of := &storeOf{Host: host, Database: "postgres", User: "postgres", Schema: os.Getenv(envSchema)}
+	if err := of.check(); err != nil {
+		t.Fatal(err)
+	}
+	seed, _ := strconv.ParseInt(os.Getenv(envSeed), 10, 64)
+	made := &rig{t: t, random: rand.New(rand.NewSource(seed)), entries: map[int]string{}}
+	reader, err := openReader(of, time.Minute)
+	if err != nil {
+		t.Fatal(err)
+	}
+	other, err := openReader(of, time.Minute)
+	if err != nil {
+		t.Fatal(err)
+	}
+	made.writer = other.(*pool)
+	open := func(entries []byte) (*guard.Guard, error) {
+		return guard.Open([]byte("(3:acl"+string(entries)+")"), guard.Strict, guard.Limits{})
+	}
+	if made.store, err = newStore(of, reader, open, time.Now); err != nil {
+		t.Fatal(err)
+	}
+	for count := 0; count < 12; count++ {
+		made.people = append(made.people, newPerson(t))
+	}
+	made.history = []map[int]string{{}}
+	return made
+}
+
+// does runs a statement, and returns the first value of its first row.
+func (r *rig) does(text string, values ...driver.Value) (first int64) {
+	link, err := r.writer.take()
+	if err != nil {
+		r.t.Error(err)
+		return 0
+	}
+	link.statements = [asks]driver.Stmt{}
+	err = link.ask(0, fmt.Sprintf(text, r.store.of.Schema), func(row []driver.Value) error { first, _ = row[0].(int64); return nil }, values)
+	r.writer.slots <- link
+	if err != nil {
+		r.t.Error(err)
+	}
+	return first
+}
+
+// any returns somebody.
+func (r *rig) any(random *rand.Rand) person {
+	return r.people[random.Intn(len(r.people))]
+}
+
+// principalOf writes a person's key, or a hash of it.
+func principalOf(who person, random *rand.Rand) string {
+	places := placesOf([]byte(who.key))
+	switch random.Intn(6) {
+	case 0:
+		return "(4:hash6:sha256" + str(string(places[1])) + ")"
+	case 1:
+		return "(4:hash6:sha512" + str(string(places[2])) + ")"
+	case 2:
+		return "(4:hash4:sha1" + str(string(places[0])) + ")"
+	}
+	return who.key
+}
+
+// change adds an entry, or removes one, as another client does.
+func (r *rig) change() {
+	next := map[int]string{}
+	for number, text := range r.entries {
+		next[number] = text
+	}
+	if len(next) < 40 || r.random.Intn(2) == 0 {
+		subject, more := principalOf(r.any(r.random), r.random), ""
+		if r.random.Intn(8) == 0 {
+			subject = "(4:name" + subject + "7:friends)"
+		}
+		if r.random.Intn(4) > 0 {
+			more = propagates
+		}
+		text := "(5:entry" + subject + more + "(3:tag" + prefix("read", "/web/"+[]string{"", "a/", "b/"}[r.random.Intn(3)]) + "))"
+		next[int(r.does("INSERT INTO %s.entries (text) VALUES ($1) RETURNING number", []byte(text)))] = text
+	} else {
+		numbers := numbersOf(next)
+		number := numbers[r.random.Intn(len(numbers))]
+		r.does("DELETE FROM %s.entries WHERE number = $1 RETURNING number", int64(number))
+		delete(next, number)
+	}
+	r.does("UPDATE %s.heartbeat SET number = number + 1, moment = clock_timestamp() RETURNING number")
+	r.mutex.Lock()
+	defer r.mutex.Unlock()
+	r.entries = next
+	r.history = append(r.history, next)
+}
+
+// numbersOf returns the numbers of entries, in order.
+func numbersOf(entries map[int]string) []int {
+	numbers := make([]int, 0, len(entries))
+	for number := range entries {
+		numbers = append(numbers, number)
+	}
+	sort.Ints(numbers)
+	return numbers
+}
+
+// question makes a question with up to three certificates, of which some are wrong.
+func (r *rig) question(random *rand.Rand) guard.Question {
+	chain := []person{r.any(random)}
+	text := "(8:sequence"
+	for len(chain) < 4 && random.Intn(3) > 0 {
+		from, to := chain[len(chain)-1], r.any(random)
+		chain = append(chain, to)
+		signer := from
+		if random.Intn(20) == 0 {
+			signer = r.any(random)
+		}
+		text += signer.signed("(4:cert(6:issuer" + principalOf(from, random) + ")(7:subject" + principalOf(to, random) + ")" + propagates + "(3:tag" +
+			prefix("read", "/web/") + "))")
+	}
+	if random.Intn(20) == 0 {
+		text += "(4:cert)"
+	}
+	return guard.Question{Sequence: []byte(text + ")"), Key: []byte(chain[len(chain)-1].key), Words: []string{"files", "read", "/web/a/x"}, Time: time.Now()}
+}
+
+// wholeAnswer is that of the guard of a whole list.
+func (r *rig) wholeAnswer(entries map[int]string, question guard.Question) string {
+	text := ""
+	numbers := numbersOf(entries)
+	for _, number := range numbers {
+		text += entries[number]
+	}
+	opened, err := r.store.open([]byte(text))
+	if err != nil {
+		r.t.Fatal(err)
+	}
+	defer opened.Close()
+	return answerBy(opened, numbers, question)
+}
+
+// answerBy asks a guard, and names the entry by its number.
+func answerBy(opened *guard.Guard, numbers []int, question guard.Question) string {
+	decision, err := opened.Decide(question, verify.Signature)
+	if err != nil {
+		return err.Error()
+	}
+	if decision.Granted() {
+		return fmt.Sprint("yes ", numbers[decision.Entry()-1])
+	}
+	return "no"
+}
+
+// answer is that of the store.
+func (r *rig) answer(question guard.Question) string {
+	for {
+		found, err := r.store.list(&question)
+		if err != nil {
+			return err.Error()
+		}
+		made := answerBy(found.guard, found.numbers, question)
+		if made != guard.ErrClosed.Error() {
+			return made
+		}
+	}
+}
+
+// TestQuestionsToStore asks a store while another client changes it. Each answer must be that of the guard of the whole list, in a state between
+// the one that was polled last and the present one.
+func TestQuestionsToStore(t *testing.T) {
+	r := newRig(t)
+	for count := 0; count < 60; count++ {
+		r.change()
+	}
+	if err := r.store.pollOnce(); err != nil {
+		t.Fatal(err)
+	}
+	random := rand.New(rand.NewSource(r.random.Int63()))
+	end, ended := make(chan struct{}), make(chan struct{})
+	go func() {
+		defer close(ended)
+		for {
+			select {
+			case <-end:
+				return
+			default:
+				r.change()
+			}
+		}
+	}()
+	questions, _ := strconv.Atoi(os.Getenv(envQuestions))
+	met := map[string]int{}
+	for count := 0; count < questions && !t.Failed(); count++ {
+		if count%20 == 0 {
+			if err := r.store.pollOnce(); err != nil {
+				t.Error(err)
+			}
+		}
+		question := r.question(random)
+		first := r.store.seenNow().changes
+		answer := r.answer(question)
+		met[answer[:2]]++
+		if !r.wasSoSince(first, question, answer) {
+			t.Errorf("seed %s, question %d: %s: %s", os.Getenv(envSeed), count, answer, hex.EncodeToString(question.Sequence))
+		}
+	}
+	close(end)
+	<-ended
+	if met["ye"] < questions/20 || met["no"] < questions/20 || met["re"] < questions/200 || r.store.count.hits < uint64(questions)/20 {
+		t.Errorf("%v, %d kept", met, r.store.count.hits)
+	}
+	t.Logf("%v, %d changes, %d kept of %d", met, len(r.history), r.store.count.hits, r.store.count.hits+r.store.count.misses)
+}
+
+// wasSoSince says whether an answer is that of a list since a change, or of the one that is being made now.
+func (r *rig) wasSoSince(first int64, question guard.Question, answer string) bool {
+	for at := first; ; at++ {
+		entries := r.after(at)
+		if entries == nil {
+			// (the change that was made while the question was asked is noted in a moment)
+			return r.isSoSoon(at, question, answer)
+		}
+		if r.wholeAnswer(entries, question) == answer {
+			return true
+		}
+	}
+}
+
+// isSoSoon waits for a change that is being made, and says whether an answer is that of the list then.
+func (r *rig) isSoSoon(at int64, question guard.Question, answer string) bool {
+	for end := time.Now().Add(time.Minute); time.Now().Before(end); time.Sleep(time.Millisecond) {
+		if entries := r.after(at); entries != nil {
+			return r.wholeAnswer(entries, question) == answer
+		}
+	}
+	return false
+}
+
+// after returns the entries after a change, or nil if it is not made yet.
+func (r *rig) after(change int64) map[int]string {
+	r.mutex.Lock()
+	defer r.mutex.Unlock()
+	if change >= int64(len(r.history)) {
+		return nil
+	}
+	return r.history[change]
+}

@@ -1,0 +1,314 @@
+package main
+
+import (
+	"encoding/hex"
+	"errors"
+	"fmt"
+	"strings"
+	"testing"
+	"time"
+
+	"conguraki/spki/guard"
+)
+
+// A table is a store in memory: its entries, and what a poll would tell of its changes.
+type table struct {
+	texts  map[int]string
+	places map[int]string
+	news   []change
+	ended  []digest
+	state  storeState
+	fault  error
+	// What happens after rows were read and before they are returned.
+	meanwhile func()
+	reads     int
+}
+
+// A change is an entry's principal, or an ended certificate, with the time of the change.
+type change struct {
+	place string
+	ended *digest
+	token int64
+}
+
+// put puts an entry for a key into the table, or takes it out where there is no text.
+func (t *table) put(number int, key, text string) {
+	place := string(placesOf([]byte(key))[1])
+	t.texts[number], t.places[number] = text, place
+	if text == "" {
+		delete(t.texts, number)
+	}
+	t.note(change{place: place})
+}
+
+// note notes a change.
+func (t *table) note(made change) {
+	t.state.changes++
+	t.state.token += 7
+	made.token = t.state.token
+	t.news = append(t.news, made)
+}
+
+func (t *table) rows(places [][]byte) (made found, err error) {
+	t.reads++
+	made.storeState = t.state
+	for number := 0; number < 100; number++ {
+		for _, place := range places {
+			if t.texts[number] != "" && t.places[number] == string(place) {
+				made.numbers, made.texts = append(made.numbers, number), append(made.texts, []byte(t.texts[number]))
+			}
+		}
+	}
+	if what := t.meanwhile; what != nil {
+		t.meanwhile = nil
+		what()
+	}
+	return made, t.fault
+}
+
+func (t *table) since(number int64) (news, error) {
+	made := news{storeState: t.state}
+	if number > 0 && number <= t.state.changes {
+		made.first = t.news[number-1].token
+	}
+	for place := number; place < t.state.changes; place++ {
+		if each := t.news[place]; each.ended != nil {
+			made.ended = append(made.ended, *each.ended)
+		} else {
+			made.changed = append(made.changed, []byte(each.place))
+		}
+	}
+	return made, t.fault
+}
+
+func (t *table) whole() (news, error) {
+	return news{storeState: t.state, ended: t.ended}, t.fault
+}
+
+func (t *table) renew() {}
+
+// A stored is a site whose list is a table in memory, and its clock.
+type stored struct {
+	*site
+	table *table
+	store *store
+	time  time.Time
+}
+
+// newStored returns a site where Alice has entry 7.
+func newStored(t testing.TB) *stored {
+	t.Helper()
+	made := &stored{site: newSite(t, ""), table: &table{texts: map[int]string{}, places: map[int]string{}}, time: time.Now()}
+	open := func(entries []byte) (*guard.Guard, error) {
+		return guard.Open([]byte("(3:acl"+string(entries)+")"), guard.Strict, guard.Limits{})
+	}
+	of := &storeOf{Host: "/run", Database: "d", User: "u"}
+	if err := of.check(); err != nil {
+		t.Fatal(err)
+	}
+	var err error
+	made.store, err = newStore(of, made.table, open, func() time.Time { return made.time })
+	if err != nil {
+		t.Fatal(err)
+	}
+	present := made.keeper.present.Load()
+	made.keeper.present.Store(&access{lists: []*list{{place: place{Prefix: "/"}, store: made.store}}, ended: present.ended, digest: "store", read: present.read})
+	made.table.put(7, made.alice.key, made.entryOf(made.alice))
+	made.beat()
+	return made
+}
+
+// entryOf writes an entry.
+func (s *stored) entryOf(who person) string {
+	return "(5:entry" + who.key + propagates + "(3:tag" + prefix("read", "/web/") + "))"
+}
+
+// beat increases the beat, and polls.
+func (s *stored) beat() {
+	s.table.state.beat++
+	s.table.state.beaten = s.time.UnixMicro()
+	_ = s.store.pollOnce()
+}
+
+// is asks for Alice, and compares the status.
+func (s *stored) is(t *testing.T, name string, wanted int) {
+	t.Helper()
+	if met := s.by(s.alice, "GET", "/web/x", ""); met.StatusCode != wanted {
+		t.Errorf("%s: %d, and not %d: %s", name, met.StatusCode, wanted, s.lastLine(t).Reason)
+	}
+}
+
+// TestStoreDecides asks for entries that are added and removed, and for certificates that end.
+func TestStoreDecides(t *testing.T) {
+	s := newStored(t)
+	bobs, carols := s.sequencesShown()
+	s.is(t, "Alice", 200)
+	if line := s.lastLine(t); line.Entry != 7 || line.List != "change 1" {
+		t.Errorf("entry %d of %q", line.Entry, line.List)
+	}
+	for name, row := range map[string]struct {
+		who    person
+		shown  string
+		wanted int
+	}{
+		"Bob": {s.bob, bobs, 200}, "Carol": {s.carol, carols, 403}, "Mallory": {s.mallory, "", 401}, "Mallory with Bob's": {s.mallory, bobs, 403},
+		"no sequence": {s.alice, "{KDE6YSk=}", 400},
+	} {
+		if met := s.by(row.who, "GET", "/web/docs/b", row.shown); met.StatusCode != row.wanted {
+			t.Errorf("%s: %d", name, met.StatusCode)
+		}
+	}
+	reads := s.table.reads
+	s.is(t, "Alice again", 200)
+	if s.table.reads != reads {
+		t.Error("rows that are kept are read again")
+	}
+	s.table.put(9, s.alice.key, s.entryOf(s.alice))
+	s.table.put(7, s.alice.key, "")
+	s.beat()
+	if s.is(t, "with the other entry", 200); s.lastLine(t).Entry != 9 {
+		t.Errorf("entry %d", s.lastLine(t).Entry)
+	}
+	ends := *(*digest)(hexOf(t, digestOfText(s.toBob)))
+	s.table.note(change{ended: &ends})
+	s.beat()
+	if met := s.by(s.bob, "GET", "/web/docs/b", bobs); met.StatusCode != 403 {
+		t.Errorf("an ended certificate: %d", met.StatusCode)
+	}
+	s.table.put(9, s.alice.key, "")
+	s.beat()
+	s.is(t, "without entries", 401)
+}
+
+// TestStaleStore lets the heartbeat stop, lag behind, and be ahead. Nothing is answered from what is kept then.
+func TestStaleStore(t *testing.T) {
+	s := newStored(t)
+	s.is(t, "fresh", 200)
+	s.time = s.time.Add(10*time.Second - time.Millisecond)
+	s.is(t, "as old as may be", 200)
+	s.time = s.time.Add(2 * time.Millisecond)
+	_ = s.store.pollOnce()
+	s.is(t, "a heartbeat that stopped", 503)
+	s.beat()
+	s.is(t, "a new beat", 200)
+	s.table.fault = errors.New("the server is gone")
+	s.time = s.time.Add(5 * time.Second)
+	_ = s.store.pollOnce()
+	s.is(t, "kept, without a server, for a while", 200)
+	s.time = s.time.Add(6 * time.Second)
+	s.is(t, "without a server", 503)
+	s.table.fault = nil
+	for lag, wanted := range map[time.Duration]int{11 * time.Second: 503, 9 * time.Second: 200, -500 * time.Millisecond: 200, -2 * time.Second: 503} {
+		s.table.state.beat++
+		s.table.state.beaten = s.time.Add(-lag).UnixMicro()
+		_ = s.store.pollOnce()
+		s.is(t, fmt.Sprintf("a lag of %v", lag), wanted)
+	}
+}
+
+// TestStoreThatGoesBack reads rows of an older state than was polled, rows beside a poll, and another history.
+func TestStoreThatGoesBack(t *testing.T) {
+	s := newStored(t)
+	older := s.table.state
+	s.table.put(8, s.mallory.key, s.entryOf(s.mallory))
+	s.beat()
+	polled := s.table.state
+	s.table.state = older
+	s.is(t, "rows of an older state", 503)
+	s.table.state = polled
+	// (the rows that are read have the entry, and before they are kept its removal is polled)
+	s.table.meanwhile = func() { s.table.put(7, s.alice.key, ""); s.beat() }
+	s.is(t, "rows of the moment before", 200)
+	s.is(t, "rows after the removal", 401)
+	// (a server that lost the removal, and then had another change)
+	s.table.news, s.table.state.changes = s.table.news[:2], 2
+	s.table.put(7, s.alice.key, s.entryOf(s.alice))
+	s.table.news[2].token, s.table.state.token = 1000, 1000
+	s.beat()
+	s.is(t, "another history", 200)
+}
+
+// TestHostileRows reads rows that are no entries: nobody is granted anything by them.
+func TestHostileRows(t *testing.T) {
+	s := newStored(t)
+	entry := s.entryOf(s.alice)
+	for _, text := range []string{
+		entry + entry, entry[:len(entry)-1], "", "x", entry + ")", ")" + entry, "(5:entry" + s.alice.key + ")", strings.Repeat(entry, 10_000),
+		entry + ")(3:acl" + entry, "(7:version1:0)" + entry,
+	} {
+		s.table.put(8, s.alice.key, text)
+		s.beat()
+		wanted := 503
+		if text == "" {
+			wanted = 200
+		}
+		s.is(t, fmt.Sprintf("%.40q", text), wanted)
+	}
+}
+
+// TestStoreConfigs reads configurations of stores.
+func TestStoreConfigs(t *testing.T) {
+	of := func(fields string) string {
+		return strings.Replace(least, `"/acl"`, `{"postgres": {`+fields+`}}`, 1)
+	}
+	const needed = `"host": "/run/postgresql", "database": "acl", "user": "u"`
+	made, err := parseConfig([]byte(of(needed)))
+	if err != nil {
+		t.Fatal(err)
+	}
+	if it := made.Source.store; it.Schema != "spki" || it.stale() != 10*time.Second || !strings.Contains(it.settings(), "sslmode=disable") {
+		t.Errorf("%+v", it)
+	}
+	if made, err = parseConfig([]byte(of(`"host": "db", "root": "/a'b", "database": "d", "user": "u"`))); err != nil ||
+		!strings.Contains(made.Source.store.settings(), `sslmode=verify-full sslrootcert='/a\'b'`) {
+		t.Errorf("%v", err)
+	}
+	for _, text := range []string{
+		of(""), of(needed + `, "schema": "a;b"`), of(needed + `, "stale_seconds": 2`), of(needed + `, "stale_seconds": -1`), of(needed + `, "more": 1`),
+		of(`"host": "db", "database": "acl", "user": "u"`), of(needed + `, "port": 70000`), of(needed + `, "cache_mib": -1`),
+		strings.Replace(least, `"/acl"`, `{}`, 1), strings.Replace(least, `"/acl"`, `{"postgres": null}`, 1), strings.Replace(least, `"/acl"`, `[]`, 1),
+	} {
+		if _, err := parseConfig([]byte(text)); err == nil {
+			t.Errorf("accepted: %s", text)
+		}
+	}
+}
+
+// TestKeptRows keeps lists up to some octets, and forgets those that were not asked for.
+func TestKeptRows(t *testing.T) {
+	s := newStored(t)
+	kept := newKeptRows(3 * octetsRow)
+	names := make([]digest, 5)
+	for number := range names {
+		opened, err := s.store.open(nil)
+		if err != nil {
+			t.Fatal(err)
+		}
+		names[number][0] = byte(number)
+		kept.add(names[number], [][]byte{{byte(number)}}, &list{guard: opened}, 0)
+		kept.get(names[0])
+	}
+	for number, wanted := range []bool{true, false, false, true, true} {
+		if (kept.get(names[number]) != nil) != wanted {
+			t.Errorf("list %d", number)
+		}
+	}
+	kept.drop([]byte{3})
+	if kept.get(names[3]) != nil || kept.count() != 2 || kept.size != 2*octetsRow || len(kept.byPlace) != 2 {
+		t.Errorf("%d lists of %d octets", kept.count(), kept.size)
+	}
+	kept.clear()
+	if kept.count() != 0 || kept.size != 0 || len(kept.byPlace) != 0 {
+		t.Errorf("%d lists of %d octets", kept.count(), kept.size)
+	}
+}
+
+// hexOf reads hexadecimal digits.
+func hexOf(t *testing.T, digits string) []byte {
+	t.Helper()
+	octets, err := hex.DecodeString(digits)
+	if err != nil {
+		t.Fatal(err)
+	}
+	return octets
+}

@@ -1,0 +1,149 @@
+-- A store of access-list entries. `spki-store init` runs this once, in one transaction, with the name of the schema in place of @SCHEMA@.
+-- The roles @SCHEMA@_reader and @SCHEMA@_writer cannot log in: grant them to accounts.
+CREATE SCHEMA @SCHEMA@;
+
+-- What an entry is found by: the digest of its subject's hash, or the SHA-256 digest of its subject's key. The text must be one list in canonical
+-- form that begins with `entry` and a subject, and nothing follows it. `spki-store check` says whether the library reads it as an entry.
+CREATE FUNCTION @SCHEMA@.principal_of(text bytea) RETURNS bytea LANGUAGE plpgsql IMMUTABLE STRICT PARALLEL SAFE AS $$
+DECLARE
+    most CONSTANT integer := octet_length(text);
+    is_name CONSTANT boolean := substring(text FROM 9 FOR 7) = '(4:name';
+    begun CONSTANT integer := CASE WHEN is_name THEN 15 ELSE 8 END;
+    outside CONSTANT integer := CASE WHEN is_name THEN 2 ELSE 1 END;
+    is_hash CONSTANT boolean := substring(text FROM begun + 1 FOR 7) = '(4:hash';
+    at integer := 0;
+    depth integer := 0;
+    strings integer := 0;
+    is_hint boolean := false;
+    length integer;
+    octet integer;
+    found bytea;
+BEGIN
+    IF substring(text FROM 1 FOR 8) <> '(5:entry' OR NOT (is_hash OR substring(text FROM begun + 1 FOR 14) = '(10:public-key') THEN
+        RAISE check_violation USING MESSAGE = 'the text is no entry in canonical form for a key, a hash or a name';
+    END IF;
+    WHILE at < most LOOP
+        octet := get_byte(text, at);
+        IF octet = 40 THEN
+            depth := depth + 1;
+        ELSIF octet = 41 THEN
+            depth := depth - 1;
+            IF depth = outside AND found IS NULL AND at > begun THEN
+                IF is_hash THEN
+                    RAISE check_violation USING MESSAGE = 'the hash has no digest';
+                END IF;
+                found := sha256(substring(text FROM begun + 1 FOR at - begun + 1));
+            END IF;
+            EXIT WHEN depth = 0;
+        ELSIF octet = 91 OR octet = 93 THEN
+            is_hint := octet = 91;
+        ELSE
+            length := 0;
+            WHILE octet <> 58 LOOP
+                IF octet < 48 OR octet > 57 OR length > 1048576 THEN
+                    RAISE check_violation USING MESSAGE = 'the text is not in canonical form';
+                END IF;
+                length := 10 * length + octet - 48;
+                at := at + 1;
+                octet := get_byte(text, at);
+            END LOOP;
+            IF is_hash AND found IS NULL AND at > begun AND NOT is_hint THEN
+                strings := strings + 1;
+                IF strings = 3 THEN
+                    found := substring(text FROM at + 2 FOR length);
+                END IF;
+            END IF;
+            at := at + length;
+        END IF;
+        at := at + 1;
+    END LOOP;
+    IF depth <> 0 OR at <> most - 1 THEN
+        RAISE check_violation USING MESSAGE = 'the text is not one list';
+    END IF;
+    RETURN found;
+END $$;
+
+CREATE TABLE @SCHEMA@.entries (
+    number bigint GENERATED ALWAYS AS IDENTITY PRIMARY KEY,
+    principal bytea NOT NULL GENERATED ALWAYS AS (@SCHEMA@.principal_of(text)) STORED CHECK (octet_length(principal) IN (20, 32, 64)),
+    text bytea NOT NULL CHECK (octet_length(text) <= 1048576)
+);
+-- One index by the length of the digest: those by SHA-1 and SHA-512 are small where few entries are for such hashes, and so cost no read of a disk.
+CREATE INDEX entries_by_sha1 ON @SCHEMA@.entries (principal, number) WHERE octet_length(principal) = 20;
+CREATE INDEX entries_by_sha256 ON @SCHEMA@.entries (principal, number) WHERE octet_length(principal) = 32;
+CREATE INDEX entries_by_sha512 ON @SCHEMA@.entries (principal, number) WHERE octet_length(principal) = 64;
+
+-- The certificates that have ended early, by their SHA-256 digests. They stay.
+CREATE TABLE @SCHEMA@.ended (certificate bytea PRIMARY KEY CHECK (octet_length(certificate) = 32), remark text NOT NULL DEFAULT '');
+
+-- Who changed what. `digest` is that of the entry's principal or of the ended certificate. The text of a removed entry is kept here.
+CREATE TABLE @SCHEMA@.changes (
+    number bigint PRIMARY KEY,
+    moment timestamptz NOT NULL,
+    who text NOT NULL,
+    what text NOT NULL CHECK (what IN ('add', 'remove', 'end')),
+    entry bigint,
+    digest bytea NOT NULL,
+    text bytea
+);
+
+-- The number of the last change. A change updates this row first, and so waits for the end of each transaction that has changed something: no
+-- change with a lower number appears after one with a higher number.
+CREATE TABLE @SCHEMA@.state (one boolean PRIMARY KEY DEFAULT true CHECK (one), version integer NOT NULL, changes bigint NOT NULL)
+    WITH (fillfactor = 10);
+INSERT INTO @SCHEMA@.state (version, changes) VALUES (1, 0);
+
+-- `spki-store beat` increases this number each second.
+CREATE TABLE @SCHEMA@.heartbeat (one boolean PRIMARY KEY DEFAULT true CHECK (one), number bigint NOT NULL, moment timestamptz NOT NULL)
+    WITH (fillfactor = 10);
+INSERT INTO @SCHEMA@.heartbeat (number, moment) VALUES (0, clock_timestamp());
+
+-- How far a file was imported, by its SHA-256 digest.
+CREATE TABLE @SCHEMA@.imports (file bytea PRIMARY KEY, octets bigint NOT NULL, entries bigint NOT NULL, is_done boolean NOT NULL);
+
+CREATE FUNCTION @SCHEMA@.note_change() RETURNS trigger LANGUAGE plpgsql SECURITY DEFINER SET search_path = pg_catalog, pg_temp AS $$
+DECLARE
+    changed CONSTANT bigint := (SELECT count(*) FROM changed);
+    before bigint;
+BEGIN
+    IF changed = 0 THEN
+        RETURN NULL;
+    END IF;
+    UPDATE @SCHEMA@.state SET changes = changes + changed RETURNING changes - changed INTO before;
+    IF TG_TABLE_NAME = 'ended' THEN
+        INSERT INTO @SCHEMA@.changes (number, moment, who, what, digest)
+            SELECT before + row_number() OVER (), clock_timestamp(), session_user, 'end', certificate FROM changed;
+    ELSIF TG_OP = 'INSERT' THEN
+        INSERT INTO @SCHEMA@.changes (number, moment, who, what, entry, digest)
+            SELECT before + row_number() OVER (ORDER BY number), clock_timestamp(), session_user, 'add', number, principal FROM changed;
+    ELSE
+        INSERT INTO @SCHEMA@.changes (number, moment, who, what, entry, digest, text)
+            SELECT before + row_number() OVER (ORDER BY number), clock_timestamp(), session_user, 'remove', number, principal, text FROM changed;
+    END IF;
+    RETURN NULL;
+END $$;
+CREATE TRIGGER note_added AFTER INSERT ON @SCHEMA@.entries REFERENCING NEW TABLE AS changed
+    FOR EACH STATEMENT EXECUTE FUNCTION @SCHEMA@.note_change();
+CREATE TRIGGER note_removed AFTER DELETE ON @SCHEMA@.entries REFERENCING OLD TABLE AS changed
+    FOR EACH STATEMENT EXECUTE FUNCTION @SCHEMA@.note_change();
+CREATE TRIGGER note_ended AFTER INSERT ON @SCHEMA@.ended REFERENCING NEW TABLE AS changed
+    FOR EACH STATEMENT EXECUTE FUNCTION @SCHEMA@.note_change();
+
+CREATE FUNCTION @SCHEMA@.refuse_change() RETURNS trigger LANGUAGE plpgsql AS $$
+BEGIN
+    RAISE insufficient_privilege USING MESSAGE = format('%s of %s is refused', TG_OP, TG_TABLE_NAME);
+END $$;
+CREATE TRIGGER refused BEFORE UPDATE OR TRUNCATE ON @SCHEMA@.entries FOR EACH STATEMENT EXECUTE FUNCTION @SCHEMA@.refuse_change();
+CREATE TRIGGER refused BEFORE UPDATE OR DELETE OR TRUNCATE ON @SCHEMA@.ended FOR EACH STATEMENT EXECUTE FUNCTION @SCHEMA@.refuse_change();
+CREATE TRIGGER refused BEFORE UPDATE OR DELETE OR TRUNCATE ON @SCHEMA@.changes FOR EACH STATEMENT EXECUTE FUNCTION @SCHEMA@.refuse_change();
+
+REVOKE ALL ON ALL FUNCTIONS IN SCHEMA @SCHEMA@ FROM PUBLIC;
+GRANT USAGE ON SCHEMA @SCHEMA@ TO @SCHEMA@_reader, @SCHEMA@_writer;
+GRANT SELECT ON @SCHEMA@.entries, @SCHEMA@.ended, @SCHEMA@.state, @SCHEMA@.heartbeat TO @SCHEMA@_reader, @SCHEMA@_writer;
+GRANT SELECT (number, moment, what, entry, digest) ON @SCHEMA@.changes TO @SCHEMA@_reader;
+GRANT SELECT ON @SCHEMA@.changes TO @SCHEMA@_writer;
+GRANT INSERT (text), DELETE ON @SCHEMA@.entries TO @SCHEMA@_writer;
+GRANT INSERT (certificate, remark) ON @SCHEMA@.ended TO @SCHEMA@_writer;
+GRANT UPDATE (number, moment) ON @SCHEMA@.heartbeat TO @SCHEMA@_writer;
+GRANT SELECT, INSERT, UPDATE, DELETE ON @SCHEMA@.imports TO @SCHEMA@_writer;
+GRANT EXECUTE ON FUNCTION @SCHEMA@.principal_of(bytea) TO @SCHEMA@_reader, @SCHEMA@_writer;

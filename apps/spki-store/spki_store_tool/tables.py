@@ -1,0 +1,119 @@
+"""The tables of a store, through a connection of psycopg. Values are parameters of a statement and never a part of its text."""
+from __future__ import annotations
+
+import os
+import re
+from collections.abc import Iterator
+from dataclasses import dataclass
+from typing import Any
+
+import psycopg
+from psycopg import sql
+
+from .texts import Wrong
+
+SCHEMA = os.path.join(os.path.dirname(os.path.abspath(__file__)), "schema.sql")
+NAME = re.compile(r"[a-z_][a-z0-9_]{0,40}\Z")
+VERSION = 1
+# The octets of a digest by SHA-1, SHA-256 and SHA-512.
+LENGTHS = (20, 32, 64)
+# The rows that a reader of all rows has in memory.
+PAGE = 2000
+
+
+@dataclass(frozen=True)
+class Row:
+    """An entry of the store."""
+
+    number: int
+    principal: bytes
+    text: bytes
+
+
+class Store:
+    """A store in a schema of a database. `settings` are those of libpq, as `host=/run/postgresql dbname=acl`."""
+
+    def __init__(self, settings: str, schema: str = "spki") -> None:
+        if not NAME.match(schema):
+            raise Wrong(f"{schema!r} is no name of a schema: small letters, digits and _, at most 41")
+        self.settings, self.schema = settings, schema
+        self.connect()
+
+    def connect(self) -> None:
+        """Connects, also after the connection was closed."""
+        self.connection = psycopg.connect(self.settings, autocommit=True, fallback_application_name="spki-store")
+
+    def close(self) -> None:
+        self.connection.close()
+
+    def named(self, text: str) -> sql.Composed:
+        """A statement with the name of the schema before each table: `{entries}` is one."""
+        return sql.SQL(text).format(**{table: sql.Identifier(self.schema, table)
+                                       for table in ("entries", "ended", "changes", "state", "heartbeat", "imports")})
+
+    def rows(self, text: str, *values: Any) -> list[Any]:
+        """The rows of one statement, which is one transaction outside of another one."""
+        done = self.connection.execute(self.named(text), values, binary=True)
+        return done.fetchall() if done.description else []
+
+    def make(self) -> None:
+        """Makes the schema and its roles. It must not be there yet."""
+        with open(SCHEMA, encoding="utf-8") as file:
+            text = file.read().replace("@SCHEMA@", self.schema)
+        with self.connection.transaction():
+            for role in ("reader", "writer"):
+                name = f"{self.schema}_{role}"
+                if not self.connection.execute("SELECT 1 FROM pg_roles WHERE rolname = %s", (name,)).fetchall():
+                    self.connection.execute(sql.SQL("CREATE ROLE {}").format(sql.Identifier(name)))
+            self.connection.execute(text)
+
+    def check_version(self) -> None:
+        """Raises Wrong if the store is of another version."""
+        (version,), = self.rows("SELECT version FROM {state}")
+        if version != VERSION:
+            raise Wrong(f"the store has version {version}, and this program reads {VERSION}")
+
+    def add(self, text: bytes) -> int:
+        """Adds an entry in canonical form behind the others, and returns its number, which is never used again."""
+        (number,), = self.rows("INSERT INTO {entries} (text) VALUES (%s) RETURNING number", text)
+        return int(number)
+
+    def copy(self, texts: list[bytes]) -> None:
+        """Adds many entries in canonical form."""
+        with self.connection.cursor() as cursor, cursor.copy(self.named("COPY {entries} (text) FROM STDIN (FORMAT BINARY)")) as copied:
+            copied.set_types(["bytea"])
+            for text in texts:
+                copied.write_row((text,))
+
+    def remove(self, number: int) -> bool:
+        """Removes an entry. Returns whether it was there."""
+        return bool(self.rows("DELETE FROM {entries} WHERE number = %s RETURNING number", number))
+
+    def end(self, certificate: bytes, remark: str) -> bool:
+        """Ends a certificate, by its digest. Returns whether it had not ended before."""
+        return bool(self.rows("INSERT INTO {ended} (certificate, remark) VALUES (%s, %s) ON CONFLICT DO NOTHING RETURNING 1", certificate, remark))
+
+    def beat(self) -> int:
+        """Increases the number of the heartbeat."""
+        (number,), = self.rows("UPDATE {heartbeat} SET number = number + 1, moment = clock_timestamp() RETURNING number")
+        return int(number)
+
+    def all(self) -> Iterator[Row]:
+        """All entries in order, of one state of the store."""
+        for row in self.paged("SELECT number, principal, text FROM {entries} ORDER BY number"):
+            yield Row(*row)
+
+    def paged(self, text: str) -> Iterator[tuple[Any, ...]]:
+        """The rows of a statement, as of one moment. They may be more than fit into memory."""
+        with self.connection.transaction(), self.connection.cursor("all_rows", binary=True) as cursor:
+            cursor.itersize = PAGE
+            cursor.execute(self.named(text))
+            yield from cursor
+
+    def found(self, principals: list[bytes]) -> list[tuple[int, bytes]]:
+        """The number and the text of each entry that is found by one of these, in order."""
+        known = [each for each in principals if len(each) in LENGTHS]
+        # (each length has an index of its own)
+        found = " UNION ALL ".join(f"SELECT number, text FROM {{entries}} WHERE octet_length(principal) = {len(each)} AND principal = %s"
+                                   for each in known)
+        return self.rows(f"{found} ORDER BY number", *known) if known else []

@@ -1,0 +1,157 @@
+#!/usr/bin/env python3
+"""Simulates stores larger than one machine: how many daemons and replicas they need, when a removal counts everywhere, and what the loss of a third
+does. Prints each number with how it is known: measured (by bench/store.py, on four busy cores), simulated here, or assumed. It takes a minute.
+
+- Which keys ask follows Zipf's law. How many decisions find their rows kept is computed by Che's approximation, and compared with a cache of
+  10,000 of 1,000,000 keys that is simulated request by request.
+- A removal counts once the last daemon has polled it: the time to the replica, the wait for the next poll, and the poll itself, of each daemon. The
+  time of the last of all daemons is drawn 300 times.
+- A third of the daemons is lost: a proxy that sends each key to a daemon of its own sends the keys of the lost ones to others, whose caches do not
+  have them. The cache of the remaining ones is simulated request by request, in proportion.
+
+Usage: bench/scaling.py
+"""
+import math
+import random
+from collections import OrderedDict
+
+# Measured: bench/store.py and BenchmarkStored, in seconds of a processor, octets. A decision whose rows are read is on the clock, and so more.
+HIT, MISS, ROWS, HTTP = 6e-6, 200e-6, 160e-6, 65e-6
+OCTETS, ADDS = 438, 217
+# Assumed.
+KEPT = 2560
+ENTRIES, RATE, SKEW = 10 ** 9, 10 ** 6, 1.0
+CORES, BUSY, CACHE, LEAST = 16, 0.6, 32 << 30, 3
+DELAY, DELAY_SPREAD = 0.005, 1.0
+DAYS = 90
+# The daemon's own constant.
+POLL = 0.25
+SEED = 1
+
+
+def drawn(count, skew, chance):
+    """The rank of a key by Zipf's law, from 1: the inverse of the integral of its density."""
+    if skew == 1:
+        return int(math.exp(chance * math.log(count)))
+    return int(((count ** (1 - skew) - 1) * chance + 1) ** (1 / (1 - skew)))
+
+
+def bands(count, skew):
+    """Ranks in bands of about a twentieth of a decade: the chance of one key of each, and how many they are."""
+    total = math.log(count) if skew == 1 else (count ** (1 - skew) - 1) / (1 - skew)
+    begin = 1.0
+    while begin < count:
+        end = min(max(begin + 1, begin * 1.12), count + 1.0)
+        middle = math.sqrt(begin * end)
+        yield middle ** -skew / total, end - begin
+        begin = end
+
+
+def hits_of(count, skew, kept):
+    """The share of requests whose key is among those kept, of a cache that drops what was asked for longest ago."""
+    if kept >= count:
+        return 1.0
+    spread = list(bands(count, skew))
+    low, high = 0.0, 1e15
+    for _ in range(200):
+        time = (low + high) / 2
+        size = sum(number * -math.expm1(-chance * time) for chance, number in spread)
+        low, high = (low, time) if size > kept else (time, high)
+    weight = sum(chance * number for chance, number in spread)
+    return sum(chance * number * -math.expm1(-chance * low) for chance, number in spread) / weight
+
+
+class Kept:
+    """A cache of so many keys, and how many requests found theirs."""
+
+    def __init__(self, most):
+        self.most, self.keys = most, OrderedDict()
+
+    def asked(self, key):
+        is_there = key in self.keys
+        self.keys[key] = None
+        self.keys.move_to_end(key)
+        if len(self.keys) > self.most:
+            self.keys.popitem(last=False)
+        return is_there
+
+
+def simulated_hits(chosen, count, kept, requests):
+    """The share of the second half of the requests that a cache answers."""
+    cache, found = Kept(kept), 0
+    for turn in range(requests):
+        is_there = cache.asked(drawn(count, SKEW, chosen.random()))
+        found += is_there and turn >= requests // 2
+    return found / (requests - requests // 2)
+
+
+def machines(rate, hits):
+    """The daemons and the replicas that so many decisions a second need, and their misses a second."""
+    misses = rate * (1 - hits)
+    daemon = rate * (HTTP + hits * HIT + (1 - hits) * MISS)
+    return math.ceil(daemon / (CORES * BUSY)), max(LEAST, math.ceil(misses * ROWS / (CORES * BUSY))), misses
+
+
+def lasts(chosen, daemons, replicas):
+    """When the last daemon counts a removal, in seconds after its commit."""
+    delays = [DELAY * math.exp(chosen.gauss(0, DELAY_SPREAD)) for _ in range(replicas)]
+    return max(delays[place % replicas] + chosen.random() * POLL + ROWS for place in range(daemons))
+
+
+def after_loss(chosen, count, kept, daemons):
+    """The hits before a third of the daemons is lost, and by tenths of the requests after it. Keys have daemons of their own."""
+    caches = [Kept(kept) for _ in range(daemons)]
+    lost = daemons // 3
+
+    def asks(is_whole):
+        key = drawn(count, SKEW, chosen.random())
+        place = hash((key, 1)) % daemons
+        if not is_whole and place < lost:
+            place = lost + hash((key, 2)) % (daemons - lost)
+        return caches[place].asked(key)
+
+    for _ in range(1_000_000):
+        asks(True)
+    before = sum(asks(True) for _ in range(50_000)) / 50_000
+    return before, [sum(asks(False) for _ in range(50_000)) / 50_000 for _ in range(10)]
+
+
+def told(how, what, value):
+    print(f"{how:<9} {what:<66} {value}")
+
+
+def main():
+    chosen = random.Random(SEED)
+    told("measured", "daemon, HTTP and log of a request; decision kept, decision read", f"{HTTP * 1e6:.0f}, {HIT * 1e6:.0f}, {MISS * 1e6:.0f} µs")
+    told("measured", "PostgreSQL, processor time of the rows of a decision", f"{ROWS * 1e6:.0f} µs")
+    told("measured", "octets of an entry in all tables", f"{OCTETS}")
+    told("assumed", "octets of a kept key", f"{KEPT}")
+    told("assumed", "entries, decisions a second, Zipf's exponent", f"{ENTRIES:,}, {RATE:,}, {SKEW}")
+    told("assumed", "cores of a machine, share in use, cache of a daemon, least replicas", f"{CORES}, {BUSY}, {CACHE >> 30} GiB, {LEAST}")
+    told("assumed", "median delay of a replica, its log-normal spread", f"{DELAY * 1e3:.0f} ms, {DELAY_SPREAD}")
+    approximate, simulated = hits_of(10 ** 6, SKEW, 10 ** 4), simulated_hits(chosen, 10 ** 6, 10 ** 4, 2_000_000)
+    told("simulated", "hits of 10,000 of 1,000,000 keys: Che, request by request", f"{approximate:.3f}, {simulated:.3f}")
+    alone = hits_of(ENTRIES, SKEW, CACHE // KEPT)
+    daemons, replicas, misses = machines(RATE, alone)
+    told("simulated", "each daemon sees all keys: hits, misses a second", f"{alone:.3f}, {misses:,.0f}")
+    told("simulated", "  daemons, replicas", f"{daemons}, {replicas}")
+    whole = hits_of(ENTRIES, SKEW, daemons * CACHE // KEPT)
+    daemons, replicas, misses = machines(RATE, whole)
+    told("simulated", "each key has its daemon: hits, misses a second", f"{whole:.3f}, {misses:,.0f}")
+    told("simulated", "  daemons, replicas", f"{daemons}, {replicas}")
+    told("simulated", "octets of the store", f"{ENTRIES * OCTETS / 1e9:,.0f} GB")
+    times = sorted(lasts(chosen, daemons, replicas) for _ in range(300))
+    told("simulated", "a removal counts everywhere: median, 99th percentile", f"{times[150] * 1e3:.0f}, {times[296] * 1e3:.0f} ms")
+    changes = 2 * ENTRIES / (DAYS * 86_400)
+    told("assumed", f"changes a second where an entry stays {DAYS} days", f"{changes:.0f}")
+    told("measured", "changes a second of one primary, each a transaction", f"{ADDS}")
+    before, hits = after_loss(chosen, 10 ** 5, 10 ** 5 // 60, 12)
+    told("simulated", "hits before and after a third of the daemons is lost",
+         f"{before:.3f}; " + ", ".join(f"{each:.3f}" for each in hits[:3]) + f" .. {hits[-1]:.3f}")
+    left = daemons - daemons // 3
+    told("simulated", "share in use of the daemons that remain", f"{min(1.0, BUSY * daemons / left):.2f}")
+    told("simulated", "misses a second that the replicas that remain can answer", f"{(replicas - replicas // 3) * CORES / ROWS:,.0f}")
+
+
+if __name__ == "__main__":
+    main()

@@ -1,0 +1,135 @@
+#!/usr/bin/env python3
+"""Measures decisions by a store in PostgreSQL with so many entries, and ends with another status where a limit is passed.
+
+Of 100 entries 95 are each for a key of its own. Five are for names under the keys of groups, each of which has 50. The server is started in a
+temporary folder, with a quarter of a GiB of its own memory.
+
+- import: entries a second by `spki-store import`, from a file; the octets of the tables.
+- hit, miss: the median and the 99th percentile of a decision, in µs, where its rows are kept, and where they are read. The library's part is in it,
+  HTTP is not.
+- cold: the same where PostgreSQL was started again, and the system was told to forget its files.
+- load: decisions a second of as many goroutines as fit, nine of ten by rows that are kept.
+- add: single entries a second, each in a transaction.
+
+The medians of the largest number must be at most 1.5 times those of the smallest for misses, and 3 times when cold.
+
+Build the library first. Needs PostgreSQL, psycopg, Go and its driver (Debian: postgresql, python3-psycopg, golang-go, golang-github-lib-pq-dev).
+Usage: bench/store.py [--entries N ..] [LIBRARY]
+"""
+import argparse
+import os
+import re
+import sys
+import tempfile
+import time
+
+sys.path.append(os.path.join(os.path.dirname(os.path.abspath(__file__)), "..", "tests"))
+import databases  # noqa: E402
+import golang  # noqa: E402
+from support import LIBRARY  # noqa: E402
+
+SCHEMA = "spki"
+GROUP = 50
+MOST_GROWTH, MOST_COLD = 1.5, 3.0
+FIGURE = re.compile(r"^figure (\w+) (.*)$", re.M)
+SERVER = {"fsync": "on", "shared_buffers": "256MB", "max_wal_size": "4GB", "checkpoint_timeout": "30min"}
+
+
+def key(number):
+    return b"(10:public-key(4:test40:k%039d))" % number
+
+
+def entries(count):
+    """Entries for keys, and of 100 entries five for names of groups."""
+    for place in range(count):
+        if place % 20 == 19:
+            group = key(10 ** 9 + place // 20 // GROUP)
+            yield b"(5:entry(4:name%s7:members)(3:tag(5:files(1:*3:set4:read5:write)(1:*6:prefix5:/web/))))" % group
+        else:
+            yield b"(5:entry%s(9:propagate)(3:tag(5:files4:read(1:*6:prefix5:/web/))))" % key(place - place // 20)
+
+
+def asked():
+    words = argparse.ArgumentParser(description=__doc__, formatter_class=argparse.RawDescriptionHelpFormatter)
+    words.add_argument("--entries", type=int, nargs="+", default=[1_000, 1_000_000])
+    words.add_argument("library", nargs="?", default=LIBRARY)
+    return words.parse_args()
+
+
+def forget(server):
+    """Starts the server again, and has the system forget its files."""
+    server.kill()
+    for folder, _, files in os.walk(server.data):
+        for name in files:
+            with open(os.path.join(folder, name), "rb") as file:
+                os.fsync(file.fileno())
+                os.posix_fadvise(file.fileno(), 0, 0, os.POSIX_FADV_DONTNEED)
+    server.start()
+
+
+def figures(server, what, count, library):
+    """What the test of the daemon prints, by the names of its lines."""
+    done = golang.go(golang.DAEMON, ["test", "-modfile=postgres.mod", "-tags", "spki_postgres", "-count=1", "-run", "TestStoreFigures", "-v", "."],
+                     library, None, SPKI_STORE_HOST=server.folder, SPKI_STORE_SCHEMA=SCHEMA, SPKI_STORE_KEYS=str(count - count // 20),
+                     SPKI_STORE_WHAT=what)
+    text = done.stdout.decode()
+    if done.returncode:
+        sys.exit(text + done.stderr.decode())
+    return dict(FIGURE.findall(text))
+
+
+def filled(store, count, room):
+    """Imports the entries, and prints what that took."""
+    path = os.path.join(room, "list")
+    with open(path, "wb") as file:
+        file.write(b"(3:acl")
+        file.writelines(entries(count))
+        file.write(b")")
+    from spki_store_tool.transfer import imported
+    begun = time.monotonic()
+    imported(store, path, sys.stderr.isatty())
+    took = time.monotonic() - begun
+    store.connection.execute("VACUUM ANALYZE")
+    (octets,), = store.rows("SELECT sum(pg_total_relation_size(oid))::bigint FROM pg_class WHERE relnamespace = %s::regnamespace AND relkind = 'r'",
+                            SCHEMA)
+    print(f"{count:>10,} entries: import {took:.1f} s, {count / took:.0f} a second; {octets / count:.0f} octets an entry in all tables", flush=True)
+
+
+def adds(store):
+    """Entries a second that are added one after the other."""
+    begun, text = time.monotonic(), next(entries(1)).replace(b"k0", b"a0")
+    for _ in range(500):
+        store.add(text)
+    return 500 / (time.monotonic() - begun)
+
+
+def measured(count, library):
+    """The figures of a store with so many entries."""
+    from spki_store_tool.tables import Store
+    with databases.Server(**SERVER) as server, tempfile.TemporaryDirectory() as room:
+        store = Store(server.address, SCHEMA)
+        store.make()
+        filled(store, count, room)
+        found = figures(server, "single", count, library) | figures(server, "load", count, library)
+        print(f"{count:>10,} entries: {adds(store):.0f} adds a second", flush=True)
+        store.close()
+        forget(server)
+        found |= figures(server, "cold", count, library)
+        for name, text in found.items():
+            print(f"{count:>10,} entries: {name} {text}", flush=True)
+        return {name: float(text.split()[1]) for name, text in found.items()}
+
+
+def main():
+    given = asked()
+    library = os.path.abspath(given.library)
+    os.environ["SPKI_LIBRARY"] = library.removesuffix(".a") + ".so"
+    found = [measured(count, library) for count in given.entries]
+    wrong = [f"{name} grows by {found[-1][name] / found[0][name]:.2f}" for name, most in (("miss", MOST_GROWTH), ("cold", MOST_COLD))
+             if found[-1][name] > most * found[0][name]]
+    print("".join(f"{line}\n" for line in wrong), end="")
+    return 1 if wrong else 0
+
+
+if __name__ == "__main__":
+    sys.exit(main())
