@@ -151,7 +151,7 @@ func (s *store) keyOf(question *guard.Question) ([]byte, error) {
 		}
 	}
 	if first == "" {
-		return question.Key, nil
+		return []byte(question.Key.Text()), nil
 	}
 	return []byte(first), nil
 }

@@ -16,6 +16,7 @@ import (
 	"testing"
 	"time"
 
+	"conguraki/spki"
 	"conguraki/spki/guard"
 )
 
@@ -78,7 +79,7 @@ func key(number int) []byte {
 
 // asks decides for a key, and says what that took.
 func (f *figures) asks(number int) time.Duration {
-	question := guard.Question{Sequence: nothingShown.text, Key: key(number), Words: []string{"files", "read", "/web/x"}, Time: time.Now()}
+	question := guard.Question{Sequence: nothingShown.text, Key: spki.AssumeKey(key(number)), Words: []string{"files", "read", "/web/x"}, Time: time.Now()}
 	begun := time.Now()
 	decision, err := f.decides(question)
 	took := time.Since(begun)

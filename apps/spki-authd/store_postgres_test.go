@@ -14,6 +14,7 @@ import (
 	"testing"
 	"time"
 
+	"conguraki/spki"
 	"conguraki/spki/guard"
 	"conguraki/spki/verify"
 )
@@ -164,7 +165,7 @@ func (r *rig) question(random *rand.Rand) guard.Question {
 	if random.Intn(20) == 0 {
 		text += "(4:cert)"
 	}
-	return guard.Question{Sequence: []byte(text + ")"), Key: []byte(chain[len(chain)-1].key), Words: []string{"files", "read", "/web/a/x"}, Time: time.Now()}
+	return guard.Question{Sequence: []byte(text + ")"), Key: spki.AssumeKey([]byte(chain[len(chain)-1].key)), Words: []string{"files", "read", "/web/a/x"}, Time: time.Now()}
 }
 
 // wholeAnswer is that of the guard of a whole list.
