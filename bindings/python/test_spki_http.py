@@ -152,10 +152,12 @@ class Requests(unittest.TestCase):
         message = spki_http.Message("POST", "example.com", "/foo?param=Value&Pet=dog", fields)
         parameters = BASE.rpartition('params": ')[2]
         self.assertEqual(_message.base_of(message, "https", re.findall(r'"([^"]*)"', parameters)[:6], parameters), BASE.encode())
-        self.assertTrue(spki_verify.verify(signer.key, BASE.encode(), _fields.value_of("ed25519", base64.b64decode(SIGNATURE))))
+        self.assertTrue(spki_verify.verify_texts(key=signer.key, message=BASE.encode(),
+                                                 value=_fields.value_of("ed25519", base64.b64decode(SIGNATURE))))
         public = load_der_public_key(base64.b64decode(CURVE)).public_bytes(Encoding.X962, PublicFormat.UncompressedPoint)
         key = b"(10:public-key(3:ecc(5:curve10:NIST P-256)(1:q%s)))" % string(public)
-        self.assertTrue(spki_verify.verify(key, RESPONSE.encode(), _fields.value_of("ecdsa-p256-sha256", base64.b64decode(OF_CURVE))))
+        self.assertTrue(spki_verify.verify_texts(key=key, message=RESPONSE.encode(),
+                                                 value=_fields.value_of("ecdsa-p256-sha256", base64.b64decode(OF_CURVE))))
 
     def test_nonces(self) -> None:
         store = spki_http.Memory(2)

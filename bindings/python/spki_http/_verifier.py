@@ -6,7 +6,7 @@ import threading
 import time
 from collections.abc import Callable, Iterable
 from dataclasses import dataclass, replace
-from typing import Protocol
+from typing import NamedTuple, Protocol
 
 from ._fields import TAG, Input, Refused, digest_of, input_of, key_of, signature_of, value_of
 from ._message import CHAINED, DIGEST, METHOD, TARGET, Message, authority_of, base_of
@@ -17,10 +17,18 @@ LEAST_NONCE, MOST_NONCE = 16, 64
 USUAL_NONCES = 100_000
 
 
-def usual_verify() -> Callable[[bytes, bytes, bytes], bool]:
+class Signed(NamedTuple):
+    """A signature that is to be verified, in the forms of a guard."""
+
+    key: bytes
+    message: bytes
+    value: bytes
+
+
+def usual_verify() -> Callable[[Signed], bool]:
     """What verifies signatures, if nothing else is given."""
     import spki_verify
-    return spki_verify.verify_texts
+    return spki_verify.verify
 
 
 class Nonces(Protocol):
@@ -72,7 +80,7 @@ class Verifier:
 
     def __init__(self, *authorities: str, scheme: str = "https", sequence: str = "x-spki-sequence", nonces: Nonces | None = None,
                  start: float | None = None, now: Callable[[], float] = time.time,
-                 verify: Callable[[bytes, bytes, bytes], bool] | None = None) -> None:
+                 verify: Callable[[Signed], bool] | None = None) -> None:
         self.authorities = {authority_of(scheme, it) for it in authorities} - {""}
         self.scheme, self.sequence, self.now = scheme, sequence, now
         self.verify = usual_verify() if verify is None else verify
@@ -105,7 +113,7 @@ class Verifier:
         if algorithm != given.alg:
             raise Refused("other-algorithm")
         text, digest = self._check_message(message, given)
-        if len(octets) != length or not self.verify(key, text, value_of(algorithm, octets)):
+        if len(octets) != length or not self.verify(Signed(key, text, value_of(algorithm, octets))):
             raise Refused("invalid-signature")
         proof = Proof(key, given.nonce, digest)
         if message.body is not None and not proof.covers(message.body):
