@@ -168,6 +168,24 @@ class Opened(unittest.TestCase):
         again = self.guard.ask(asked())
         self.assertEqual(again.decide(), None)
 
+    def test_clients_in_threads(self):
+        """Two clients in several threads: each answer is by the marks of its own question."""
+        granted = []
+
+        def serve(sequence, key):
+            for _ in range(200):
+                with self.guard.ask(asked(sequence, key)) as opened:
+                    opened.verify(lambda it: it.value == b"3:sig")
+                    granted.append((sequence is FORGED, opened.decide() is not None))
+
+        clients = [(SHOWN, KEY), (FORGED, b"(public-key (test c))")]
+        threads = [threading.Thread(target=serve, args=clients[place % 2]) for place in range(6)]
+        for thread in threads:
+            thread.start()
+        for thread in threads:
+            thread.join()
+        self.assertEqual((len(granted), set(granted)), (1200, {(False, True), (True, False)}))
+
     def test_marks_are_of_one_place(self):
         """Two equal signatures are two places, and both marks are needed."""
         for place in (0, 1):

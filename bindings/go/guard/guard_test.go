@@ -10,6 +10,7 @@ import (
 	"reflect"
 	"runtime"
 	"strings"
+	"sync"
 	"testing"
 	"time"
 
@@ -170,6 +171,28 @@ func TestMarksAreOfOneQuestion(t *testing.T) {
 	if granted(t, good) || !granted(t, bad) {
 		t.Error("a mark does not go with its question")
 	}
+}
+
+// TestClientsInThreads asks for two clients in several goroutines. Each answer is by the marks of its own question.
+func TestClientsInThreads(t *testing.T) {
+	made, forging := opened(t, list), shown(0)
+	forging.Sequence, forging.Key = []byte("(sequence "+forged+")"), spki.AssumeKey([]byte("(public-key (test c))"))
+	var all sync.WaitGroup
+	serve := func(question guard.Question, wanted bool) {
+		defer all.Done()
+		for turn := 0; turn < 200; turn++ {
+			decision, err := made.Decide(question, func(it guard.Signature) bool { return string(it.Value) == "3:sig" })
+			if err != nil || decision.Granted() != wanted {
+				t.Error("a mark for another client counts")
+			}
+		}
+	}
+	for turn := 0; turn < 3; turn++ {
+		all.Add(2)
+		go serve(shown(1), true)
+		go serve(forging, false)
+	}
+	all.Wait()
 }
 
 // TestMarksAreOfOnePlace shows two equal certificates, of which both have to be marked.

@@ -548,6 +548,30 @@ fn several_threads_ask_one_guard() -> Outcome {
     Ok(())
 }
 
+/// Two clients in several threads: each answer is by the marks of its own question.
+#[test]
+fn several_threads_serve_two_clients() {
+    let guard = guard(LIST);
+    let sequence = shown(1);
+    let serve = |is_forged: bool| {
+        for _ in 0..200 {
+            let question = if is_forged {
+                Question::new(FORGED, held(b"(public-key (test c))"), WORDS, NOW)
+            } else {
+                shows(&sequence)
+            };
+            let answer = guard.decide(&question, |it: Signature| it.value == b"3:sig");
+            assert_eq!(answer.is_ok(), !is_forged);
+        }
+    };
+    std::thread::scope(|scope| {
+        for turn in 0..6 {
+            let serve = &serve;
+            scope.spawn(move || serve(turn % 2 == 1));
+        }
+    });
+}
+
 #[test]
 fn the_library_says_its_version() {
     assert_eq!(spki::library_version(), env!("CARGO_PKG_VERSION"));
