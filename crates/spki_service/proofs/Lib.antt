@@ -9,3 +9,4 @@ pub mod DateLaws
 pub mod OneAsking
 pub mod MarkedPlaces
 pub mod ReplayedCases
+pub mod Costs

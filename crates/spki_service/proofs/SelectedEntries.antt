@@ -192,7 +192,7 @@ as_many texts es are = search
 
 -- ---- picked by their numbers
 
-number_at : (long : ℕ) (numbers : List ℕ) (i d : ℕ) → AreNumbers long numbers → i < length numbers
+pub number_at : (long : ℕ) (numbers : List ℕ) (i d : ℕ) → AreNumbers long numbers → i < length numbers
     → (0 < get_or numbers i d) × (get_or numbers i d ≤ long)
 number_at long [] i d are below = absurd (omega (arith, below))
 number_at long (n ∷ numbers) zero d are below = are.0

@@ -4,3 +4,4 @@ pub mod Questions
 pub mod GuardQuestions
 pub mod TextLists
 pub mod Replayed
+pub mod Cost

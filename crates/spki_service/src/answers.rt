@@ -1,19 +1,16 @@
 //! The answers to a question.
 
 ghost use Rattle.std.specs.Prelude.{◌≡◌, List, map, IfOk, IsErrOf, option_copied};
-ghost use Rattle.spki_cert.specs.declared.entry.Entry.{Entry};
 ghost use Rattle.spki_reduce.specs.Chain.{tuples_of};
-ghost use Rattle.spki_decision.specs.Standing.{asked, every, signed_of, with_entries};
+ghost use Rattle.spki_decision.specs.Standing.{asked, every, signed_of};
 ghost use Rattle.spki_decision.specs.Answered.{IsExplained, IsReduced};
 ghost use Rattle.spki_decision.specs.declared.reduction.EntryFold.{EntryFold};
 ghost use Rattle.spki_decision.specs.Granted.{EndAtDates, SomeTooLarge};
 ghost use Rattle.spki_decision.specs.Requirements.{first_key};
-ghost use Rattle.spki_service.specs.AccessLists.{AreEntries, DecidesPartly};
 ghost use Rattle.spki_service.specs.GuardQuestions.{Answers, OfCase, Decides, AreReduced, ByMarks, IsPossible, DecidesMarked, ExplainsMarked, ReducesMarked, AreReducedMarked};
 
 use crate::asked::Asked;
 use crate::failure::Failure;
-use crate::granted_entry::first_granted;
 use crate::text_folds::fold_texts;
 use spki_case::Verifier;
 use spki_cert::Key;
@@ -23,6 +20,8 @@ use spki_decision::{
 };
 use spki_reduce::{Issuer, Step};
 use std::alloc::{AllocError, Global};
+use std::marker::Brand;
+use std::sync::ledger::Blank;
 
 impl<'a> Asked<'a> {
     /// The signatures that a verifier is asked about, in order (RFC 2693, section 6). They are those of the
@@ -64,10 +63,7 @@ impl<'a> Asked<'a> {
     pub fn decide_by(&self, alloc: Global) -> Result<Decision, AllocError>
         ensures { IfOk result (DecidesMarked self.now) }
     {
-        match self.unmarked() {
-            None => self.decided(alloc),
-            Some(_) => Ok(Decision::No),
-        }
+        self.decide_by_from::<Brand>(alloc, Blank::new(1))
     }
 
     /// Whether the question is granted if all listed signatures are valid. If it is not, no marks make it a yes, and no signature has to
@@ -87,21 +83,7 @@ impl<'a> Asked<'a> {
     pub(crate) fn decided(&self, alloc: Global) -> Result<Decision, AllocError>
         ensures { IfOk result (Decides every self.now) }
     {
-        match &self.examined.unverified {
-            Unverified::Fails { .. } => Ok(Decision::No),
-            Unverified::Passes(steps) => self.granted(alloc, steps),
-        }
-    }
-
-    /// The decision if the verifier accepts every signature, for certificates with the tuples `steps`. Only the entries
-    /// that the index finds for the first step's key are read. Err if memory ran out.
-    fn granted<'s>(&'s self, alloc: Global, steps: &'s [Step<'a>]) -> Result<Decision, AllocError>
-        ensures { (es : List Entry) → AreEntries self.now.texts es
-            → IfOk result (DecidesPartly (with_entries self.now.case es) (tuples_of steps.now)) }
-    {
-        let guard = self.guard;
-        let numbers = guard.numbers_of(alloc, first_key(&self.case.key, steps))?;
-        first_granted(alloc, &guard.texts, &numbers, &self.case, steps)
+        self.decided_from::<Brand>(alloc, Blank::new(1))
     }
 
     /// Explains the question, as `spki_decision::explain` explains the case of the question's parts and the guard's
@@ -270,7 +252,7 @@ impl<'a> Asked<'a> {
 
 /// The key that issued the first step, or the client's key `asker` if there is no step. None if the first step is an
 /// authorization by the owner of the access list.
-fn first_key<'s, 'a>(asker: &'s Key<'a>, steps: &'s [Step<'a>]) -> Option<&'s Key<'a>>
+pub(crate) fn first_key<'s, 'a>(asker: &'s Key<'a>, steps: &'s [Step<'a>]) -> Option<&'s Key<'a>>
     ensures { option_copied result ≡ first_key asker.entry.now (tuples_of steps.entry.now) }
 {
     match steps.first() {

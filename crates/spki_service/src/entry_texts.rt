@@ -10,7 +10,9 @@ use crate::text_list::TextList;
 use sexpr_core::Doc;
 use sexpr_core::syntax::{Members, Node};
 use spki_cert::{Entry, entry_of};
+use spki_tag::Ticks;
 use std::alloc::{AllocError, Global};
+use std::sync::ledger::Ledger;
 
 /// Returns the canonical texts of the entries of an access list, in order, without a version before them. `list` must
 /// be an access list, and `count` the number of its entries. Err if memory ran out.
@@ -66,4 +68,18 @@ pub(crate) fn entry_in<'a>(alloc: Global, text: &'a [u8]) -> Result<Entry<'a>, A
         Ok(entry) => Ok(entry),
         Err(_) => Err(AllocError),
     }
+}
+
+/// Reads an entry from its canonical text, as `entry_in`. The entry and each octet of its text is a tick.
+pub(crate) fn entry_counted<'a, L: Ledger>(
+    alloc: Global,
+    text: &'a [u8],
+    ticks: &mut Ticks<L>,
+) -> Result<Entry<'a>, AllocError>
+    ensures answer { (e : Entry) → IsEntryText text.entry.now e → IfOk result (λ found. found ≡ e) }
+    ensures cost { ticks.new ≡ ticks.old + 1 + length text.entry.now }
+{
+    ticks.tick();
+    ticks.read(text.len());
+    entry_in(alloc, text)
 }

@@ -5,6 +5,7 @@ mod answers;
 mod asked;
 mod counts;
 mod date;
+mod decision_cost;
 mod entry_texts;
 mod failure;
 mod granted_entry;

@@ -1,9 +1,12 @@
 //! Marks by which a service says which of the listed signatures are valid.
 
-ghost use Rattle.std.specs.Prelude.{◌≡◌, ◌↔◌, ◌<◌, length, false, IsTrue, IfOk};
+ghost use Rattle.std.specs.Prelude.{◌≡◌, ◌↔◌, ◌<◌, ◌≤◌, ◌+◌, length, false, IsTrue, IfOk, IfNone};
 ghost use Rattle.spki_service.specs.GuardQuestions.{IsMarked, NoneMarked, IsMarkedToo, IsFirstUnmarked};
 
+use spki_tag::Ticks;
 use std::alloc::{AllocError, Global};
+use std::marker::Brand;
+use std::sync::ledger::{Blank, Ledger};
 
 /// Returns room for so many marks, without a mark. Err if memory ran out.
 pub(crate) fn no_marks(alloc: Global, count: usize) -> Result<Vec<bool>, AllocError>
@@ -30,7 +33,31 @@ pub(crate) fn mark_at(marks: &mut [bool], place: usize) -> bool
 pub(crate) fn first_unmarked(count: usize, marks: &[bool]) -> Option<usize>
     ensures { IsFirstUnmarked count marks.now result }
 {
+    first_unmarked_from::<Brand>(count, marks, Blank::new(1))
+}
+
+/// The same, counted in a ledger of its own.
+fn first_unmarked_from<L: Ledger>(count: usize, marks: &[bool], blank: Blank) -> Option<usize>
+    requires name { blank.name ≡ L.name }
+    requires parts { blank.parts ≡ L.parts }
+    requires some { 0 < blank.parts }
+    ensures { IsFirstUnmarked count marks.now result }
+{
+    first_unmarked_counted(count, marks, &mut Ticks::<L>::new(blank))
+}
+
+/// The first place without a mark, as `first_unmarked`. Each place that is looked at is a tick.
+pub(crate) fn first_unmarked_counted<L: Ledger>(
+    count: usize,
+    marks: &[bool],
+    ticks: &mut Ticks<L>,
+) -> Option<usize>
+    ensures answer { IsFirstUnmarked count marks.now result }
+    ensures cost { ticks.new ≤ ticks.old + count }
+    ensures each { IfNone result (ticks.old + count ≤ ticks.new) }
+{
     for place in 0..count {
+        ticks.tick();
         if !is_marked(marks, place) {
             return Some(place);
         }

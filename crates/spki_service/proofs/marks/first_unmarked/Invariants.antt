@@ -1,7 +1,4 @@
-use Rattle.std.proofs.Common.{ℕ, ◌<◌}
-use Rattle.spki_service.specs.GuardQuestions.{IsMarked}
 use Rattle.spki_service.proofs.marks.first_unmarked.Given as goal
 
--- each so far has a mark
-abbrev pub invariant-loop-place : goal.invariant-loop-place
-invariant-loop-place l = (other : ℕ) → other < l.place → IsMarked l.marks other
+abbrev pub ghosts-first_unmarked_from : goal.ghosts-first_unmarked_from
+ghosts-first_unmarked_from a = record { name = a.blank.name; parts = a.blank.parts }

@@ -1,0 +1,93 @@
+-- The octets of entries that are found, by their numbers and by the test, and the weights of what is read from them.
+use Rattle.std.proofs.Common.{◌≡◌, ℕ, zero, suc, ◌+◌, ◌*◌, ◌-◌, ◌<◌, ◌≤◌, Bool, true, false, cond, List, [], ◌∷◌, map, length, drop, get_or, add-one, refl, ap, arith, ◌∙◌, sym}
+use Rattle.std.specs.List.{AllZip}
+use Rattle.spki_cert.specs.declared.entry.Entry.{Entry}
+use Rattle.spki_cert.specs.Cost.{entry_weight}
+use Rattle.spki_cert.proofs.Costs.{entry_ge, sequence_ge}
+use Rattle.spki_service.specs.AccessLists.{IsEntryText, AreEntries, AreNumbers, kept_from, first, numbers_from}
+use Rattle.spki_service.specs.Cost.{octets_at, octets_of, found_octets, HasOctets}
+use Rattle.spki_service.specs.GuardQuestions.{AskedOf}
+use Rattle.spki_reduce.specs.Reduction.{Tuple}
+use Rattle.spki_decision.specs.Cost.{tuples_weight}
+use Rattle.spki_decision.specs.Standing.{AreShown, asked, every}
+use Rattle.spki_decision.proofs.Costs.{asked_ge, shown_and_asked_ge}
+use Rattle.spki_service.proofs.SelectedEntries.{entry_there, number_at, as_many}
+
+-- ---- by their numbers
+
+octets_from : (texts : List (List ℕ)) (numbers : List ℕ) (i : ℕ) → i < length numbers
+    → octets_at texts (drop i numbers) ≡ length (get_or texts (get_or numbers i 0 - 1) []) + octets_at texts (drop (suc i) numbers)
+octets_from texts [] i below = absurd (omega (arith, below))
+octets_from texts (n ∷ numbers) zero below = refl
+octets_from texts (n ∷ numbers) (suc i) below = octets_from texts numbers i (omega (arith, below))
+
+-- the first of those that are not examined
+pub octets_first : (texts : List (List ℕ)) (numbers : List ℕ) (i : ℕ) → i < length numbers
+    → octets_at texts (drop i numbers) ≡ length (get_or texts (get_or numbers i 0 - 1) []) + octets_at texts (drop (i + 1) numbers)
+octets_first texts numbers i below = rw (add-one i) (octets_from texts numbers i below)
+
+text_weight : (text : List ℕ) (e : Entry) → IsEntryText text e → entry_weight e < length text
+text_weight text e is = omega (arith, entry_ge is.value e is.is, ap length is.written)
+
+module _ (texts : List (List ℕ)) (es : List Entry) (numbers : List ℕ) (i : ℕ) (are : AreEntries texts es)
+    (within : AreNumbers (length texts) numbers) (below : i < length numbers) where
+  abbrev text : List ℕ
+  text = get_or texts (get_or numbers i 0 - 1) []
+
+  there : (e : Entry) × IsEntryText text e
+  there =
+      let (low, high) = number_at (length texts) numbers i 0 within below in
+      let found = entry_there texts es (get_or numbers i 0 - 1) are (omega (arith, low, high)) in
+      (found.0, found.2)
+
+  -- the text of an entry has an octet
+  pub text_long : 0 < length text
+  text_long = omega (arith, text_weight text there.0 there.1)
+
+  -- an entry that is read from the text weighs less than it
+  pub entry_light : (e : Entry) → ((f : Entry) → IsEntryText text f → e ≡ f) → entry_weight e < length text
+  entry_light e found = omega (arith, text_weight text there.0 there.1, ap entry_weight (found there.0 there.1))
+
+-- ---- by the test
+
+one_at : (all : List (List ℕ)) (n : ℕ) (text : List ℕ) (texts : List (List ℕ)) → drop n all ≡ text ∷ texts
+    → (get_or all n [] ≡ text) × (drop (suc n) all ≡ texts)
+one_at [] zero text texts e = absurd cc
+one_at [] (suc n) text texts e = absurd cc
+one_at (a ∷ all) zero text texts e = let this : a ≡ text = cc in let rest : all ≡ texts = cc in (this, rest)
+one_at (a ∷ all) (suc n) text texts e = one_at all n text texts e
+
+one_more : (all : List (List ℕ)) (n : ℕ) (e : Entry) (ks : List (ℕ × Entry)) (b : Bool) (text : List ℕ) (rest : ℕ) → get_or all n [] ≡ text
+    → octets_at all (map first ks) ≡ rest → octets_at all (map first (cond b ((suc n, e) ∷ ks) ks)) ≡ cond b (length text + rest) rest
+one_more all n e ks true text rest here later =
+    let same : suc n - 1 ≡ n = omega arith in
+    omega (arith, ap (λ (k : ℕ). length (get_or all k [])) same, ap length here, later)
+one_more all n e ks false text rest here later = later
+
+by_test : (test : Entry → Bool) (all : List (List ℕ)) (n : ℕ) (texts : List (List ℕ)) (es : List Entry) → drop n all ≡ texts
+    → length texts ≡ length es → octets_at all (map first (kept_from (suc n) test es)) ≡ octets_of test texts es
+by_test test all n [] [] here many = refl
+by_test test all n [] (e ∷ es) here many = absurd (omega (arith, many))
+by_test test all n (text ∷ texts) [] here many = absurd (omega (arith, many))
+by_test test all n (text ∷ texts) (e ∷ es) here many =
+    let at = one_at all n text texts here in
+    one_more all n e (kept_from (suc (suc n)) test es) (test e) text (octets_of test texts es) at.0
+    (by_test test all (suc n) texts es at.1 (omega (arith, many)))
+
+-- the numbers that pass a test have the octets of the entries that pass it
+pub octets_found : (test : Entry → Bool) (texts : List (List ℕ)) (es : List Entry) → AreEntries texts es
+    → octets_at texts (numbers_from 1 test es) ≡ octets_of test texts es
+octets_found test texts es are = by_test test texts 0 texts es refl (as_many texts es are)
+
+-- ---- the octets of a question
+
+module _ (a : AskedOf) (shown found : ℕ) (has : HasOctets a shown found) where
+  -- the signatures that a verifier is asked about
+  pub asked_octets : length (asked a.case) ≤ 4 * shown
+  asked_octets = omega (arith, asked_ge a.case, sequence_ge has.value a.case.items has.sequence, has.long)
+
+  -- the tuples, the signatures and the entries that are found
+  pub found_cost : (tuples : List Tuple) (es : List Entry) → AreShown a.case.policy every a.case.items tuples → AreEntries a.texts es
+      → tuples_weight tuples + length (asked a.case) + 2 * found_octets a.case tuples a.texts es ≤ 4 * shown + 2 * found
+  found_cost tuples es shows are =
+      omega (arith, shown_and_asked_ge a.case every tuples shows, sequence_ge has.value a.case.items has.sequence, has.long, has.entries tuples es shows are)

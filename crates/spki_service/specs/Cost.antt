@@ -1,0 +1,35 @@
+-- How many octets a question is about: those of its sequence, and those of the entries that the index finds for it.
+use Rattle.std.specs.Prelude.{◌≡◌, ◌≤◌, ℕ, ◌+◌, ◌-◌, List, [], ◌∷◌, length, Bool, slice_index_or, if◌then◌else◌}
+use Rattle.sexpr_core.specs.Value.{Value, canon}
+use Rattle.spki_cert.specs.declared.entry.Entry.{Entry}
+use Rattle.spki_cert.specs.Structures.{SeqOf}
+use Rattle.spki_reduce.specs.Reduction.{Tuple}
+use Rattle.spki_case.specs.Case.{Case}
+use Rattle.spki_decision.specs.Standing.{AreShown, every}
+use Rattle.spki_decision.specs.Requirements.{first_key}
+use Rattle.spki_service.specs.AccessLists.{AreEntries, is_of}
+use Rattle.spki_service.specs.GuardQuestions.{AskedOf}
+
+-- the octets of the texts with these numbers, counted from 1
+abbrev pub octets_at : List (List ℕ) → List ℕ → ℕ
+octets_at texts [] = 0
+octets_at texts (n ∷ ns) = length (slice_index_or texts (n - 1) []) + octets_at texts ns
+
+-- the octets of the texts of the entries that pass a test
+abbrev pub octets_of : (Entry → Bool) → List (List ℕ) → List Entry → ℕ
+octets_of test [] es = 0
+octets_of test (text ∷ texts) [] = 0
+octets_of test (text ∷ texts) (e ∷ es) = if test e then length text + octets_of test texts es else octets_of test texts es
+
+-- the octets of the entries that are found, if these are the tuples of the certificates
+abbrev pub found_octets : Case → List Tuple → List (List ℕ) → List Entry → ℕ
+found_octets c tuples texts es = octets_of (is_of c.policy (first_key c.key tuples)) texts es
+
+-- The canonical text of the question's sequence has `shown` octets. If every certificate stands, the entries that the index finds have at
+-- most `found` octets.
+pub record HasOctets (a : AskedOf) (shown found : ℕ) : Type 0 where
+  pub value : Value
+  pub sequence : SeqOf value a.case.items
+  pub long : shown ≡ length (canon value)
+  pub entries : (tuples : List Tuple) (es : List Entry) → AreShown a.case.policy every a.case.items tuples → AreEntries a.texts es
+      → found_octets a.case tuples a.texts es ≤ found
