@@ -231,6 +231,7 @@ class OfPassphrases(Case):
         words = ("sign", "--by", "key.pem", "--to", "b.sexp", "--tag", TAG, "--days", "30", "-o", "c.sexp")
         status, said = self.on_a_terminal(words, b"open")
         self.assertEqual((status, os.path.exists(self.at("c.sexp"))), (2, False), said)
+        self.assertIn("this is not the passphrase of the key", said)
         status, said = self.on_a_terminal(words, b"sesame")
         self.assertEqual((status, "sesame" in said), (0, False), said)
         self.verified("c.sexp")
@@ -345,7 +346,8 @@ class OfCertificates(Case):
         """The entries for a subject, by its key or its hash, and no other: what is around them stays."""
         for words in (("alice.pub",), ("bob.pub",), ("bob.pub", "--named", "team"), ("bob.pub",), ("alice.pub",)):
             self.done("entry", "--to", *words, "--tag", TAG, "--yes", "--acl", "acl.sexp")
-        self.assertIn("entries removed: 2", self.done("entry", "--remove", "--to", self.done("key", "--hash", "bob.pub"), "--acl", "acl.sexp"))
+        said = self.done("entry", "--remove", "--to", self.done("key", "--hash", "bob.pub"), "--acl", "acl.sexp")
+        self.assertEqual(said, f"entry 2, {TAG}: removed\nentry 4, {TAG}: removed\nentries removed: 2\n")
         said = self.done("show", "--labels", ".", "acl.sexp")
         self.assertEqual(re.findall(r"-> ([\w ]+)", said), ["alice", "team of bob", "alice"])
         self.assertIn("entries removed: 0", self.done("entry", "--remove", "--to", "bob.pub", "--acl", "acl.sexp", wanted=1))
@@ -436,7 +438,7 @@ class OfMistakes(Case):
         self.write("key.sexp", sexp.laid_out(signer.key))
         self.write("signer", keys.file_of(signer.private, b""))
         os.chmod(self.at("signer"), 0o600)
-        self.done("sign", "--by", "signer", "--to", "key.sexp", "--tag", TAG, "--days", "30", "-o", "c.sexp")
+        self.done("sign", "--by", "signer", "--to", "key.sexp", "--tag", TAG, "--days", "30", "--yes", "-o", "c.sexp")
         os.mkdir(self.at("folder"))
         for number in range(FILES):
             shutil.copy(self.at("c.sexp"), self.at(f"folder/{number}.sexp"))

@@ -48,6 +48,8 @@ def key(given: argparse.Namespace) -> int:
 def new_key(given: argparse.Namespace) -> int:
     """Makes a key pair, as two files."""
     path = given.file
+    if path.endswith(".pub"):
+        raise Refused(f"{path}: a private key is not called .pub; give {path[:-4]}, and the public key is {path}")
     there = [it for it in (path, f"{path}.pub") if os.path.lexists(it)]
     if there or path == "-":
         raise Refused(f"{there[0]} is there already, and a key is not written over" if there else "a new key needs the name of a file")
@@ -91,8 +93,9 @@ def entry(given: argparse.Namespace) -> int:
     """Writes an entry, or puts it at the end of an access list."""
     if given.to is None:
         raise Refused("an entry needs --to, a key, a hash or a name")
-    if given.remove and (given.acl is None or given.tag is not None):
-        raise Refused("--remove needs --acl, and goes with no --tag")
+    others = (given.tag, given.propagate or None, given.tries or None, given.begins, given.days, given.until, given.comment)
+    if given.remove and (given.acl is None or any(it is not None for it in others)):
+        raise Refused("--remove needs --acl, and goes with no --tag and no other field: it removes all entries of --to")
     change = remove if given.remove else add
     if given.acl in (None, "-"):
         return change(given)
@@ -115,11 +118,12 @@ def add(given: argparse.Namespace) -> int:
 
 def remove(given: argparse.Namespace) -> int:
     """Removes the entries for a subject from an access list."""
-    text, count = list_without(subject_of(given), list_at(given.acl))
-    if count or given.acl == "-":
+    text, gone = list_without(subject_of(given), list_at(given.acl))
+    if gone or given.acl == "-":
         write((given.acl, text), edits=True)
-    say(f"entries removed: {count}{'' if count else f'; no entry of {given.acl} is for this subject'}", is_aside=given.acl == "-")
-    return DONE if count else NO
+    none = f"; {given.to} has none; `spki-cert show {given.acl}` lists them" if not gone else ""
+    say(*(f"entry {number}, {tag}: removed" for number, tag in gone), f"entries removed: {len(gone)}{none}", is_aside=given.acl == "-")
+    return DONE if gone else NO
 
 
 def list_at(path: str) -> bytes:

@@ -252,7 +252,8 @@ def read_private(octets: bytes, asking: Asking) -> Private:
                 raise
             if line and importlib.util.find_spec("bcrypt") is None:
                 raise BadKey(NEEDS_BCRYPT) from None
-            is_asked, private = True, load(octets, asking())
+            is_asked = True
+            private = load(octets, asking())
     except (ValueError, TypeError, ArithmeticError, UnsupportedAlgorithm) as fault:
         raise BadKey(NEEDS_BCRYPT if "bcrypt" in str(fault) else "this is not the passphrase of the key, or the file is damaged" if is_asked
                      else f"no private key that can be read: was it copied to its end? And {USED}") from None

@@ -198,6 +198,8 @@ def one_validity(said: Said) -> None:
 
 
 def read_entry(node: Node) -> None:
+    if node.head == b"deny":
+        raise shape(node, "there are no denials: what no entry gives is denied, so leave this out")
     members = Members(node, b"entry", "an entry")
     subject = members.next("the subject")
     if not read_subject(subject):
