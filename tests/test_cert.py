@@ -243,6 +243,8 @@ class OfPassphrases(Case):
                               text=True, start_new_session=True)
         self.assertEqual((done.returncode, done.stdout), (2, ""))
         self.assertIn("there is no terminal", done.stderr)
+        done = subprocess.run([sys.executable, COMMAND, "key", "new", "new"], cwd=self.room, capture_output=True, text=True, start_new_session=True)
+        self.assertIn("for a new key --no-passphrase", done.stderr)
 
     @needs_ssh
     @needs.needs("import bcrypt")
@@ -325,7 +327,7 @@ class OfCertificates(Case):
     def test_entries_are_written(self):
         """An entry alone, in a new list, and at the end of one whose text stays."""
         self.assertTrue(self.done("entry", "--to", "bob.pub", "--tag", TAG).startswith("(entry"))
-        self.done("entry", "--to", "alice.pub", "--tag", TAG, "--propagate", "--acl", "acl.sexp")
+        self.assertEqual(self.done("entry", "--to", "alice.pub", "--tag", TAG, "--propagate", "--acl", "acl.sexp"), "made acl.sexp\nentries added: 1\n")
         before = text_in(self.at("acl.sexp")).replace(b"(tag", b"\n\n  (tag")
         self.write("acl.sexp", before)
         self.done("entry", "--to", "bob.pub", "--named", "team", "--tag", TAG, "--days", "9", "--comment", "the team", "--acl", "acl.sexp")

@@ -232,7 +232,7 @@ class OfKeyFiles(Room):
         self.write("authorized_keys", b"\n".join(lines))
         for number, name in ((1, "alice"), (2, "bob")):
             self.assertEqual(self.done("key", "--key", str(number), "authorized_keys"), self.done("key", f"{name}.pub"))
-            self.sign("--key", str(number), "--force", "-o", "c.sexp", to="authorized_keys")
+            self.sign("--key", str(number), "--force", "-o", "c.sexp", by="carol", to="authorized_keys")
             self.assertEqual(sexp.laid_out(self.verified("c.sexp")[0].terms.subject) + "\n", self.done("key", f"{name}.pub"))
         self.assertIn("2 keys are in this file", self.done("ask", "--acl", "acl.sexp", "--key", "authorized_keys", "--", "packages", wanted=2))
         self.assertIn("authorized_keys: 2 public keys", self.done("check", "authorized_keys"))

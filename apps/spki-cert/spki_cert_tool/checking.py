@@ -183,7 +183,7 @@ def of_entries(node: Node) -> Iterator[tuple[int, str]]:
         is_first = other < one or not contains(narrow, wide, keys)
         if left > 0 and one not in told and contains(wide, narrow, keys) and is_first:
             told.add(one)
-            yield node.begin, f"entry {one + 1} gives nothing that entry {other + 1} does not give already"
+            yield node.begin, f"entry {other + 1} gives all of entry {one + 1}: remove entry {one + 1}"
 
 
 def of_key(node: Node) -> Iterator[tuple[int, str]]:

@@ -113,7 +113,8 @@ def add(given: argparse.Namespace) -> int:
     if not is_confirmed(given.yes, "--yes", warnings):
         return UNCONFIRMED
     write((given.acl or given.output, text if given.acl else text_of(made)), force=given.force, edits=is_there)
-    return say("entries added: 1", is_aside=given.acl == "-") if given.acl else DONE
+    made_too = [] if is_there or given.acl is None else [f"made {given.acl}"]
+    return say(*made_too, "entries added: 1", is_aside=given.acl == "-") if given.acl else DONE
 
 
 def remove(given: argparse.Namespace) -> int:
@@ -205,7 +206,7 @@ def ask(given: argparse.Namespace) -> int:
     if given.case:
         asked = asked_of_case(value_of(given.case, "case"), labels_of(given))
     elif not (given.acl and given.key and given.words):
-        raise Refused("ask needs --acl, --key and the words of a request, or --case")
+        raise Refused("the request is missing: `-- packages read`" if given.acl and given.key else "ask needs --acl and --key, or --case")
     else:
         key = key_at(given.key)
         labels = labels_of(given, *(path for path in [given.key, *filter(os.path.isdir, given.cert)] if path != "-"))

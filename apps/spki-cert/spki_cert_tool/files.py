@@ -147,8 +147,9 @@ def node_of(octets: bytes, what: str, read: Reader) -> Node:
         return node
     except Wrong as wrong:
         name_foreign(octets, wrong)
-        if wrong.kind == "Trailing" and not octets.lstrip().startswith((b"(", b"{")):
-            wrong.why = f"these are several values; a list is in parentheses, as '({octets.decode(errors='surrogateescape')})'"
+        if wrong.kind == "Trailing":
+            whole = octets.decode(errors="surrogateescape")
+            wrong.why = f"these are several values; a list is in parentheses, as '({'* set ' if whole.lstrip()[:1] == '(' else ''}{whole})'"
         raise Refused(*told(what, (wrong, octets, None))) from None
 
 
@@ -163,7 +164,7 @@ def passphrase_for(path: str) -> bytes:
     except ValueError:
         raise BadKey("the passphrase has octets that are no text in this encoding") from None
     except (OSError, termios.error):
-        raise BadKey("it is encrypted, and there is no terminal to ask for the passphrase; or use ssh-agent") from None
+        raise BadKey("it is encrypted, and there is no terminal to ask for the passphrase: use ssh-agent, or for a new key --no-passphrase") from None
     finally:
         TERMINAL.clear()
 
@@ -216,7 +217,7 @@ def now(days: int = 0) -> bytes:
 def moment_of(text: str, day: str = "_00:00:00") -> bytes:
     """The moment of a word: a date with its time, or a day."""
     whole = text if "_" in text else text + day
-    parts = re.fullmatch(r"(\d{4})[-/.](\d\d?)[-/.](\d\d?)(?:[T_ ]+(\d\d?):(\d\d)(?::(\d\d))?)?(Z|[+-]\d\d:?\d\d| ?UTC)?", text, re.ASCII)
+    parts = re.fullmatch(r"(\d{4})[-/.](\d\d?)[-/.](\d\d?)(?:[T_ ]+([01]?\d|2[0-3]):(\d\d)(?::(\d\d))?)?(Z|[+-]\d\d:?\d\d| ?UTC)?", text, re.ASCII)
     if not MOMENT.fullmatch(os.fsencode(whole)):
         right = "YYYY-MM-DD or YYYY-MM-DD_HH:MM:SS"
         if parts and parts[7] in (None, "Z", " UTC", "UTC"):

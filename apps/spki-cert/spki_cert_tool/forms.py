@@ -153,7 +153,8 @@ class Parser:
                          f"`({node.head.decode()} ..)`", [begins])
         is_behind_others = self.text[self.text.rfind(b"\n", 0, behind) + 1:behind].strip()
         if is_behind_others or column(self.text, behind) <= column(self.text, node.begin):
-            return Wrong("Trailing", behind, "a second value begins here; a text is one value", [begins])
+            end = self.text.count(b"\n", 0, node.end) + 1
+            return Wrong("Trailing", behind, f"a text is one value, and this one ends on line {end}: delete all behind it", [begins])
         return Wrong("Trailing", behind, "this `)` ends the value, and by its indentation the next line belongs to it; is it one too many?",
                      [(behind, "this follows the value"), begins], node.end - 1)
 

@@ -71,7 +71,8 @@ def name_foreign(text: bytes, wrong: Wrong) -> None:
                 wrong.shown_at, wrong.why = found.start(), why + (INSIDE if is_inside else "")
                 return
     at = text.rfind(b"\n", 0, wrong.at) + 1
-    if re.match(COMMENT, text[at:].partition(b"\n")[0], FLAGS):
+    is_behind = wrong.kind.endswith("Trailing") and text.lstrip().startswith(b"(")
+    if re.match(COMMENT, text[at:].partition(b"\n")[0], FLAGS) and not is_behind:
         wrong.shown_at, wrong.why = at, "there are no comments, only the field `(comment \"..\")`; delete this line"
         return
     begins = re.search(BEGINS, text, FLAGS)

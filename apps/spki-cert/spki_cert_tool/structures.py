@@ -82,8 +82,8 @@ def read_hash(node: Node) -> bytes:
     if not digest.is_plain():
         raise shape(digest, "the digest is a string without a display hint")
     if len(digest.body or b"") != DIGESTS[algorithm]:
-        said = f"a digest by {algorithm.decode()} has {DIGESTS[algorithm]} octets, and this has {len(digest.body or b'')}"
-        raise Wrong("DigestLength", digest.begin, f"{said}; write it as #HEXADECIMAL#")
+        said = f"a digest by {algorithm.decode()} has {2 * DIGESTS[algorithm]} hexadecimal digits, here {2 * len(digest.body or b'')}"
+        raise Wrong("DigestLength", digest.begin, f"{said}, between two `#`: copy it again, or take that of `spki-cert key --hash FILE`")
     if members.left and members.left[0].head == b"uri":
         members.left.pop(0)
     members.end()

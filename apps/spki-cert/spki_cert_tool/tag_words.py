@@ -124,7 +124,7 @@ def of_star(node: Node, rest: list[Node], is_outermost: bool) -> Iterator[Place]
     word = rest[0].body if rest else None
     if word == b"set":
         if len(rest) == 1:
-            yield node.begin, "an empty set contains no request"
+            yield node.begin, "an empty set contains no request: write its members, as `(* set read write)`, or remove it"
         for member in rest[1:]:
             yield from remarks(member, is_outermost)
     elif word == b"prefix":
@@ -151,7 +151,7 @@ def of_range(node: Node, ordering: bytes, limits: list[bytes]) -> Iterator[Place
         if not FORMS[ordering].fullmatch(limit):
             yield node.begin, f"the limit `{on_one_line(limit)}` is no {ordering.decode()} as requests have them"
     if low is not None and up is not None and (low > up or low == up and (b"g" in given or b"l" in given)):
-        yield node.begin, "no string is between these limits"
+        yield node.begin, f"no string is between `{on_one_line(low)}` and `{on_one_line(up)}`: {'exchange them' if low > up else 'remove the range'}"
 
 
 def is_everything(tag: Value) -> bool:
