@@ -75,8 +75,8 @@ class OfWriting(Room):
         os.symlink("alice", self.at("to-key"))
         for words, said in [
                 ((*signs, "-o", "alice"), "is not written over"), ((*signs, "--force", "-o", "alice"), "is not written over"),
-                ((*signs, "--force", "-o", "to-key"), "is not written over"), ((*signs, "--force", "-o", "carol"), "a key is there already"),
-                ((*signs, "--force", "-o", "carol.pub"), "a key is there already"), ((*signs, "--force", "-o", "bob.pub"), "reads this file"),
+                ((*signs, "--force", "-o", "to-key"), "is not written over"), ((*signs, "--force", "-o", "carol"), "is not written over"),
+                ((*signs, "--force", "-o", "carol.pub"), "is not written over"), ((*signs, "--force", "-o", "bob.pub"), "reads this file"),
                 ((*signs, "-o", "acl.sexp"), "adds an entry to this list"), (("key", "alice", "-o", "alice"), "not written over"),
                 (("key", "alice", "--force", "-o", "alice"), "not written over"), (("key", "new", "--no-passphrase", "alice"), "is there already"),
                 (("key", "new", "--no-passphrase", "to-key"), "is there already"),

@@ -21,6 +21,7 @@ from .keys import BadKey, file_of, hash_of, kind_of, new_private, openssh_line, 
 from .making import (certificate_of, fields_of, list_with, list_without, signed_sequence, text_of, warnings_of, warnings_of_certificate,
                      warnings_of_list)
 from .places import value_in
+from .requesting import request
 from .sexp import Value, canonical, on_one_line
 from .showing import Labels, lines_of, rows_of, what_is
 from .structures import PRINCIPALS, read_subject, read_tag
@@ -37,11 +38,9 @@ Command = Callable[[argparse.Namespace], int]
 
 def key(given: argparse.Namespace) -> int:
     keys = [(path, key_at(path, given.number, True)) for path in given.files]
-    if given.json:
-        rows = [{"file": path, "key": on_one_line(it), "hash": on_one_line(hash_of(it)), "algorithm": kind_of(it)} for path, it in keys]
-        write((given.output, json.dumps(rows, indent=1).encode() + b"\n"), force=given.force)
-    else:
-        write((given.output, b"".join(text_of(hash_of(it) if given.hash else it) for _, it in keys)), force=given.force)
+    rows = [{"file": path, "key": on_one_line(it), "hash": on_one_line(hash_of(it)), "algorithm": kind_of(it)} for path, it in keys]
+    text = b"".join(text_of(hash_of(it) if given.hash else it) for _, it in keys)
+    write((given.output, json.dumps(rows, indent=1).encode() + b"\n" if given.json else text), force=given.force)
     return DONE
 
 
@@ -96,11 +95,8 @@ def entry(given: argparse.Namespace) -> int:
     others = (given.tag, given.propagate or None, given.tries or None, given.begins, given.days, given.until, given.comment)
     if given.remove and (given.acl is None or any(it is not None for it in others)):
         raise Refused("--remove needs --acl, and goes with no --tag and no other field: it removes all entries of --to")
-    change = remove if given.remove else add
-    if given.acl in (None, "-"):
-        return change(given)
-    with locked(given.acl):
-        return change(given)
+    with locked(given.acl) if given.acl not in (None, "-") else contextlib.nullcontext():
+        return (remove if given.remove else add)(given)
 
 
 def add(given: argparse.Namespace) -> int:
@@ -113,8 +109,7 @@ def add(given: argparse.Namespace) -> int:
     if not is_confirmed(given.yes, "--yes", warnings):
         return UNCONFIRMED
     write((given.acl or given.output, text if given.acl else text_of(made)), force=given.force, edits=is_there)
-    made_too = [] if is_there or given.acl is None else [f"made {given.acl}"]
-    return say(*made_too, "entries added: 1", is_aside=given.acl == "-") if given.acl else DONE
+    return say(*([] if is_there else [f"made {given.acl}"]), "entries added: 1", is_aside=given.acl == "-") if given.acl else DONE
 
 
 def remove(given: argparse.Namespace) -> int:
@@ -240,13 +235,11 @@ def sequences_below(paths: list[str]) -> Iterator[str]:
 
 def check(given: argparse.Namespace) -> int:
     from .checking import files_below, remarks_on
-    moment, kinds, remarks, read, left_out = now(), [], [], 0, 0
-    for path, is_given in files_below(given.paths):
-        kind, said = remarks_on(path, moment, is_given)
-        read, left_out = read + (kind is not None), left_out + (kind is None)
-        remarks += said
-        if is_given and kind:
-            kinds.append((path, kind))
+    moment = now()
+    found = [(path, is_given, *remarks_on(path, moment, is_given)) for path, is_given in files_below(given.paths)]
+    kinds, remarks = [(path, kind) for path, is_given, kind, _ in found if is_given and kind], [it for *_, said in found for it in said]
+    left_out = sum(kind is None for _, _, kind, _ in found)
+    read = len(found) - left_out
     refused = len({it.path for it in remarks if it.is_refused})
     if given.json:
         rows = [{"file": it.path, "line": it.line, "column": it.column, "refused": it.is_refused, "text": it.text} for it in remarks]
@@ -255,11 +248,6 @@ def check(given: argparse.Namespace) -> int:
         say(*(f"{path}: {kind}" for path, kind in kinds), *map(str, remarks))
         tell(f"{read} files, {refused} refused, {len(remarks)} remarks; {left_out} other files left out")
     return REFUSED if refused else NO if remarks else DONE
-
-
-def request(given: argparse.Namespace) -> int:
-    from .requesting import request as sign_request
-    return sign_request(given)
 
 
 COMMANDS: dict[str, Command] = {"key": key, NEW_KEY: new_key, "sign": sign, "name": sign, "entry": entry, "show": show, "ask": ask, "check": check,

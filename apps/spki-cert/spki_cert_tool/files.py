@@ -98,19 +98,19 @@ def identity(found: os.stat_result) -> tuple[int, int]:
     return found.st_dev, found.st_ino
 
 
-def octets_of(path: str) -> bytes:
-    """The octets of a file, or of standard input for `-`. One octet more than the limit shows that there are more."""
+def octets_of(path: str, most: int = MOST_OCTETS + 1) -> bytes:
+    """The octets of a file, or of standard input for `-`. One octet more than the limit shows that there are more, and -1 reads all."""
     try:
         if path != "-":
             with open(path, "rb") as file:
                 READ.add(identity(os.fstat(file.fileno())))
-                return file.read(MOST_OCTETS + 1)
+                return file.read(most)
         if INPUT in READ or sys.stdin is None:
             raise Refused(f"-: standard input {'is one file, and was read already' if INPUT in READ else 'is closed'}")
         READ.add(INPUT)
         with contextlib.suppress(OSError, ValueError):
             READ.add(identity(os.fstat(sys.stdin.fileno())))
-        return sys.stdin.buffer.read(MOST_OCTETS + 1)
+        return sys.stdin.buffer.read(most)
     except OSError as why:
         raise Refused(f"{path}: {why.strerror}") from None
 
@@ -246,9 +246,9 @@ def target_of(path: str, made: bytes, force: bool, edits: bool) -> tuple[str, os
             raise Refused(f"{path}: its mode {stat.S_IMODE(before.st_mode):o} says that it is not to be written; nothing was written")
         with open(place, "rb") as file:
             octets = file.read(MOST_OCTETS)
-        is_key = is_key_file(octets) or is_private(octets)
-        if is_key or may_be_secret(octets) or ENDED.match(octets):
-            kept = "a key" if is_key else "what may be a key" if may_be_secret(octets) else "the file of ended certificates"
+        is_key = is_key_file(octets) or may_be_secret(octets)
+        if is_key or ENDED.match(octets):
+            kept = "a key, or what may be one," if is_key else "the file of ended certificates"
             raise Refused(f"{path}: {kept} is there already, and is not written over; nothing was written")
         if not force and not edits:
             raise Refused(f"{path}: this file is there already; {instead(path, octets, made)}; nothing was written")

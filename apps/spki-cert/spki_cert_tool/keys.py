@@ -49,14 +49,10 @@ def hash_of(value: Value) -> Value:
     return [b"hash", b"sha256", digest_of(value)]
 
 
-def is_named_by_itself(key: Value) -> bool:
-    """Whether certificates have the key itself and not its hash: one of RSA is long."""
-    return not (isinstance(key, list) and isinstance(key[1], list) and key[1][0] == b"rsa")
-
-
 def principal_of(key: Value) -> Value:
-    """How certificates name a key."""
-    return key if is_named_by_itself(key) else hash_of(key)
+    """How certificates name a key: by itself, or one of RSA, which is long, by its hash."""
+    is_long = isinstance(key, list) and isinstance(key[1], list) and key[1][0] == b"rsa"
+    return hash_of(key) if is_long else key
 
 
 def key_of(public: object) -> Value:

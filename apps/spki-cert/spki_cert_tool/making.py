@@ -5,7 +5,7 @@ from collections.abc import Iterator
 
 from .certificates import Keys, Terms, certificates_in, entries_of, headed, members, remarks_on_window, terms_of
 from .files import Refused, Signer, now
-from .keys import hash_of, is_named_by_itself, principal_of, verifies
+from .keys import hash_of, principal_of, verifies
 from .places import place_shown, read_text, told, value_in
 from .sexp import Value, canonical, laid_out, on_one_line
 from .tag_words import contains, is_everything, lacks, remarks
@@ -48,7 +48,7 @@ def signed_sequence(certificate: Value, signer: Signer, chain: Value | None) -> 
 def sequence_with(chain: Value | None, key: Value, certificate: Value, value: Value) -> Value:
     """The sequence of a chain and a certificate with its signature."""
     before = members(chain) if chain is not None else []
-    shown = [] if is_named_by_itself(key) or key in before else [key]
+    shown = [] if principal_of(key) == key or key in before else [key]
     return [b"sequence", *before, *shown, certificate, [b"signature", hash_of(certificate), principal_of(key), value]]
 
 

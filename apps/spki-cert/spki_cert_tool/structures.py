@@ -145,10 +145,6 @@ def read_issuer(node: Node) -> bool:
     return True
 
 
-def any_value(node: Node) -> None:
-    """A member that nothing is required of."""
-
-
 def field_of(read: Reader) -> Reader:
     return list_of(None, "a field", ("the member of this field", read))
 
@@ -230,11 +226,11 @@ def read_digest_of_row(node: Node) -> None:
 def read_operation(node: Node) -> None:
     if not node.rest or not node.rest[0].is_plain(b"hash"):
         raise Wrong("UnknownOp", node.begin, "the only operation is `(do hash ALGORITHM)`")
-    list_of(b"do", "an operation", ("hash", any_value), ("the algorithm", read_algorithm))(node)
+    list_of(b"do", "an operation", ("hash", lambda _: None), ("the algorithm", read_algorithm))(node)
 
 
-read_signature = list_of(b"signature", "a signature", ("the hash", read_hash), ("the principal", read_principal), ("the value", any_value))
-read_row = list_of(b"by", "a row", ("the key", read_key), ("the hash", read_digest_of_row), ("the value of the signature", any_value))
+read_signature = list_of(b"signature", "a signature", ("the hash", read_hash), ("the principal", read_principal), ("the value", lambda _: None))
+read_row = list_of(b"by", "a row", ("the key", read_key), ("the hash", read_digest_of_row), ("the value of the signature", lambda _: None))
 ITEMS: dict[bytes, Reader] = {b"public-key": read_key, b"do": read_operation, b"cert": read_certificate, b"signature": read_signature}
 
 
