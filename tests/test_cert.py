@@ -327,7 +327,8 @@ class OfCertificates(Case):
     def test_entries_are_written(self):
         """An entry alone, in a new list, and at the end of one whose text stays."""
         self.assertTrue(self.done("entry", "--to", "bob.pub", "--tag", TAG).startswith("(entry"))
-        self.assertEqual(self.done("entry", "--to", "alice.pub", "--tag", TAG, "--propagate", "--acl", "acl.sexp"), "made acl.sexp\nentries added: 1\n")
+        said = self.done("entry", "--to", "alice.pub", "--tag", TAG, "--propagate", "--acl", "acl.sexp")
+        self.assertEqual(said, "made acl.sexp\nentries added: 1\n")
         before = text_in(self.at("acl.sexp")).replace(b"(tag", b"\n\n  (tag")
         self.write("acl.sexp", before)
         self.done("entry", "--to", "bob.pub", "--named", "team", "--tag", TAG, "--days", "9", "--comment", "the team", "--acl", "acl.sexp")

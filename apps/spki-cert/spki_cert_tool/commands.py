@@ -28,7 +28,6 @@ from .structures import PRINCIPALS, read_subject, read_tag
 
 DONE, NO, REFUSED, FAILED, UNCONFIRMED = 0, 1, 2, 3, 4
 ENDING = (signal.SIGHUP, signal.SIGINT, signal.SIGQUIT, signal.SIGTERM)
-SHOWN = (b"acl", b"sequence", b"case")
 NOT_SHOWN = "only an access list, a certificate, a sequence or a case is shown; for a key there is `spki-cert key`"
 Command = Callable[[argparse.Namespace], int]
 
@@ -56,9 +55,8 @@ def new_key(given: argparse.Namespace) -> int:
     if passphrase and passphrase_for(f"the new {path} again") != passphrase:
         raise Refused("the passphrases differ; nothing was written")
     private = new_private(given.type)
-    octets = file_of(private, passphrase, given.pem)
     comment = os.fsencode(given.comment or os.path.basename(path))
-    write((path, octets), mode=0o600)
+    write((path, file_of(private, passphrase, given.pem)), mode=0o600)
     write((f"{path}.pub", openssh_line(private.public_key()) + b" " + comment + b"\n"))
     put(f"made {path}, which is secret, and {path}.pub\n")
     return DONE
@@ -132,9 +130,8 @@ def list_at(path: str) -> bytes:
 def is_confirmed(is_wanted: bool, option: str, warnings: Iterable[str]) -> bool:
     """Whether something is to be made: nothing is probably a mistake in it, or it is confirmed."""
     said = list(warnings)
-    tell(*(f"spki-cert: {warning}" for warning in said))
-    if said and not is_wanted:
-        tell(f"spki-cert: nothing was written; {option} makes it as it is")
+    nothing = [f"nothing was written; {option} makes it as it is"] if said and not is_wanted else []
+    tell(*(f"spki-cert: {it}" for it in [*said, *nothing]))
     return is_wanted or not said
 
 
@@ -181,7 +178,7 @@ def labels_of(given: argparse.Namespace, *paths: str) -> Labels:
 
 def show(given: argparse.Namespace) -> int:
     labels, moment = labels_of(given), given.at or now()
-    values = [(path, value_headed(path, SHOWN, NOT_SHOWN)) for path in given.files]
+    values = [(path, value_headed(path, (b"acl", b"sequence", b"case"), NOT_SHOWN)) for path in given.files]
     if given.braces:
         put(b"".join(b"{%s}\n" % base64.b64encode(canonical(value)) for _, value in values))
         return DONE
@@ -216,11 +213,10 @@ def ask(given: argparse.Namespace) -> int:
         from .drawing import svg_of_answer
         parts.append((given.svg, svg_of_answer(asked, answer)))
     write(*parts, force=given.force)
-    is_aside = "-" in (given.sequence, given.save, given.svg)
     if given.json:
         reasons = [it._asdict() for it in answer.reasons]
         lines = [json.dumps({"granted": answer.entry is not None, "entry": answer.entry, "reasons": reasons, "words": lines}, indent=1)]
-    say(*lines, is_aside=is_aside)
+    say(*lines, is_aside="-" in (given.sequence, given.save, given.svg))
     return DONE if answer.entry is not None else NO
 
 
