@@ -231,6 +231,7 @@ class OfPassphrases(Case):
         words = ("sign", "--by", "key.pem", "--to", "b.sexp", "--tag", TAG, "--days", "30", "-o", "c.sexp")
         status, said = self.on_a_terminal(words, b"open")
         self.assertEqual((status, os.path.exists(self.at("c.sexp"))), (2, False), said)
+        self.assertIn("this is not the passphrase of the key", said)
         status, said = self.on_a_terminal(words, b"sesame")
         self.assertEqual((status, "sesame" in said), (0, False), said)
         self.verified("c.sexp")
@@ -242,6 +243,8 @@ class OfPassphrases(Case):
                               text=True, start_new_session=True)
         self.assertEqual((done.returncode, done.stdout), (2, ""))
         self.assertIn("there is no terminal", done.stderr)
+        done = subprocess.run([sys.executable, COMMAND, "key", "new", "new"], cwd=self.room, capture_output=True, text=True, start_new_session=True)
+        self.assertIn("for a new key --no-passphrase", done.stderr)
 
     @needs_ssh
     @needs.needs("import bcrypt")
@@ -324,7 +327,8 @@ class OfCertificates(Case):
     def test_entries_are_written(self):
         """An entry alone, in a new list, and at the end of one whose text stays."""
         self.assertTrue(self.done("entry", "--to", "bob.pub", "--tag", TAG).startswith("(entry"))
-        self.done("entry", "--to", "alice.pub", "--tag", TAG, "--propagate", "--acl", "acl.sexp")
+        said = self.done("entry", "--to", "alice.pub", "--tag", TAG, "--propagate", "--acl", "acl.sexp")
+        self.assertEqual(said, "made acl.sexp\nentries added: 1\n")
         before = text_in(self.at("acl.sexp")).replace(b"(tag", b"\n\n  (tag")
         self.write("acl.sexp", before)
         self.done("entry", "--to", "bob.pub", "--named", "team", "--tag", TAG, "--days", "9", "--comment", "the team", "--acl", "acl.sexp")
@@ -345,7 +349,8 @@ class OfCertificates(Case):
         """The entries for a subject, by its key or its hash, and no other: what is around them stays."""
         for words in (("alice.pub",), ("bob.pub",), ("bob.pub", "--named", "team"), ("bob.pub",), ("alice.pub",)):
             self.done("entry", "--to", *words, "--tag", TAG, "--yes", "--acl", "acl.sexp")
-        self.assertIn("entries removed: 2", self.done("entry", "--remove", "--to", self.done("key", "--hash", "bob.pub"), "--acl", "acl.sexp"))
+        said = self.done("entry", "--remove", "--to", self.done("key", "--hash", "bob.pub"), "--acl", "acl.sexp")
+        self.assertEqual(said, f"entry 2, {TAG}: removed\nentry 4, {TAG}: removed\nentries removed: 2\n")
         said = self.done("show", "--labels", ".", "acl.sexp")
         self.assertEqual(re.findall(r"-> ([\w ]+)", said), ["alice", "team of bob", "alice"])
         self.assertIn("entries removed: 0", self.done("entry", "--remove", "--to", "bob.pub", "--acl", "acl.sexp", wanted=1))
@@ -436,7 +441,7 @@ class OfMistakes(Case):
         self.write("key.sexp", sexp.laid_out(signer.key))
         self.write("signer", keys.file_of(signer.private, b""))
         os.chmod(self.at("signer"), 0o600)
-        self.done("sign", "--by", "signer", "--to", "key.sexp", "--tag", TAG, "--days", "30", "-o", "c.sexp")
+        self.done("sign", "--by", "signer", "--to", "key.sexp", "--tag", TAG, "--days", "30", "--yes", "-o", "c.sexp")
         os.mkdir(self.at("folder"))
         for number in range(FILES):
             shutil.copy(self.at("c.sexp"), self.at(f"folder/{number}.sexp"))

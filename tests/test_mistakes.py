@@ -75,14 +75,38 @@ class OfWriting(Room):
         os.symlink("alice", self.at("to-key"))
         for words, said in [
                 ((*signs, "-o", "alice"), "is not written over"), ((*signs, "--force", "-o", "alice"), "is not written over"),
-                ((*signs, "--force", "-o", "to-key"), "is not written over"), ((*signs, "--force", "-o", "carol"), "a key is there already"),
-                ((*signs, "--force", "-o", "carol.pub"), "a key is there already"), ((*signs, "--force", "-o", "bob.pub"), "reads this file"),
-                ((*signs, "-o", "acl.sexp"), "--force writes over it"), (("key", "alice", "-o", "alice"), "not written over"),
+                ((*signs, "--force", "-o", "to-key"), "is not written over"), ((*signs, "--force", "-o", "carol"), "is not written over"),
+                ((*signs, "--force", "-o", "carol.pub"), "is not written over"), ((*signs, "--force", "-o", "bob.pub"), "reads this file"),
+                ((*signs, "-o", "acl.sexp"), "adds an entry to this list"), (("key", "alice", "-o", "alice"), "not written over"),
                 (("key", "alice", "--force", "-o", "alice"), "not written over"), (("key", "new", "--no-passphrase", "alice"), "is there already"),
                 (("key", "new", "--no-passphrase", "to-key"), "is there already"),
                 (("show", "--svg", "to-bob", "--force", "to-bob"), "reads this file"),
                 (("show", "--svg", "alice.pub", "--force", "--labels", ".", "to-bob"), "reads this file")]:
             self.stays(*words, said=said)
+
+    def test_no_secret_is_written_over_or_shown(self):
+        """Private keys in forms that are not read, and one that is not whole. Nor is the file of ended certificates written over."""
+        from cryptography.hazmat.primitives import serialization
+        from cryptography.hazmat.primitives.serialization import pkcs12
+        private = keys.new_private("ed25519")
+        octets = private.private_bytes(serialization.Encoding.Raw, serialization.PrivateFormat.Raw, serialization.NoEncryption())
+        seed, text = base64.b64encode(octets), b"(private-key (ecc (curve Ed25519) (flags eddsa) (q #00#) (d #%s#)" % octets.hex().encode()
+        der = private.private_bytes(serialization.Encoding.DER, serialization.PrivateFormat.PKCS8, serialization.NoEncryption())
+        p12 = pkcs12.serialize_key_and_certificates(b"x", private, None, None, serialization.NoEncryption())
+        forms = {"der": der, "p12": p12, "jwk": b'{"kty": "OKP", "d": "%s"}' % seed, "utf-16": text.decode().encode("utf-16"),
+                 "ssh2": b"---- BEGIN SSH2 ENCRYPTED PRIVATE KEY ----\n%s\n" % seed, "sexp": text, "age": b"# made\nAGE-SECRET-KEY-1" + seed,
+                 "wireguard": b"[Interface]\nPrivateKey = " + seed, "wg": seed + b"\n", "braces": b"{%s" % base64.b64encode(text)}
+        for name, secret in forms.items():
+            self.write(name, secret)
+            for words in (("key", name), ("show", name), ("check", name), ("sign", "--by", name, "--to", "bob.pub", "--tag", TAG, "--days", "1"),
+                          ("entry", "--to", "bob.pub", "--tag", TAG, "--acl", name)):
+                with self.subTest(words):
+                    said = self.done(*words, wanted=0 if words == ("check", "wg") else 2)
+                    for shown in (seed.decode()[:20], octets.hex()[:20], "\\x", base64.b64encode(text).decode()[-20:]):
+                        self.assertNotIn(shown, said)
+            self.stays("key", "bob.pub", "--force", "-o", name, said="is not written over")
+        self.done("end", "--ended", "ended")
+        self.stays("key", "bob.pub", "--force", "-o", "ended", said="the file of ended certificates is there already")
 
     def test_only_a_regular_file_is_written(self):
         os.mkfifo(self.at("fifo"))
@@ -188,6 +212,9 @@ class OfArguments(Room):
                         self.assertIn("no such option", self.done(name, option[:end], "x", wanted=2))
         self.assertIn("is `--named` meant?", self.sign("--name", "x", "-o", "c", wanted=2))
 
+    def test_a_set_of_whole_tags_is_right(self):
+        self.sign("-o", "c.sexp", tag="(* set (packages read) (packages write))")
+
     def test_what_is_not_meant_is_not_made(self):
         for row in mistakes.OF_WORDS:
             self.write("authorized_keys", b"".join(public + b"\n" for _, public in self.pairs.values()))
@@ -205,7 +232,7 @@ class OfKeyFiles(Room):
         self.write("authorized_keys", b"\n".join(lines))
         for number, name in ((1, "alice"), (2, "bob")):
             self.assertEqual(self.done("key", "--key", str(number), "authorized_keys"), self.done("key", f"{name}.pub"))
-            self.sign("--key", str(number), "--force", "-o", "c.sexp", to="authorized_keys")
+            self.sign("--key", str(number), "--force", "-o", "c.sexp", by="carol", to="authorized_keys")
             self.assertEqual(sexp.laid_out(self.verified("c.sexp")[0].terms.subject) + "\n", self.done("key", f"{name}.pub"))
         self.assertIn("2 keys are in this file", self.done("ask", "--acl", "acl.sexp", "--key", "authorized_keys", "--", "packages", wanted=2))
         self.assertIn("authorized_keys: 2 public keys", self.done("check", "authorized_keys"))

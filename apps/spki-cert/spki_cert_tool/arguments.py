@@ -55,6 +55,7 @@ class Words(argparse.ArgumentParser):
             if not commands and word.startswith("--") and " " not in word and name[2:] not in options:
                 having = ", ".join(it for it, those in commands_with_options().items() if word.partition("=")[0] in those)
                 others = f" of {self.prog.split()[-1]}, but of {having}" if having else ""
+                others += "; to define a name: `spki-cert name`; a note: `--comment`" if word.startswith("--name") and having else ""
                 self.error(f"{word}: no such option{others}{meant(name[2:], options).replace('`', '`--', 1)}")
             if commands and not word.startswith("-"):
                 if word not in commands:
@@ -123,8 +124,8 @@ OPTIONS: dict[str, dict[str, Any]] = {
     "--to": {"metavar": "KEY", "type": some, "help": "the subject: a file with its key, or an S-expression as '(hash sha256 #..#)'"},
     "--named": {"metavar": "NAME", **MANY, "type": plain, "help": "a name of --to, instead of the key itself, or without --to of the issuer"},
     "--name": {"metavar": "NAME", "required": True, "type": plain, "help": "the name that the issuer gives to the subject"},
-    "--tag": {"metavar": "TAG", "help": "the requests that are allowed, as '(packages read (* prefix /web/))'"},
-    "sign --tag": {"metavar": "TAG", "required": True, "help": "the requests that are allowed, as '(packages read (* prefix /web/))'"},
+    "--tag": {"metavar": "TAG", "type": some, "help": "the requests that are allowed, as '(packages read (* prefix /web/))'"},
+    "sign --tag": {"metavar": "TAG", "required": True, "type": some, "help": "the requests that are allowed, as '(packages read (* prefix /web/))'"},
     "--propagate": {**FLAG, "help": "the subject may delegate the right"},
     "--try": {"metavar": "WORD", "nargs": "+", **MANY, "dest": "tries", "help": "a request that the tag is to contain, by its words"},
     "--from": {**DATE, "dest": "begins", "help": "valid from this day or moment on"},

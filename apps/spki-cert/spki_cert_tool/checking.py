@@ -164,9 +164,8 @@ def of_terms(node: Node, moment: bytes) -> Iterator[tuple[int, str]]:
         yield node.begin, "this certificate has no end: sign a new one with `--days N`, and end this one by `spki-cert end`"
     fields = [inner for it in node.members or [] for inner in ((it.members or []) if it.head == b"valid" else [it])]
     places = {field.head: field.begin for field in fields}
-    what, mending = "this entry", "remove it, or give a later date"
-    if is_certificate:
-        what, mending = "this certificate", "sign a new one, since a changed date breaks the signature"
+    what, mending = (("this certificate", "sign a new one, since a changed date breaks the signature") if is_certificate
+                     else ("this entry", "remove it, or give a later date"))
     yield from ((places[head], f"{why}: {mending}") for head, why in remarks_on_window(terms.begins, terms.ends, moment, what))
 
 
@@ -183,7 +182,7 @@ def of_entries(node: Node) -> Iterator[tuple[int, str]]:
         is_first = other < one or not contains(narrow, wide, keys)
         if left > 0 and one not in told and contains(wide, narrow, keys) and is_first:
             told.add(one)
-            yield node.begin, f"entry {one + 1} gives nothing that entry {other + 1} does not give already"
+            yield node.begin, f"entry {other + 1} gives all of entry {one + 1}: remove entry {one + 1}"
 
 
 def of_key(node: Node) -> Iterator[tuple[int, str]]:

@@ -21,13 +21,13 @@ from .keys import BadKey, file_of, hash_of, kind_of, new_private, openssh_line, 
 from .making import (certificate_of, fields_of, list_with, list_without, signed_sequence, text_of, warnings_of, warnings_of_certificate,
                      warnings_of_list)
 from .places import value_in
+from .requesting import request
 from .sexp import Value, canonical, on_one_line
 from .showing import Labels, lines_of, rows_of, what_is
 from .structures import PRINCIPALS, read_subject, read_tag
 
 DONE, NO, REFUSED, FAILED, UNCONFIRMED = 0, 1, 2, 3, 4
 ENDING = (signal.SIGHUP, signal.SIGINT, signal.SIGQUIT, signal.SIGTERM)
-SHOWN = (b"acl", b"sequence", b"case")
 NOT_SHOWN = "only an access list, a certificate, a sequence or a case is shown; for a key there is `spki-cert key`"
 Command = Callable[[argparse.Namespace], int]
 
@@ -37,17 +37,17 @@ Command = Callable[[argparse.Namespace], int]
 
 def key(given: argparse.Namespace) -> int:
     keys = [(path, key_at(path, given.number, True)) for path in given.files]
-    if given.json:
-        rows = [{"file": path, "key": on_one_line(it), "hash": on_one_line(hash_of(it)), "algorithm": kind_of(it)} for path, it in keys]
-        write((given.output, json.dumps(rows, indent=1).encode() + b"\n"), force=given.force)
-    else:
-        write((given.output, b"".join(text_of(hash_of(it) if given.hash else it) for _, it in keys)), force=given.force)
+    rows = [{"file": path, "key": on_one_line(it), "hash": on_one_line(hash_of(it)), "algorithm": kind_of(it)} for path, it in keys]
+    text = b"".join(text_of(hash_of(it) if given.hash else it) for _, it in keys)
+    write((given.output, json.dumps(rows, indent=1).encode() + b"\n" if given.json else text), force=given.force)
     return DONE
 
 
 def new_key(given: argparse.Namespace) -> int:
     """Makes a key pair, as two files."""
     path = given.file
+    if path.endswith(".pub"):
+        raise Refused(f"{path}: a private key is not called .pub; give {path[:-4]}, and the public key is {path}")
     there = [it for it in (path, f"{path}.pub") if os.path.lexists(it)]
     if there or path == "-":
         raise Refused(f"{there[0]} is there already, and a key is not written over" if there else "a new key needs the name of a file")
@@ -55,9 +55,8 @@ def new_key(given: argparse.Namespace) -> int:
     if passphrase and passphrase_for(f"the new {path} again") != passphrase:
         raise Refused("the passphrases differ; nothing was written")
     private = new_private(given.type)
-    octets = file_of(private, passphrase, given.pem)
     comment = os.fsencode(given.comment or os.path.basename(path))
-    write((path, octets), mode=0o600)
+    write((path, file_of(private, passphrase, given.pem)), mode=0o600)
     write((f"{path}.pub", openssh_line(private.public_key()) + b" " + comment + b"\n"))
     put(f"made {path}, which is secret, and {path}.pub\n")
     return DONE
@@ -91,13 +90,11 @@ def entry(given: argparse.Namespace) -> int:
     """Writes an entry, or puts it at the end of an access list."""
     if given.to is None:
         raise Refused("an entry needs --to, a key, a hash or a name")
-    if given.remove and (given.acl is None or given.tag is not None):
-        raise Refused("--remove needs --acl, and goes with no --tag")
-    change = remove if given.remove else add
-    if given.acl in (None, "-"):
-        return change(given)
-    with locked(given.acl):
-        return change(given)
+    others = (given.tag, given.propagate or None, given.tries or None, given.begins, given.days, given.until, given.comment)
+    if given.remove and (given.acl is None or any(it is not None for it in others)):
+        raise Refused("--remove needs --acl, and goes with no --tag and no other field: it removes all entries of --to")
+    with locked(given.acl) if given.acl not in (None, "-") else contextlib.nullcontext():
+        return (remove if given.remove else add)(given)
 
 
 def add(given: argparse.Namespace) -> int:
@@ -110,16 +107,17 @@ def add(given: argparse.Namespace) -> int:
     if not is_confirmed(given.yes, "--yes", warnings):
         return UNCONFIRMED
     write((given.acl or given.output, text if given.acl else text_of(made)), force=given.force, edits=is_there)
-    return say("entries added: 1", is_aside=given.acl == "-") if given.acl else DONE
+    return say(*([] if is_there else [f"made {given.acl}"]), "entries added: 1", is_aside=given.acl == "-") if given.acl else DONE
 
 
 def remove(given: argparse.Namespace) -> int:
     """Removes the entries for a subject from an access list."""
-    text, count = list_without(subject_of(given), list_at(given.acl))
-    if count or given.acl == "-":
+    text, gone = list_without(subject_of(given), list_at(given.acl))
+    if gone or given.acl == "-":
         write((given.acl, text), edits=True)
-    say(f"entries removed: {count}{'' if count else f'; no entry of {given.acl} is for this subject'}", is_aside=given.acl == "-")
-    return DONE if count else NO
+    none = f"; {given.to} has none; `spki-cert show {given.acl}` lists them" if not gone else ""
+    say(*(f"entry {number}, {tag}: removed" for number, tag in gone), f"entries removed: {len(gone)}{none}", is_aside=given.acl == "-")
+    return DONE if gone else NO
 
 
 def list_at(path: str) -> bytes:
@@ -132,9 +130,8 @@ def list_at(path: str) -> bytes:
 def is_confirmed(is_wanted: bool, option: str, warnings: Iterable[str]) -> bool:
     """Whether something is to be made: nothing is probably a mistake in it, or it is confirmed."""
     said = list(warnings)
-    tell(*(f"spki-cert: {warning}" for warning in said))
-    if said and not is_wanted:
-        tell(f"spki-cert: nothing was written; {option} makes it as it is")
+    nothing = [f"nothing was written; {option} makes it as it is"] if said and not is_wanted else []
+    tell(*(f"spki-cert: {it}" for it in [*said, *nothing]))
     return is_wanted or not said
 
 
@@ -181,7 +178,7 @@ def labels_of(given: argparse.Namespace, *paths: str) -> Labels:
 
 def show(given: argparse.Namespace) -> int:
     labels, moment = labels_of(given), given.at or now()
-    values = [(path, value_headed(path, SHOWN, NOT_SHOWN)) for path in given.files]
+    values = [(path, value_headed(path, (b"acl", b"sequence", b"case"), NOT_SHOWN)) for path in given.files]
     if given.braces:
         put(b"".join(b"{%s}\n" % base64.b64encode(canonical(value)) for _, value in values))
         return DONE
@@ -201,7 +198,7 @@ def ask(given: argparse.Namespace) -> int:
     if given.case:
         asked = asked_of_case(value_of(given.case, "case"), labels_of(given))
     elif not (given.acl and given.key and given.words):
-        raise Refused("ask needs --acl, --key and the words of a request, or --case")
+        raise Refused("the request is missing: `-- packages read`" if given.acl and given.key else "ask needs --acl and --key, or --case")
     else:
         key = key_at(given.key)
         labels = labels_of(given, *(path for path in [given.key, *filter(os.path.isdir, given.cert)] if path != "-"))
@@ -216,11 +213,10 @@ def ask(given: argparse.Namespace) -> int:
         from .drawing import svg_of_answer
         parts.append((given.svg, svg_of_answer(asked, answer)))
     write(*parts, force=given.force)
-    is_aside = "-" in (given.sequence, given.save, given.svg)
     if given.json:
         reasons = [it._asdict() for it in answer.reasons]
         lines = [json.dumps({"granted": answer.entry is not None, "entry": answer.entry, "reasons": reasons, "words": lines}, indent=1)]
-    say(*lines, is_aside=is_aside)
+    say(*lines, is_aside="-" in (given.sequence, given.save, given.svg))
     return DONE if answer.entry is not None else NO
 
 
@@ -235,13 +231,11 @@ def sequences_below(paths: list[str]) -> Iterator[str]:
 
 def check(given: argparse.Namespace) -> int:
     from .checking import files_below, remarks_on
-    moment, kinds, remarks, read, left_out = now(), [], [], 0, 0
-    for path, is_given in files_below(given.paths):
-        kind, said = remarks_on(path, moment, is_given)
-        read, left_out = read + (kind is not None), left_out + (kind is None)
-        remarks += said
-        if is_given and kind:
-            kinds.append((path, kind))
+    moment = now()
+    found = [(path, is_given, *remarks_on(path, moment, is_given)) for path, is_given in files_below(given.paths)]
+    kinds, remarks = [(path, kind) for path, is_given, kind, _ in found if is_given and kind], [it for *_, said in found for it in said]
+    left_out = sum(kind is None for _, _, kind, _ in found)
+    read = len(found) - left_out
     refused = len({it.path for it in remarks if it.is_refused})
     if given.json:
         rows = [{"file": it.path, "line": it.line, "column": it.column, "refused": it.is_refused, "text": it.text} for it in remarks]
@@ -250,11 +244,6 @@ def check(given: argparse.Namespace) -> int:
         say(*(f"{path}: {kind}" for path, kind in kinds), *map(str, remarks))
         tell(f"{read} files, {refused} refused, {len(remarks)} remarks; {left_out} other files left out")
     return REFUSED if refused else NO if remarks else DONE
-
-
-def request(given: argparse.Namespace) -> int:
-    from .requesting import request as sign_request
-    return sign_request(given)
 
 
 COMMANDS: dict[str, Command] = {"key": key, NEW_KEY: new_key, "sign": sign, "name": sign, "entry": entry, "show": show, "ask": ask, "check": check,

@@ -60,11 +60,7 @@ def digests_of(lines: Iterable[bytes]) -> set[str]:
 
 def last_line(lines: list[bytes]) -> bytes:
     """The last line of a file whose other lines are these."""
-    return b"end %d %s" % (len(rows_of(lines)), hashlib.sha256(joined(lines)).hexdigest().encode())
-
-
-def joined(lines: Iterable[bytes]) -> bytes:
-    return b"".join(line + b"\n" for line in lines)
+    return b"end %d %s" % (len(rows_of(lines)), hashlib.sha256(b"\n".join([*lines, b""])).hexdigest().encode())
 
 
 def lines_in(octets: bytes, path: str) -> list[bytes]:
@@ -118,11 +114,6 @@ def read_ended(path: str) -> tuple[os.stat_result, bytes]:
     return about, octets
 
 
-def lines_of_file(path: str) -> list[bytes]:
-    """The lines of the file before the last one."""
-    return lines_in(read_ended(path)[1], path)
-
-
 @contextlib.contextmanager
 def edited(path: str) -> Iterator[Edited]:
     """The file, while no other writer changes it. It must be writable, and have no other name, since it is replaced."""
@@ -137,7 +128,7 @@ def edited(path: str) -> Iterator[Edited]:
 
 def write_lines(file: Edited, lines: list[bytes]) -> None:
     """Replaces the file by one of these lines and their last line. A new one may be read by all."""
-    octets = joined([*lines, last_line(lines)])
+    octets = b"\n".join([*lines, last_line(lines), b""])
     if len(octets) > MOST_ENDED:
         raise Refused(f"{file.path}: it would have more than {MOST_ENDED} octets, which `spki-authd` does not read; nothing was written")
     replace(os.path.realpath(file.path), octets, 0o644, file.about)
@@ -177,7 +168,7 @@ def make(given: argparse.Namespace) -> int:
     """Makes the file without digests if it is not there. Otherwise it must be whole."""
     with locked(given.ended) as folder:
         if os.path.lexists(os.path.realpath(given.ended)):
-            return say(f"{given.ended}: it is there already, and whole; digests: {len(rows_of(lines_of_file(given.ended)))}")
+            return say(f"{given.ended}: it is there already, and whole; digests: {len(rows_of(lines_in(read_ended(given.ended)[1], given.ended)))}")
         write_lines(Edited(given.ended, folder, None, b""), [HEAD])
     return say(f"{given.ended}: made; digests: 0")
 
@@ -194,6 +185,7 @@ def add(given: argparse.Namespace) -> int:
         if count:
             write_lines(file, lines)
     return say(*(f"{called}: {'it had ended before' if digest in there else 'ended'}" for digest, called in meant.items()),
+               *(["a digest alone was not compared with a certificate; FILE instead of --digest is"] if given.digest else []),
                f"digests added: {count}" + ("; they count from the next reload of spki-authd on" if count else ""))
 
 
@@ -220,7 +212,7 @@ def listed(row: re.Match[bytes]) -> str:
 
 def list_all(given: argparse.Namespace) -> int:
     """Prints all digests, and the last line, by which two copies of the file are compared."""
-    lines = lines_of_file(given.ended)
+    lines = lines_in(read_ended(given.ended)[1], given.ended)
     return say(*map(listed, rows_of(lines)), last_line(lines).decode())
 
 

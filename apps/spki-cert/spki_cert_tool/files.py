@@ -18,7 +18,7 @@ from .agent import AgentSigner
 from .certificates import DATE_FORMAT, is_in_calendar
 from .forms import MOST_OCTETS, Node, Wrong
 from .keys import BadKey, FileSigner, is_key_file, is_private, read_private, read_public
-from .places import name_foreign, read_text, told, value_in
+from .places import may_be_secret, name_foreign, read_text, told, value_in
 from .sexp import Value
 from .structures import MOMENT, Reader, read_certificate
 
@@ -26,6 +26,8 @@ DAY_ENDS = "_23:59:59"
 SECONDS_TO_LOCK = 30
 Signer = Union[FileSigner, AgentSigner]
 CONTROLS = re.compile("[\0-\x08\x0b-\x1f\x7f-\x9f]")
+# How the file of ended certificates begins, and an S-expression.
+ENDED, HEAD = re.compile(rb"(?:#[^\n]*\n|\s)*(?:[0-9a-f]{64}\b|end \d)"), re.compile(rb"\s*\(\s*(?:\d+:)?([\w-]+)")
 # The files that this command has read, by device and inode, and whether it has read standard input. None of them is written over.
 READ: set[tuple[int, int]] = set()
 INPUT = (-1, -1)
@@ -96,19 +98,19 @@ def identity(found: os.stat_result) -> tuple[int, int]:
     return found.st_dev, found.st_ino
 
 
-def octets_of(path: str) -> bytes:
-    """The octets of a file, or of standard input for `-`. One octet more than the limit shows that there are more."""
+def octets_of(path: str, most: int = MOST_OCTETS + 1) -> bytes:
+    """The octets of a file, or of standard input for `-`. One octet more than the limit shows that there are more, and -1 reads all."""
     try:
         if path != "-":
             with open(path, "rb") as file:
                 READ.add(identity(os.fstat(file.fileno())))
-                return file.read(MOST_OCTETS + 1)
+                return file.read(most)
         if INPUT in READ or sys.stdin is None:
             raise Refused(f"-: standard input {'is one file, and was read already' if INPUT in READ else 'is closed'}")
         READ.add(INPUT)
         with contextlib.suppress(OSError, ValueError):
             READ.add(identity(os.fstat(sys.stdin.fileno())))
-        return sys.stdin.buffer.read(MOST_OCTETS + 1)
+        return sys.stdin.buffer.read(most)
     except OSError as why:
         raise Refused(f"{path}: {why.strerror}") from None
 
@@ -145,8 +147,9 @@ def node_of(octets: bytes, what: str, read: Reader) -> Node:
         return node
     except Wrong as wrong:
         name_foreign(octets, wrong)
-        if wrong.kind == "Trailing" and not octets.lstrip().startswith((b"(", b"{")):
-            wrong.why = f"these are several values; a list is in parentheses, as '({octets.decode(errors='surrogateescape')})'"
+        if wrong.kind == "Trailing":
+            whole = octets.decode(errors="surrogateescape")
+            wrong.why = f"these are several values; a list is in parentheses, as '({'* set ' if whole.lstrip()[:1] == '(' else ''}{whole})'"
         raise Refused(*told(what, (wrong, octets, None))) from None
 
 
@@ -161,7 +164,7 @@ def passphrase_for(path: str) -> bytes:
     except ValueError:
         raise BadKey("the passphrase has octets that are no text in this encoding") from None
     except (OSError, termios.error):
-        raise BadKey("it is encrypted, and there is no terminal to ask for the passphrase; or use ssh-agent") from None
+        raise BadKey("it is encrypted, and there is no terminal to ask for the passphrase: use ssh-agent, or for a new key --no-passphrase") from None
     finally:
         TERMINAL.clear()
 
@@ -214,7 +217,7 @@ def now(days: int = 0) -> bytes:
 def moment_of(text: str, day: str = "_00:00:00") -> bytes:
     """The moment of a word: a date with its time, or a day."""
     whole = text if "_" in text else text + day
-    parts = re.fullmatch(r"(\d{4})[-/.](\d\d?)[-/.](\d\d?)(?:[T_ ]+(\d\d?):(\d\d)(?::(\d\d))?)?(Z|[+-]\d\d:?\d\d| ?UTC)?", text, re.ASCII)
+    parts = re.fullmatch(r"(\d{4})[-/.](\d\d?)[-/.](\d\d?)(?:[T_ ]+([01]?\d|2[0-3]):(\d\d)(?::(\d\d))?)?(Z|[+-]\d\d:?\d\d| ?UTC)?", text, re.ASCII)
     if not MOMENT.fullmatch(os.fsencode(whole)):
         right = "YYYY-MM-DD or YYYY-MM-DD_HH:MM:SS"
         if parts and parts[7] in (None, "Z", " UTC", "UTC"):
@@ -230,7 +233,7 @@ def moment_of(text: str, day: str = "_00:00:00") -> bytes:
 # ---- writing
 
 
-def target_of(path: str, force: bool, edits: bool = False) -> tuple[str, os.stat_result | None]:
+def target_of(path: str, made: bytes, force: bool, edits: bool) -> tuple[str, os.stat_result | None]:
     """The file that a path leads to, which may be written, and what is there."""
     place = os.path.realpath(path)
     try:
@@ -243,10 +246,12 @@ def target_of(path: str, force: bool, edits: bool = False) -> tuple[str, os.stat
             raise Refused(f"{path}: its mode {stat.S_IMODE(before.st_mode):o} says that it is not to be written; nothing was written")
         with open(place, "rb") as file:
             octets = file.read(MOST_OCTETS)
-        if is_key_file(octets) or is_private(octets):
-            raise Refused(f"{path}: a key is there already, and a key is not written over; nothing was written")
+        is_key = is_key_file(octets) or may_be_secret(octets)
+        if is_key or ENDED.match(octets):
+            kept = "a key, or what may be one," if is_key else "the file of ended certificates"
+            raise Refused(f"{path}: {kept} is there already, and is not written over; nothing was written")
         if not force and not edits:
-            raise Refused(f"{path}: this file is there already; --force writes over it; nothing was written")
+            raise Refused(f"{path}: this file is there already; {instead(path, octets, made)}; nothing was written")
         return place, before
     except FileNotFoundError:
         if not os.path.isdir(os.path.dirname(place)):
@@ -256,10 +261,19 @@ def target_of(path: str, force: bool, edits: bool = False) -> tuple[str, os.stat
         raise Refused(f"{path}: {why.strerror}; nothing was written") from None
 
 
+def instead(path: str, there: bytes, made: bytes) -> str:
+    """What to do where a file is there already. One of another kind was hardly meant."""
+    head = HEAD.match(there)
+    if head is None or made.startswith(b"(" + head[1]):
+        return "--force writes over it"
+    is_list = head[1] == b"acl"
+    return f"`spki-cert entry --acl {path}` adds an entry to this list" if is_list else f"it has `({head[1].decode()} ..)`: give another name"
+
+
 def write(*parts: tuple[str | None, bytes], mode: int = 0o644, force: bool = False, edits: bool = False) -> None:
     """Writes files, each whole or not at all, after none of them is refused; what has no path goes to standard output. With `force` a file may
     be there already, and with `edits` it is one that was read: it keeps its mode and its owner."""
-    targets = [(path, *target_of(path, force, edits), octets) for path, octets in parts if path is not None and path != "-"]
+    targets = [(path, *target_of(path, octets, force, edits), octets) for path, octets in parts if path is not None and path != "-"]
     places = [place for _, place, _, _ in targets]
     if len(set(places)) < len(places):
         raise Refused(f"{targets[-1][0]}: two results are to be written to one file; nothing was written")

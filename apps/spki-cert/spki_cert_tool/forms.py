@@ -22,6 +22,10 @@ BODIES = {b'"': re.compile(rb'(?:[^"\\]|\\.)*', re.DOTALL), b"#": re.compile(rb"
 ESCAPE = re.compile(rb"\\(?:([abtnvfr])|([\"'?\\])|([0-3][0-7]{2})|x([0-9A-Fa-f]{2})|(\r\n|\n\r|\r|\n))")
 DIGITS = re.compile(rb"[0-9A-Fa-f]{16}")
 SYMBOLS = re.compile(rb"([A-Za-z0-9+/]*)(=*)")
+SAID = {b";": "`;` begins no comment: there are no comments, only the field `(comment \"..\")`",
+        b",": "there are no commas: spaces are between members, and what contains each of several words is `(* set read write)`",
+        b"'": "`'` is no quotation mark here: leave it out, or write `\"`",
+        b"?": "there are no patterns: what begins so is `(* prefix /web/)`, and a string with `?` needs quotes"}
 FORM_FAULTS = ("TooLong", "TooDeep", "Short", "Bad", "Trailing")
 # A further place of a fault, with a remark.
 Place = tuple[int, str]
@@ -81,11 +85,9 @@ def said_of(text: bytes, at: int) -> str | None:
             return f"this is the invisible character U+{ord(character):04X}, {name}, which is no space here: delete it, or write a plain one"
         word = next(it[0] for it in LETTERS.finditer(text) if it.end() > at)
         return f"a string with `{character}` needs quotes: `\"{word.decode(errors='replace')}\"`"
-    if octet == b";":
-        return "`;` begins no comment: there are no comments, only the field `(comment \"..\")`"
-    if octet in b"?!,$%&@~'<>\\^`":
-        return f"a string with `{octet.decode()}` needs quotes"
-    return None
+    if octet == b"@" and at == 0:
+        return "no file is read here, and \"$(cat FILE)\" gives what is in it"
+    return SAID.get(octet, f"a string with `{octet.decode()}` needs quotes" if octet in b"!$%&@~<>\\^`" else None)
 
 
 def spaces_end(text: bytes, at: int) -> int:
@@ -151,7 +153,8 @@ class Parser:
                          f"`({node.head.decode()} ..)`", [begins])
         is_behind_others = self.text[self.text.rfind(b"\n", 0, behind) + 1:behind].strip()
         if is_behind_others or column(self.text, behind) <= column(self.text, node.begin):
-            return Wrong("Trailing", behind, "a second value begins here; a text is one value", [begins])
+            end = self.text.count(b"\n", 0, node.end) + 1
+            return Wrong("Trailing", behind, f"a text is one value, and this one ends on line {end}: delete all behind it", [begins])
         return Wrong("Trailing", behind, "this `)` ends the value, and by its indentation the next line belongs to it; is it one too many?",
                      [(behind, "this follows the value"), begins], node.end - 1)
 

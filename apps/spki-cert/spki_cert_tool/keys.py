@@ -49,14 +49,10 @@ def hash_of(value: Value) -> Value:
     return [b"hash", b"sha256", digest_of(value)]
 
 
-def is_named_by_itself(key: Value) -> bool:
-    """Whether certificates have the key itself and not its hash: one of RSA is long."""
-    return not (isinstance(key, list) and isinstance(key[1], list) and key[1][0] == b"rsa")
-
-
 def principal_of(key: Value) -> Value:
-    """How certificates name a key."""
-    return key if is_named_by_itself(key) else hash_of(key)
+    """How certificates name a key: by itself, or one of RSA, which is long, by its hash."""
+    is_long = isinstance(key, list) and isinstance(key[1], list) and key[1][0] == b"rsa"
+    return hash_of(key) if is_long else key
 
 
 def key_of(public: object) -> Value:
@@ -252,7 +248,8 @@ def read_private(octets: bytes, asking: Asking) -> Private:
                 raise
             if line and importlib.util.find_spec("bcrypt") is None:
                 raise BadKey(NEEDS_BCRYPT) from None
-            is_asked, private = True, load(octets, asking())
+            is_asked = True
+            private = load(octets, asking())
     except (ValueError, TypeError, ArithmeticError, UnsupportedAlgorithm) as fault:
         raise BadKey(NEEDS_BCRYPT if "bcrypt" in str(fault) else "this is not the passphrase of the key, or the file is damaged" if is_asked
                      else f"no private key that can be read: was it copied to its end? And {USED}") from None

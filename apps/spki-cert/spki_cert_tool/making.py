@@ -1,10 +1,11 @@
 """Makes certificates and entries: what is asked for, what is probably a mistake, and the signed sequence."""
 import os
+import re
 from collections.abc import Iterator
 
 from .certificates import Keys, Terms, certificates_in, entries_of, headed, members, remarks_on_window, terms_of
 from .files import Refused, Signer, now
-from .keys import hash_of, is_named_by_itself, principal_of, verifies
+from .keys import hash_of, principal_of, verifies
 from .places import place_shown, read_text, told, value_in
 from .sexp import Value, canonical, laid_out, on_one_line
 from .tag_words import contains, is_everything, lacks, remarks
@@ -47,22 +48,21 @@ def signed_sequence(certificate: Value, signer: Signer, chain: Value | None) -> 
 def sequence_with(chain: Value | None, key: Value, certificate: Value, value: Value) -> Value:
     """The sequence of a chain and a certificate with its signature."""
     before = members(chain) if chain is not None else []
-    shown = [] if is_named_by_itself(key) or key in before else [key]
+    shown = [] if principal_of(key) == key or key in before else [key]
     return [b"sequence", *before, *shown, certificate, [b"signature", hash_of(certificate), principal_of(key), value]]
 
 
-def list_without(subject: Value, before: bytes) -> tuple[bytes, int]:
-    """The text of an access list without the entries for a subject, and how many they were. What is around them stays as it is."""
+def list_without(subject: Value, before: bytes) -> tuple[bytes, list[tuple[int, str]]]:
+    """The text of an access list without the entries for a subject, and their numbers and tags. What is around them stays as it is."""
     if before.lstrip().startswith(b"{"):
         before = text_of(value_in(before).value)
     wanted, entries = terms_of([b"entry", subject]), [it for it in value_in(before).members or [] if it.head == b"entry"]
     terms = [terms_of(it.value) for it in entries]
     keys = Keys(it.principal for it in (wanted, *terms))
-    gone = [node for node, it in zip(entries, terms) if it.names == wanted.names and keys.are_one(it.principal, wanted.principal)]
-    for node in reversed(gone):
-        begin = len(before[:node.begin].rstrip())
-        before = before[:begin] + before[node.end:]
-    return before, len(gone)
+    gone = [at for at, it in enumerate(terms) if it.names == wanted.names and keys.are_one(it.principal, wanted.principal)]
+    for node in (entries[at] for at in reversed(gone)):
+        before = before[:node.begin].rstrip() + before[node.end:]
+    return before, [(at + 1, on_one_line(terms[at].tag or b"")) for at in gone]
 
 
 def needs_no_refusal(what: str, text: bytes) -> None:
@@ -80,6 +80,8 @@ def warnings_of_certificate(terms: Terms, tag_text: str, needed: bytes | None, c
     needed, if there is one."""
     if terms.ends is None:
         yield "it has no end: give --days or --until; otherwise it counts until a service ends it by `spki-cert end`"
+    if terms.name is None and not terms.names and Keys([terms.issuer or b"", terms.principal]).are_one(terms.issuer, terms.principal):
+        yield "its subject is its issuer, who has the right already: --to is the key that gets it"
     yield from warnings_of(terms, tag_text, tries)
     for each in certificates_in(chain) if chain is not None else []:
         ends = each.terms.ends
@@ -97,13 +99,18 @@ def warnings_of_list(made: Value, before: bytes) -> Iterator[str]:
 
 def warnings_of(terms: Terms, tag_text: str, tries: list[Value]) -> Iterator[str]:
     """The same of what certificates and entries have alike. An entry needs no end, since it can be removed from its list."""
-    yield from (why for _, why in remarks_on_window(terms.begins, terms.ends, now()))
+    yield from (f"{why}: give a later date by --until" for _, why in remarks_on_window(terms.begins, terms.ends, now()))
     if headed(terms.principal, b"hash") and members(terms.principal)[0] == b"sha1":
         yield "its subject is a hash by sha1, which names no key under the strict policy"
     if terms.tag is None:
         return
     if is_everything(terms.tag):
         yield "its tag is `(*)`, which contains every request: narrow it, for example `(packages read)`, or keep it if that is meant"
+    if isinstance(terms.tag, bytes):
+        yield (f"--tag is one string, `{on_one_line(terms.tag)}`, and contains only the request of this one word: a tag is a list, as "
+               "`(packages read (* prefix /web/))`, and that of a file is given by \"$(cat FILE)\"")
+    if re.search(r"[^\s(] +\)", tag_text):
+        yield "--tag has a blank before a `)`: is a variable of the shell empty there?"
     for at, why in remarks(value_in(os.fsencode(tag_text))):
         where, around = place_shown(os.fsencode(tag_text), None, at)
         yield f"--tag, {where}: {why}\n{around}"

@@ -34,6 +34,8 @@ FOREIGN = [
     (rb"(?:ssh|ecdsa)-[\w@.-]{1,64}-cert-v01@\S{1,64}\s{1,64}AAAA[^()\n]*",
      "this is a certificate of OpenSSH, and no key; give the key that it is for, FILE.pub"),
     (rb"ssh-dss\s{1,64}AAAA[^()\n]*", f"this is a key of DSA; {USED}"),
+    (rb"\A(?:(?:\s*#[^\n]*\n)*\s*AGE-SECRET-KEY-|\[Interface\]|[A-Za-z0-9+/]{43}=\s*\Z).*",
+     "this is perhaps a secret key of age or WireGuard, and such keys are not used: keep it secret; `spki-cert key new FILE` makes a key"),
     (rb"\A\s*\{\s*\"", "this is JSON, perhaps a JWK; keys are read in the form of OpenSSH, in PEM, or as S-expressions")]
 # Keys in a form that is no S-expression, where one is wanted.
 PASTED = [(pattern, f"this is {called}, and no S-expression; {wanted}") for pattern, called, wanted in [
@@ -44,6 +46,7 @@ PASTED = [(pattern, f"this is {called}, and no S-expression; {wanted}") for patt
 INSIDE = "; replace the whole `(public-key ..)` by that S-expression"
 EMPTY = {"acl": "an access list begins as `(acl)`, and `spki-cert entry --acl FILE` adds an entry",
          "sequence": "`spki-cert sign` writes a certificate with its signature", "key": "`spki-cert key FILE` writes a key"}
+SECRET = re.compile(rb"(?i)private.?key|K(?:DExOn|H)ByaXZhdGUta2V5|AGE-SECRET-KEY")
 COMMENT = rb"[ \t]*(?:#[^#()]{0,40}[G-Zg-z][^#]*|//.*|--.*)\Z"
 BEGINS = rb"^\((?:acl|case|cert|entry|public-key|sequence)[\s()]"
 FLAGS = re.DOTALL | re.MULTILINE
@@ -52,6 +55,11 @@ FLAGS = re.DOTALL | re.MULTILINE
 def foreign(text: bytes) -> str | None:
     """What a text is that is neither a key that is used nor an S-expression. None if it is not known."""
     return next((why for pattern, why in FOREIGN if re.match(pattern, text.lstrip(), FLAGS)), None)
+
+
+def may_be_secret(text: bytes) -> bool:
+    """Whether a text is perhaps a private key, in any form."""
+    return SECRET.search(text) is not None or foreign(text) is not None
 
 
 def name_foreign(text: bytes, wrong: Wrong) -> None:
@@ -63,7 +71,8 @@ def name_foreign(text: bytes, wrong: Wrong) -> None:
                 wrong.shown_at, wrong.why = found.start(), why + (INSIDE if is_inside else "")
                 return
     at = text.rfind(b"\n", 0, wrong.at) + 1
-    if re.match(COMMENT, text[at:].partition(b"\n")[0], FLAGS):
+    is_behind = wrong.kind.endswith("Trailing") and text.lstrip().startswith(b"(")
+    if re.match(COMMENT, text[at:].partition(b"\n")[0], FLAGS) and not is_behind:
         wrong.shown_at, wrong.why = at, "there are no comments, only the field `(comment \"..\")`; delete this line"
         return
     begins = re.search(BEGINS, text, FLAGS)
@@ -276,12 +285,12 @@ def printable(octet: int) -> str:
 
 
 def told(name: str, found: Found) -> list[str]:
-    """The lines that show a fault of a file: the refusal, and each place with the text around it."""
+    """The lines that show a fault of a file: the refusal, and each place with the text around it, unless that may be secret."""
     wrong, text, places = found
     if wrong is None:
         return []
     lines = [f"{name}: {refusal(wrong, places)}"]
     for at, why in places_of(wrong):
         where, around = place_shown(text, places, at)
-        lines += [f"{where}: {why}", around]
+        lines += [f"{where}: {why}", *([] if may_be_secret(text) else [around])]
     return lines

@@ -6,9 +6,8 @@ import base64
 import os
 import re
 import subprocess
-import sys
 
-from .files import Refused, put, remark_on_mode, signer_at, tell, value_of
+from .files import Refused, octets_of, put, remark_on_mode, signer_at, tell, value_of
 from .sexp import canonical
 
 DONE, BY_SIGNAL = 0, 128
@@ -20,7 +19,7 @@ ADDRESS = re.compile(r"https?://[^/?#@\s]+(?:[/?][!\"$-~]*)?")
 def request(given: argparse.Namespace) -> int:
     """Prints the fields of a signed request, or has curl send it."""
     from spki_http import Signer
-    method, body = given.method or ("PUT" if given.body is not None else "GET"), body_of(given.body) if given.body is not None else b""
+    method, body = given.method or ("PUT" if given.body is not None else "GET"), octets_of(given.body, -1) if given.body is not None else b""
     if not METHOD.fullmatch(method):
         raise Refused(f"{method}: a method is in capital letters, as PUT")
     if not ADDRESS.fullmatch(given.address):
@@ -40,17 +39,6 @@ def request(given: argparse.Namespace) -> int:
         return sent(method, given.address, lines.encode(), body if given.body is not None else None, given.words)
     put(lines)
     return DONE
-
-
-def body_of(path: str) -> bytes:
-    """The whole of a file, or of standard input for `-`."""
-    try:
-        if path == "-":
-            return sys.stdin.buffer.read()
-        with open(path, "rb") as file:
-            return file.read()
-    except OSError as why:
-        raise Refused(f"{path}: {why.strerror}") from None
 
 
 def sent(method: str, address: str, lines: bytes, body: bytes | None, words: list[str]) -> int:

@@ -82,8 +82,8 @@ def read_hash(node: Node) -> bytes:
     if not digest.is_plain():
         raise shape(digest, "the digest is a string without a display hint")
     if len(digest.body or b"") != DIGESTS[algorithm]:
-        said = f"a digest by {algorithm.decode()} has {DIGESTS[algorithm]} octets, and this has {len(digest.body or b'')}"
-        raise Wrong("DigestLength", digest.begin, f"{said}; write it as #HEXADECIMAL#")
+        said = f"a digest by {algorithm.decode()} has {2 * DIGESTS[algorithm]} hexadecimal digits, here {2 * len(digest.body or b'')}"
+        raise Wrong("DigestLength", digest.begin, f"{said}, between two `#`: copy it again, or take that of `spki-cert key --hash FILE`")
     if members.left and members.left[0].head == b"uri":
         members.left.pop(0)
     members.end()
@@ -145,10 +145,6 @@ def read_issuer(node: Node) -> bool:
     return True
 
 
-def any_value(node: Node) -> None:
-    """A member that nothing is required of."""
-
-
 def field_of(read: Reader) -> Reader:
     return list_of(None, "a field", ("the member of this field", read))
 
@@ -198,6 +194,8 @@ def one_validity(said: Said) -> None:
 
 
 def read_entry(node: Node) -> None:
+    if node.head == b"deny":
+        raise shape(node, "there are no denials: what no entry gives is denied, so leave this out")
     members = Members(node, b"entry", "an entry")
     subject = members.next("the subject")
     if not read_subject(subject):
@@ -228,11 +226,11 @@ def read_digest_of_row(node: Node) -> None:
 def read_operation(node: Node) -> None:
     if not node.rest or not node.rest[0].is_plain(b"hash"):
         raise Wrong("UnknownOp", node.begin, "the only operation is `(do hash ALGORITHM)`")
-    list_of(b"do", "an operation", ("hash", any_value), ("the algorithm", read_algorithm))(node)
+    list_of(b"do", "an operation", ("hash", lambda _: None), ("the algorithm", read_algorithm))(node)
 
 
-read_signature = list_of(b"signature", "a signature", ("the hash", read_hash), ("the principal", read_principal), ("the value", any_value))
-read_row = list_of(b"by", "a row", ("the key", read_key), ("the hash", read_digest_of_row), ("the value of the signature", any_value))
+read_signature = list_of(b"signature", "a signature", ("the hash", read_hash), ("the principal", read_principal), ("the value", lambda _: None))
+read_row = list_of(b"by", "a row", ("the key", read_key), ("the hash", read_digest_of_row), ("the value of the signature", lambda _: None))
 ITEMS: dict[bytes, Reader] = {b"public-key": read_key, b"do": read_operation, b"cert": read_certificate, b"signature": read_signature}
 
 

@@ -87,7 +87,10 @@ def remarks(node: Node, is_outermost: bool = True) -> Iterator[Place]:
         return
     head, rest = node.members[0].body or b"", node.members[1:]
     if head == b"*":
-        yield from of_star(node, rest)
+        yield from of_star(node, rest, is_outermost)
+        return
+    if head == b"tag" and len(rest) == 1 and is_outermost:
+        yield node.begin, f"`(tag ..)` is written around it: give `{on_one_line(rest[0].value)}` alone"
         return
     words = [member.body for member in node.members]
     if head[:1] == b"*" and head[1:] in STARLESS:
@@ -116,14 +119,14 @@ def of_string(node: Node) -> Iterator[Place]:
         yield node.begin, "this string is empty, and contains only the empty string"
 
 
-def of_star(node: Node, rest: list[Node]) -> Iterator[Place]:
-    """Remarks on a set, a prefix or a range."""
+def of_star(node: Node, rest: list[Node], is_outermost: bool) -> Iterator[Place]:
+    """Remarks on a set, a prefix or a range. The members of an outermost set are whole tags."""
     word = rest[0].body if rest else None
     if word == b"set":
         if len(rest) == 1:
-            yield node.begin, "an empty set contains no request"
+            yield node.begin, "an empty set contains no request: write its members, as `(* set read write)`, or remove it"
         for member in rest[1:]:
-            yield from remarks(member, False)
+            yield from remarks(member, is_outermost)
     elif word == b"prefix":
         yield from of_prefix(node, rest[1].body or b"")
     elif word == b"range":
@@ -148,7 +151,7 @@ def of_range(node: Node, ordering: bytes, limits: list[bytes]) -> Iterator[Place
         if not FORMS[ordering].fullmatch(limit):
             yield node.begin, f"the limit `{on_one_line(limit)}` is no {ordering.decode()} as requests have them"
     if low is not None and up is not None and (low > up or low == up and (b"g" in given or b"l" in given)):
-        yield node.begin, "no string is between these limits"
+        yield node.begin, f"no string is between `{on_one_line(low)}` and `{on_one_line(up)}`: {'exchange them' if low > up else 'remove the range'}"
 
 
 def is_everything(tag: Value) -> bool:
