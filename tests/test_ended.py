@@ -152,6 +152,7 @@ class Ends(Case):
                 self.write(ENDED, whole())
                 said = self.ended(*words)
                 self.assertEqual((self.rows(), f"digests added: {len(wanted)};" in said), (wanted, True), said)
+                self.assertEqual("--digest is compared with no certificate" in said, "--digest" in words)
 
     def test_forms(self) -> None:
         """A file in another form of the same value has the same digest."""

@@ -161,7 +161,6 @@ OPTIONS: dict[str, dict[str, Any]] = {
     "--undo": {**FLAG, "help": "take the digests out again: spki-authd then needs -reload -fewer"},
     "--list": {**FLAG, "help": "print the digests with date and reason, and the last line of the file"},
     "--adopt": {**FLAG, "help": "take the lines of a file without a last line, or with a wrong one, as they are"}}
-SHORT = {"--output": ["-o"]}
 FIELDS = "--to --key --named --from --comment --yes --force --days|--until"
 # What each command does, in one line and in several, an example, and its options and words. Of those between `|` one may be given.
 COMMANDS: dict[str, tuple[str | None, str | None, str, str]] = {
@@ -224,7 +223,7 @@ def parser_of_commands() -> argparse.ArgumentParser:
         for group in words.split():
             place = command.add_mutually_exclusive_group() if "|" in group else command
             for word in group.split("|"):
-                place.add_argument(*SHORT.get(word, []), word, **OPTIONS.get(f"{name} {word}", OPTIONS.get(word, {})))
+                place.add_argument(*(["-o"] if word == "--output" else []), word, **OPTIONS.get(f"{name} {word}", OPTIONS.get(word, {})))
     return parser
 
 

@@ -29,7 +29,6 @@ from .structures import PRINCIPALS, read_subject, read_tag
 DONE, NO, REFUSED, FAILED, UNCONFIRMED = 0, 1, 2, 3, 4
 ENDING = (signal.SIGHUP, signal.SIGINT, signal.SIGQUIT, signal.SIGTERM)
 NOT_SHOWN = "only an access list, a certificate, a sequence or a case is shown; for a key there is `spki-cert key`"
-Command = Callable[[argparse.Namespace], int]
 
 
 # ---- key
@@ -246,8 +245,9 @@ def check(given: argparse.Namespace) -> int:
     return REFUSED if refused else NO if remarks else DONE
 
 
-COMMANDS: dict[str, Command] = {"key": key, NEW_KEY: new_key, "sign": sign, "name": sign, "entry": entry, "show": show, "ask": ask, "check": check,
-                                "end": end, "request": request, "completion": lambda _: say(completion())}
+COMMANDS: dict[str, Callable[[argparse.Namespace], int]] = {
+    "key": key, NEW_KEY: new_key, "sign": sign, "name": sign, "entry": entry, "show": show, "ask": ask, "check": check, "end": end,
+    "request": request, "completion": lambda _: say(completion())}
 
 
 def main() -> int:

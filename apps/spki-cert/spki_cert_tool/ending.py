@@ -185,7 +185,7 @@ def add(given: argparse.Namespace) -> int:
         if count:
             write_lines(file, lines)
     return say(*(f"{called}: {'it had ended before' if digest in there else 'ended'}" for digest, called in meant.items()),
-               *(["a digest alone was not compared with a certificate; FILE instead of --digest is"] if given.digest else []),
+               *(["--digest is compared with no certificate: give the FILE of the certificate if you have it"] if given.digest else []),
                f"digests added: {count}" + ("; they count from the next reload of spki-authd on" if count else ""))
 
 

@@ -164,7 +164,7 @@ def passphrase_for(path: str) -> bytes:
     except ValueError:
         raise BadKey("the passphrase has octets that are no text in this encoding") from None
     except (OSError, termios.error):
-        raise BadKey("it is encrypted, and there is no terminal to ask for the passphrase: use ssh-agent, or for a new key --no-passphrase") from None
+        raise BadKey("there is no terminal to ask for the passphrase: use ssh-agent, or for a new key --no-passphrase") from None
     finally:
         TERMINAL.clear()
 
@@ -217,7 +217,8 @@ def now(days: int = 0) -> bytes:
 def moment_of(text: str, day: str = "_00:00:00") -> bytes:
     """The moment of a word: a date with its time, or a day."""
     whole = text if "_" in text else text + day
-    parts = re.fullmatch(r"(\d{4})[-/.](\d\d?)[-/.](\d\d?)(?:[T_ ]+([01]?\d|2[0-3]):(\d\d)(?::(\d\d))?)?(Z|[+-]\d\d:?\d\d| ?UTC)?", text, re.ASCII)
+    parts = re.fullmatch(r"(\d{4})[-/.](1[0-2]|0?[1-9])[-/.](3[01]|[12]\d|0?[1-9])(?:[T_ ]+([01]?\d|2[0-3]):([0-5]\d)(?::([0-5]\d))?)?"
+                         r"(Z|[+-]\d\d:?\d\d| ?UTC)?", text, re.ASCII)
     if not MOMENT.fullmatch(os.fsencode(whole)):
         right = "YYYY-MM-DD or YYYY-MM-DD_HH:MM:SS"
         if parts and parts[7] in (None, "Z", " UTC", "UTC"):
