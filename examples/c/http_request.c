@@ -490,7 +490,8 @@ static const char *check_signature(struct spki_text key, const char *algorithm, 
     unsigned char text[MOST_SIGNATURE + 64];
     struct writer value = {text, 0};
     put_signature(&value, algorithm, octets);
-    bool is_valid = verifies(key, (struct spki_text){base->octets, base->length}, (struct spki_text){text, value.length});
+    const struct spki_signed signature = {.key = key, .message = {base->octets, base->length}, .value = {text, value.length}};
+    bool is_valid = verifies(&signature);
     return is_valid ? NULL : "invalid-signature";
 }
 
