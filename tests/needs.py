@@ -1,6 +1,5 @@
 """What the tests use beyond the toolchain and Python, in one list: the table of CONTRIBUTING.md, the skipped tests and the line that
 `tests/run --needs` prints come from it."""
-import functools
 import glob
 import importlib.util
 import os
@@ -22,7 +21,11 @@ class Need:
 
     @property
     def is_there(self) -> bool:
-        """Whether this machine has it."""
+        """Whether this machine has it. It is looked for once: a test may add folders of modules to the path later."""
+        return THERE[self.name]
+
+    def is_found(self) -> bool:
+        """Looks for it."""
         if self.name.endswith(".h"):
             return has_header(self.name)
         if self.name == "unshare":
@@ -112,17 +115,18 @@ APART = ["unshare", *["--map-root-user"] * bool(os.getuid()), "--mount", "--pid"
 HIDES = "mount -t proc -o subset=pid proc /proc && ! [ -e /proc/sys ]"
 
 
-@functools.cache
 def may_hide() -> bool:
     """Whether unshare is there and may make a /proc that hides what is no process."""
     return bool(shutil.which("unshare")) and not subprocess.run([*APART, "sh", "-c", HIDES], stderr=subprocess.DEVNULL).returncode
 
 
-@functools.cache
 def has_header(name: str) -> bool:
     """Whether the C compiler finds a header."""
     words = ["cc", "-E", "-include", name, "-x", "c", "/dev/null"]
     return bool(shutil.which("cc")) and not subprocess.run(words, stdout=subprocess.DEVNULL, stderr=subprocess.DEVNULL).returncode
+
+
+THERE = {need.name: need.is_found() for need in NEEDS}
 
 
 def has(*names: str) -> bool:
