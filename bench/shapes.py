@@ -2,7 +2,8 @@
 import hashlib
 
 from check import STAR, group, key, string
-from support import canonical, read
+from support import canonical
+from spki_cert_tool.forms import Parser
 
 NOW = string("2024-01-01_00:00:00")
 
@@ -71,5 +72,6 @@ def a_set(member, members=999):
 
 def parts_of(text):
     """The list, the sequence, the key, the request and the moment of a case."""
-    _, acl, _, sequence, asker, request, moment, *_ = read(text)
+    # (some lists here are longer than a text may be)
+    _, acl, _, sequence, asker, request, moment, *_ = Parser(text, True).value(0, "a value").value
     return [canonical(it) for it in (acl, sequence, asker[1], request[1], moment[1])]
