@@ -17,8 +17,7 @@ pub const REFUSED: u32 = 2;
 /// A buffer is too small for the answer.
 pub const TOO_SMALL: u32 = 4;
 
-/// The call is misused: a number has no meaning, a limit is too high, or there are more or fewer marks than signatures. There is no
-/// answer.
+/// The call is misused: a number has no meaning, a limit is too high, or no signature is at a place that is marked. There is no answer.
 pub const MISUSED: u32 = 5;
 
 /// The call is done, and its answer is no decision.
