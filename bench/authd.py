@@ -26,7 +26,7 @@ import time
 from authd_site import Site, processor_seconds, reload, resident
 
 sys.path.append(os.path.join(os.path.dirname(os.path.abspath(__file__)), "..", "tests"))
-from support import LIBRARY  # noqa: E402
+from shared import LIBRARY  # noqa: E402
 
 CONNECTIONS = 32
 WAYS = "nginx alone", "nginx and handler", "nginx and daemon"

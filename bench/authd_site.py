@@ -14,8 +14,7 @@ import urllib.parse
 from datetime import datetime, timedelta, timezone
 
 sys.path.append(os.path.join(os.path.dirname(os.path.abspath(__file__)), "..", "tests"))
-import golang  # noqa: E402
-from support import BENCH, canonical  # noqa: E402
+from shared import BENCH, canonical, golang  # noqa: E402
 
 from spki_cert_tool.keys import FileSigner, hash_of, new_private  # noqa: E402
 

@@ -1,5 +1,5 @@
 #!/usr/bin/env python3
-"""Times `spki check` on long chains of certificates and on wide texts, and beside `openssl`. `slowest.py` has slower texts. Times are
+"""Times `spki check` on long chains of certificates and on wide texts, and beside `openssl`. `linear.py` has slower texts. Times are
 processor times, the least of some runs.
 
 Build the program first (`rt run` in crates/spki). Usage: bench/chains.py [PROGRAM]

@@ -11,7 +11,7 @@ import sys
 from memory import peak, processor_seconds
 
 sys.path.append(os.path.join(os.path.dirname(os.path.abspath(__file__)), "..", "tests"))
-from support import PROGRAM as BUILT, group, string  # noqa: E402
+from shared import PROGRAM as BUILT, group, string  # noqa: E402
 
 PROGRAM = sys.argv[1] if len(sys.argv) > 1 else BUILT
 SIZES = [64 * 1024, 256 * 1024, 1024 * 1024]

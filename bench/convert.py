@@ -19,7 +19,7 @@ from counting import counted, counter
 from memory import peak, processor_seconds
 
 sys.path.append(os.path.join(os.path.dirname(os.path.abspath(__file__)), "..", "tests"))
-from support import PROGRAM as BUILT, braced  # noqa: E402
+from shared import PROGRAM as BUILT, braced  # noqa: E402
 
 PROGRAM = sys.argv[1] if len(sys.argv) > 1 else BUILT
 PEER = "sexp-conv"

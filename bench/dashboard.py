@@ -19,7 +19,7 @@ from xml.sax.saxutils import escape
 from authd_site import Site
 
 sys.path.append(os.path.join(os.path.dirname(os.path.abspath(__file__)), "..", "tests"))
-from support import LIBRARY, TOP  # noqa: E402
+from shared import LIBRARY, TOP  # noqa: E402
 
 PICTURE = os.path.join(TOP, "docs", "pictures", "dashboard.svg")
 CONNECTIONS, DELAY = 32, 4

@@ -14,7 +14,7 @@ from chains import MOST_OCTETS, by_hashes, by_keys, case, certificate, entry, ke
 from check import LIMIT_MEMORY, PROGRAM, group, key, string
 from counting import counted, counter
 from memory import used
-from slowest import LIMIT_SUM, MEMBERS, SHAPES, SIZES
+from linear import LIMIT_SUM, MEMBERS, SHAPES, SIZES
 
 LIMIT_RATIO = 4
 LIMIT_OF_KEYS = 32

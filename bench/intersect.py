@@ -13,7 +13,7 @@ from counting import counted, counter
 from memory import peak
 
 sys.path.append(os.path.join(os.path.dirname(os.path.abspath(__file__)), "..", "tests"))
-from support import PROGRAM as BUILT, group, string  # noqa: E402
+from shared import PROGRAM as BUILT, group, string  # noqa: E402
 
 PROGRAM = sys.argv[1] if len(sys.argv) > 1 else BUILT
 MEMBERS = [125, 250, 500, 999]

@@ -28,7 +28,7 @@ static int decides(void)
 {
     unsigned char line[64];
     size_t needed;
-    return spki_answer(SPKI_CHECK, text, length, line, sizeof line, &needed) == SPKI_YES;
+    return spki_answer(SPKI_CHECK, text, length, line, sizeof line, &needed).status == SPKI_YES;
 }
 
 static int grants(void)

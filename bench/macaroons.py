@@ -18,7 +18,7 @@ import tempfile
 from shapes import by_keys, parts_of
 
 sys.path.append(os.path.join(os.path.dirname(os.path.abspath(__file__)), "..", "tests"))
-from support import BENCH, LIBRARY, TOP  # noqa: E402
+from shared import BENCH, LIBRARY, TOP  # noqa: E402
 
 FLAGS = ["-O2", "-Wall", "-Wextra", "-std=c11"]
 # Three of the ways to grant that macaroons.c numbers.

@@ -9,11 +9,14 @@ import os
 import statistics
 import sys
 import time
+from typing import Any
 
 HERE = os.path.dirname(os.path.abspath(__file__))
 sys.path.append(os.path.join(HERE, "..", "tests"))
-from support import LIBRARY  # noqa: E402
-from test_playground import STORY, InChromium, long_question  # noqa: E402
+from shared import LIBRARY, page_tests  # noqa: E402
+
+PAGE = page_tests()
+InChromium: Any = PAGE.InChromium
 
 STORY_SECONDS, LONG_SECONDS, PAINT_SECONDS = 0.05, 0.3, 0.2
 RUNS = 15
@@ -53,8 +56,8 @@ def main():
     try:
         timed = Timed()
         timed.setUp()
-        took = [("the first paint", timed.to_the_first_paint(), PAINT_SECONDS), ("the story", timed.to_the_answer(STORY), STORY_SECONDS),
-                ("a long question", timed.to_the_answer(long_question()), LONG_SECONDS)]
+        took = [("the first paint", timed.to_the_first_paint(), PAINT_SECONDS), ("the story", timed.to_the_answer(PAGE.STORY), STORY_SECONDS),
+                ("a long question", timed.to_the_answer(PAGE.long_question()), LONG_SECONDS)]
     finally:
         Timed.doClassCleanups()
     for name, seconds, limit in took:

@@ -14,9 +14,8 @@ import sys
 import tempfile
 from collections import Counter
 
-ROOT = os.path.realpath(os.path.join(os.path.dirname(__file__), ".."))
-sys.path.append(os.path.join(ROOT, "tests"))
-from support import toolchain  # noqa: E402
+sys.path.append(os.path.join(os.path.dirname(os.path.realpath(__file__)), "..", ".ci"))
+from merge_gate import toolchain  # noqa: E402
 
 PART = re.compile(r"Rattle-\w+-proofs\.(?:(?P<function>.*)\.)?(?P<part>[^.]+)")
 
@@ -34,13 +33,9 @@ def main():
     if len(sys.argv) < 2:
         sys.exit(__doc__)
     name, rows = sys.argv[1], int(sys.argv[2]) if len(sys.argv) > 2 else 20
-    rt = toolchain()
-    crates = {it.name: it for it in rt.rtlib.crates_below(ROOT)}
-    if name not in crates:
-        sys.exit(f"there is no crate {name}")
-    rt.rtlib.guarded()
+    crate = toolchain.crates(name)[name]
     with tempfile.TemporaryDirectory() as room:
-        ran = rt.checked(crates[name], {}, ["--jobs", "1"], room)
+        ran = toolchain.inside().checked(crate, {}, toolchain.ONE, room)
         if ran.returncode:
             sys.exit(ran.stdout)
         parts = list(parts_in(room))

@@ -43,7 +43,7 @@ static spki_guard *open_guard(struct spki_text list, const struct spki_limits *l
 }
 
 /* Opens the question, lists the signatures and marks them, as a service does that finds all of them valid. */
-static enum spki_status list_signed(struct held *held)
+static inline enum spki_status list_signed(struct held *held)
 {
     struct spki_signed signature;
     size_t needed;
@@ -57,15 +57,20 @@ static enum spki_status list_signed(struct held *held)
 /* A call that answers an opened question. */
 typedef enum spki_status wish(const spki_asked *, void *, size_t, size_t *);
 
-static enum spki_status answered(struct held *held, wish *call)
+static inline enum spki_status answered(struct held *held, wish *call)
 {
     size_t needed;
     return call(held->asked, held->buffer, held->room, &needed);
 }
 
-static enum spki_status decided(struct held *held)
+static inline enum spki_status decision_of(const spki_asked *asked, void *buffer, size_t length, size_t *needed)
 {
-    return answered(held, spki_asked_decide);
+    return spki_asked_decide(asked, buffer, length, needed).status;
+}
+
+static inline enum spki_status decided(struct held *held)
+{
+    return answered(held, decision_of);
 }
 
 /* The guard and the question of a file. */
@@ -76,7 +81,7 @@ static struct held held_in(const char *path, const struct spki_limits *limits)
     if (!file)
         exit(2);
     held.list = read_text(file);
-    struct spki_text *parts[] = {&held.question.sequence, &held.question.key, &held.question.request, &held.question.moment};
+    struct spki_text *parts[] = {&held.question.sequence, &held.question.key.text, &held.question.request, &held.question.moment};
     for (int part = 0; part < PARTS - 1; part++)
         *parts[part] = read_text(file);
     fclose(file);

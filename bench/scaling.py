@@ -15,9 +15,10 @@ import math
 import random
 from collections import OrderedDict
 
-# Measured: bench/store.py and BenchmarkStored, in seconds of a processor, octets. A decision whose rows are read is on the clock, and so more.
-HIT, MISS, ROWS, HTTP = 6e-6, 200e-6, 160e-6, 65e-6
-OCTETS, ADDS = 438, 217
+# Measured: bench/store.py, in seconds of a processor, octets. A decision whose rows are read is on the clock, and so more. Over HTTP a request has a
+# TLS certificate, a line in the log, and a decision, nine of ten by kept rows.
+HIT, MISS, ROWS, HTTP = 6e-6, 163e-6, 150e-6, 45e-6
+OCTETS, ADDS = 469, 217
 # Assumed.
 KEPT = 2560
 ENTRIES, RATE, SKEW = 10 ** 9, 10 ** 6, 1.0

@@ -98,11 +98,21 @@ static void forget_peak(void)
     }
 }
 
+static enum spki_status status_of_explanation(const spki_asked *asked, void *buffer, size_t room, size_t *needed)
+{
+    return spki_asked_explain(asked, buffer, room, needed).status;
+}
+
+static enum spki_status status_of_reduction(const spki_asked *asked, void *buffer, size_t room, size_t *needed)
+{
+    return spki_asked_reduce(asked, buffer, room, needed).status;
+}
+
 /* The call for an answer of this kind. */
 static wish *wish_of(const char *word)
 {
     static const struct { const char *word; wish *call; } wishes[] = {
-        {"decide", spki_asked_decide}, {"explain", spki_asked_explain}, {"reduce", spki_asked_reduce}};
+        {"decide", decision_of}, {"explain", status_of_explanation}, {"reduce", status_of_reduction}};
     for (size_t i = 0; i < sizeof wishes / sizeof *wishes; i++)
         if (!strcmp(word, wishes[i].word))
             return wishes[i].call;
@@ -227,7 +237,7 @@ static void answer(const char *path, long calls)
     unsigned char line[64];
     size_t needed;
     for (long i = 0; i < calls; i++) {
-        enum spki_status status = spki_answer(SPKI_CHECK, text.octets, text.length, line, sizeof line, &needed);
+        enum spki_status status = spki_answer(SPKI_CHECK, text.octets, text.length, line, sizeof line, &needed).status;
         if (status != SPKI_YES && status != SPKI_NO)
             exit(4);
     }

@@ -32,11 +32,11 @@ from check import group, key, string
 from counting import counted_allocations, counted_by_valgrind, counted_inside, counted_with_cache, counter, of_one_call
 from macaroons import GUARD, MACAROON, OPENED, built, measured, written_parts
 from shapes import by_keys, case, certificate, definition, digest, entry, keys_of, name, parts_of
-from slowest import (LARGE_TAG, LARGE_TAG_AND_RANGE, LARGE_TAG_AND_SET, SHAPES, Shape, large_tag, long_issuer, most,
-                     narrowed_ranges, ranges_and_sets_of_two, wide_sets)
+from linear import (LARGE_TAG, LARGE_TAG_AND_RANGE, LARGE_TAG_AND_SET, SHAPES, Shape, large_tag, long_issuer, most,
+                    narrowed_ranges, ranges_and_sets_of_two, wide_sets)
 
 sys.path.append(os.path.join(os.path.dirname(os.path.abspath(__file__)), "..", "tests"))
-from support import BENCH, LIBRARY, TOP, braced, canonical, read  # noqa: E402
+from shared import BENCH, LIBRARY, TOP, braced, canonical, read  # noqa: E402
 
 FLAGS = ["-std=c11", "-O2", "-Wall", "-Wextra", "-Wpedantic", "-Werror", "-pthread"]
 ENTRIES = 10_000
@@ -55,8 +55,8 @@ DIGEST = "sha2::block256::Core256::update"
 CACHES = (0, 7, 16, 64)
 MOST = {"10,000 keys, no certificate": 1.5, "10,000 keys, three certificates": 1.5, "10,000 hashes, no certificate": 1.5,
         "10,000 hashes, three certificates": 1.5, "opening 1 MiB": 1.2, "instructions of a case": 96_000, "three caveats": 1.0,
-        "three caveats, opened before": 0.05, "by the digests": 5.0, "Rust": 1.02, "blocks more through Rust": 0.0, "Python, µs more": 12.0,
-        "memory kept of a question by its octets": 3.0, "memory while it is opened": 70.0,
+        "three caveats, opened before": 0.05, "by the digests": 5.0, "Rust": 1.01, "blocks more through Rust": 0.0, "Python, µs more": 11.0,
+        "memory kept of a question by its octets": 3.0, "memory while it is opened": 40.0, "memory while sets of empty strings are opened": 80.0,
         "opening a question of 1 MiB, ms": 500.0, "a decision, ms": 100.0, "a decision, MiB": 16.0, "a decision by default, ms": 100.0,
         "an explanation or a reduction, ms": 200.0, "an explanation or a reduction, MiB": 16.0,
         "waits of 1,000 decisions": 1.0}
@@ -430,6 +430,22 @@ def many_words(count):
     return acl, sequence, asker, group(*[string("a")] * count), moment
 
 
+def lists_of_one(count):
+    """A question for a request of 60 lists in one another, so many times."""
+    acl, sequence, asker, _, moment = parts_of(by_keys(1))
+    inner = string("x")
+    for _ in range(60):
+        inner = group(string(""), inner)
+    return acl, sequence, asker, group(string("a"), *[inner] * count), moment
+
+
+def empty_strings(count):
+    """A question whose certificates are for sets of 1,000 empty strings: nothing takes more memory for each octet."""
+    keys = keys_of(count)
+    tag = group(string("*"), string("set"), *[string("")] * 1_000)
+    return parts_of(case([entry(keys[0])], [(certificate(*pair, tag), pair[0]) for pair in zip(keys, keys[1:])], asks=keys[-1]))
+
+
 def two_long_keys(count):
     """A question by two long keys that differ late, whose certificates name them by their hashes."""
     keys = [key("k" * (MOST_OCTETS // 3) + end) for end in "ab"]
@@ -446,24 +462,29 @@ WIDE = {"{:,} certificates in a chain": chained, "the same of {:,} in transport 
         "{:,} certificates for sets of 100 nodes": of_shape(wide_sets),
         "{:,} times a certificate for the hash of one long key": of_shape(long_issuer), "{:,} for the hashes of two": two_long_keys,
         "a subject of {:,} names": long_subject,
-        "a comment of {:,} empty lists": small_lists, "a request of {:,} strings": many_words}
+        "a comment of {:,} empty lists": small_lists, "a request of {:,} strings": many_words,
+        "a request of {:,} times 60 lists in one another": lists_of_one}
+
+
+def opening(driver, program, what, make):
+    """The memory that is kept of a question of 1 MiB, and taken while it is opened, beside its octets, and the time."""
+    count = most(lambda count: sum(map(len, make(count)[1:])), MOST_OCTETS)
+    path = driver.file("opened", b"".join(b"%d\n%s" % (len(part), part) for part in make(count)))
+    octets, taken, kept, took = map(float, subprocess.run([program, path], stdout=subprocess.PIPE, check=True).stdout.split())
+    print(f"{what.format(count)}: question of {octets:,.0f} octets, {taken:,.0f} octets of memory at most, {kept:,.0f} kept, {took:.1f} ms",
+          flush=True)
+    return kept / octets, taken / octets, took
 
 
 def opening_of_widest(driver):
     """The most memory that is kept of a question of 1 MiB, and taken while it is opened, beside its octets, and the most time."""
-    program, held, met, times = driver.counts_memory(), [], [], []
-    for what, make in WIDE.items():
-        count = most(lambda count: sum(map(len, make(count)[1:])), MOST_OCTETS)
-        path = driver.file("opened", b"".join(b"%d\n%s" % (len(part), part) for part in make(count)))
-        octets, taken, kept, took = map(float, subprocess.run([program, path], stdout=subprocess.PIPE, check=True).stdout.split())
-        print(f"{what.format(count)}: question of {octets:,.0f} octets, {taken:,.0f} octets of memory at most, {kept:,.0f} kept, {took:.1f} ms",
-              flush=True)
-        held.append(kept / octets)
-        met.append(taken / octets)
-        times.append(took)
-    yield "memory kept of a question by its octets", max(held)
+    program = driver.counts_memory()
+    held, met, times = zip(*[opening(driver, program, what, make) for what, make in WIDE.items()])
+    sets = opening(driver, program, "{:,} certificates for sets of 1,000 empty strings", empty_strings)
+    yield "memory kept of a question by its octets", max(*held, sets[0])
     yield "memory while it is opened", max(met)
-    yield "opening a question of 1 MiB, ms", max(times)
+    yield "memory while sets of empty strings are opened", sets[1]
+    yield "opening a question of 1 MiB, ms", max(*times, sets[2])
 
 
 def threads(driver):

@@ -2,7 +2,7 @@
 import hashlib
 
 from check import STAR, group, key, string
-from support import canonical
+from shared import canonical
 from spki_cert_tool.forms import Parser
 
 NOW = string("2024-01-01_00:00:00")

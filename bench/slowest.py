@@ -1,320 +1,311 @@
 #!/usr/bin/env python3
-"""Times `spki check` on the texts that are known to take longest for their octets: the table of docs/PERFORMANCE.md.
+"""Searches for the slowest texts of each call, and fails if one takes more than docs/PERFORMANCE.md says: the table "The most that a call takes".
 
-Each text is made for three lengths. Times are processor times, the least of some runs. The ratio for 4 times the octets is that of times or
-that of instructions, whichever is less: short times differ by half from run to run, and a comparison of long octets has more instructions than
-its time shows. The limits are:
+The first texts of each call are named: they were slow once. A search then changes their numbers by chance, one part at a time, with a fixed seed
+and for a fixed number of steps. It goes on from the text that takes the most time for its octets. The slowest ones are then made as large as the
+call allows, and measured beside the named ones. Times are processor times, the least of some runs: other programs only add to them.
 
-- At most 1 second at 1 MiB for each text except the last, and where it takes over 0.1 seconds, at most 5 times for 4 times the octets.
-- Many entries with many certificates take at most 1.5 times what the entries take with one certificate and the certificates with one entry.
-- The last text is of the worst kind that is known: each certificate is intersected with a tag of 331,776 strings. It has 16 certificates, and
-  is only measured. A guard decides it as quickly as the others, because it forms no intersection.
+`--named` measures the named texts alone. A call may be named by its first words, as in `slowest.py "a guard decides"`.
 
-The exit status is 1 if a limit is exceeded or an answer is wrong.
-
-Build the program first (`rt run` in crates/spki). Usage: bench/slowest.py [PROGRAM]
+Build the program and the library first. Usage: bench/slowest.py [--named] [--steps N] [--seed N] [--program FILE] [--library FILE] [CALL ..]
 """
+import argparse
+import os
+import random
+import resource
+import signal
 import subprocess
 import sys
-from dataclasses import dataclass
-from typing import Callable
+import tempfile
+import time
+from collections.abc import Iterator
+from functools import cached_property
 
-from check import PROGRAM, STAR, group, key, run, string
-from counting import counted, counter
-from shapes import a_set, by_hashes, by_keys, certificate, definition, digest, entry, name, parts_of, through_names
+from typing import Any, NamedTuple
 
-SIZES = [64 * 1024, 256 * 1024, 1024 * 1024]
-RUNS, ENOUGH_SECONDS, MOST_SECONDS = 7, 2.0, 120
-LIMIT_SECONDS, SHORT_SECONDS, LIMIT_RATIO, LIMIT_SUM = 1.0, 0.1, 5.0, 1.5
-# The certificates behind a tag of 331,776 strings.
-BEHIND_LARGE = 16
-# The most members of a set or list of which two have 1,000,000 as the product of their nodes.
-MEMBERS = 999
-OTHER = key("other")
-OWNER = key("k")
-FTP = group(string("ftp"))
-RANGE = group(*map(string, ("*", "range", "alpha", "ge", "a", "le", "b")))
-SET_OF_TWO = group(*map(string, ("*", "set", "a", "b")))
+from memory import used
+from recipes import Entries, Form, Link, Recipe, Tag, changed, changed_form, fitted, formed
+from shared import BENCH, LIBRARY, PROGRAM, TOP
 
-
-def shown(octets, signer, value=string("sig")):
-    """A certificate's octets with its signature behind them."""
-    return octets + group(string("signature"), digest(octets), signer, value)
+KIB, MIB = 1 << 10, 1 << 20
+FLAGS = ["-std=c11", "-O2", "-Wall", "-Wextra", "-Wpedantic", "-Werror", "-Wl,--wrap=malloc,--wrap=realloc,--wrap=free"]
+# How many steps of a search, from how many texts by chance, and how many of the slowest are measured in full.
+STEPS, SEED, STARTS, IN_FULL = 160, 72, 2, 2
+# What a text of the search has, and the seconds after which a run is ended.
+SEARCHED_LIST, SEARCHED_QUESTION, MOST_SECONDS = 64 * KIB, 16 * KIB, 20
+# How often a time over its limit is taken again, and the seconds before each turn.
+TURNS, PAUSE = 4, 5
+# Processor seconds for each entry that no limit of work refuses, as its product of nodes is at most 1,000,000, and for each octet that is written.
+SECONDS_AN_ENTRY, SECONDS_AN_OCTET = 0.1, 2e-9
+MANY = 1 << 30
 
 
-def asked(entries, rows, items, asks=OTHER):
-    """A case of these parts. The key that asks is none of theirs, so that every entry is tried."""
-    return group(
-        string("case"), group(string("acl"), *entries), group(string("accepted"), *rows), group(string("sequence"), *items),
-        group(string("key"), asks), group(string("request"), string("ftp")), group(string("at"), string("2024-01-01_00:00:00")))
-
-
-def row(octets, signer, value=string("sig")):
-    return group(string("by"), signer, digest(octets), value)
-
-
-def repeated(entries, cert, certificates, before=()):
-    """A case of one certificate of the owner many times, with others before it."""
-    return asked(entries, [row(octets, OWNER) for octets in (*before, cert)],
-                 [shown(octets, OWNER) for octets in before] + [shown(cert, OWNER)] * certificates)
-
-
-# Each shape makes a case of so many entries and certificates. The third number is the most members of a set or list.
-
-def chain(entries, certificates, members):
-    return by_keys(certificates, asks=OTHER)
-
-
-def chain_of_hashes(entries, certificates, members):
-    return by_hashes(certificates, OTHER)
-
-
-def chain_of_names(entries, certificates, members):
-    return through_names(certificates, asks=OTHER)
-
-
-def many_rows(entries, certificates, members):
-    """Certificates of one key, each with a row."""
-    certs = [certificate(OWNER, OWNER, group(string("*"), string("set"), string("ftp"), string(f"x{place:05}"))) for place in range(certificates)]
-    return asked([entry(OWNER)], [row(cert, OWNER) for cert in certs], [shown(cert, OWNER) for cert in certs])
-
-
-def rows_of_one_digest(entries, certificates, members):
-    """One certificate many times, each time with another signature, and a row for each of these signatures."""
-    cert = certificate(OWNER, OWNER)
-    values = [string(f"v{place:05}") for place in range(certificates)]
-    return asked([entry(OWNER)], [row(cert, OWNER, value) for value in values], [shown(cert, OWNER, value) for value in values])
-
-
-def wide_lists(entries, certificates, members):
-    return by_keys(certificates, group(string("ftp"), *[string("x")] * (members - 1)), asks=OTHER)
-
-
-def wide_sets(entries, certificates, members):
-    return by_keys(certificates, group(string("*"), string("set"), *[string(f"{place:03}") for place in range(members)]), asks=OTHER)
-
-
-def list_of_members(entries, certificates, members):
-    """An entry for a list, and a certificate for its head."""
-    return repeated([entry(OWNER, group(string("ftp"), *[string("x")] * (members * 9 // 10 - 1)))], certificate(OWNER, OWNER, FTP), certificates)
-
-
-def entries_and_chain(entries, certificates, members):
-    return by_keys(certificates, entries=entries, asks=OTHER)
-
-
-def entries_and_tags(entries, certificates, members):
-    """The product of all nodes is over the limit, so that it alone says nothing."""
-    return by_keys(certificates, FTP, entries=entries, asks=OTHER)
-
-
-def entries_in_turns(entries, certificates, members):
-    """Each entry has another tag than the one before it."""
-    return by_keys(certificates, FTP, entries=entries, asks=OTHER, turn=STAR)
-
-
-def entries_with_own_tags(entries, certificates, members):
-    """Each entry has a tag that no other has, and that the certificates leave as it is."""
-    text = by_keys(certificates, FTP, entries=0, asks=OTHER)
-    listed = [entry(key("k00000"), group(string("ftp"), string(f"x{place:05}"))) for place in range(entries)]
-    return text.replace(group(string("acl")), group(string("acl"), *listed), 1)
-
-
-def entries_and_names(entries, certificates, members):
-    return through_names(certificates, entries=entries, asks=OTHER)
-
-
-def entries_and_two_words(entries, certificates, members):
-    """Entries for a friend of a friend, of whom the definitions resolve the first."""
-    text = through_names(certificates, entries=0, asks=OTHER)
-    listed = [entry(name(key("k00000"), "friends", "friend"))] * entries
-    return text.replace(group(string("acl")), group(string("acl"), *listed), 1)
-
-
-def long_key(entries, octets, members):
-    """Entries for a hash, each of which is compared with a long key."""
-    return asked([entry(digest(OWNER))] * entries, [], [], key("k" * octets))
-
-
-def long_issuer(entries, certificates, members):
-    """Entries for the hash of a long key, and one certificate many times, from this hash to itself."""
-    long = key("k" * (148 * certificates))
-    cert = certificate(digest(long), digest(long))
-    return asked([entry(digest(long))] * entries, [row(cert, long)], [long] + [shown(cert, digest(long))] * certificates)
-
-
-def long_name(names, certificates, members):
-    """An entry for a long name, and one definition many times, of its first word by itself."""
-    first = name(OWNER, "n")
-    return repeated([entry(name(OWNER, *["n"] * names))], definition(first, first), certificates)
-
-
-def large_tag(entries, certificates, members, other=string("a")):
-    """Two sets whose intersection has the most strings, and one certificate many times, each of which goes over them."""
-    large = a_set(string("a"), members)
-    return repeated([entry(OWNER, large)], certificate(OWNER, OWNER, other), certificates, [certificate(OWNER, OWNER, large)])
-
-
-def large_tag_and_range(entries, certificates, members):
-    """The same with a certificate for a range, which contains the strings."""
-    return large_tag(entries, certificates, members, RANGE)
-
-
-def large_tag_and_set(entries, certificates, members):
-    """The same with a certificate for a set of two strings, which has 3 nodes: so there are fewer members."""
-    return large_tag(entries, certificates, int(members / 3 ** 0.5), SET_OF_TWO)
-
-
-def between(place):
-    """A range that lies within that of the place before."""
-    return group(*map(string, ("*", "range", "alpha", "g", f"a{10_000 + place}", "l", f"a{99_999 - place}")))
-
-
-def after_large(large, tags):
-    """An entry and a certificate for a large tag, and certificates for these tags."""
-    certs = [certificate(OWNER, OWNER, tag) for tag in (large, *tags)]
-    return asked([entry(OWNER, large)], [row(cert, OWNER) for cert in certs], [shown(cert, OWNER) for cert in certs])
-
-
-def narrowed_ranges(entries, certificates, members):
-    """Two sets whose intersection has the most ranges, and certificates for ranges, each of which lies within the one before it: so each
-    changes both limits of all ranges."""
-    return after_large(a_set(RANGE, members), map(between, range(certificates)))
-
-
-def ranges_and_sets_of_two(entries, certificates, members):
-    """The same with certificates for sets of two ranges, of which one has nothing in common with the others. Such a set has 3 nodes: so there
-    are fewer members."""
-    low, high = (group(*map(string, ("*", "range", "alpha", word, "b"))) for word in ("l", "g"))
-    sets = (group(string("*"), string("set"), between(place), high) for place in range(certificates))
-    return after_large(a_set(low, int(members / 3 ** 0.5)), sets)
-
-
-def strangers(entries, certificates, members):
-    """Entries for other keys, each with a set of its own, and certificates that a stranger issues to itself."""
-    tags = (group(string("*"), string("set"), *[string(f"{place:05}{at}") for at in range(3)]) for place in range(entries))
-    listed = [entry(key(f"other{place:05}"), tag) for place, tag in enumerate(tags)]
-    return repeated(listed, certificate(OWNER, OWNER, a_set(string("a"), 30)), certificates)
-
-
-@dataclass(frozen=True)
-class Shape:
-    """A kind of text, of which the list takes this part, and whether it is one of many entries and many certificates."""
+class Call(NamedTuple):
+    """A call, and the most that it takes. A guard's call has a word of slowest.c and limits, and a command has no limits."""
 
     what: str
-    make: Callable
-    listed: float = 0.5
-    is_product: bool = False
+    word: str
+    limits: str
+    listed: int
+    asked: int
+    certificates: int
+    seconds: float
+    mebibytes: float
+    marks: str = "all"
+    is_by_entry: bool = False
 
     @property
-    def name(self):
-        return self.make.__name__
-
-    def entries(self, octets, members):
-        """How many entries have at most so many octets in the list."""
-        return most(lambda count: lengths_in_case(self.make(count, 2, members))[0], octets)
-
-    def fitting(self, size):
-        """The counts of entries and certificates in the largest text of at most so many octets."""
-        entries = self.entries(int(size * self.listed), MEMBERS)
-        others = lengths_in_case(self.make(1, 2, MEMBERS))[1]
-        listed = len(self.make(entries, 2, MEMBERS)) - others
-        return entries, most(lambda count: lengths_in_case(self.make(1, count, MEMBERS))[1], size - listed)
-
-    def text(self, size):
-        """What the largest text of at most so many octets is, and the text."""
-        counts = self.fitting(size)
-        return self.what.format(*counts), self.make(*counts, MEMBERS)
+    def limit(self) -> str:
+        """The most that it takes, in words."""
+        seconds = f"{1000 * self.seconds:g} ms" if self.seconds < 1 else f"{self.seconds:g} s"
+        more = f" and {1000 * SECONDS_AN_ENTRY:g} ms an entry" if self.is_by_entry else ""
+        return f"{seconds}{more} | {self.mebibytes:g} MiB"
 
 
-def most(octets_of, octets):
-    """The greatest count for which the octets are at most so many, if they grow by the same for each; 1 if they do not grow."""
-    few, many = octets_of(2), octets_of(12)
-    return max(1, 2 + (octets - 16 - few) * 10 // (many - few)) if many > few else 1
+# The table of docs/PERFORMANCE.md.
+CALLS = [
+    Call("a guard opens a list", "list", "usual", MIB, 1 * KIB, 16, 0.15, 40),
+    Call("opens a question by the highest limits", "question", "highest", 1 * KIB, MIB, MANY, 0.15, 80),
+    Call("a guard decides", "decide", "usual", MIB, 64 * KIB, 16, 0.06, 16),
+    Call("decides by the highest limits", "decide", "highest", MIB, MIB, MANY, 0.3, 80, "half"),
+    Call("a guard explains", "explain", "usual", MIB, 64 * KIB, 16, 0.2, 20),
+    Call("reduces", "reduce", "usual", MIB, 64 * KIB, 16, 0.2, 20),
+    Call("explains by the highest limits", "explain", "highest", MIB, MIB, MANY, 10, 1024),
+    Call("reduces by the highest limits", "reduce", "highest", MIB, MIB, MANY, 10, 1024),
+    Call("spki check", "check", "", MIB // 2, MIB // 3, MANY, 40, 256),
+    Call("spki explain", "explain", "", MIB // 2, MIB // 3, MANY, 40, 256, is_by_entry=True),
+    Call("spki reduce", "reduce", "", MIB // 2, MIB // 3, MANY, 40, 2048, is_by_entry=True),
+    Call("spki intersect", "intersect", "", MIB // 2, MIB // 2, MANY, 10, 256),
+    Call("spki canonical", "canonical", "", MIB, 0, 0, 10, 256),
+    Call("spki advanced", "advanced", "", MIB, 0, 0, 10, 256),
+    Call("spki transport", "transport", "", MIB, 0, 0, 10, 256)]
+FORMED = ("canonical", "advanced", "transport")
 
 
-def lengths_in_case(text):
-    """The octets of a case's list, and of all else."""
-    listed = len(parts_of(text)[0])
-    return listed, len(text) - listed
+def rows() -> list[str]:
+    """The rows of the table."""
+    limits = dict.fromkeys(call.limit for call in CALLS)
+    return [f"| {', '.join(call.what for call in CALLS if call.limit == limit)} | {limit} |" for limit in limits]
 
 
-# Those of which `service.py` asks guards.
-LARGE_TAG = Shape("two sets whose intersection has 998,001 strings, {1:,} times a certificate for one string", large_tag, 0.0)
-LARGE_TAG_AND_RANGE = Shape("the same sets, {1:,} times a certificate for a range with two limits", large_tag_and_range, 0.0)
-LARGE_TAG_AND_SET = Shape("two sets whose intersection has 331,776 strings, {1:,} times a certificate for a set of two", large_tag_and_set, 0.0)
-SHAPES = [
-    Shape("1 entry, {1:,} certificates in a chain", chain, 0.0),
-    Shape("1 entry, {1:,} certificates in a chain, by hashes of keys", chain_of_hashes, 0.0),
-    Shape("1 entry, {1:,} definitions of names in a chain", chain_of_names, 0.0),
-    Shape("1 entry, {1:,} certificates of one key", many_rows, 0.0),
-    Shape("1 entry, {1:,} times one certificate, each time with another signature", rows_of_one_digest, 0.0),
-    Shape("1 entry, {1:,} certificates for lists of 1,000 nodes", wide_lists, 0.0),
-    Shape("1 entry, {1:,} certificates for sets of 1,000 nodes", wide_sets, 0.0),
-    Shape("1 entry for a list of 900 nodes, {1:,} times a certificate for its head", list_of_members, 0.0),
-    Shape("{0:,} entries for the first issuer, {1:,} certificates in a chain, all for (*)", entries_and_chain, is_product=True),
-    Shape("{0:,} entries for the first issuer, {1:,} certificates in a chain, all for (ftp)", entries_and_tags, is_product=True),
-    Shape("the same of {0:,} and {1:,}, every second entry for (*)", entries_in_turns, is_product=True),
-    Shape("the same of {0:,} and {1:,}, each entry with a tag of its own", entries_with_own_tags, is_product=True),
-    Shape("{0:,} entries for the first name, {1:,} definitions in a chain", entries_and_names, is_product=True),
-    Shape("{0:,} entries for names of two words, {1:,} definitions in a chain", entries_and_two_words, is_product=True),
-    Shape("{0:,} entries for a hash, an asking key of {1:,} octets", long_key),
-    Shape("{0:,} entries, {1:,} times one certificate, all for the hash of one long key", long_issuer, 0.25),
-    Shape("a subject of {0:,} names, {1:,} times one definition of the first by itself", long_name),
-    Shape("{0:,} entries for other keys, each for a set of its own, {1:,} times a certificate for a set of 30", strangers, is_product=True),
-]
+def ranges(members: int = 314) -> Link:
+    """A certificate for a set of ranges without limits."""
+    return Link(Tag("set", members, of="range"))
 
 
-def seconds_of(text):
-    """The least processor time of some runs, or None if a run was ended."""
-    times = []
-    while len(times) < RUNS and sum(times) < ENOUGH_SECONDS:
+def equal(members: int) -> Link:
+    """A certificate for a set of equal strings."""
+    return Link(Tag("set", members))
+
+
+LONG_PREFIX = Entries(Tag("prefix"), grows="octets")
+NESTED = Tag("set", 960, depth=57)
+
+
+class Named(NamedTuple):
+    """A recipe that was slow once: of these calls, with so many octets of the list and the question, unless the call allows fewer."""
+
+    what: str
+    words: tuple[str, ...]
+    recipe: Recipe
+    listed: int = MIB
+    asked: int = MIB
+
+
+DECISIONS = ("a guard decides", "decides")
+ANSWERS, COMMANDS = ("a guard explains", "explains", "reduces"), ("spki check", "spki explain", "spki reduce")
+# (their reductions are 65 GB and more)
+UNPRINTED = COMMANDS[:2]
+NAMED = [
+    Named("an entry with a long prefix, two certificates for sets of 314 ranges", ANSWERS, Recipe(LONG_PREFIX, (ranges(),) * 2)),
+    Named("the same by a question, a list of one entry", ANSWERS, Recipe(links=(Link(Tag("prefix")), ranges(), ranges()), grows="octets"), 70),
+    Named("entries for a name, one definition with many names", ANSWERS, Recipe(Entries(names=1), (Link(),), grows="names"), asked=65_500),
+    Named("entries, a certificate for a long name", ANSWERS, Recipe(links=(Link(),), grows="names"), asked=65_500),
+    Named("entries for 57 nested sets", (*DECISIONS, "a guard opens"), Recipe(Entries(NESTED), is_by_other=False)),
+    Named("certificates for 57 nested sets", (*DECISIONS, "opens"), Recipe(links=(Link(NESTED),), grows="repeats")),
+    Named("many certificates", ("decides by",), Recipe(links=(Link(),), grows="repeats")),
+    Named("a prefix, sets of 98 ranges, and ranges, in 9.8 KB", ("explains by", "reduces by"),
+          Recipe(links=(Link(Tag("prefix")), *(ranges(98),) * 3, Link(Tag("range"), 5)), grows="octets"), 70, 9_800),
+    Named("20 entries, a prefix, sets of 98 ranges, and ranges, in 9.5 KB", UNPRINTED,
+          Recipe(links=(Link(Tag("prefix", octets=10, lists=3)), *(ranges(98),) * 3, Link(Tag("range"), 3)), grown=0, grows="octets"), 1_100, 8_000),
+    Named("an entry with a long prefix, two certificates for sets of 998 ranges", UNPRINTED,
+          Recipe(Entries(Tag("prefix", lists=3), grows="octets"), (ranges(998),) * 2), 64 * KIB),
+    Named("30 entries for a string, two certificates for sets of 998 of it", COMMANDS, Recipe(Entries(Tag("string")), (equal(998),) * 2), 1_650),
+    Named("two sets of 998 equal strings", ("spki intersect",), Recipe(Entries(Tag("set", 998)), (equal(998),)), 3_100),
+    Named("two sets of 500 equal strings of 1,000 octets", ("spki intersect",),
+          Recipe(Entries(Tag("set", 500, octets=1000)), (Link(Tag("set", 500, octets=1000)),))),
+    Named("entries, a certificate for a long name, in 128 KiB", COMMANDS, Recipe(links=(Link(),), grows="names"), 64 * KIB, 64 * KIB)]
+
+
+class Met(NamedTuple):
+    """What a call took: its status, seconds and MiB, and the octets that a command wrote."""
+
+    status: int
+    seconds: float
+    mebibytes: float
+    written: int = 0
+
+
+class TooSlow(Exception):
+    """A run was ended."""
+
+
+class Measure:
+    """Runs calls, in a folder of its own."""
+
+    def __init__(self, room: str, program: str, library: str) -> None:
+        self.program, self.library, self.room, self.file = program, library, room, os.path.join(room, "text")
+
+    @cached_property
+    def driver(self) -> str:
+        """The program of slowest.c."""
+        made, folder = os.path.join(self.room, "slowest"), os.path.join(TOP, "crates", "spki_c")
+        subprocess.run(["cc", *FLAGS, "-I", folder, "-o", made, os.path.join(BENCH, "slowest.c"), self.library], check=True)
+        return made
+
+    def write(self, octets: bytes) -> None:
+        """Writes the file of the call."""
+        with open(self.file, "wb") as file:
+            file.write(octets)
+
+    def run(self, words: list[str], seconds: float, **more: Any) -> subprocess.CompletedProcess[bytes]:
+        """Runs a program, for so many seconds of the processor."""
+        limit = int(seconds) + 1
+        done = subprocess.run(["prlimit", f"--cpu={limit}", *words], **more)
+        if done.returncode in (-signal.SIGXCPU, -signal.SIGKILL):
+            raise TooSlow
+        return done
+
+    def guard(self, call: Call, recipe: Recipe, seconds: float) -> Met:
+        """What a guard's call takes."""
+        self.write(b"".join(b"%d\n%s" % (len(part), part) for part in recipe.parts()))
+        done = self.run([self.driver, call.word, call.limits, call.marks, self.file], seconds, stdout=subprocess.PIPE)
+        status, milliseconds, octets = done.stdout.split()
+        return Met(int(status), float(milliseconds) / 1000, int(octets) / MIB)
+
+    def command(self, word: str, text: bytes, seconds: float) -> Met:
+        """What a command takes. Its memory is measured apart."""
+        self.write(text)
+        before = resource.getrusage(resource.RUSAGE_CHILDREN)
+        with open(self.file, "rb") as given:
+            done = self.run([self.program, word], seconds, stdin=given, stdout=subprocess.DEVNULL)
+        after = resource.getrusage(resource.RUSAGE_CHILDREN)
+        return Met(done.returncode, after.ru_utime + after.ru_stime - before.ru_utime - before.ru_stime, 0.0)
+
+    def written(self, word: str) -> int:
+        """How many octets a command writes of the text in the file."""
+        with open(self.file, "rb") as given, subprocess.Popen([self.program, word], stdin=given, stdout=subprocess.PIPE) as writing:
+            counting = subprocess.run(["wc", "-c"], stdin=writing.stdout, stdout=subprocess.PIPE)
+        return int(counting.stdout)
+
+    def met(self, call: Call, recipe: Any, seconds: float = MOST_SECONDS, is_whole: bool = False) -> Met:
+        """What a call takes on the text of a recipe: infinite time if the run was ended."""
         try:
-            times.append(run(text, b"no\n", MOST_SECONDS))
-        except subprocess.TimeoutExpired:
-            return None
-    return min(times)
+            if call.limits:
+                return self.guard(call, recipe, seconds)
+            text = recipe.text() if call.word in FORMED else recipe.tags() if call.word == "intersect" else recipe.case()
+            took = self.command(call.word, text, seconds)
+            if not is_whole:
+                return took
+            return took._replace(mebibytes=used(self.program, call.word, text)[1], written=self.written(call.word))
+        except TooSlow:
+            return Met(-1, float("inf"), 0.0)
 
 
-def timed(shape, sizes=SIZES):
-    """The times of a shape for these lengths, each of which is printed."""
-    for size in sizes:
-        what, text = shape.text(size)
-        took = seconds_of(text)
-        print(f"{len(text):>9,}  " + (f"{took:>8.3f} s" if took is not None else f"over {MOST_SECONDS} s") + f"  {what}", flush=True)
-        yield float("inf") if took is None else took
+def size_of(call: Call, recipe: Any) -> int:
+    """The octets of the text of a recipe."""
+    if call.word in FORMED:
+        return len(recipe.text())
+    return len(recipe.tags()) if call.word == "intersect" else sum(map(len, recipe.parts()))
 
 
-def faults_of(shape, count):
-    """The limits that a shape exceeds, where `count` counts instructions."""
-    def instructions(text):
-        return counted(count, [PROGRAM, "check"], text)
-
-    def ratio_of(numbers):
-        return max(after / before for before, after in zip(numbers, numbers[1:]))
-
-    times = list(timed(shape))
-    counts = [instructions(shape.text(size)[1]) for size in SIZES]
-    many, ratio = counts[-1], min(ratio_of(times), ratio_of(counts))
-    print(f"{'':<9}  {ratio:>8.2f}    times for 4 times the octets", flush=True)
-    if times[-1] > LIMIT_SECONDS:
-        yield f"{shape.name}: {times[-1]:.2f} s (at most {LIMIT_SECONDS})"
-    if ratio > LIMIT_RATIO and times[-1] > SHORT_SECONDS:
-        yield f"{shape.name}: {ratio:.1f} times for 4 times the octets (at most {LIMIT_RATIO})"
-    if shape.is_product:
-        entries, certificates = shape.fitting(SIZES[-1])
-        parts = instructions(shape.make(entries, 1, MEMBERS)) + instructions(shape.make(1, certificates, MEMBERS))
-        print(f"{'':<9}  {many / parts:>8.2f}    times the entries with one certificate, and the certificates with one entry", flush=True)
-        if many > LIMIT_SUM * parts:
-            yield f"{shape.name}: {many / parts:.1f} times what its parts take (at most {LIMIT_SUM})"
+def sized(call: Call, recipe: Any, listed: int, asked: int) -> Any:
+    """The largest text of a recipe for a call with at most so many octets, or None."""
+    listed, asked = min(listed, call.listed), min(asked, call.asked)
+    if call.word in FORMED:
+        return formed(recipe, listed)
+    made = fitted(recipe, listed, asked, call.certificates)
+    return made if made is None or call.limits or len(made.tags() if call.word == "intersect" else made.case()) <= MIB else None
 
 
-def main():
-    print(f"{'octets':>9}  {'time':>10}  text")
-    count = counter()
-    over = [fault for shape in SHAPES for fault in faults_of(shape, count)]
-    text = large_tag_and_set(1, BEHIND_LARGE, MEMBERS)
-    print(f"{len(text):>9,}  {seconds_of(text):>8.3f} s  {LARGE_TAG_AND_SET.what.format(0, BEHIND_LARGE)}", flush=True)
+def searched(measure: Measure, call: Call, first: Any, chance: random.Random, steps: int) -> Iterator[tuple[float, Any]]:
+    """The recipes of a search from a first one that each took more time for their octets than the one before."""
+    change: Any = changed_form if call.word in FORMED else changed
+    at, most = first, 0.0
+    for step in range(steps + 1):
+        # (mostly one change, and sometimes two that help only together)
+        tried = at if step == 0 else change(chance, at)
+        tried = change(chance, tried) if step and chance.random() < 0.3 else tried
+        made = sized(call, tried, SEARCHED_LIST, SEARCHED_QUESTION if call.word != "question" else SEARCHED_LIST)
+        if made is None:
+            continue
+        # (a short text takes what does not depend on its octets)
+        by_octet = measure.met(call, made).seconds / max(size_of(call, made), SEARCHED_QUESTION)
+        if by_octet > most:
+            at, most = tried, by_octet
+            yield by_octet, tried
+
+
+def recipes_of(measure: Measure, call: Call, steps: int, seed: int) -> Iterator[tuple[str, Any]]:
+    """The texts on which a call is measured in full: the named ones, and the slowest that are found."""
+    named = [each for each in NAMED if call.what.startswith(each.words)]
+    for each in named:
+        yield each.what, sized(call, each.recipe, each.listed, each.asked)
+    chance, found = random.Random(f"{seed} {call.what}"), list[tuple[float, Any]]()
+    begins: list[Any] = [Form()] * STARTS if call.word in FORMED else [each.recipe for each in named] + [Recipe()] * STARTS
+    for first in begins if steps else []:
+        found += [*searched(measure, call, first, chance, steps // len(begins))][-1:]
+    for _, recipe in sorted(found, key=lambda it: -it[0])[:IN_FULL]:
+        yield "found", sized(call, recipe, MIB, MIB)
+
+
+def bound(call: Call, recipe: Any, written: int = 0) -> float:
+    """The most seconds of a call on a text, of which so many octets are written."""
+    return call.seconds + (SECONDS_AN_ENTRY * recipe.entries.count if call.is_by_entry else 0) + SECONDS_AN_OCTET * written
+
+
+def in_full(measure: Measure, call: Call, recipe: Any) -> Met:
+    """The least that a call takes on a text: it is measured again while it is over its limit."""
+    most = 3 * bound(call, recipe) + MOST_SECONDS
+    least = measure.met(call, recipe, most, True)
+    for _ in range(TURNS):
+        limit = bound(call, recipe, least.written)
+        if limit < least.seconds < 2 * limit:
+            time.sleep(PAUSE)
+            least = min(least, measure.met(call, recipe, most, True), key=lambda it: it.seconds)
+    return least
+
+
+def faults_of(measure: Measure, call: Call, steps: int, seed: int) -> Iterator[str]:
+    """Measures a call, and says which texts take more than it may."""
+    print(f"{call.what}: at most {call.seconds:g} s, {call.mebibytes:g} MiB", flush=True)
+    for what, recipe in recipes_of(measure, call, steps, seed):
+        if recipe is None:
+            continue
+        met = in_full(measure, call, recipe)
+        limit = bound(call, recipe, met.written)
+        is_over = met.seconds > limit or met.mebibytes > call.mebibytes
+        print(f"    {size_of(call, recipe):>9,} octets {met.seconds:>9.4f} s {met.mebibytes:>7.1f} MiB  status {met.status}  {what}"
+              f"{': OVER' if is_over else ''}", flush=True)
+        if what == "found" or is_over:
+            print(f"              {recipe}", flush=True)
+        if is_over:
+            yield f"{call.what}: {what}: {met.seconds:.3f} s (at most {limit:g}), {met.mebibytes:.1f} MiB (at most {call.mebibytes:g})"
+
+
+def main() -> None:
+    asked = argparse.ArgumentParser(description="Searches for the slowest texts of each call.")
+    asked.add_argument("--named", action="store_true", help="measure the named texts alone")
+    asked.add_argument("--steps", type=int, default=STEPS, help="of the search for one call")
+    asked.add_argument("--seed", type=int, default=SEED)
+    asked.add_argument("--program", default=PROGRAM)
+    asked.add_argument("--library", default=LIBRARY)
+    asked.add_argument("calls", nargs="*", metavar="CALL", help="how the names of the calls begin that are measured")
+    of = asked.parse_args()
+    with tempfile.TemporaryDirectory() as room:
+        measure = Measure(room, of.program, of.library)
+        chosen = [call for call in CALLS if call.what.startswith(tuple(of.calls or [""]))]
+        over = [fault for call in chosen for fault in faults_of(measure, call, 0 if of.named else of.steps, of.seed)]
     print("over the limits:", *over or ["none"], sep="\n")
     if over:
         sys.exit(1)

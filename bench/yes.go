@@ -1,4 +1,5 @@
-// Command yes answers 200 to each request, on a Unix socket: what an authorization daemon costs is measured beside it.
+// Command yes answers 200 to each request, on a Unix socket: what an authorization daemon costs is measured beside it. Its times and the most octets
+// of a header are those of spki-authd.
 package main
 
 import (
@@ -6,6 +7,7 @@ import (
 	"net"
 	"net/http"
 	"os"
+	"time"
 )
 
 func main() {
@@ -13,7 +15,9 @@ func main() {
 	if err != nil {
 		log.Fatal(err)
 	}
-	log.Fatal(http.Serve(listener, http.HandlerFunc(func(response http.ResponseWriter, request *http.Request) {
-		response.WriteHeader(http.StatusOK)
-	})))
+	server := http.Server{
+		ReadTimeout: 5 * time.Second, WriteTimeout: 5 * time.Second, IdleTimeout: 75 * time.Second, MaxHeaderBytes: 262_144,
+		Handler: http.HandlerFunc(func(response http.ResponseWriter, request *http.Request) { response.WriteHeader(http.StatusOK) }),
+	}
+	log.Fatal(server.Serve(listener))
 }

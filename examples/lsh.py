@@ -16,7 +16,7 @@ import tempfile
 
 HERE = os.path.dirname(os.path.abspath(__file__))
 sys.path.append(os.path.join(HERE, "..", "tests"))
-from support import canonical, given_program, read, run  # noqa: E402
+from shared import canonical, given_program, read, run  # noqa: E402
 
 PROGRAM = given_program()
 TOOLS = ("lsh-keygen", "lsh-writekey", "lsh-authorize", "lsh-export-key", "ssh-conv", "sexp-conv")

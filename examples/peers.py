@@ -15,7 +15,7 @@ import sys
 
 HERE = os.path.dirname(os.path.abspath(__file__))
 sys.path.append(os.path.join(HERE, "..", "tests"))
-from support import given_program, run  # noqa: E402
+from shared import given_program, run  # noqa: E402
 
 PROGRAM = given_program()
 FOLDER = sys.argv[2] if len(sys.argv) > 2 else os.path.join(HERE, "texts")

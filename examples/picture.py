@@ -15,7 +15,7 @@ import re
 import sys
 
 sys.path.append(os.path.join(os.path.dirname(os.path.abspath(__file__)), "..", "tests"))
-from support import given_program, read, run  # noqa: E402
+from shared import given_program, read, run  # noqa: E402
 from spki_cert_tool.drawing import WIDTH, drawing_of_case  # noqa: E402
 
 REASON = re.compile(r"^(?:entry (\d+) )?(?:item (\d+) )?(\w+)$", re.MULTILINE)

@@ -39,13 +39,13 @@ from generators.guards import GuardQuestion
 from generators.questions import Asked, question
 from generators.seldom import ROOM
 from generators.smaller import smaller
-from guard_door import GuardDoor
-from guard_door import model_answer as model_guard_answer
+from harness.guard_door import GuardDoor
+from harness.guard_door import model_answer as model_guard_answer
+from harness.support import LIBRARY as ARCHIVE, PROGRAM
 from model import coverage, laws
 from model.answers import COMMANDS, Answer, ModelDisagrees, answer, check_accepted
 from model.calls import DONE, TOO_SMALL, call, of_library, string_at, too_small
 from model.guard import MISUSES, WISHES
-from support import LIBRARY as ARCHIVE, PROGRAM
 
 # A case that takes longer counts as one that does not end.
 SECONDS = 600

@@ -121,6 +121,18 @@ func (a *access) hasEnded(certificate digest) bool {
 	return hasEnded
 }
 
+// areStoresFresh says which store is stale. What has ended in one counts for all lists.
+func (a *access) areStoresFresh() error {
+	for _, each := range a.lists {
+		if each.store != nil {
+			if err := each.store.isFresh(); err != nil {
+				return err
+			}
+		}
+	}
+	return nil
+}
+
 // reload reads the files of a configuration again. If one of them is refused, the old ones stay. So they do if a certificate that has ended would
 // count again, unless that is wanted. Questions under way end with those they began with.
 func (k *keeper) reload(c *config, mayLose bool, now time.Time) error {

@@ -24,6 +24,8 @@ type asked struct {
 	host, address string
 	// The headers, in which a signature is.
 	header http.Header
+	// The body of a request that leaves certificates, or nil.
+	left []byte
 }
 
 var (

@@ -53,7 +53,7 @@ func TestKindsOfKeys(t *testing.T) {
 	if err != nil {
 		t.Fatal(err)
 	}
-	p384, err := ecdsa.GenerateKey(elliptic.P384(), rand.Reader)
+	p521, err := ecdsa.GenerateKey(elliptic.P521(), rand.Reader)
 	if err != nil {
 		t.Fatal(err)
 	}
@@ -69,7 +69,7 @@ func TestKindsOfKeys(t *testing.T) {
 		der    []byte
 		isUsed bool
 	}{
-		"P-256": {selfSigned(t, p256), true}, "P-384": {selfSigned(t, p384), false}, "RSA 2048": {selfSigned(t, strong), true},
+		"P-256": {selfSigned(t, p256), true}, "P-521": {selfSigned(t, p521), false}, "RSA 2048": {selfSigned(t, strong), true},
 		"RSA 1024": {selfSigned(t, weak), false},
 	} {
 		if _, err := keyOf(base64.StdEncoding.EncodeToString(row.der), ofBase64); (err == nil) != row.isUsed {

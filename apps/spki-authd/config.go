@@ -59,6 +59,8 @@ type limits struct {
 	// The requests a second of one key and of one address. Zero is no limit.
 	KeyRate     int `json:"key_rate"`
 	AddressRate int `json:"address_rate"`
+	// The denials a second that are explained.
+	ExplainRate int `json:"explain_rate"`
 }
 
 const (
@@ -70,7 +72,7 @@ const (
 )
 
 // usualLimits are taken for limits of zero. 40 workers of nginx that keep 16 connections each have 640, and there is room for others.
-var usualLimits = limits{HeaderOctets: 131_072, PathOctets: 4096, Connections: 1024, Seconds: 5}
+var usualLimits = limits{HeaderOctets: 131_072, PathOctets: 4096, Connections: 1024, Seconds: 5, ExplainRate: 5}
 
 // readConfig reads and checks a configuration.
 func readConfig(path string) (*config, error) {
@@ -136,7 +138,7 @@ func (c *config) setUsual() {
 
 // all returns the limits one by one.
 func (l *limits) all() []*int {
-	return []*int{&l.Octets, &l.Certificates, &l.Words, &l.HeaderOctets, &l.PathOctets, &l.Connections, &l.Seconds, &l.KeyRate, &l.AddressRate}
+	return []*int{&l.Octets, &l.Certificates, &l.Words, &l.HeaderOctets, &l.PathOctets, &l.Connections, &l.Seconds, &l.KeyRate, &l.AddressRate, &l.ExplainRate}
 }
 
 // setText sets a text that was left out.
@@ -167,7 +169,7 @@ func (c *config) check() error {
 	}
 	for _, err := range []error{
 		c.checkEntrance(), c.checkControl(), c.checkLog(), c.Headers.check(c.CertificateForm), checkRules(c.Requests), c.checkLists(),
-		c.Signatures.check(), c.Chains.check(),
+		c.Signatures.check(), c.Chains.check(c.Signatures != nil),
 	} {
 		if err != nil {
 			return err

@@ -21,9 +21,18 @@ type door struct {
 	isShut chan struct{}
 	mutex  sync.Mutex
 	// The open connections, and what each does.
-	open     map[net.Conn]stage
+	open     map[net.Conn]*visit
 	isEnding bool
 	all      sync.WaitGroup
+	// Closed when the last connection is, after isShut.
+	isEmpty chan struct{}
+}
+
+// A visit is what a connection does, until when it may, and whether that was ever set as a deadline.
+type visit struct {
+	stage       stage
+	until       time.Time
+	hasDeadline bool
 }
 
 // A stage is what a connection does.
@@ -39,6 +48,9 @@ const (
 // The octets of a body that are passed over. A web server that asks sends no body.
 const mostBody = 65_536
 
+// How often in the time of a request it is looked which connections have had theirs. To set a deadline for each request takes a microsecond.
+const looksInTime = 20
+
 // How long a connection may still send a request when the daemon ends: one that was just opened, and one that was idle.
 const (
 	graceFresh = time.Second
@@ -53,12 +65,13 @@ var (
 // newDoor returns a door with at most so many connections.
 func newDoor(decider *decider) *door {
 	places := make(chan struct{}, decider.config.Limits.Connections)
-	return &door{decider: decider, places: places, isShut: make(chan struct{}), open: map[net.Conn]stage{}}
+	return &door{decider: decider, places: places, isShut: make(chan struct{}), open: map[net.Conn]*visit{}, isEmpty: make(chan struct{})}
 }
 
 // serve takes connections until the listener is closed. Where there are as many as may be, an idle one is closed, or others wait.
 func (d *door) serve(listener net.Listener) {
 	defer close(d.isShut)
+	go d.watch()
 	for {
 		connection, err := listener.Accept()
 		if errors.Is(err, net.ErrClosed) {
@@ -96,8 +109,9 @@ func (d *door) takePlace() {
 func (d *door) closeIdle() {
 	d.mutex.Lock()
 	defer d.mutex.Unlock()
-	for connection, stage := range d.open {
-		if stage == isIdle {
+	for connection, visit := range d.open {
+		if visit.stage == isIdle {
+			visit.hasDeadline = true
 			_ = connection.SetReadDeadline(time.Now())
 			return
 		}
@@ -108,7 +122,7 @@ func (d *door) closeIdle() {
 func (d *door) enter(connection net.Conn) {
 	d.mutex.Lock()
 	defer d.mutex.Unlock()
-	d.open[connection] = isFresh
+	d.open[connection] = &visit{}
 	d.all.Add(1)
 }
 
@@ -122,33 +136,56 @@ func (d *door) leave(connection net.Conn) {
 	<-d.places
 }
 
-// await sets how long a connection may wait for a request, after the first octet of which it is busy.
-func (d *door) await(connection net.Conn, stage stage) error {
+// note notes what a connection does from now on, and until when it may. Where a deadline was set, a later one takes its place: a request may have
+// come at that moment.
+func (d *door) note(connection net.Conn, stage stage) error {
 	d.mutex.Lock()
 	defer d.mutex.Unlock()
-	d.open[connection] = stage
-	return connection.SetDeadline(time.Now().Add(d.patience(stage)))
+	visit := d.open[connection]
+	visit.stage, visit.until = stage, time.Now().Add(d.patience(stage))
+	if d.isEnding || visit.hasDeadline {
+		return connection.SetDeadline(visit.until)
+	}
+	return nil
 }
 
-// patience returns how long a connection may wait for a request. The mutex is held.
+// patience returns how long a connection may do something. The mutex is held.
 func (d *door) patience(stage stage) time.Duration {
 	switch {
 	case d.isEnding && stage == isFresh:
 		return graceFresh
-	case d.isEnding:
+	case d.isEnding && stage == isIdle:
 		return graceIdle
-	case stage == isFresh:
-		return d.decider.config.Limits.time()
+	case stage == isIdle:
+		return timeIdle
 	}
-	return timeIdle
+	return d.decider.config.Limits.time()
 }
 
-// begin notes that a request is under way, and sets the time that it has.
-func (d *door) begin(connection net.Conn) error {
+// watch ends the time of connections, until the last one is closed.
+func (d *door) watch() {
+	looks := time.NewTicker(d.decider.config.Limits.time() / looksInTime)
+	defer looks.Stop()
+	for {
+		select {
+		case now := <-looks.C:
+			d.endLate(now)
+		case <-d.isEmpty:
+			return
+		}
+	}
+}
+
+// endLate ends the time of each connection that has had it.
+func (d *door) endLate(now time.Time) {
 	d.mutex.Lock()
 	defer d.mutex.Unlock()
-	d.open[connection] = isBusy
-	return connection.SetDeadline(time.Now().Add(d.decider.config.Limits.time()))
+	for connection, visit := range d.open {
+		if !visit.until.IsZero() && now.After(visit.until) {
+			visit.hasDeadline = true
+			_ = connection.SetDeadline(now)
+		}
+	}
 }
 
 // isOver says whether the daemon ends.
@@ -162,16 +199,15 @@ func (d *door) isOver() bool {
 func (d *door) end(until context.Context) error {
 	d.mutex.Lock()
 	d.isEnding = true
-	for connection, stage := range d.open {
-		if stage != isBusy {
-			_ = connection.SetDeadline(time.Now().Add(d.patience(stage)))
+	for connection, visit := range d.open {
+		if visit.stage != isBusy {
+			_ = connection.SetDeadline(time.Now().Add(d.patience(visit.stage)))
 		}
 	}
 	d.mutex.Unlock()
-	done := make(chan struct{})
-	go func() { <-d.isShut; d.all.Wait(); close(done) }()
+	go func() { <-d.isShut; d.all.Wait(); close(d.isEmpty) }()
 	select {
-	case <-done:
+	case <-d.isEmpty:
 		return nil
 	case <-until.Done():
 		return until.Err()
@@ -187,10 +223,10 @@ func (d *door) answerAll(connection net.Conn) {
 	stage := isFresh
 	for isOpen := true; isOpen; stage = isIdle {
 		limited.N = int64(2 * d.decider.config.Limits.HeaderOctets)
-		if d.await(connection, stage) != nil {
+		if d.note(connection, stage) != nil {
 			return
 		}
-		if _, err := reader.all.Peek(1); err != nil || d.begin(connection) != nil {
+		if _, err := reader.all.Peek(1); err != nil || d.note(connection, isBusy) != nil {
 			return
 		}
 		isOpen = d.answerOne(connection, reader)
@@ -215,8 +251,12 @@ func (d *door) answerOne(connection net.Conn, reader *heads) bool {
 	if err != nil || request.ProtoMajor != 1 {
 		made = d.decider.endAs(answerRefused, errOther)
 	} else {
-		isLast = request.Close || !request.ProtoAtLeast(1, 1) || !hasNoBody(request)
+		isPut := d.decider.config.isPut(request)
+		isLast = isPut || request.Close || !request.ProtoAtLeast(1, 1) || !hasNoBody(request)
 		made = d.decider.answerTo(request)
+		if isPut {
+			passOver(request)
+		}
 	}
 	isLast = isLast || d.isOver()
 	_, err = connection.Write(made.response(time.Now(), isLast))
@@ -229,9 +269,15 @@ func hasNoBody(request *http.Request) bool {
 	if request.ContentLength == 0 {
 		return true
 	}
+	passOver(request)
+	return false
+}
+
+// passOver reads what is left of a body, unless its client waits to be asked for it. Where octets are left unread, the end of the connection may
+// reach the web server before the answer.
+func passOver(request *http.Request) {
 	if request.Header.Get("Expect") == "" {
 		// (what is longer, or ends early, is left)
 		_, _ = io.CopyN(io.Discard, request.Body, mostBody)
 	}
-	return false
 }

@@ -15,7 +15,9 @@ type counts struct {
 }
 
 // answers are all answers, in the order in which they are counted.
-var answers = []answer{answerYes, answerNo, answerRefused, answerUnknown, answerLimited, answerFailed}
+var answers = []answer{
+	answerYes, answerNo, answerRefused, answerUnknown, answerLimited, answerFailed, answerKept, answerKnown, answerFull,
+}
 
 // A histogram has how many requests took at most so long, in the buckets of bounds, and how long all took.
 type histogram struct {

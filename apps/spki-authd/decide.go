@@ -16,13 +16,15 @@ type decider struct {
 	cache     *cache
 	sequences *sequences
 	signed    *signed
-	chains    *kept
+	chains    chainKeeper
 	counts    *counts
 	clock     clock
 	// The rates of keys and of addresses.
 	byKey, byAddress *rates
-	now              func() time.Time
-	verify           guard.Verify
+	// How often denials are explained, of all keys together.
+	explaining *rates
+	now        func() time.Time
+	verify     guard.Verify
 	// What writes the line of a grant, and what writes every other line.
 	grants func(line []byte) error
 	rest   func(line []byte)
@@ -33,6 +35,9 @@ const (
 	mostReasons = 2048
 	mostTarget  = 256
 )
+
+// notExplained is what the log has of a denial that is not explained.
+const notExplained = "not explained: too many denials"
 
 var (
 	errNoCertificate = errors.New("the client has shown no certificate of TLS, and no signature that is read")
@@ -62,6 +67,9 @@ func (d *decider) decide(asked asked) record {
 	if !d.byKey.allows(client.name, d.now()) {
 		return made.ended(answerLimited, errOftenKey)
 	}
+	if asked.left != nil {
+		return d.leave(made, client.key, proof, &asked)
+	}
 	path, err := pathOf(asked.target, d.config.Limits.PathOctets)
 	if err != nil {
 		made.Target = shownTarget(asked.target)
@@ -72,7 +80,7 @@ func (d *decider) decide(asked asked) record {
 		made.Target = cut(asked.method+" "+path, mostTarget)
 		return made.ended(answerNo, errNoRule)
 	}
-	return d.keep(d.takeNonce(d.judgeAll(made, client.key, path, &asked), proof), &asked)
+	return d.takeNonce(d.judgeAll(made, client.key, path, &asked), proof)
 }
 
 // shownTarget returns what the log has of a target that is not clear. A query may have a password or a token, and is left out.
@@ -106,18 +114,17 @@ func (d *decider) judge(made record, key guard.ProvenKey, path, sequence string)
 
 // decideKnown decides a question whose signatures are known to be valid. A certificate that has ended early counts as not verified.
 func (d *decider) decideKnown(made *record, question guard.Question, path string, known *shown) (guard.Decision, error) {
-	question.Sequence = known.text
+	question.Sequence = known.canonical()
 	access, at, opened, err := d.ask(question, made.Host, path)
 	if err != nil {
 		return guard.Decision{}, err
 	}
 	defer opened.Close()
-	valid := known.notEnded(access)
-	made.List, made.numbers, made.Certificates, made.Cached = at.digest, at.numbers, known.names, valid
-	if valid < len(known.names) {
-		made.Certificates = known.names[:valid+1]
-		made.setEnded(known.names[valid])
+	valid, err := known.notEnded(access)
+	if err != nil {
+		return guard.Decision{}, err
 	}
+	made.setKnown(at, known, valid)
 	if opened.Count() != len(known.names) {
 		return guard.Decision{}, guard.ErrMisused
 	}
@@ -150,7 +157,7 @@ func (d *decider) ask(question guard.Question, host, path string) (*access, *lis
 // decideAnew opens a question, and verifies its signatures only if the request is granted where all of them are valid. So whoever gets no right
 // by them, whatever they are, costs no verification. If all of them are valid, the sequence is kept.
 func (d *decider) decideAnew(made *record, question guard.Question, path, sequence string) (guard.Decision, error) {
-	question.Sequence = nothingShown.text
+	question.Sequence = nothingShown.canonical()
 	if sequence != "" {
 		question.Sequence = []byte(sequence)
 	}
@@ -161,7 +168,10 @@ func (d *decider) decideAnew(made *record, question guard.Question, path, sequen
 	defer opened.Close()
 	signatures := opened.Signatures()
 	found := shownBy(signatures)
-	standing := found.notEnded(access)
+	standing, err := found.notEnded(access)
+	if err != nil {
+		return guard.Decision{}, err
+	}
 	made.List, made.numbers, made.Certificates = at.digest, at.numbers, found.names
 	if standing < len(signatures) {
 		made.Certificates = found.names[:standing+1]
@@ -181,14 +191,17 @@ func (d *decider) decideAnew(made *record, question guard.Question, path, sequen
 		d.sequences.add(sequence, found)
 	}
 	if err == nil && !decision.Granted() && d.config.Explain {
-		made.Reasons = made.explained(opened)
+		made.Reasons = d.explained(made, opened)
 	}
 	return decision, err
 }
 
-// explained returns why a request that was decided is denied. Signatures that were not verified, since they could not help, count as valid: so
-// the reasons are what else is missing. What is marked here is asked for reasons alone.
-func (r *record) explained(opened *guard.Asked) string {
+// explained returns why a request that was decided is denied, unless many were just before. Signatures that were not verified, since they could
+// not help, count as valid: so the reasons are what else is missing. What is marked here is asked for reasons alone.
+func (d *decider) explained(r *record, opened *guard.Asked) string {
+	if !d.explaining.allows("", d.now()) {
+		return notExplained
+	}
 	if err := markFirst(opened, r.Unverified); err != nil {
 		return err.Error()
 	}
@@ -217,7 +230,7 @@ func (d *decider) verified(made *record, found *shown, signatures []guard.Signat
 
 // answerOf returns the answer where a guard has none: what is refused is refused, and a fault of the daemon is a failure.
 func answerOf(err error) answer {
-	if errors.Is(err, guard.ErrRefused) && !errors.Is(err, guard.ErrMemory) {
+	if errors.Is(err, guard.ErrRefused) && !errors.Is(err, guard.ErrMemory) || errors.Is(err, errUnkept) {
 		return answerRefused
 	}
 	return answerFailed

@@ -8,6 +8,8 @@ import (
 	"strings"
 	"testing"
 	"time"
+
+	"conguraki/spki/guard"
 )
 
 // FuzzHeaders sends headers that nobody sends, and holds each answer against what may be one: 200 only for the three requests that are granted.
@@ -60,6 +62,31 @@ func FuzzSequence(f *testing.F) {
 			s.mustBeGranted(t, "GET", line)
 		} else if status != 400 && status != 403 || line.Answer == answerYes {
 			t.Errorf("%d: %+v", status, line)
+		}
+	})
+}
+
+// FuzzLeft leaves other octets as certificates, by Bob's key. What is kept has this key in it, or its hash, and nothing is granted by it but what the
+// certificates give.
+func FuzzLeft(f *testing.F) {
+	s := newSite(f, `, "chains": {"folder": "`+f.TempDir()+`"}`+ofSite)
+	bobs, hashed := s.alice.signed(s.toBob), s.alice.gives(s.bob.hashOfKey(), prefix("read", "/web/docs/"), "(7:comment[1:x]1:y)")
+	for _, shown := range []string{"", bobs, hashed, s.bob.key + bobs, bobs + s.bob.signed(s.toCarol), s.alice.defines("builders", s.bob.key)} {
+		f.Add([]byte("(8:sequence" + shown + ")"))
+	}
+	f.Fuzz(func(t *testing.T, octets []byte) {
+		defer s.log.Reset()
+		s.chains = &kept{chains: *s.config.Chains, byKey: map[string][]keptChain{}}
+		status, met := s.leaves(t, s.bob, string(octets))
+		if (status == 201) != (met == answerKept) || status != 201 && status != 400 || s.keeps(t, s.bob) != (status == 201) {
+			t.Errorf("%d: %+v", status, s.lastLine(t))
+		}
+		if canonical, err := guard.Canonical(octets); status == 201 && (err != nil || !bytes.Contains(canonical, []byte(s.bob.key)) &&
+			!bytes.Contains(canonical, []byte(s.bob.hashOfKey()))) {
+			t.Errorf("kept: %q", octets)
+		}
+		if s.asks(s.bob, "/web/docs/b", "") == 200 {
+			s.mustBeGranted(t, "GET", s.lastLine(t))
 		}
 	})
 }

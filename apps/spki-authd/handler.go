@@ -49,7 +49,11 @@ func (d *decider) answer(request *http.Request) (made record) {
 			made = record{}.ended(answerFailed, fmt.Errorf("panic: %v", fault))
 		}
 	}()
-	asked, err := d.config.askedOf(request)
+	read := d.config.askedOf
+	if d.config.isPut(request) {
+		read = d.config.leftOf
+	}
+	asked, err := read(request)
 	if errors.Is(err, errSecret) {
 		return record{}.ended(answerNo, err)
 	}

@@ -278,6 +278,37 @@ func TestExplanations(t *testing.T) {
 	}
 }
 
+// TestExplanationsAreBounded asks with sets whose intersections are more than the library explains, and denies more often than is explained.
+func TestExplanationsAreBounded(t *testing.T) {
+	s := newSite(t, `, "explain": true, "limits": {"explain_rate": 3}`)
+	moment := time.Now()
+	s.now = func() time.Time { return moment }
+	set := "(1:*3:set" + strings.Repeat("1:a", 900) + ")"
+	entry := "(5:entry" + s.alice.key + propagates + "(3:tag" + set + "))"
+	if err := os.WriteFile(s.config.List, []byte("(3:acl"+strings.Repeat(entry, 100)+")"), 0o600); err != nil {
+		t.Fatal(err)
+	}
+	if err := s.keeper.reload(s.config, false, s.now()); err != nil {
+		t.Fatal(err)
+	}
+	shows := sequence(s.alice.signed(s.alice.certificate(s.bob, set, "")))
+	for place := 0; place < 8; place++ {
+		wanted := "refused TooLarge"
+		if place >= saved*3 {
+			wanted = notExplained
+		}
+		met := s.by(s.bob, "GET", "/web/x", shows)
+		if line := s.lastLine(t); met.StatusCode != 403 || line.Answer != answerNo || line.Reasons != wanted {
+			t.Errorf("%d: %d, %+v", place, met.StatusCode, line)
+		}
+	}
+	moment = moment.Add(time.Second)
+	s.by(s.bob, "GET", "/web/x", shows)
+	if met := s.lastLine(t).Reasons; met != "refused TooLarge" {
+		t.Error(met)
+	}
+}
+
 func TestTime(t *testing.T) {
 	s := newSite(t, "")
 	until := s.alice.certificateUntil(s.bob, prefix("read", "/web/"), "2026-01-01_00:00:00")

@@ -11,9 +11,9 @@ import (
 // A heads reads the requests of a connection.
 type heads struct {
 	all *bufio.Reader
-	// The lines of a request up to the empty one, and what reads them and the body behind them.
-	lines []byte
-	whole *bufio.Reader
+	// The lines of a request up to the empty one, those of them that are not read yet, and what reads them and the body behind them.
+	lines, left []byte
+	whole       *bufio.Reader
 }
 
 // The octets that are read at once, and the room for lines that a connection keeps for its next request.
@@ -29,22 +29,35 @@ func newHeads(connection io.Reader) *heads {
 
 // next reads a request. A line `Content-Length:` without a number is refused: net/http drops it, and others may read a body behind it.
 func (h *heads) next() (*http.Request, error) {
-	if err := h.readLines(); err != nil {
+	isClear, err := h.readLines()
+	if err == nil && !isClear {
+		err = errOther
+	}
+	if err != nil {
 		return nil, err
 	}
-	if hasEmptyLength(h.lines) {
-		return nil, errOther
-	}
-	h.whole.Reset(io.MultiReader(bytes.NewReader(h.lines), h.all))
+	h.left = h.lines
+	h.whole.Reset(h)
 	return http.ReadRequest(h.whole)
 }
 
-// readLines reads the lines up to the first that is empty.
-func (h *heads) readLines() error {
+// Read reads the lines of a request, and then what is behind them.
+func (h *heads) Read(into []byte) (int, error) {
+	if len(h.left) == 0 {
+		return h.all.Read(into)
+	}
+	count := copy(into, h.left)
+	h.left = h.left[count:]
+	return count, nil
+}
+
+// readLines reads the lines up to the first that is empty, and says whether none of them gives a body's length without a number.
+func (h *heads) readLines() (isClear bool, err error) {
 	if h.lines = h.lines[:0]; cap(h.lines) > mostKept {
 		h.lines = nil
 	}
 	begin := 0
+	isClear = true
 	for {
 		part, err := h.all.ReadSlice('\n')
 		h.lines = append(h.lines, part...)
@@ -52,25 +65,20 @@ func (h *heads) readLines() error {
 			continue
 		}
 		if err != nil {
-			return err
+			return false, err
 		}
-		if line := string(h.lines[begin:]); line == "\r\n" || line == "\n" {
-			return nil
+		line := h.lines[begin:]
+		if string(line) == "\r\n" || string(line) == "\n" {
+			return isClear, nil
 		}
+		isClear = isClear && !isEmptyLength(line)
 		begin = len(h.lines)
 	}
 }
 
 var lengthName = []byte("content-length:")
 
-// hasEmptyLength says whether a line gives a body's length without a number.
-func hasEmptyLength(lines []byte) bool {
-	for len(lines) > 0 {
-		line, rest, _ := bytes.Cut(lines, []byte("\n"))
-		if len(line) >= len(lengthName) && bytes.EqualFold(line[:len(lengthName)], lengthName) && len(bytes.TrimSpace(line[len(lengthName):])) == 0 {
-			return true
-		}
-		lines = rest
-	}
-	return false
+// isEmptyLength says whether a line gives a body's length without a number.
+func isEmptyLength(line []byte) bool {
+	return len(line) >= len(lengthName) && bytes.EqualFold(line[:len(lengthName)], lengthName) && len(bytes.TrimSpace(line[len(lengthName):])) == 0
 }

@@ -7,6 +7,7 @@ import (
 	"os"
 	"path/filepath"
 	"regexp"
+	"sort"
 	"strings"
 	"sync"
 	"time"
@@ -16,35 +17,43 @@ import (
 
 // A chains says that clients may leave their certificates with the daemon.
 type chains struct {
-	// The folder that has them: a folder for each key, and in it a file for each sequence.
-	Folder string `json:"folder"`
+	// The folder that has them: a folder for each key, and in it a file for each sequence. Or the store, at the server that is written to.
+	Folder   string   `json:"folder"`
+	Postgres *storeOf `json:"postgres"`
 	// How many days each is kept at most, how many sequences a key may have, and how many keys have some.
 	Days int `json:"days"`
 	Each int `json:"each"`
 	Keys int `json:"keys"`
+	// The path to which they are put.
+	Path string `json:"path"`
 }
 
-// The usual limits of kept sequences, and the header in which a client asks for that.
+// The usual limits of kept sequences, and where they are put.
 const (
 	usualDays, usualEach, usualKeys = 90, 4, 10_000
-	keepHeader                      = "X-Spki-Keep"
-	keepWord                        = "yes"
+	usualPath                       = "/.well-known/spki-chain"
 )
 
-// What became of a sequence that was to be kept.
-const (
-	wasKept   = "kept"
-	wasKnown  = "known"
-	wasFull   = "full"
-	wasFailed = "failed"
-)
+// A chainKeeper has the sequences that clients have left. They give nothing by themselves: each request is decided by them as if it had shown them.
+type chainKeeper interface {
+	// of returns the sequences of a key.
+	of(key string, now time.Time) ([]keptChain, error)
+	// becomes says what becomes of a sequence that add would not keep, or nothing.
+	becomes(key string, chain keptChain, now time.Time) (answer, error)
+	// add keeps a sequence of a key, and says what became of it. None is replaced.
+	add(key string, chain keptChain, now time.Time) answer
+}
 
-// A kept has the sequences that clients have left. They give nothing by themselves: each request is decided by them as if it had shown them.
+// A kept has sequences in a folder, and all of them in memory.
 type kept struct {
 	chains
-	mutex sync.Mutex
-	byKey map[string][]keptChain
+	mutex  sync.Mutex
+	byKey  map[string][]keptChain
+	octets int
 }
+
+// The most octets of all sequences in a folder.
+const mostLeft = 32 << 20
 
 // A keptChain is a sequence in transport form, its file and when it is forgotten.
 type keptChain struct {
@@ -53,26 +62,48 @@ type keptChain struct {
 }
 
 // check says what is wrong in the settings.
-func (c *chains) check() error {
+func (c *chains) check(isSigned bool) error {
 	if c == nil {
 		return nil
 	}
-	if !strings.HasPrefix(c.Folder, "/") || c.Days < 0 || c.Each < 0 || c.Keys < 0 {
-		return errors.New(`"chains" needs "folder", which is /PATH, and no limit may be negative`)
+	if !isSigned {
+		return errors.New(`"chains" needs "signatures": who leaves certificates signs the request`)
+	}
+	setText(&c.Path, usualPath)
+	if path, err := pathOf(c.Path, mostTarget); err != nil || path != c.Path {
+		return fmt.Errorf(`"chains" has the path %q, which has several forms`, c.Path)
+	}
+	if (c.Postgres == nil) != strings.HasPrefix(c.Folder, "/") || c.Postgres != nil && c.Folder != "" || c.Days < 0 || c.Each < 0 || c.Keys < 0 {
+		return errors.New(`"chains" needs "folder", which is /PATH, or "postgres", and no limit may be negative`)
 	}
 	for place, usual := range map[*int]int{&c.Days: usualDays, &c.Each: usualEach, &c.Keys: usualKeys} {
 		if *place == 0 {
 			*place = usual
 		}
 	}
+	if c.Postgres != nil {
+		return c.Postgres.check()
+	}
 	return nil
+}
+
+// openChains opens the folder or the store of the sequences that clients have left, or nothing if they can leave none.
+func openChains(c *config, now time.Time) (chainKeeper, error) {
+	switch {
+	case c.Chains == nil:
+		return nil, nil
+	case c.Chains.Postgres == nil:
+		return openKept(c.Chains, now)
+	}
+	reader, err := openReader(c.Chains.Postgres, c.Limits.time()/partOfGrant)
+	if err != nil {
+		return nil, err
+	}
+	return newStoredChains(c.Chains, reader), nil
 }
 
 // openKept reads the sequences of a folder, and removes those that have ended. What the daemon has not written is left out.
 func openKept(c *chains, now time.Time) (*kept, error) {
-	if c == nil {
-		return nil, nil
-	}
 	made := &kept{chains: *c, byKey: map[string][]keptChain{}}
 	about, err := os.Stat(c.Folder)
 	if err != nil {
@@ -96,15 +127,24 @@ func (k *kept) read(path string, now time.Time) {
 		return
 	}
 	about, err := os.Stat(path)
-	if err != nil || !k.hasRoom(key) {
+	if err != nil || !k.hasRoom(key, len(octets)) {
 		return
 	}
 	made := k.chainOf(string(octets), about.ModTime())
 	if now.Before(made.until) {
-		k.byKey[key] = append(k.byKey[key], made)
+		k.put(key, made)
 	} else {
 		k.remove(key, made)
 	}
+}
+
+// put keeps a sequence in memory, behind those of the key that end before it. The mutex is held, or nobody else knows the store.
+func (k *kept) put(key string, made keptChain) {
+	// (readers still have the old ones)
+	all := append(append([]keptChain(nil), k.byKey[key]...), made)
+	sort.SliceStable(all, func(first, second int) bool { return all[first].until.Before(all[second].until) })
+	k.byKey[key] = all
+	k.octets += len(made.text)
 }
 
 // remove removes the file of a sequence. One that stays is found too old at the next start.
@@ -113,15 +153,28 @@ func (k *kept) remove(key string, made keptChain) {
 	os.Remove(filepath.Join(k.Folder, key))
 }
 
-// hasRoom says whether a key may have one more sequence. The mutex is held, or nobody else knows the store.
-func (k *kept) hasRoom(key string) bool {
+// hasRoom says whether a key may have one more sequence, of so many octets. The mutex is held, or nobody else knows the store.
+func (k *kept) hasRoom(key string, octets int) bool {
 	_, isKnown := k.byKey[key]
-	return len(k.byKey[key]) < k.Each && (isKnown || len(k.byKey) < k.Keys)
+	return len(k.byKey[key]) < k.Each && (isKnown || len(k.byKey) < k.Keys) && k.octets+octets <= mostLeft
+}
+
+// beside says what becomes of a sequence where others are kept for its key: nothing yet, where it is new and finds room.
+func (c *chains) beside(others []keptChain, text string) answer {
+	for _, other := range others {
+		if other.text == text {
+			return answerKnown
+		}
+	}
+	if len(others) >= c.Each {
+		return answerFull
+	}
+	return ""
 }
 
 // chainOf returns a sequence that is kept from a time on.
-func (k *kept) chainOf(text string, from time.Time) keptChain {
-	until := from.AddDate(0, 0, k.Days)
+func (c *chains) chainOf(text string, from time.Time) keptChain {
+	until := from.AddDate(0, 0, c.Days)
 	if end, hasEnd := endOf(text); hasEnd && end.Before(until) {
 		until = end
 	}
@@ -143,13 +196,10 @@ func endOf(text string) (end time.Time, hasEnd bool) {
 }
 
 // of returns the sequences of a key.
-func (k *kept) of(key string, now time.Time) []keptChain {
-	if k == nil {
-		return nil
-	}
+func (k *kept) of(key string, now time.Time) ([]keptChain, error) {
 	k.mutex.Lock()
 	defer k.mutex.Unlock()
-	return k.current(key, now)
+	return k.current(key, now), nil
 }
 
 // current returns the sequences of a key, and forgets those that have ended. The mutex is held.
@@ -160,6 +210,7 @@ func (k *kept) current(key string, now time.Time) []keptChain {
 			left = append(left, each)
 		} else {
 			k.remove(key, each)
+			k.octets -= len(each.text)
 		}
 	}
 	if k.byKey[key] = left; len(left) == 0 {
@@ -168,24 +219,34 @@ func (k *kept) current(key string, now time.Time) []keptChain {
 	return left
 }
 
-// add keeps a sequence of a key, and says what became of it. None is replaced.
-func (k *kept) add(key, text string, now time.Time) string {
+// becomes says what becomes of a sequence that add would not keep, or nothing.
+func (k *kept) becomes(key string, chain keptChain, now time.Time) (answer, error) {
 	k.mutex.Lock()
 	defer k.mutex.Unlock()
-	for _, known := range k.current(key, now) {
-		if known.text == text {
-			return wasKnown
-		}
+	return k.unkept(key, chain, now), nil
+}
+
+// unkept is becomes. The mutex is held.
+func (k *kept) unkept(key string, chain keptChain, now time.Time) answer {
+	became := k.beside(k.current(key, now), chain.text)
+	if became == "" && !k.hasRoom(key, len(chain.text)) {
+		return answerFull
 	}
-	if !k.hasRoom(key) || len(text) > mostShownOctets {
-		return wasFull
+	return became
+}
+
+// add keeps a sequence of a key, and says what became of it. None is replaced.
+func (k *kept) add(key string, chain keptChain, now time.Time) answer {
+	k.mutex.Lock()
+	defer k.mutex.Unlock()
+	if became := k.unkept(key, chain, now); became != "" {
+		return became
 	}
-	made := k.chainOf(text, now)
-	if !now.Before(made.until) || k.write(key, made) != nil {
-		return wasFailed
+	if k.write(key, chain) != nil {
+		return answerFailed
 	}
-	k.byKey[key] = append(k.byKey[key], made)
-	return wasKept
+	k.put(key, chain)
+	return answerKept
 }
 
 // write writes the file of a sequence, whole or not at all.
@@ -204,22 +265,18 @@ func (k *kept) write(key string, made keptChain) error {
 // judgeAll decides by what a request shows. Where it shows nothing and gets nothing, each sequence that is kept for its key is tried.
 func (d *decider) judgeAll(made record, key guard.ProvenKey, path string, asked *asked) record {
 	first := d.judge(made, key, path, asked.sequence)
-	if asked.sequence != "" || first.Answer != answerUnknown {
+	if asked.sequence != "" || first.Answer != answerUnknown || d.chains == nil {
 		return first
 	}
-	for _, each := range d.chains.of(made.Key, d.now()) {
+	shown, err := d.chains.of(made.Key, d.now())
+	if err != nil {
+		return made.ended(answerFailed, err)
+	}
+	for _, each := range shown {
 		if next := d.judge(made, key, path, each.text); next.Answer == answerYes {
 			next.Kept = "used"
 			return next
 		}
 	}
 	return first
-}
-
-// keep keeps the sequence of a request that was granted by it, if the client asks for that.
-func (d *decider) keep(made record, asked *asked) record {
-	if d.chains != nil && made.Answer == answerYes && asked.sequence != "" && asked.header.Get(keepHeader) == keepWord {
-		made.Kept = d.chains.add(made.Key, asked.sequence, d.now())
-	}
-	return made
 }

@@ -1,18 +1,24 @@
 package main
 
 import (
+	"crypto/sha256"
+	"crypto/sha512"
+	"io"
+	"net/http"
+	"net/http/httptest"
 	"os"
 	"path/filepath"
 	"strings"
 	"testing"
 	"time"
+
+	"conguraki/spki/httpsig"
 )
 
 // newKeeping returns a site at which clients can leave certificates, with a folder for them.
 func newKeeping(t *testing.T) *site {
 	t.Helper()
-	folder := t.TempDir()
-	s := newSite(t, `, "chains": {"folder": "`+folder+`", "each": 2}`)
+	s := newSite(t, `, "chains": {"folder": "`+t.TempDir()+`", "each": 2}`+ofSite)
 	s.opens(t)
 	return s
 }
@@ -27,14 +33,46 @@ func (s *site) opens(t *testing.T) {
 	s.chains = made
 }
 
-// asks returns the status of a request by a TLS certificate, and what became of the certificates.
-func (s *site) asks(who person, target, sequence string, more ...string) (status int, kept string) {
-	pairs := append([]string{"X-Original-Method", "GET", "X-Original-URI", target, "X-Client-Cert", who.escaped()}, more...)
+// asks returns the status of a request by a TLS certificate.
+func (s *site) asks(who person, target, sequence string) int {
+	pairs := []string{"X-Original-Method", "GET", "X-Original-URI", target, "X-Client-Cert", who.escaped()}
 	if sequence != "" {
 		pairs = append(pairs, "X-Spki-Sequence", sequence)
 	}
-	met := s.ask(pairs...)
-	return met.StatusCode, met.Header.Get("X-Spki-Kept")
+	return s.ask(pairs...).StatusCode
+}
+
+// put returns a request that leaves certificates.
+func (p person) put(t testing.TB, target, sequence string) *http.Request {
+	t.Helper()
+	request := httptest.NewRequest(http.MethodPut, target, strings.NewReader(sequence))
+	request.Host = "files.example.org"
+	signer, err := httpsig.NewSigner(p.private)
+	if err != nil {
+		t.Fatal(err)
+	}
+	message := httpsig.Message{Method: request.Method, Authority: request.Host, Target: target, Header: request.Header, Body: []byte(sequence)}
+	if err := signer.Sign("https", message); err != nil {
+		t.Fatal(err)
+	}
+	return request
+}
+
+// leaves returns the status of a request that leaves certificates, and the answer.
+func (s *site) leaves(t testing.TB, who person, sequence string) (int, answer) {
+	t.Helper()
+	met := s.told(who.put(t, usualPath, sequence))
+	return met.StatusCode, answer(met.Header.Get("X-Spki-Answer"))
+}
+
+// keeps says whether a sequence is kept for a person's key.
+func (s *site) keeps(t testing.TB, who person) bool {
+	t.Helper()
+	found, err := s.chains.of(hexDigest([]byte(who.key)), s.now())
+	if err != nil {
+		t.Fatal(err)
+	}
+	return len(found) > 0
 }
 
 func TestKeptChains(t *testing.T) {
@@ -42,42 +80,253 @@ func TestKeptChains(t *testing.T) {
 	bobs, carols := s.sequencesShown()
 	other := sequence(s.alice.signed(s.alice.certificate(s.bob, prefix("read", "/web/other/"), "")))
 	third := sequence(s.alice.signed(s.alice.certificate(s.bob, prefix("read", "/web/third/"), "")))
+	const put = "PUT"
 	for _, row := range []struct {
 		name, target, sequence string
 		who                    person
-		keeps                  bool
 		status                 int
-		kept                   string
+		answer                 answer
 	}{
-		{"not kept yet", "/web/docs/b", "", s.bob, false, 401, ""},
-		{"shown without the wish", "/web/docs/b", bobs, s.bob, false, 200, ""},
-		{"still not kept", "/web/docs/b", "", s.bob, false, 401, ""},
-		{"denied, and not kept", "/web/x", bobs, s.bob, true, 403, ""},
-		{"another's, and not kept", "/web/docs/a/b", carols, s.bob, true, 403, ""},
-		{"kept", "/web/docs/b", bobs, s.bob, true, 200, wasKept},
-		{"kept again", "/web/docs/b", bobs, s.bob, true, 200, wasKnown},
-		{"used", "/web/docs/b", "", s.bob, false, 200, "used"},
-		{"no more than it gives", "/web/x", "", s.bob, false, 401, ""},
-		{"nobody else's", "/web/docs/b", "", s.mallory, false, 401, ""},
-		{"nor Carol's", "/web/docs/a/b", "", s.carol, false, 401, ""},
-		{"a second one", "/web/other/b", other, s.bob, true, 200, wasKept},
-		{"none is replaced", "/web/third/b", third, s.bob, true, 200, wasFull},
-		{"the second is used", "/web/other/b", "", s.bob, false, 200, "used"},
-		{"the first too", "/web/docs/b", "", s.bob, false, 200, "used"},
-		{"the third is not", "/web/third/b", "", s.bob, false, 401, ""},
-		{"shown in place of the kept ones", "/web/docs/b", other, s.bob, false, 403, ""},
+		{"not kept yet", "/web/docs/b", "", s.bob, 401, ""},
+		{"shown alone", "/web/docs/b", bobs, s.bob, 200, ""},
+		{"still not kept", "/web/docs/b", "", s.bob, 401, ""},
+		{"another's", put, carols, s.bob, 400, answerRefused},
+		{"by a stranger", put, bobs, s.mallory, 400, answerRefused},
+		{"by the issuer", put, bobs, s.alice, 400, answerRefused},
+		{"nothing", put, sequence(), s.alice, 400, answerRefused},
+		{"no value", put, bobs + "(", s.bob, 400, answerRefused},
+		{"another value", put, "(key x)", s.bob, 400, answerRefused},
+		{"kept", put, bobs, s.bob, 201, answerKept},
+		{"kept again, in another form", put, " " + bobs + "\n", s.bob, 201, answerKnown},
+		{"used", "/web/docs/b", "", s.bob, 200, ""},
+		{"no more than it gives", "/web/x", "", s.bob, 401, ""},
+		{"nobody else's", "/web/docs/b", "", s.mallory, 401, ""},
+		{"nor Carol's", "/web/docs/a/b", "", s.carol, 401, ""},
+		{"a second one", put, other, s.bob, 201, answerKept},
+		{"none is replaced", put, third, s.bob, 507, answerFull},
+		{"the second is used", "/web/other/b", "", s.bob, 200, ""},
+		{"the first too", "/web/docs/b", "", s.bob, 200, ""},
+		{"the third is not", "/web/third/b", "", s.bob, 401, ""},
+		{"shown in place of the kept ones", "/web/docs/b", other, s.bob, 403, ""},
 	} {
-		more := []string{}
-		if row.keeps {
-			more = []string{"X-Spki-Keep", "yes"}
+		status, met := 0, answer("")
+		if row.target == put {
+			status, met = s.leaves(t, row.who, row.sequence)
+		} else {
+			status = s.asks(row.who, row.target, row.sequence)
 		}
-		if status, kept := s.asks(row.who, row.target, row.sequence, more...); status != row.status || kept != row.kept {
-			t.Errorf("%s: %d %q, wanted %d %q: %+v", row.name, status, kept, row.status, row.kept, s.lastLine(t))
+		if status != row.status || met != row.answer {
+			t.Errorf("%s: %d %q, wanted %d %q: %+v", row.name, status, met, row.status, row.answer, s.lastLine(t))
 		}
 	}
 	s.opens(t)
-	if status, kept := s.asks(s.bob, "/web/docs/b", ""); status != 200 || kept != "used" {
-		t.Error("after a start: ", status, kept)
+	if status := s.asks(s.bob, "/web/docs/b", ""); status != 200 || s.lastLine(t).Kept != "used" {
+		t.Error("after a start: ", status, s.lastLine(t))
+	}
+}
+
+// hashOfKey writes the hash that names a person's key.
+func (p person) hashOfKey() string {
+	digest := sha256.Sum256([]byte(p.key))
+	return "(4:hash6:sha256" + str(string(digest[:])) + ")"
+}
+
+// gives writes a certificate for another subject than a key.
+func (p person) gives(subject, tag, more string) string {
+	return p.signed("(4:cert(6:issuer" + p.key + ")" + more + "(7:subject" + subject + ")(3:tag" + tag + "))")
+}
+
+// defines writes a certificate by which a name of a person is a subject.
+func (p person) defines(name, subject string) string {
+	return p.signed("(4:cert(6:issuer(4:name" + p.key + str(name) + "))(7:subject" + subject + "))")
+}
+
+// TestWhatIsKept leaves chains of each kind. Each certificate must be signed, and the subject of the last one be the key that signs the request.
+func TestWhatIsKept(t *testing.T) {
+	s := newKeeping(t)
+	tag := prefix("read", "/web/")
+	name := "(4:name" + s.alice.key + "8:builders)"
+	toBob, toName := s.alice.signed(s.toBob), s.alice.gives(name, tag, "")
+	isBob := s.alice.defines("builders", s.bob.key)
+	forged := s.mallory.signed(s.alice.certificate(s.bob, tag, ""))
+	asAlice := strings.Replace(forged, s.mallory.key+"(7:sig-val", s.alice.key+"(7:sig-val", 1)
+	digest := sha512.Sum512([]byte(s.bob.key))
+	for _, row := range []struct {
+		name, reason string
+		shown        []string
+	}{
+		{"a key", "", []string{toBob}},
+		{"the hash of a key", "", []string{s.alice.gives(s.bob.hashOfKey(), tag, "")}},
+		{"its hash by SHA-512", "", []string{s.alice.gives("(4:hash6:sha512"+str(string(digest[:]))+")", tag, "")}},
+		{"its hash and an address", "", []string{s.alice.gives(strings.TrimSuffix(s.bob.hashOfKey(), ")")+"(3:uri1:x))", tag, "")}},
+		{"a key behind fields that look so", "", []string{s.alice.gives(s.bob.key, tag, "(7:comment(7:subject"+s.mallory.key+")[1:x]1:y)")}},
+		{"a name that is defined", "", []string{toName, isBob}},
+		{"a definition alone", "", []string{isBob}},
+		{"a definition of a name of a name", "", []string{
+			s.alice.gives("(4:name"+s.alice.key+"4:team8:builders)", tag, ""), s.alice.defines("team", s.carol.key), s.carol.defines("builders", s.bob.key)}},
+		{"keys beside certificates", "", []string{s.alice.key, toBob, s.carol.key}},
+		{"certificates that do not join", "", []string{s.mallory.signed(s.mallory.certificate(s.carol, tag, "")), toBob}},
+		{"a stranger's own", "", []string{s.mallory.signed(s.mallory.certificate(s.bob, tag, ""))}},
+		{"what is not yet valid", "", []string{s.alice.signed("(4:cert(6:issuer" + s.alice.key + ")(7:subject" + s.bob.key + ")(3:tag" + tag +
+			")(5:valid(10:not-before19:9000-01-01_00:00:00)))")}},
+		{"another key", "is not the key", []string{s.alice.signed(s.alice.certificate(s.carol, tag, ""))}},
+		{"another key behind it", "is not the key", []string{toBob, s.bob.signed(s.toCarol)}},
+		{"the hash of another key", "is not the key", []string{s.alice.gives(s.carol.hashOfKey(), tag, "")}},
+		{"a key in a comment", "is not the key", []string{s.alice.gives(s.carol.key, tag, "(7:comment(7:subject"+s.bob.key+"))")}},
+		{"a name", "is not the key", []string{toName}},
+		{"a name of the issuer", "is not the key", []string{s.alice.gives("(4:name8:builders)", tag, "")}},
+		{"a name of the key", "is not the key", []string{s.alice.gives("(4:name"+s.bob.key+"1:x)", tag, "")}},
+		{"a definition before its name", "is not the key", []string{isBob, toName}},
+		{"a wrong signature", "has no valid signature", []string{asAlice}},
+		{"a wrong one before the last", "has no valid signature", []string{asAlice, toBob}},
+		{"a wrong one behind", "has no valid signature", []string{toBob, asAlice}},
+		{"another's signature", "item 1 SignerDiffers", []string{forged}},
+		{"another digest", "item 1 DigestDiffers", []string{strings.Replace(toBob, "/web/docs/", "/web/dogs/", 1)}},
+		{"an issuer that is not shown", "item 3 KeyNotShown", []string{
+			toBob, s.alice.signed(strings.Replace(s.toBob, s.alice.key, s.alice.hashOfKey(), 1))}},
+		{"keys alone", "there is none", []string{s.bob.key}},
+		{"what is past its end", "past its end", []string{s.alice.signed(s.alice.certificateUntil(s.bob, tag, "2020-01-01_00:00:00"))}},
+		{"no signature", "refused sequence 1 UnsignedCert", []string{s.toBob}},
+	} {
+		s.chains = &kept{chains: chains{Folder: t.TempDir(), Each: 2, Keys: 2, Days: 9}, byKey: map[string][]keptChain{}}
+		status, met := s.leaves(t, s.bob, sequence(row.shown...))
+		line, isKept := s.lastLine(t), s.keeps(t, s.bob)
+		if row.reason == "" && (status != 201 || met != answerKept || !isKept) {
+			t.Errorf("%s: %d, %+v", row.name, status, line)
+		}
+		if row.reason != "" && (status != 400 || met != answerRefused || isKept || !strings.Contains(line.Reason, row.reason)) {
+			t.Errorf("%s: %d, %+v", row.name, status, line)
+		}
+	}
+}
+
+// TestEndedIsNotKept leaves a certificate that has ended early.
+func TestEndedIsNotKept(t *testing.T) {
+	s := newKeeping(t)
+	bobs, _ := s.sequencesShown()
+	s.config.Ended = written(t, "ended", sealed(digestOfText(s.toBob)+" # stolen\n"))
+	if err := s.keeper.reload(s.config, false, s.now()); err != nil {
+		t.Fatal(err)
+	}
+	if status, met := s.leaves(t, s.bob, bobs); status != 400 || met != answerRefused || !strings.HasSuffix(s.lastLine(t).Reason, "has ended") {
+		t.Errorf("%d, %+v", status, s.lastLine(t))
+	}
+}
+
+// TestStrangersLeave leaves certificates of keys that a stranger has made. They fill the room for keys and that of octets, and cost no more.
+func TestStrangersLeave(t *testing.T) {
+	s := newKeeping(t)
+	s.config.Chains.Keys = 2
+	s.opens(t)
+	verified := s.counts.verified.Load()
+	for place, wanted := range []answer{answerKept, answerKept, answerFull, answerFull} {
+		stranger := newPerson(t)
+		shown := sequence(s.mallory.signed(s.mallory.certificate(stranger, prefix("read", "/web/"), "")))
+		if _, met := s.leaves(t, stranger, shown); met != wanted {
+			t.Errorf("%d: %s, wanted %s", place, met, wanted)
+		}
+		if s.asks(stranger, "/web/x", "") != 401 || s.asks(stranger, "/web/x", shown) != 403 {
+			t.Error("a stranger is granted something")
+		}
+	}
+	if made := s.counts.verified.Load() - verified; made != 2 {
+		t.Errorf("%d signatures were verified", made)
+	}
+	bobs, _ := s.sequencesShown()
+	if s.asks(s.bob, "/web/docs/b", bobs) != 200 {
+		t.Error("what a request brings itself does not count")
+	}
+	full := &kept{chains: *s.config.Chains, byKey: map[string][]keptChain{}, octets: mostLeft - 9}
+	if met := full.add("key", keptChain{text: "ten octets"}, s.now()); met != answerFull {
+		t.Error(met)
+	}
+}
+
+// TestNoncesOfLeaving fills the nonces of those who leave certificates. Those of requests that are granted stay free.
+func TestNoncesOfLeaving(t *testing.T) {
+	s := newSite(t, `, "chains": {"folder": "`+t.TempDir()+`"}, "signatures": {"names": ["files.example.org"], "nonces": 1}`)
+	s.opens(t)
+	for place, wanted := range []answer{answerKept, answerRefused} {
+		stranger := newPerson(t)
+		if _, met := s.leaves(t, stranger, sequence(s.mallory.signed(s.mallory.certificate(stranger, prefix("read", "/"), "")))); met != wanted {
+			t.Errorf("%d: %s, %+v", place, met, s.lastLine(t))
+		}
+	}
+	if met := s.ask(s.alice.signs(t, "GET", "files.example.org", "/web/x", "", nil)...); met.StatusCode != 200 {
+		t.Error(met.StatusCode, s.lastLine(t))
+	}
+}
+
+// What is put is kept only if it is signed as it came, once, and short. Whatever its headers say of another request or client counts nothing.
+func TestPutAttacks(t *testing.T) {
+	s := newKeeping(t)
+	bobs, _ := s.sequencesShown()
+	const target = usualPath
+	long := strings.Repeat(" ", mostShownOctets+1-len(bobs)) + bobs
+	other := sequence(s.alice.signed(s.alice.certificate(s.bob, prefix("read", "/web/docs/"), "")))
+	body := func(text string) func(*http.Request) {
+		return func(it *http.Request) {
+			it.Body, it.ContentLength = io.NopCloser(strings.NewReader(text)), int64(len(text))
+		}
+	}
+	set := func(name, value string) func(*http.Request) {
+		return func(it *http.Request) { it.Header.Set(name, value) }
+	}
+	for name, change := range map[string]func(*http.Request){
+		"another body":   body(other),
+		"a body less":    body(""),
+		"half a body":    func(it *http.Request) { body(bobs[:99])(it); it.ContentLength = int64(len(bobs)) },
+		"a longer body":  body(bobs + " "),
+		"no length":      func(it *http.Request) { it.ContentLength = -1 },
+		"another digest": set("Content-Digest", httpsig.ContentDigest([]byte(other))),
+		"no digest":      func(it *http.Request) { it.Header.Del("Content-Digest") },
+		"a digest of each": func(it *http.Request) {
+			body(other)(it)
+			set("Content-Digest", httpsig.ContentDigest([]byte(other)))(it)
+		},
+		"a query put in":              func(it *http.Request) { it.RequestURI = usualPath + "?GET=/web/docs/b" },
+		"an empty query put in":       func(it *http.Request) { it.RequestURI = usualPath + "?" },
+		"another host":                func(it *http.Request) { it.Host = "files.example.net" },
+		"a stranger's host":           func(it *http.Request) { it.Host = "evil.example" },
+		"no host":                     func(it *http.Request) { it.Host = "" },
+		"no signature":                func(it *http.Request) { it.Header.Del("Signature"); it.Header.Del("Signature-Input") },
+		"no key":                      func(it *http.Request) { it.Header.Del("X-Spki-Public-Key") },
+		"another key":                 set("X-Spki-Public-Key", s.mallory.inBraces()),
+		"two keys":                    func(it *http.Request) { it.Header.Add("X-Spki-Public-Key", s.bob.inBraces()) },
+		"a certificate alone":         func(it *http.Request) { it.Header = http.Header{"X-Client-Cert": {s.bob.escaped()}} },
+		"a chain in a header":         set("X-Spki-Sequence", bobs),
+		"credentials":                 set("Authorization", "SPKI "+bobs),
+		"a second signature":          func(it *http.Request) { it.Header.Add("Signature", "spki=:AAAA:") },
+		"two numbers":                 func(it *http.Request) { it.Header["X-Request-Id"] = []string{"1", "2"} },
+		"POST":                        func(it *http.Request) { it.Method = http.MethodPost },
+		"GET, as the web server asks": func(it *http.Request) { it.Method = http.MethodGet },
+		"another place":               func(it *http.Request) { it.RequestURI = "/web/docs/b" },
+		"a place below":               func(it *http.Request) { it.RequestURI = usualPath + "/" },
+		"an escaped place":            func(it *http.Request) { it.RequestURI = "/.well-known/spki%2dchain" },
+	} {
+		request := s.bob.put(t, target, bobs)
+		change(request)
+		if met := s.told(request); met.StatusCode < 400 || s.keeps(t, s.bob) {
+			t.Errorf("%s: %d, %+v", name, met.StatusCode, s.lastLine(t))
+		}
+	}
+	if met := s.told(s.bob.put(t, target, long)); met.StatusCode != 400 || !strings.Contains(s.lastLine(t).Reason, "8192") {
+		t.Error("too long: ", met.StatusCode, s.lastLine(t))
+	}
+	if met := s.told(s.bob.put(t, target+"?GET=/web/docs/b", bobs)); met.StatusCode != 400 || s.keeps(t, s.bob) {
+		t.Error("a query: ", met.StatusCode, s.lastLine(t))
+	}
+	once := s.bob.put(t, target, bobs)
+	for name, value := range map[string]string{"X-Original-Method": "GET", "X-Original-Uri": "/web/x", "X-Original-Host": "evil.example",
+		"X-Client-Cert": s.mallory.escaped()} {
+		once.Header.Set(name, value)
+	}
+	if met := s.told(once); met.StatusCode != 201 || s.lastLine(t).Key != hexDigest([]byte(s.bob.key)) || s.lastLine(t).Proof != bySignature {
+		t.Error("other headers: ", met.StatusCode, s.lastLine(t))
+	}
+	body(bobs)(once)
+	if met := s.told(once); met.StatusCode != 400 || !strings.HasSuffix(s.lastLine(t).Reason, "nonce-seen") {
+		t.Error("sent again: ", met.StatusCode, s.lastLine(t))
 	}
 }
 
@@ -88,18 +337,21 @@ func TestKeptChainsEnd(t *testing.T) {
 	short := sequence(s.alice.signed(s.alice.certificateUntil(s.bob, prefix("read", "/web/docs/"), end)))
 	long := sequence(s.alice.signed(s.alice.certificate(s.bob, prefix("read", "/web/docs/"), "")))
 	for _, text := range []string{short, long} {
-		if _, kept := s.asks(s.bob, "/web/docs/b", text, "X-Spki-Keep", "yes"); kept != wasKept {
+		if _, kept := s.leaves(t, s.bob, text); kept != answerKept {
 			t.Error(kept)
 		}
 	}
 	for _, row := range [][2]int{{9, 2}, {11, 1}, {89, 1}, {91, 0}} {
 		now := begun.AddDate(0, 0, row[0])
 		made, err := openKept(s.config.Chains, now)
-		if err != nil || len(made.of(hexDigest([]byte(s.bob.key)), now)) != row[1] {
-			t.Error(row, err, made)
+		if err != nil {
+			t.Fatal(err)
+		}
+		if left, _ := made.of(hexDigest([]byte(s.bob.key)), now); len(left) != row[1] {
+			t.Error(row, left)
 		}
 	}
-	if left := s.chains.of(hexDigest([]byte(s.bob.key)), begun.AddDate(1, 0, 0)); left != nil {
+	if left, _ := s.chains.of(hexDigest([]byte(s.bob.key)), begun.AddDate(1, 0, 0)); left != nil {
 		t.Error(left)
 	}
 	if files, _ := filepath.Glob(filepath.Join(s.config.Chains.Folder, "*")); files != nil {
@@ -122,13 +374,18 @@ func TestKeptFiles(t *testing.T) {
 		}
 	}
 	s.opens(t)
-	if status, _ := s.asks(s.bob, "/web/docs/b", ""); status != 401 {
+	if status := s.asks(s.bob, "/web/docs/b", ""); status != 401 {
 		t.Error(status)
 	}
-	for _, wrong := range []chains{{Folder: "x"}, {Folder: "/x", Days: -1}, {}} {
-		if wrong.check() == nil {
+	ofStore := &storeOf{Host: "/run", Database: "d", User: "u"}
+	for _, wrong := range []chains{{Folder: "x"}, {Folder: "/x", Days: -1}, {}, {Folder: "/x", Path: "x"}, {Folder: "/x", Path: "/a%2fb"},
+		{Folder: "/x", Postgres: ofStore}, {Postgres: &storeOf{}}} {
+		if wrong.check(true) == nil {
 			t.Error(wrong)
 		}
+	}
+	if (&chains{Folder: "/x"}).check(false) == nil || (&chains{Folder: "/x"}).check(true) != nil {
+		t.Error("chains need signatures, and no more than a folder")
 	}
 	if err := os.Chmod(s.config.Chains.Folder, 0o777); err != nil {
 		t.Fatal(err)

@@ -90,6 +90,9 @@ func readList(path string, policy guard.Policy, limits limits) (*list, error) {
 		return nil, err
 	}
 	opened, err := guard.Open(octets, policy, limits.ofQuestion())
+	if errors.Is(err, guard.ErrRefused) && !errors.Is(err, guard.ErrMemory) {
+		err = fmt.Errorf("%w; `spki-cert check %s` says where", err, path)
+	}
 	if err != nil {
 		return nil, fmt.Errorf("%s: %w", path, err)
 	}

@@ -64,6 +64,11 @@ func (p person) escaped() string {
 	return strings.ReplaceAll(url.QueryEscape(p.pem()), "+", "%20")
 }
 
+// inBraces returns the key in transport form.
+func (p person) inBraces() string {
+	return "{" + base64.StdEncoding.EncodeToString([]byte(p.key)) + "}"
+}
+
 // str writes a string in canonical form.
 func str(octets string) string {
 	return fmt.Sprintf("%d:%s", len(octets), octets)

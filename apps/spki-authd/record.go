@@ -18,6 +18,10 @@ const (
 	answerUnknown answer = "unauthenticated"
 	answerLimited answer = "limited"
 	answerFailed  answer = "failed"
+	// To certificates that are left, and never to a question.
+	answerKept  answer = "kept"
+	answerKnown answer = "known"
+	answerFull  answer = "full"
 )
 
 // A record is one decision: a line of the log, and what the web server is told. It has no key and no certificate, but their digests.
@@ -61,12 +65,21 @@ func (r record) ended(answer answer, fault error) record {
 	return r
 }
 
+// setKnown says by which list and by which of the certificates whose signatures are known a request is decided: up to the first that has ended.
+func (r *record) setKnown(at *list, known *shown, valid int) {
+	r.List, r.numbers, r.Certificates, r.Cached = at.digest, at.numbers, known.names, valid
+	if valid < len(known.names) {
+		r.Certificates = known.names[:valid+1]
+		r.setEnded(known.names[valid])
+	}
+}
+
 // setEnded says which certificate has ended early.
 func (r *record) setEnded(certificate string) {
 	r.Reason = "certificate " + certificate + " has ended"
 }
 
-// status returns the status of an answer. Only yes is 200.
+// status returns the status of an answer. Only yes is 200: no web server takes certificates that are kept for a grant.
 func (a answer) status(refused int) int {
 	switch a {
 	case answerYes:
@@ -77,6 +90,10 @@ func (a answer) status(refused int) int {
 		return http.StatusUnauthorized
 	case answerRefused:
 		return refused
+	case answerKept, answerKnown:
+		return http.StatusCreated
+	case answerFull:
+		return http.StatusInsufficientStorage
 	case answerLimited:
 		if refused == http.StatusForbidden {
 			return refused
@@ -105,9 +122,6 @@ func (r *record) response(now time.Time, isLast bool) []byte {
 	}
 	if r.Entry > 0 {
 		header("X-Spki-Entry", strconv.Itoa(r.Entry))
-	}
-	if r.Kept != "" {
-		header("X-Spki-Kept", r.Kept)
 	}
 	if r.Answer == answerRefused {
 		header("X-Spki-Reason", strings.ReplaceAll(r.Reason, "\n", ", "))

@@ -305,6 +305,35 @@ func TestEndBesideConnections(t *testing.T) {
 	}
 }
 
+// A dated connection notes the deadline that it has.
+type dated struct {
+	net.Conn
+	until time.Time
+}
+
+func (d *dated) SetDeadline(until time.Time) error     { d.until = until; return nil }
+func (d *dated) SetReadDeadline(until time.Time) error { d.until = until; return nil }
+
+// TestDeadlines ends the time of connections on each of which a request comes at that moment: it has its whole time.
+func TestDeadlines(t *testing.T) {
+	for name, ends := range map[string]func(door *door){
+		"for a new one": (*door).closeIdle, "after long": func(door *door) { door.endLate(time.Now().Add(timeIdle + time.Second)) },
+	} {
+		door, connection := newDoor(newSite(t, "").decider), &dated{}
+		door.enter(connection)
+		if err := door.note(connection, isIdle); err != nil || !connection.until.IsZero() {
+			t.Errorf("%s: %v, %v", name, err, connection.until)
+		}
+		door.endLate(time.Now())
+		if ends(door); connection.until.IsZero() {
+			t.Errorf("%s: it stays", name)
+		}
+		if err := door.note(connection, isBusy); err != nil || time.Until(connection.until) < time.Second {
+			t.Errorf("%s: %v, %v", name, err, connection.until)
+		}
+	}
+}
+
 // lines returns the number of lines in the log.
 func (s *served) lines() int {
 	return strings.Count(s.log.String(), "\n")
@@ -346,8 +375,9 @@ func TestWords(t *testing.T) {
 		status    int
 		out, said string
 	}{
-		"-check " + list: {0, "1 entries", ""}, "-check " + bad: {1, "", "refused acl 1 Shape"}, "-check /none": {1, "", "no such file"},
-		"-version": {0, "spki-authd 0.2.0", ""}, "-help": {0, "", "-config"}, "-x": {2, "", "-x"}, "x": {2, "", "no flag"},
+		"-check " + list: {0, "1 entries", ""}, "-check /none": {1, "", "no such file"},
+		"-check " + bad: {1, "", "refused acl 1 Shape; `spki-cert check " + bad + "` says where"},
+		"-version":      {0, "spki-authd 0.2.0", ""}, "-help": {0, "", "-config"}, "-x": {2, "", "-x"}, "x": {2, "", "no flag"},
 		"-test -config " + config: {0, "1 entries", ""}, "-test -config " + list: {1, "", "invalid"}, "-config /none": {1, "", "no such file"},
 		"-fewer": {2, "", "-reload"}, "-of x": {2, "", "-state"}, "-reload -config " + config: {1, "", "no such file"},
 	} {

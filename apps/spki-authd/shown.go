@@ -3,6 +3,7 @@ package main
 import (
 	"crypto/sha256"
 	"encoding/hex"
+	"sync"
 
 	"conguraki/spki/guard"
 )
@@ -11,8 +12,9 @@ import (
 // of a daemon does not change, and a signature stays valid. So nothing in it can become wrong. It says nothing of the key, the request, the time,
 // the list and the ended certificates: each question is decided anew.
 type shown struct {
-	// The sequence in canonical form, which is read in three quarters of the time.
-	text []byte
+	// The sequence as it was shown, and from the second time on in canonical form, which is read in three quarters of the time.
+	text  []byte
+	again sync.Once
 	// The digests of the certificates that are signed, and the same as the log has them.
 	digests []digest
 	names   []string
@@ -54,11 +56,18 @@ func (s *sequences) add(text string, made *shown) {
 	if len(text) > mostShownOctets || s.kept.half == 0 {
 		return
 	}
-	canonical, err := guard.Canonical([]byte(text))
-	if err == nil {
-		made.text = canonical
-		s.kept.add(text, made)
-	}
+	made.text = []byte(text)
+	s.kept.add(text, made)
+}
+
+// canonical returns the sequence in canonical form, which takes as long to make as a decision. So a sequence that is shown once has none.
+func (s *shown) canonical() []byte {
+	s.again.Do(func() {
+		if canonical, err := guard.Canonical(s.text); err == nil {
+			s.text = canonical
+		}
+	})
+	return s.text
 }
 
 // shownBy returns a sequence by its signatures, without its text.
@@ -71,14 +80,19 @@ func shownBy(signatures []guard.Signature) *shown {
 	return made
 }
 
-// notEnded returns the number of certificates up to the first that has ended early.
-func (s *shown) notEnded(access *access) int {
-	for place, message := range s.digests {
-		if access.hasEnded(message) {
-			return place
+// notEnded returns the number of certificates up to the first that has ended early, or a fault where a store that says which have is stale.
+func (s *shown) notEnded(access *access) (int, error) {
+	if len(s.digests) > 0 {
+		if err := access.areStoresFresh(); err != nil {
+			return 0, err
 		}
 	}
-	return len(s.digests)
+	for place, message := range s.digests {
+		if access.hasEnded(message) {
+			return place, nil
+		}
+	}
+	return len(s.digests), nil
 }
 
 // markFirst marks the first signatures of a question, as many as are valid.

@@ -13,10 +13,10 @@ func (s *site) kept() int {
 	return len(s.sequences.kept.old) + len(s.sequences.kept.young)
 }
 
-// mustBe asks twice, so that the second question is by a sequence that is kept, if the first one's was valid.
+// mustBe asks three times. If the sequence is valid, it is kept for the second question, and a yes to that for the third.
 func (s *site) mustBe(t *testing.T, what string, who person, target, shown string, wanted int) record {
 	t.Helper()
-	for turn := 1; turn <= 2; turn++ {
+	for turn := 1; turn <= 3; turn++ {
 		if met := s.by(who, "GET", target, shown); met.StatusCode != wanted {
 			t.Errorf("%s, turn %d: %d, wanted %d: %+v", what, turn, met.StatusCode, wanted, s.lastLine(t))
 		}
@@ -42,6 +42,19 @@ func TestKeptSequencesGrantNothingByThemselves(t *testing.T) {
 	}
 	if met := s.by(s.carol, "PUT", "/web/docs/a/b", carols); met.StatusCode != 403 {
 		t.Errorf("another method: %d", met.StatusCode)
+	}
+}
+
+func TestSequenceIsCanonicalFromTheSecondTimeOn(t *testing.T) {
+	s := newSite(t, "")
+	_, carols := s.sequencesShown()
+	for _, begin := range []string{"{", "(8:sequence"} {
+		if met := s.by(s.carol, "GET", "/web/docs/a/b", carols); met.StatusCode != 200 {
+			t.Errorf("%s: %d", begin, met.StatusCode)
+		}
+		if known := s.sequences.of(carols); known == nil || !strings.HasPrefix(string(known.text), begin) {
+			t.Errorf("what is kept does not begin with %s", begin)
+		}
 	}
 }
 

@@ -25,6 +25,8 @@ const bySignature = "signature"
 // A signed verifies requests.
 type signed struct {
 	*httpsig.Verifier
+	// The same for requests that leave certificates, which strangers can make too: with nonces of their own.
+	leaving *httpsig.Verifier
 	// The names by their hosts, as the web server passes them on.
 	names map[string]string
 }
@@ -53,12 +55,15 @@ func newSigned(c *config, now func() time.Time) *signed {
 	if c.Signatures == nil {
 		return nil
 	}
-	made := &signed{httpsig.NewVerifier(c.Signatures.Names...), map[string]string{}}
+	made := &signed{Verifier: httpsig.NewVerifier(c.Signatures.Names...), names: map[string]string{}}
 	most := c.Signatures.Nonces
 	if most == 0 {
 		most = usualNonces
 	}
 	made.Nonces, made.Sequence, made.Now, made.Start = httpsig.NewMemory(most), strings.ToLower(c.Headers.Sequence), now, now()
+	leaving := *made.Verifier
+	leaving.Nonces = httpsig.NewMemory(most)
+	made.leaving = &leaving
 	for _, name := range c.Signatures.Names {
 		// (names were checked)
 		host, _ := hostOf(name)
@@ -76,9 +81,10 @@ func (s *signed) is(asked *asked) bool {
 // whatever certificate is there: behind another proxy that would be the proxy's.
 func (d *decider) clientOf(asked *asked) (client, *httpsig.Proof, error) {
 	if d.signed.is(asked) {
-		proof, err := d.signed.Check(httpsig.Message{
-			Method: asked.method, Authority: d.signed.names[asked.host], Target: asked.target, Header: asked.header,
-		})
+		message := httpsig.Message{
+			Method: asked.method, Authority: d.signed.names[asked.host], Target: asked.target, Header: asked.header, Body: asked.left,
+		}
+		proof, err := d.signed.Check(message)
 		if err != nil {
 			return client{}, nil, err
 		}

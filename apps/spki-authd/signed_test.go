@@ -43,6 +43,17 @@ func changed(pairs []string, name, value string) []string {
 	return made
 }
 
+// without returns pairs without those of a name.
+func without(pairs []string, name string) []string {
+	var made []string
+	for place := 0; place < len(pairs); place += 2 {
+		if !strings.EqualFold(pairs[place], name) {
+			made = append(made, pairs[place], pairs[place+1])
+		}
+	}
+	return made
+}
+
 func TestSigned(t *testing.T) {
 	s := newSite(t, ofSite)
 	bobs, _ := s.sequencesShown()
@@ -72,6 +83,9 @@ func TestSigned(t *testing.T) {
 			400, "invalid-signature"},
 		{"half a signature beside a certificate", []string{"X-Original-Method", "GET", "X-Original-URI", "/web/x", "X-Original-Host", "files.example.org",
 			"Signature", "spki=:AAAA:", "X-Client-Cert", s.alice.escaped()}, 400, "malformed"},
+		{"no key", without(alices("GET", "/web/x", ""), "X-Spki-Public-Key"), 400, "absent-field"},
+		{"another's key", changed(alices("GET", "/web/x", ""), "X-Spki-Public-Key", s.bob.inBraces()), 400, "other-key"},
+		{"two keys", append(alices("GET", "/web/x", ""), "X-Spki-Public-Key", s.alice.inBraces()), 400, "repeated-field"},
 		{"two signatures", append(alices("GET", "/web/x", ""), "Signature", "spki=:AAAA:"), 400, "repeated-field"},
 		{"a certificate alone", []string{"X-Original-Method", "GET", "X-Original-URI", "/web/x", "X-Client-Cert", s.alice.escaped()}, 200, ""},
 		{"nothing", []string{"X-Original-Method", "GET", "X-Original-URI", "/web/x"}, 401, ""},

@@ -152,10 +152,7 @@ func (p *place) read(policy guard.Policy, c *config) (*list, error) {
 		if err != nil {
 			return nil, err
 		}
-		open := func(entries []byte) (*guard.Guard, error) {
-			return guard.Open(append(append([]byte("(3:acl"), entries...), ')'), policy, c.Limits.ofQuestion())
-		}
-		if of.opened, err = newStore(of, reader, open, time.Now); err != nil {
+		if of.opened, err = newStore(of, reader, c.open, time.Now); err != nil {
 			return nil, err
 		}
 		go of.opened.poll()

@@ -46,7 +46,7 @@ func start(words words, out, messages io.Writer) error {
 		*config.Cache = 0
 	}
 	decider := newDecider(config)
-	if decider.chains, err = openKept(config.Chains, decider.now()); err != nil {
+	if decider.chains, err = openChains(config, decider.now()); err != nil {
 		return err
 	}
 	if err := decider.keeper.reload(config, false, decider.now()); err != nil {
@@ -67,7 +67,7 @@ func newDecider(config *config) *decider {
 	made := &decider{
 		config: config, keys: newKeys(config.CertificateForm), cache: newCache(*config.Cache), sequences: newSequences(*config.Cache), now: time.Now,
 		counts: newCounts(len(config.Requests)), byKey: newRates(config.Limits.KeyRate), byAddress: newRates(config.Limits.AddressRate),
-		verify: verify.Signature,
+		explaining: newRates(config.Limits.ExplainRate), verify: verify.Signature,
 	}
 	made.signed = newSigned(config, func() time.Time { return made.now() })
 	return made
@@ -94,6 +94,11 @@ func (d *decider) test(out io.Writer) error {
 			continue
 		}
 		fmt.Fprintf(out, "%s: %d entries\n", each.List, each.guard.Entries())
+	}
+	if d.chains != nil {
+		// (a store must answer)
+		_, err := d.chains.of(hexDigest(nil), d.now())
+		return err
 	}
 	return nil
 }

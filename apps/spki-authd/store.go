@@ -41,6 +41,10 @@ type reader interface {
 	since(number int64) (news, error)
 	// whole returns all ended certificates, and the state.
 	whole() (news, error)
+	// chains returns the sequences that are kept for a key.
+	chains(key digest) ([]keptChain, error)
+	// keep keeps a sequence for a key, within the limits of a daemon, and says what became of it.
+	keep(key digest, chain keptChain, limits *chains) (answer, error)
 	// renew closes the connections.
 	renew()
 }

@@ -41,12 +41,14 @@ const (
 	askRows = iota
 	askSince
 	askWhole
+	askChains
+	askKeep
 	asks
 )
 
 // The version of the store, and the most changes that one poll reads.
 const (
-	storeVersion = 1
+	storeVersion = 2
 	mostChanges  = 10_000
 )
 
@@ -78,6 +80,8 @@ func openReader(of *storeOf, patience time.Duration) (reader, error) {
 				" c ON true ORDER BY c.number", mostChanges+2),
 		askWhole: "SELECT " + stateColumns + ", " + microseconds + ", e.certificate FROM " + stateTables +
 			" LEFT JOIN @.changes c ON c.number = s.changes LEFT JOIN @.ended e ON true",
+		askChains: "SELECT text, (extract(epoch FROM until) * 1000000)::bigint FROM @.chains WHERE key = $1 ORDER BY until, digest",
+		askKeep:   "SELECT @.keep($1, $2, $3, $4, $5)",
 	} {
 		// (the name of the schema was checked)
 		made.texts[ask] = strings.ReplaceAll(text, "@", of.Schema)
@@ -272,4 +276,23 @@ func (p *pool) whole() (made news, err error) {
 		return err
 	})
 	return made, withState(hasState, err)
+}
+
+// chains returns the sequences that are kept for a key.
+func (p *pool) chains(key digest) (made []keptChain, err error) {
+	err = p.ask(askChains, func(row []driver.Value) error {
+		until, _ := row[1].(int64)
+		made = append(made, keptChain{text: string(octetsIn(row[0])), until: time.UnixMicro(until)})
+		return nil
+	}, key[:])
+	return made, err
+}
+
+// keep keeps a sequence for a key, and says what became of it.
+func (p *pool) keep(key digest, chain keptChain, limits *chains) (became answer, err error) {
+	err = p.ask(askKeep, func(row []driver.Value) error {
+		became = answer(fmt.Sprint(row[0]))
+		return nil
+	}, key[:], []byte(chain.text), chain.until, int64(limits.Each), int64(limits.Keys))
+	return became, err
 }

@@ -5,6 +5,7 @@ package main
 import (
 	"database/sql/driver"
 	"encoding/hex"
+	"errors"
 	"fmt"
 	"math/rand"
 	"os"
@@ -19,13 +20,17 @@ import (
 	"conguraki/spki/verify"
 )
 
-// The tests of this file need a store without entries, by the environment: tests/test_store.py makes one.
+// The tests of this file need a store without entries, by the environment: tests/suite/test_store.py makes one.
 const (
 	envHost      = "SPKI_STORE_HOST"
 	envSchema    = "SPKI_STORE_SCHEMA"
 	envQuestions = "SPKI_STORE_QUESTIONS"
 	envSeed      = "SPKI_STORE_SEED"
+	envRoot      = "SPKI_STORE_ROOT"
 )
+
+// What the answer of a store that has none begins with.
+const failed = "failed: "
 
 // A rig is a store in PostgreSQL, what changes it, and all lists that it had, by the number of the last change.
 type rig struct {
@@ -39,24 +44,24 @@ type rig struct {
 	history []map[int]string
 }
 
-// newRig opens the store that the environment names.
-func newRig(t *testing.T) *rig {
+// newRig opens the store that the environment names, which answers in time or fails.
+func newRig(t *testing.T, patience time.Duration) *rig {
 	t.Helper()
 	host := os.Getenv(envHost)
 	if host == "" {
-		t.Skip("no store: tests/test_store.py names one")
+		t.Skip("no store: tests/suite/test_store.py names one")
 	}
-	of := &storeOf{Host: host, Database: "postgres", User: "postgres", Schema: os.Getenv(envSchema)}
+	of := &storeOf{Host: host, Root: os.Getenv(envRoot), Database: "postgres", User: "postgres", Schema: os.Getenv(envSchema)}
 	if err := of.check(); err != nil {
 		t.Fatal(err)
 	}
 	seed, _ := strconv.ParseInt(os.Getenv(envSeed), 10, 64)
 	made := &rig{t: t, random: rand.New(rand.NewSource(seed)), entries: map[int]string{}}
-	reader, err := openReader(of, time.Minute)
+	reader, err := openReader(of, patience)
 	if err != nil {
 		t.Fatal(err)
 	}
-	other, err := openReader(of, time.Minute)
+	other, err := openReader(of, patience)
 	if err != nil {
 		t.Fatal(err)
 	}
@@ -109,6 +114,18 @@ func principalOf(who person, random *rand.Rand) string {
 	return who.key
 }
 
+// entry makes an entry.
+func (r *rig) entry() string {
+	subject, more := principalOf(r.any(r.random), r.random), ""
+	if r.random.Intn(8) == 0 {
+		subject = "(4:name" + subject + "7:friends)"
+	}
+	if r.random.Intn(4) > 0 {
+		more = propagates
+	}
+	return "(5:entry" + subject + more + "(3:tag" + prefix("read", "/web/"+[]string{"", "a/", "b/"}[r.random.Intn(3)]) + "))"
+}
+
 // change adds an entry, or removes one, as another client does.
 func (r *rig) change() {
 	next := map[int]string{}
@@ -116,14 +133,7 @@ func (r *rig) change() {
 		next[number] = text
 	}
 	if len(next) < 40 || r.random.Intn(2) == 0 {
-		subject, more := principalOf(r.any(r.random), r.random), ""
-		if r.random.Intn(8) == 0 {
-			subject = "(4:name" + subject + "7:friends)"
-		}
-		if r.random.Intn(4) > 0 {
-			more = propagates
-		}
-		text := "(5:entry" + subject + more + "(3:tag" + prefix("read", "/web/"+[]string{"", "a/", "b/"}[r.random.Intn(3)]) + "))"
+		text := r.entry()
 		next[int(r.does("INSERT INTO %s.entries (text) VALUES ($1) RETURNING number", []byte(text)))] = text
 	} else {
 		numbers := numbersOf(next)
@@ -195,12 +205,15 @@ func answerBy(opened *guard.Guard, numbers []int, question guard.Question) strin
 	return "no"
 }
 
-// answer is that of the store.
+// answer is that of the store. Where it has none, the answer begins with `failed`.
 func (r *rig) answer(question guard.Question) string {
 	for {
 		found, err := r.store.list(&question)
-		if err != nil {
+		if errors.Is(err, guard.ErrRefused) {
 			return err.Error()
+		}
+		if err != nil {
+			return failed + err.Error()
 		}
 		made := answerBy(found.guard, found.numbers, question)
 		if made != guard.ErrClosed.Error() {
@@ -212,7 +225,7 @@ func (r *rig) answer(question guard.Question) string {
 // TestQuestionsToStore asks a store while another client changes it. Each answer must be that of the guard of the whole list, in a state between
 // the one that was polled last and the present one.
 func TestQuestionsToStore(t *testing.T) {
-	r := newRig(t)
+	r := newRig(t, time.Minute)
 	for count := 0; count < 60; count++ {
 		r.change()
 	}

@@ -22,6 +22,7 @@ type table struct {
 	// What happens after rows were read and before they are returned.
 	meanwhile func()
 	reads     int
+	kept      map[digest][]keptChain
 }
 
 // A change is an entry's principal, or an ended certificate, with the time of the change.
@@ -85,6 +86,18 @@ func (t *table) whole() (news, error) {
 	return news{storeState: t.state, ended: t.ended}, t.fault
 }
 
+func (t *table) chains(key digest) ([]keptChain, error) {
+	t.reads++
+	return t.kept[key], t.fault
+}
+
+func (t *table) keep(key digest, chain keptChain, limits *chains) (answer, error) {
+	if t.fault == nil {
+		t.kept[key] = append(t.kept[key], chain)
+	}
+	return answerKept, t.fault
+}
+
 func (t *table) renew() {}
 
 // A stored is a site whose list is a table in memory, and its clock.
@@ -96,9 +109,9 @@ type stored struct {
 }
 
 // newStored returns a site where Alice has entry 7.
-func newStored(t testing.TB) *stored {
+func newStored(t testing.TB, fields ...string) *stored {
 	t.Helper()
-	made := &stored{site: newSite(t, ""), table: &table{texts: map[int]string{}, places: map[int]string{}}, time: time.Now()}
+	made := &stored{site: newSite(t, strings.Join(fields, "")), table: &table{texts: map[int]string{}, places: map[int]string{}}, time: time.Now()}
 	open := func(entries []byte) (*guard.Guard, error) {
 		return guard.Open([]byte("(3:acl"+string(entries)+")"), guard.Strict, guard.Limits{})
 	}
@@ -206,6 +219,32 @@ func TestStaleStore(t *testing.T) {
 	}
 }
 
+// TestListBesideStaleStore decides by a list in a file. Which certificates have ended is in the store: while it is stale none of them counts.
+func TestListBesideStaleStore(t *testing.T) {
+	s := newStored(t)
+	present := s.keeper.present.Load()
+	opened, err := s.store.open([]byte(s.entryOf(s.alice)))
+	if err != nil {
+		t.Fatal(err)
+	}
+	inFile := &list{place: place{Prefix: "/web/"}, guard: opened, digest: "file"}
+	s.keeper.present.Store(&access{lists: []*list{inFile, present.lists[0]}, ended: present.ended, digest: "both", read: present.read})
+	bobs, _ := s.sequencesShown()
+	for _, stale := range []bool{false, true, false} {
+		wanted := 200
+		if stale {
+			s.time = s.time.Add(time.Minute)
+			wanted = 503
+		} else {
+			s.beat()
+		}
+		s.is(t, "Alice, without certificates", 200)
+		if met := s.by(s.bob, "GET", "/web/docs/b", bobs); met.StatusCode != wanted {
+			t.Errorf("Bob: %d, and not %d", met.StatusCode, wanted)
+		}
+	}
+}
+
 // TestStoreThatGoesBack reads rows of an older state than was polled, rows beside a poll, and another history.
 func TestStoreThatGoesBack(t *testing.T) {
 	s := newStored(t)
@@ -226,6 +265,47 @@ func TestStoreThatGoesBack(t *testing.T) {
 	s.table.news[2].token, s.table.state.token = 1000, 1000
 	s.beat()
 	s.is(t, "another history", 200)
+}
+
+// TestStoredChains leaves certificates in a store, which other daemons find soon. Where the store does not answer, neither yes nor no is said.
+func TestStoredChains(t *testing.T) {
+	s := newStored(t, `, "chains": {"postgres": {"host": "/run", "database": "d", "user": "u"}}`+ofSite)
+	s.table.kept = map[digest][]keptChain{}
+	limits := s.config.Chains
+	s.chains = newStoredChains(limits, s.table)
+	bobs, _ := s.sequencesShown()
+	is := func(name string, wanted int, kept string) {
+		t.Helper()
+		if status := s.asks(s.bob, "/web/docs/b", ""); status != wanted || s.lastLine(t).Kept != kept {
+			t.Errorf("%s: %d %+v", name, status, s.lastLine(t))
+		}
+	}
+	leaves := func(name string, wanted answer) {
+		t.Helper()
+		if _, became := s.leaves(t, s.bob, bobs); became != wanted {
+			t.Errorf("%s: %q", name, became)
+		}
+	}
+	is("nothing is kept", 401, "")
+	leaves("kept", answerKept)
+	is("used", 200, "used")
+	reads := s.table.reads
+	is("used again", 200, "used")
+	if s.table.reads != reads {
+		t.Errorf("read %d times", s.table.reads-reads)
+	}
+	other := newStoredChains(limits, s.table)
+	if found, err := other.of(hexDigest([]byte(s.bob.key)), s.now()); err != nil || len(found) != 1 || found[0].text != bobs {
+		t.Errorf("%v %v", found, err)
+	}
+	s.table.fault = errors.New("the server is gone")
+	s.chains = newStoredChains(limits, s.table)
+	is("neither yes nor no", 503, "")
+	leaves("shown, and not kept", answerFailed)
+	s.table.fault = nil
+	if found, err := other.of(hexDigest([]byte(s.bob.key)), s.now().AddDate(1, 0, 0)); err != nil || found != nil {
+		t.Errorf("a year later: %v %v", found, err)
+	}
 }
 
 // TestHostileRows reads rows that are no entries: nobody is granted anything by them.

@@ -2,6 +2,8 @@ package main
 
 import (
 	"errors"
+	"runtime"
+	"sync"
 	"sync/atomic"
 	"time"
 )
@@ -33,8 +35,33 @@ type writer struct {
 type queued struct {
 	line []byte
 	// Whether it is being written, or is given up: what comes first counts.
-	isTaken atomic.Bool
-	done    chan error
+	isTaken  atomic.Bool
+	done     chan error
+	patience *time.Timer
+}
+
+// What was queued and is done, and can be used again.
+var spare = sync.Pool{New: func() any {
+	made := &queued{done: make(chan error, 1), patience: time.NewTimer(time.Hour)}
+	made.patience.Stop()
+	return made
+}}
+
+// queuedFor returns a line that waits for some time.
+func queuedFor(line []byte, patience time.Duration) *queued {
+	made := spare.Get().(*queued)
+	made.line = line
+	made.patience.Reset(patience)
+	return made
+}
+
+// end ends a line that is done. What was given up, or was near to it, is left to the collector.
+func (q *queued) end() {
+	if q.patience.Stop() {
+		q.line = nil
+		q.isTaken.Store(false)
+		spare.Put(q)
+	}
 }
 
 // The lines that may wait, and the octets after which no further line is written at once.
@@ -54,19 +81,18 @@ func newWriter(to sink, patience time.Duration, eachSecond func()) *writer {
 
 // write writes a line, and returns when it is written. After an error it is not, or it has no end in time.
 func (w *writer) write(line []byte) error {
-	waiting := &queued{line: line, done: make(chan error, 1)}
-	patience := time.NewTimer(w.patience)
-	defer patience.Stop()
+	waiting := queuedFor(line, w.patience)
 	select {
 	case w.queue <- waiting:
-	case <-patience.C:
+	case <-waiting.patience.C:
 		w.failed.Add(1)
 		return errHangs
 	}
 	select {
 	case err := <-waiting.done:
+		waiting.end()
 		return err
-	case <-patience.C:
+	case <-waiting.patience.C:
 		if waiting.isTaken.CompareAndSwap(false, true) {
 			w.failed.Add(1)
 		}
@@ -77,21 +103,22 @@ func (w *writer) write(line []byte) error {
 
 // offer writes a line, if the sink takes it. It waits only as long as the sink was not late before. What is too much is dropped and counted.
 func (w *writer) offer(line []byte) {
-	waiting := &queued{line: line, done: make(chan error, 1)}
+	waiting := queuedFor(line, w.patience)
 	select {
 	case w.queue <- waiting:
 	default:
+		waiting.end()
 		w.dropped.Add(1)
 		return
 	}
 	if w.isStuck.Load() {
+		waiting.patience.Stop()
 		return
 	}
-	patience := time.NewTimer(w.patience)
-	defer patience.Stop()
 	select {
 	case <-waiting.done:
-	case <-patience.C:
+		waiting.end()
+	case <-waiting.patience.C:
 		w.isStuck.Store(true)
 	}
 }
@@ -132,6 +159,8 @@ func (w *writer) run() {
 	for {
 		select {
 		case first := <-w.queue:
+			// (whoever is about to hand over a line does that first: under load one write then has ten lines, and not one)
+			runtime.Gosched()
 			w.writeAll(first)
 		case command := <-w.commands:
 			command()

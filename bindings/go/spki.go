@@ -59,13 +59,13 @@ func AssumeKey(key []byte) ProvenKey {
 	return ProvenKey{string(key)}
 }
 
-// ProveKey returns the key of a login: its message is a challenge that the service itself made, with a nonce that it takes once. The error is
-// ErrNotProved if the signature is not valid, or its message is a certificate, which proves nothing about who shows it.
-func ProveKey(login Signature, verify func(Signature) bool) (ProvenKey, error) {
-	if bytes.HasPrefix(login.Message, []byte("(4:cert")) || !verify(login) {
+// ProveKey returns the key that has signed a message which the service itself made, with a nonce that it takes once, as that of a signed request.
+// The error is ErrNotProved if the signature is not valid, or its message is a certificate, which proves nothing about who shows it.
+func ProveKey(signed Signature, verify func(Signature) bool) (ProvenKey, error) {
+	if bytes.HasPrefix(signed.Message, []byte("(4:cert")) || !verify(signed) {
 		return ProvenKey{}, ErrNotProved
 	}
-	return AssumeKey(login.Key), nil
+	return AssumeKey(signed.Key), nil
 }
 
 // Text returns the octets of the key.

@@ -1,6 +1,6 @@
 """What the package `spki` does beside the library: opened questions, marks, its buffers, its types and its exceptions.
 
-`tests/test_bindings.py` compares the answers to many questions with the program's. Usage: SPKI_LIBRARY=../../crates/spki_c/out/libspki_c.so
+`tests/suite/test_bindings.py` compares the answers to many questions with the program's. Usage: SPKI_LIBRARY=../../crates/spki_c/out/libspki_c.so
 python3 -m unittest
 """
 import asyncio
@@ -247,6 +247,29 @@ class Opened(unittest.TestCase):
         opened.mark(0)
         self.assertEqual((self.guard.require(asked(), right), opened.require()), (1, 1))
 
+    def test_a_grant_says_until_when_it_holds(self):
+        """A grant holds till the least window ends, and no second longer."""
+        last, second = datetime(2026, 6, 30, 23, 59, 59, tzinfo=timezone.utc), timedelta(seconds=1)
+        ending = spki.Guard(LIST.replace(b"(tag (*))", b'(tag (*)) (not-after "2026-06-30_23:59:59")'))
+        grant = ending.decide(asked(), right)
+        self.assertEqual(grant, spki.Grant(1, last))
+        for moment, holds in ((last - second, True), (last, True), (last + 0.999 * second, True), (last + second, False)):
+            self.assertEqual((grant.holds_at(moment), bool(ending.decide(asked(moment=moment), right))), (holds, holds), moment)
+        for moment in (last.replace(tzinfo=None), 0):
+            with self.assertRaises(TypeError):
+                grant.holds_at(moment)
+        endless = self.guard.decide(asked(), right)
+        self.assertEqual((endless.until, endless.holds_at(last + second), endless.holds_at(BEFORE)), (None, True, False))
+
+    def test_ends_that_python_does_not_have(self):
+        opened, most = self.guard.ask(asked()), datetime.max.replace(microsecond=0, tzinfo=timezone.utc)
+        last, first = (limit.replace(tzinfo=timezone.utc) for limit in (datetime.max, datetime.min))
+        for until, wanted in ((253_402_300_799, most), (253_402_300_800, last), (-1, EPOCH - timedelta(seconds=1)), (-2 ** 62, first),
+                              (2 ** 63 - 1, None)):
+            with mock.patch.object(_library, "decide", return_value=_library.Decision(_library.YES, until)), \
+                    mock.patch.object(spki._Room, "answer", return_value=b"yes entry 7\n"):
+                self.assertEqual(opened.decide(), spki.Grant(7, wanted))
+
     def test_equal_keys_are_one_object(self):
         opened, kept = spki.Guard(LIST, limits=HIGHEST).ask(asked(b"(sequence " + PAIR * 40 + b")")), []
         for listed in (opened.signatures(), list(opened)):
@@ -467,6 +490,10 @@ class Parts(unittest.TestCase):
         self.assertEqual(spki.canonical(False1(b"(a)")), b"(1:a)")
         self.assertEqual(spki.string_at(False1(b"3:abc")), b"abc")
 
+    def test_long_forms(self):
+        """Nothing becomes longer than an octet that is printed in base64: 7 octets for 3."""
+        self.assertEqual(len(spki.advanced(b"(" + b"1:\0" * 1000 + b")")), 7002)
+
 
 class Guards(unittest.TestCase):
     def test_lists(self):
@@ -498,7 +525,8 @@ class Guards(unittest.TestCase):
                 spki.Guard(by_sha1, other)
 
     def test_limits(self):
-        for wrong in ({"octets": 1_048_577}, {"nodes": 1_000_001}, {"work": -1}, {"octets": -1}, {"answer": 2 ** 64}, {"certificates": 2 ** 64 + 16}):
+        for wrong in ({"octets": 1_048_577}, {"nodes": 1_000_001}, {"work": -1}, {"octets": -1}, {"answer": 2 ** 28 + 1},
+                      {"certificates": 2 ** 64 + 16}):
             with self.assertRaises(ValueError):
                 spki.Limits(**wrong)
         for wrong in ({"octets": 1.5}, {"words": "7"}, {"work": True}):
@@ -633,7 +661,7 @@ class Texts(unittest.TestCase):
     def test_an_unknown_status_is_no_answer(self):
         opened = spki.Guard(LIST).ask(asked())
         for status in (0, 3, 5, 7, 10):
-            with mock.patch.object(_library, "decide", return_value=status), self.assertRaises(RuntimeError):
+            with mock.patch.object(_library, "decide", return_value=_library.Decision(status)), self.assertRaises(RuntimeError):
                 opened.decide()
             with mock.patch.object(_library, "mark", return_value=status), self.assertRaises(RuntimeError):
                 opened.mark(0)

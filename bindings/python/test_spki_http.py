@@ -201,6 +201,10 @@ class Clients(unittest.TestCase):
             with opener.open(urllib.request.Request(self.url, body, method=method)) as response:
                 return bytes(response.read())
         self.each(send)
+        again = urllib.request.Request(self.url, b"some octets", method="PUT")
+        for signer in self.signers:
+            with urllib.request.build_opener(urllib.request.ProxyHandler({}), spki_http.Handler(signer, self.name)).open(again) as response:
+                self.assertEqual(response.read(), signer.key)
         with self.assertRaises(urllib.error.HTTPError) as met:
             urllib.request.build_opener(urllib.request.ProxyHandler({}), spki_http.Handler(self.signers[0], "example.com")).open(self.url)
         self.assertEqual((met.exception.code, met.exception.reason), (401, "absent"))

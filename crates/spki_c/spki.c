@@ -27,7 +27,7 @@ uint32_t spki_c_asked_signature(struct handle *asked, size_t place, struct texts
 uint32_t spki_c_asked_mark(struct handle asked, size_t place, struct handle *back);
 bool spki_c_asked_granted(struct handle *asked);
 bool spki_c_asked_possible(struct handle *asked);
-uint32_t spki_c_asked_answer(uint32_t wish, struct handle *asked, ANSWER);
+uint32_t spki_c_asked_answer(uint32_t wish, struct handle *asked, int64_t *until, ANSWER);
 uint32_t spki_c_string(struct spki_text text, const size_t *path, size_t depth, size_t *at, size_t *length);
 
 /* Whether a pointer to `count` values of `size` octets is misuse: null with a count, or more than memory can have. */
@@ -55,14 +55,19 @@ static bool begins(void **buffer, size_t length, size_t **needed, size_t *unaske
 /* A handle as a call takes it that borrows what it has. */
 #define LENT(value) (&(struct handle){(void *)(value)})
 
-enum spki_status spki_answer(enum spki_command command, const void *text, size_t text_length, ANSWER)
+size_t spki_guard_entries(const spki_guard *guard) { return guard ? spki_c_guard_entries(LENT(guard)) : 0; }
+size_t spki_asked_count(const spki_asked *asked) { return asked ? spki_c_asked_count(LENT(asked)) : 0; }
+bool spki_asked_possible(const spki_asked *asked) { return asked && spki_c_asked_possible(LENT(asked)); }
+
+struct spki_answered spki_answer(enum spki_command command, const void *text, size_t text_length, ANSWER)
 {
-    return BEGINS ? spki_c_answer(command, (struct spki_text){text, text_length}, TO) : SPKI_MISUSED;
+    return (struct spki_answered){BEGINS ? spki_c_answer(command, (struct spki_text){text, text_length}, TO) : SPKI_MISUSED};
 }
 
-enum spki_status spki_check_accepted(const void *text, size_t text_length, const void *rows, size_t rows_length, ANSWER)
+struct spki_answered spki_check_accepted(const void *text, size_t text_length, const void *rows, size_t rows_length, ANSWER)
 {
-    return BEGINS ? spki_c_check_accepted((struct spki_text){text, text_length}, (struct spki_text){rows, rows_length}, TO) : SPKI_MISUSED;
+    const struct spki_text of_case = {text, text_length}, of_rows = {rows, rows_length};
+    return (struct spki_answered){BEGINS ? spki_c_check_accepted(of_case, of_rows, TO) : SPKI_MISUSED};
 }
 
 enum spki_status spki_guard_open(const void *list, size_t list_length, enum spki_policy policy, const struct spki_limits *limits,
@@ -84,18 +89,13 @@ void spki_guard_close(spki_guard *guard)
         spki_c_close(false, (struct handle){guard}, &(struct handle){0});
 }
 
-size_t spki_guard_entries(const spki_guard *guard)
-{
-    return guard ? spki_c_guard_entries(LENT(guard)) : 0;
-}
-
 enum spki_status spki_guard_ask(const spki_guard *guard, const struct spki_question *question, spki_asked **asked, ANSWER)
 {
     struct handle handle = {0};
     struct spki_question q;
     enum spki_status status = SPKI_MISUSED;
     if (BEGINS && guard && asked && READ(q, struct spki_question, seconds, question) && !is_misuse(q.words, q.word_count, sizeof *q.words))
-        status = spki_c_guard_ask(LENT(guard), (struct parts){q.sequence, q.key, q.request, q.moment, q.words},
+        status = spki_c_guard_ask(LENT(guard), (struct parts){q.sequence, q.key.text, q.request, q.moment, q.words},
                                   q.words ? q.words : &(struct spki_text){0}, q.word_count, q.seconds ? q.seconds : &(int64_t){0},
                                   q.seconds ? 1 : 0, &handle, TO);
     if (asked)
@@ -107,11 +107,6 @@ void spki_asked_close(spki_asked *asked)
 {
     if (asked)
         spki_c_close(true, (struct handle){asked}, &(struct handle){0});
-}
-
-size_t spki_asked_count(const spki_asked *asked)
-{
-    return asked ? spki_c_asked_count(LENT(asked)) : 0;
 }
 
 enum spki_status spki_asked_signature(const spki_asked *asked, size_t place, struct spki_signed *signature)
@@ -137,19 +132,18 @@ bool spki_asked_granted(const spki_asked *asked)
     return asked && spki_c_asked_granted(LENT(asked));
 }
 
-bool spki_asked_possible(const spki_asked *asked)
+/* Answers a question, and says until when a yes holds. */
+static struct spki_decision answered(enum spki_command wish, const spki_asked *asked, ANSWER)
 {
-    return asked && spki_c_asked_possible(LENT(asked));
+    struct spki_decision said = {SPKI_MISUSED, INT64_MIN};
+    if (BEGINS && asked)
+        said.status = spki_c_asked_answer(wish, LENT(asked), &said.until, TO);
+    return said;
 }
 
-#define ANSWERS(call, wish) \
-    enum spki_status call(const spki_asked *asked, ANSWER) \
-    { \
-        return BEGINS && asked ? spki_c_asked_answer(wish, LENT(asked), TO) : SPKI_MISUSED; \
-    }
-ANSWERS(spki_asked_decide, SPKI_CHECK)
-ANSWERS(spki_asked_explain, SPKI_EXPLAIN)
-ANSWERS(spki_asked_reduce, SPKI_REDUCE)
+struct spki_decision spki_asked_decide(const spki_asked *asked, ANSWER) { return answered(SPKI_CHECK, asked, TO); }
+struct spki_answered spki_asked_explain(const spki_asked *asked, ANSWER) { return (struct spki_answered){answered(SPKI_EXPLAIN, asked, TO).status}; }
+struct spki_answered spki_asked_reduce(const spki_asked *asked, ANSWER) { return (struct spki_answered){answered(SPKI_REDUCE, asked, TO).status}; }
 
 enum spki_status spki_string(const void *text, size_t text_length, const size_t *path, size_t depth, const void **octets, size_t *length)
 {

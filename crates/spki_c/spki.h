@@ -13,7 +13,7 @@
  *     size_t place;
  *     if (spki_guard_open(list, list_length, SPKI_STRICT, NULL, &guard, line, sizeof line, NULL) != SPKI_DONE) ...
  *     question.sequence = ...                    from the client
- *     question.key = ...                         of the client, who has proved to hold it
+ *     question.key = spki_assume_key(...)        of the client, who has proved to hold it, as by TLS; or by spki_prove_key
  *     question.words = ...                       what is asked for
  *     question.seconds = ...                     now
  *     if (spki_guard_ask(guard, &question, &asked, line, sizeof line, NULL) != SPKI_DONE) ...
@@ -27,11 +27,10 @@
  *
  *     unsigned char line[64];
  *     size_t length;
- *     enum spki_status status = spki_check_accepted(text, text_length, rows, rows_length, line, sizeof line, &length);
- *     if (status == SPKI_YES) ...
+ *     if (spki_check_accepted(text, text_length, rows, rows_length, line, sizeof line, &length).status == SPKI_YES) ...
  *
- * Only SPKI_YES is a yes, and only a decision returns it: SPKI_CHECK, spki_check_accepted and spki_asked_decide. SPKI_NO is 1: compare a
- * status with SPKI_YES, and never test it as a truth value. Treat every other status as a no.
+ * Only SPKI_YES is a yes, and only a decision has it: SPKI_CHECK, spki_check_accepted and spki_asked_decide. Treat every other status as a
+ * no. SPKI_NO is 1, so what these calls return is a structure, which no compiler takes for a truth value.
  *
  * How to write a case, if no guard is used. The library cannot see which part of a text came from whom, so the caller must:
  *
@@ -72,6 +71,7 @@
 #include <stdbool.h>
 #include <stddef.h>
 #include <stdint.h>
+#include <string.h>
 
 /* The version of this header and of the library that it was installed with. */
 #define SPKI_VERSION_MAJOR 0
@@ -134,6 +134,11 @@ SPKI_INLINE(const char *) spki_status_text(enum spki_status status)
     return "no status";
 }
 
+/* What a call says of an answer that it writes. It is a structure, so that no compiler takes it for a truth value. */
+struct spki_answered {
+    enum spki_status status;
+};
+
 /* Runs a command on a text. The answer is written to the front of the buffer, and the rest of the buffer is unchanged. If no answer is
  * written, the first octet of the buffer is 0, so no line of an earlier call is left there. `*needed` is the length of the answer. A text of
  * more than 1,048,576 octets is `refused form TooLong`.
@@ -142,8 +147,8 @@ SPKI_INLINE(const char *) spki_status_text(enum spki_status status)
  * the request.
  *
  * In a case the rows of `(accepted ..)` say which signatures the caller has verified. spki_check_accepted takes them separately. */
-SPKI_RESULT enum spki_status spki_answer(enum spki_command command, const void *text, size_t text_length, void *buffer, size_t buffer_length,
-                             size_t *needed);
+SPKI_RESULT struct spki_answered spki_answer(enum spki_command command, const void *text, size_t text_length, void *buffer, size_t buffer_length,
+                                             size_t *needed);
 
 /* Decides a case by rows in a separate text: `rows` is `(accepted ROW ..)`, and each row says that the caller has verified a
  * signature. The rows in the case itself are read and never used, so that a client cannot add rows of its own. The caller must still
@@ -151,8 +156,8 @@ SPKI_RESULT enum spki_status spki_answer(enum spki_command command, const void *
  *
  * The answer is that of SPKI_CHECK, and a refusal of `rows` begins with `refused rows`. The case is read first: if it is refused, the
  * answer says so, whatever `rows` is. The buffer and `needed` are as above. */
-SPKI_RESULT enum spki_status spki_check_accepted(const void *text, size_t text_length, const void *rows, size_t rows_length, void *buffer,
-                                     size_t buffer_length, size_t *needed);
+SPKI_RESULT struct spki_answered spki_check_accepted(const void *text, size_t text_length, const void *rows, size_t rows_length, void *buffer,
+                                                     size_t buffer_length, size_t *needed);
 
 /* ---- guards */
 
@@ -171,7 +176,8 @@ struct spki_text {
 
 /* Structures. Set `size` to the size of the structure, and what is not used to 0. A structure of an older header is read as far as it goes: what
  * it does not have is 0. One of a newer header is read if all that this library does not know is 0, and otherwise the call is SPKI_MISUSED. So
- * is one whose size is no multiple of sizeof(size_t), or over 4,096. struct spki_text and struct spki_signed have no size, and never change. */
+ * is one whose size is no multiple of sizeof(size_t), or over 4,096. struct spki_text, struct spki_signed and struct spki_proven_key have no size,
+ * and never change. */
 
 enum spki_policy {
     SPKI_STRICT = 0,    /* hashes by SHA-1 name no key, like `(policy strict)` in a case */
@@ -179,7 +185,7 @@ enum spki_policy {
 };
 
 /* Limits of each question. A null pointer, or a limit of 0, means the usual ones: 65,536 octets, 16 certificates, 64 strings, 1,000,000 nodes,
- * 100,000 of work and 1,048,576 octets of an answer. `nodes`, `work` and `answer` are for spki_asked_explain and _reduce: what exceeds one of
+ * 2,000,000 of work and 1,048,576 octets of an answer. `nodes`, `work` and `answer` are for spki_asked_explain and _reduce: what exceeds one of
  * them is `refused TooLarge`. A decision computes no intersection. */
 struct spki_limits {
     size_t size;         /* sizeof(struct spki_limits): "Structures" below */
@@ -187,19 +193,27 @@ struct spki_limits {
     size_t certificates; /* the most certificates of a sequence: more are `refused question TooManyCertificates` */
     size_t words;        /* the most strings of a request: more are `refused question TooManyWords` */
     size_t nodes;        /* the most nodes of one tag times nodes of another, whose intersection is computed */
-    size_t work;         /* the most of these products together, over all certificates and entries */
+    size_t work;         /* the most work of all certificates and entries together. A certificate of authorization that joins takes, for each node
+                          * of the tags before it, 15 for each node of its tag, 1 for each but heads of lists and 1 for each octet; and 1 for
+                          * each name of its subject. A definition takes 1, and 1 for each name of both subjects */
     size_t answer;       /* the most octets of the answer */
 };
 
-/* The most octets and nodes that limits may set. */
+/* The most octets, nodes and work that limits may set. */
 #define SPKI_MOST_OCTETS 1048576
 #define SPKI_MOST_NODES 1000000
+#define SPKI_MOST_WORK 1000000000
+
+/* The usual limit of an answer, and the most that the bindings for other languages let a limit be: before a call they take memory for as many
+ * octets, of which only those of the answer are used, and so no call is made twice. */
+#define SPKI_USUAL_ANSWER 1048576
+#define SPKI_MOST_ANSWER 268435456
 
 /* An initialiser of a struct spki_limits: the usual limits, and the highest. On some questions within the highest an explanation takes
- * minutes. */
-#define SPKI_USUAL_LIMITS {sizeof(struct spki_limits), 65536, 16, 64, SPKI_MOST_NODES, 100000, 1048576}
+ * seconds. */
+#define SPKI_USUAL_LIMITS {sizeof(struct spki_limits), 65536, 16, 64, SPKI_MOST_NODES, 2000000, SPKI_USUAL_ANSWER}
 #define SPKI_HIGHEST_LIMITS \
-    {sizeof(struct spki_limits), SPKI_MOST_OCTETS, SIZE_MAX, SIZE_MAX, SPKI_MOST_NODES, SIZE_MAX, SIZE_MAX}
+    {sizeof(struct spki_limits), SPKI_MOST_OCTETS, SIZE_MAX, SIZE_MAX, SPKI_MOST_NODES, SPKI_MOST_WORK, SPKI_MOST_ANSWER}
 
 /* An access list that is read once and asked often. No question changes it. */
 typedef struct spki_guard spki_guard;
@@ -222,11 +236,47 @@ size_t spki_guard_entries(const spki_guard *guard);
 
 /* ---- questions */
 
+/* One signature that is to be verified: by this key, of this message, with this value. The texts are in canonical form. `octets` are
+ * the octets of a value that is one string; of a value that is a list they are null, with the length 0. The texts do not change, and
+ * last until the question is closed. */
+struct spki_signed {
+    struct spki_text key, message, value, octets;
+};
+
+/* The key of a client, `(public-key ..)`, who has proved to hold it. A public key is public: without a proof, each client that sends Alice's key
+ * would have Alice's rights. The two calls below make one of a text: no other text is one. */
+struct spki_proven_key {
+    struct spki_text text;
+};
+
+/* The key of a client who has proved elsewhere to hold it, as by TLS or SSH. Nothing checks that here: each client gets the rights of the key that
+ * is named. */
+SPKI_INLINE(struct spki_proven_key) spki_assume_key(struct spki_text key)
+{
+    const struct spki_proven_key proven = {key};
+    return proven;
+}
+
+/* Sets `*key` to the key of a login, and returns whether it is proved. The message of a login is a challenge that the service itself made, with a
+ * nonce that it takes once. False if `verify` says that the signature is not valid, or if the message is a certificate, which proves nothing about
+ * who shows it: `*key` is empty then, and a question with it is refused. */
+SPKI_RESULT SPKI_INLINE(bool) spki_prove_key(const struct spki_signed *login, bool (*verify)(const struct spki_signed *signature),
+                                             struct spki_proven_key *key)
+{
+    static const char certificate[] = "(4:cert";
+    const size_t length = sizeof certificate - 1;
+    const struct spki_text none = {NULL, 0};
+    const bool is_certificate = login->message.length >= length && memcmp(login->message.octets, certificate, length) == 0;
+    const bool is_proved = !is_certificate && verify(login);
+    *key = spki_assume_key(is_proved ? login->key : none);
+    return is_proved;
+}
+
 /* A question. Each part is one value in any of the three forms of RFC 9804, and is read separately. */
 struct spki_question {
     size_t size;                   /* sizeof(struct spki_question): "Structures" above */
     struct spki_text sequence;     /* `(sequence ..)`: the certificates that are shown */
-    struct spki_text key;          /* `(public-key ..)` of a client who has proved to hold it: nothing checks that here */
+    struct spki_proven_key key;    /* of the client, by spki_prove_key or spki_assume_key */
     struct spki_text request;      /* what is asked for, if `words` is null */
     const struct spki_text *words; /* what is asked for, by its strings, whose octets may be any: the list of them, or the string
                                       if there is one. `request` is empty then */
@@ -238,13 +288,6 @@ struct spki_question {
 
 /* A question that was read. It owns all it needs of the question's texts and of the guard. */
 typedef struct spki_asked spki_asked;
-
-/* One signature that is to be verified: by this key, of this message, with this value. The texts are in canonical form. `octets` are
- * the octets of a value that is one string; of a value that is a list they are null, with the length 0. The texts do not change, and
- * last until the question is closed. */
-struct spki_signed {
-    struct spki_text key, message, value, octets;
-};
 
 /* Reads a question. The caller may change or free its texts as soon as the call returns.
  *
@@ -284,16 +327,33 @@ SPKI_RESULT bool spki_asked_granted(const spki_asked *asked);
  * verified. True grants nothing. False if the pointer is null. */
 SPKI_RESULT bool spki_asked_possible(const spki_asked *asked);
 
-/* Decides a question as spki_asked_granted does, and writes the line. Returns SPKI_YES with `yes entry N`, or SPKI_NO with `no`, as
- * SPKI_CHECK does for the case of these parts and the guard's list, if that case is not `refused TooLarge`. SPKI_REFUSED: the line is
- * `refused Memory`. */
-SPKI_RESULT enum spki_status spki_asked_decide(const spki_asked *asked, void *buffer, size_t buffer_length, size_t *needed);
+/* What a decision says. It is a structure, so that no compiler takes it for a truth value. */
+struct spki_decision {
+    enum spki_status status; /* SPKI_YES or SPKI_NO; SPKI_REFUSED, SPKI_TOO_SMALL or SPKI_MISUSED if there is no decision */
+    int64_t until;           /* with SPKI_YES: a second since 1970-01-01 00:00:00 UTC, to which the yes holds, and INT64_MAX if no window ends.
+                                With every other status: INT64_MIN */
+};
+
+/* Whether a decision that was kept still grants the request at a time in seconds, from the question's own moment on. If not, ask again: another
+ * entry may grant it. False below 0, as where a clock failed. It says nothing of a list that was read anew, nor of a certificate that its
+ * verifier would reject by now. */
+SPKI_RESULT SPKI_INLINE(bool) spki_holds_at(struct spki_decision kept, int64_t seconds)
+{
+    return kept.status == SPKI_YES && seconds >= 0 && seconds <= kept.until;
+}
+
+/* Decides a question as spki_asked_granted does, and writes the line. SPKI_YES with `yes entry N`, or SPKI_NO with `no`, as for
+ * SPKI_CHECK of the case of these parts and the guard's list, if that case is not `refused TooLarge`. SPKI_REFUSED: the line is
+ * `refused Memory`. `until` is the least not-after of the entry and of all certificates, those of names too: at each moment
+ * from the question's own to then it is a yes, if the same signatures are valid. After it this entry does not grant it; another one may. */
+SPKI_RESULT struct spki_decision spki_asked_decide(const spki_asked *asked, void *buffer, size_t buffer_length, size_t *needed);
 
 /* Like spki_asked_decide, but write the lines of SPKI_EXPLAIN or SPKI_REDUCE, and return SPKI_DONE in place of yes and no. The line
  * `refused TooLarge` says that the guard's limit of nodes, of work or of the answer is exceeded. The time grows with the number of all
- * entries. */
-SPKI_RESULT enum spki_status spki_asked_explain(const spki_asked *asked, void *buffer, size_t buffer_length, size_t *needed);
-SPKI_RESULT enum spki_status spki_asked_reduce(const spki_asked *asked, void *buffer, size_t buffer_length, size_t *needed);
+ * entries. A buffer of as many octets as the guard's limit of the answer, and at least 64, is large enough: with a smaller one the work may
+ * have to be done twice. */
+SPKI_RESULT struct spki_answered spki_asked_explain(const spki_asked *asked, void *buffer, size_t buffer_length, size_t *needed);
+SPKI_RESULT struct spki_answered spki_asked_reduce(const spki_asked *asked, void *buffer, size_t buffer_length, size_t *needed);
 
 /* Frees a question. A null pointer has no effect, nor has that of a guard. */
 void spki_asked_close(spki_asked *asked);

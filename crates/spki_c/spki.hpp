@@ -12,6 +12,7 @@
 
 #include "spki.h"
 
+#include <algorithm>
 #include <chrono>
 #include <cstring>
 #include <memory>
@@ -40,7 +41,7 @@ inline std::string_view view_of(spki_text text) noexcept
     return {static_cast<const char *>(text.octets), text.length};
 }
 
-/* The usual limits, whose fields may be changed, and the highest. A field of 0 is the usual limit. */
+/* The usual limits, whose fields may be changed, and the highest. A field of 0 is the usual limit, and `answer` is at most SPKI_MOST_ANSWER. */
 inline constexpr spki_limits usual_limits = SPKI_USUAL_LIMITS;
 inline constexpr spki_limits highest_limits = SPKI_HIGHEST_LIMITS;
 
@@ -65,13 +66,13 @@ public:
      * key that is named. */
     static proven_key assume(std::string_view key) { return proven_key(key); }
 
-    /* The key of a login: its message is a challenge that the service itself made, with a nonce that it takes once. Nothing if the signature is
-     * not valid, or its message is a certificate, which proves nothing about who shows it. */
-    template <typename Verify> [[nodiscard]] static std::optional<proven_key> by(const signature &login, Verify &&verify)
+    /* The key that has signed a message which the service itself made, with a nonce that it takes once, as that of a signed request. Nothing if the
+     * signature is not valid, or its message is a certificate, which proves nothing about who shows it. */
+    template <typename Verify> [[nodiscard]] static std::optional<proven_key> by(const signature &proof, Verify &&verify)
     {
-        if (login.message.substr(0, 7) == "(4:cert" || !is_valid(verify, login))
+        if (proof.message.substr(0, 7) == "(4:cert" || !is_valid(verify, proof))
             return std::nullopt;
-        return proven_key(login.key);
+        return proven_key(proof.key);
     }
 
     std::string_view text() const noexcept { return *octets; }
@@ -93,7 +94,7 @@ struct question {
         // (a null address would mean that the request is a text)
         strings.push_back({nullptr, 0});
         asked.sequence = text_of(sequence);
-        asked.key = text_of(this->key.text());
+        asked.key = spki_assume_key(text_of(this->key.text()));
     }
 
     spki_question lent() const noexcept
@@ -116,12 +117,33 @@ private:
 /* A decision. It is true only where the request is granted, and only an `if` or `!` reads it so. */
 class [[nodiscard]] decision {
 public:
-    explicit operator bool() const noexcept { return granted; }
+    using time = std::chrono::system_clock::time_point;
+
+    explicit operator bool() const noexcept { return made.status == SPKI_YES; }
+
+    /* From its own moment to this second the same question is granted, if the same signatures are valid: it is the least `not-after` of the
+     * entry and of all certificates. After it another entry may grant it. Nothing if no window ends, and for a no. What the clock does not
+     * have is its last time. */
+    std::optional<time> until() const noexcept
+    {
+        if (!*this || made.until == INT64_MAX)
+            return std::nullopt;
+        const auto first = seconds_of(time::min()) + 1, last = seconds_of(time::max());
+        return time(std::chrono::seconds(std::clamp<std::int64_t>(made.until, first, last)));
+    }
+
+    /* Whether a decision that was kept still grants the request at a time: spki_holds_at. */
+    bool holds_at(time now) const noexcept { return spki_holds_at(made, seconds_of(now)); }
 
 private:
     friend class asked;
-    explicit decision(bool granted) noexcept : granted(granted) {}
-    bool granted;
+    explicit decision(spki_decision made) noexcept : made(made) {}
+    spki_decision made;
+
+    static std::int64_t seconds_of(time moment) noexcept
+    {
+        return std::chrono::floor<std::chrono::seconds>(moment).time_since_epoch().count();
+    }
 };
 
 /* Throws `refused` with the line, or std::logic_error, unless a call has one of these statuses. */
@@ -137,8 +159,6 @@ inline spki_status expect(spki_status met, const char *line, std::size_t length,
 /* A question that was read, with a mark for each signature that is found valid. */
 class asked {
 public:
-    explicit asked(spki_asked *handle) noexcept : handle(handle) {}
-
     std::size_t size() const noexcept { return spki_asked_count(handle.get()); }
 
     /* The signature at a place. Its texts last as long as this object. */
@@ -163,7 +183,11 @@ public:
     }
 
     /* Whether the request is granted, if exactly the marked signatures are valid. */
-    decision decide() const noexcept { return decision(spki_asked_granted(handle.get())); }
+    decision decide() const noexcept
+    {
+        char line[64];
+        return decision(spki_asked_decide(handle.get(), line, sizeof line, nullptr));
+    }
 
     /* The lines that say of each entry why it grants the request or does not, and which right remains of it. */
     std::string explain() const { return lines(spki_asked_explain); }
@@ -174,17 +198,19 @@ private:
         void operator()(spki_asked *handle) const noexcept { spki_asked_close(handle); }
     };
     std::unique_ptr<spki_asked, close> handle;
+    /* The octets of the longest answer. */
+    std::size_t room;
+
+    friend class guard;
+    asked(spki_asked *handle, std::size_t room) noexcept : handle(handle), room(room) {}
 
     template <typename Call> std::string lines(Call call) const
     {
-        std::string lines(4096, '\0');
+        const std::unique_ptr<char[]> lines(new char[room]);
         std::size_t length = 0;
-        spki_status status;
-        while ((status = call(handle.get(), &lines[0], lines.size(), &length)) == SPKI_TOO_SMALL)
-            lines.resize(length);
-        expect(status, lines.data(), length, SPKI_DONE, SPKI_DONE);
-        lines.resize(length);
-        return lines;
+        const spki_status status = call(handle.get(), lines.get(), room, &length).status;
+        expect(status, lines.get(), length, SPKI_DONE, SPKI_DONE);
+        return std::string(lines.get(), length);
     }
 };
 
@@ -192,11 +218,13 @@ private:
 class guard {
 public:
     explicit guard(std::string_view list, spki_policy policy = SPKI_STRICT, const spki_limits &limits = usual_limits)
+        : room(std::max<std::size_t>(limits.answer ? limits.answer : SPKI_USUAL_ANSWER, line_room))
     {
-        char line[128];
+        char line[line_room];
         std::size_t length;
         spki_guard *opened;
         check_version();
+        expect(limits.answer > SPKI_MOST_ANSWER ? SPKI_MISUSED : SPKI_DONE, "", 0, SPKI_DONE, SPKI_DONE);
         spki_status status = spki_guard_open(list.data(), list.size(), policy, &limits, &opened, line, sizeof line, &length);
         handle.reset(opened);
         expect(status, line, length, SPKI_DONE, SPKI_DONE);
@@ -206,12 +234,12 @@ public:
 
     spki::asked ask(const question &question) const
     {
-        char line[128];
+        char line[line_room];
         std::size_t length;
         spki_asked *opened;
         const spki_question lent = question.lent();
         spki_status status = spki_guard_ask(handle.get(), &lent, &opened, line, sizeof line, &length);
-        spki::asked asked(opened);
+        spki::asked asked(opened, room);
         expect(status, line, length, SPKI_DONE, SPKI_DONE);
         return asked;
     }
@@ -229,6 +257,9 @@ private:
         void operator()(spki_guard *handle) const noexcept { spki_guard_close(handle); }
     };
     std::unique_ptr<spki_guard, close> handle;
+    std::size_t room;
+    /* The octets that each refusal fits in. */
+    static constexpr std::size_t line_room = 128;
 
     /* A library of another version may have other structures. */
     static void check_version()

@@ -12,10 +12,13 @@ import os
 import shutil
 import subprocess
 import sys
+from typing import Any
 
 HERE = os.path.dirname(os.path.abspath(__file__))
 sys.path.append(os.path.join(HERE, "..", "..", "tests"))
-from test_playground import InChromium  # noqa: E402
+from shared import page_tests  # noqa: E402
+
+InChromium: Any = page_tests().InChromium
 
 # By their names: width and height, and the number of the example on the page.
 PICTURES = {"playground": (1120, 1110, 0), "playground-denial": (1120, 760, 5)}

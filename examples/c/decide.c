@@ -19,8 +19,8 @@
 enum { MOST_OCTETS = 65536, MOST_WORDS = 16, FIRST_WORD = 4 };
 
 /* Whether a request is granted. Each word is one string of it, whatever octets it has. A client who shows more than the limits of the guard
- * allow is denied. THE CLIENT MUST HAVE PROVED THAT IT HOLDS THE KEY: a public key is public. */
-static bool is_granted(const spki_guard *guard, struct spki_text sequence, struct spki_text key, const struct spki_text *words,
+ * allow is denied. */
+static bool is_granted(const spki_guard *guard, struct spki_text sequence, struct spki_proven_key key, const struct spki_text *words,
                        size_t word_count, int64_t now)
 {
     const struct spki_question question = {.size = sizeof question, .sequence = sequence, .key = key, .words = words,
@@ -63,7 +63,8 @@ int main(int count, char **given)
     spki_guard *guard;
     if (spki_guard_open(texts[0].octets, texts[0].length, SPKI_STRICT, NULL, &guard, line, sizeof line, NULL) != SPKI_DONE)
         errx(2, "%s is no access list", given[1]);
-    bool granted = is_granted(guard, texts[1], texts[2], words, (size_t)(count - FIRST_WORD), time(NULL));
+    /* THE CLIENT MUST HAVE PROVED THAT IT HOLDS THE KEY: a public key is public */
+    bool granted = is_granted(guard, texts[1], spki_assume_key(texts[2]), words, (size_t)(count - FIRST_WORD), time(NULL));
     puts(granted ? "granted" : "denied");
     spki_guard_close(guard);
     return !granted;

@@ -3,13 +3,14 @@
 
 #include <stdlib.h>
 
-enum { MOST_INPUT = 8192, MOST_COMPONENTS = 32, MOST_DIGITS = 15, MOST_KEY_TEXT = 4096, MOST_SIGNATURE = 512 };
+enum { MOST_INPUT = 8192, MOST_COMPONENTS = 32, MOST_DIGITS = 15, MOST_KEY_TEXT = 4096, MOST_SIGNATURE = 512, P384_OCTETS = 96 };
 enum { MOST_WINDOW = 300, MOST_AHEAD = 60, LEAST_NONCE = 16, MOST_NONCE = 64 };
 enum { CREATED, EXPIRES, NONCE, KEYID, ALG, TAG, PARAMETERS };
 
 static const char *const parameter_names[PARAMETERS] = {"created", "expires", "nonce", "keyid", "alg", "tag"};
 static const char *const derived[] = {"@method", "@authority", "@target-uri", "@path", "@query"};
 static const char malformed[] = "malformed", chained[] = "authorization", sequence[] = "x-spki-sequence", body_digest[] = "content-digest";
+static const char public_key[] = "x-spki-public-key";
 
 /* The value of `Signature-Input`. `text` is that of `@signature-params`, as it was sent. */
 struct input {
@@ -233,7 +234,8 @@ static const char *read_parameters(struct cursor *in, struct input *input)
     const char *behind = end_of(*in);
     if (behind)
         return behind;
-    if (!has(input, "@method") || !has(input, "@authority") || (!has(input, "@target-uri") && !(has(input, "@path") && has(input, "@query"))))
+    bool has_target = has(input, "@target-uri") || (has(input, "@path") && has(input, "@query"));
+    if (!has_target || !has(input, "@method") || !has(input, "@authority") || !has(input, public_key))
         return "missing-component";
     return seen == (1U << PARAMETERS) - 1 ? NULL : "missing-parameter";
 }
@@ -395,7 +397,7 @@ static const char *put_base(struct writer *out, const struct http_request *reque
 
 /* ---- keys and signatures, as docs/FORMATS.md has them */
 
-/* Reads a key. Returns its algorithm and the octets of a signature by it, or null. */
+/* Reads a key in transport form. Returns its algorithm and the octets of a signature by it, or null. */
 static const char *read_key(struct spki_text text, struct http_proof *proof, size_t *octets)
 {
     const unsigned char *in = text.octets;
@@ -409,6 +411,9 @@ static const char *read_key(struct spki_text text, struct http_proof *proof, siz
         return "ed25519";
     if (verify_has_form(key, "(10:public-key(3:ecc(5:curve10:NIST P-256)(1:q%)))", strings))
         return "ecdsa-p256-sha256";
+    *octets = P384_OCTETS;
+    if (verify_has_form(key, "(10:public-key(3:ecc(5:curve10:NIST P-384)(1:q%)))", strings))
+        return "ecdsa-p384-sha384";
     if (!verify_has_form(key, "(10:public-key(3:rsa(1:n%)(1:e%)))", strings))
         return NULL;
     *octets = verify_trimmed(strings[0]).length;
@@ -428,17 +433,17 @@ static void put_string(struct writer *out, struct spki_text string)
 }
 
 /* Writes the canonical value of a signature. */
-static void put_signature(struct writer *out, const char *algorithm, struct spki_text octets)
+static void put_signature(struct writer *out, struct spki_text algorithm, struct spki_text octets)
 {
-    const unsigned char *first = octets.octets;
-    if (strcmp(algorithm, "rsa-v1_5-sha256") == 0) {
+    const unsigned char *first = octets.octets, *half = first + octets.length / 2;
+    if (is(algorithm, "rsa-v1_5-sha256")) {
         put(out, literal("(7:sig-val(3:rsa(1:s"));
         put_string(out, octets);
     } else {
-        put(out, literal(strcmp(algorithm, "ed25519") == 0 ? "(7:sig-val(5:eddsa(1:r" : "(7:sig-val(5:ecdsa(1:r"));
-        put_string(out, between(first, first + VERIFY_HALF));
+        put(out, literal(is(algorithm, "ed25519") ? "(7:sig-val(5:eddsa(1:r" : "(7:sig-val(5:ecdsa(1:r"));
+        put_string(out, between(first, half));
         put(out, literal(")(1:s"));
-        put_string(out, between(first + VERIFY_HALF, first + 2 * VERIFY_HALF));
+        put_string(out, between(half, first + octets.length));
     }
     put(out, literal(")))"));
 }
@@ -484,8 +489,38 @@ static const char *check_fields(const struct http_request *request, const struct
     return why ? why : read_digest(value, proof);
 }
 
+/* Whether a text is a hash in hexadecimal digits. */
+static bool is_hash(struct spki_text text, const unsigned char hash[VERIFY_HASH])
+{
+    static const char digits[] = "0123456789abcdef";
+    char written[2 * VERIFY_HASH + 1] = "";
+    for (size_t i = 0; i < VERIFY_HASH; i++) {
+        written[2 * i] = digits[hash[i] >> 4];
+        written[2 * i + 1] = digits[hash[i] & 15];
+    }
+    return is(text, written);
+}
+
+/* Reads the key that a request names as its signer, and how many octets a signature by it has. */
+static const char *check_key(const struct http_request *request, const struct input *input, struct http_proof *proof, size_t *octets)
+{
+    unsigned char hash[VERIFY_HASH];
+    struct spki_text value;
+    const char *why = field_of(request, literal(public_key), &value);
+    if (why)
+        return why;
+    const char *algorithm = read_key(value, proof, octets);
+    if (!algorithm)
+        return "bad-key";
+    if (!verify_hash((struct spki_text){proof->key, proof->key_length}, hash))
+        return "memory";
+    if (!is_hash(input->strings[KEYID], hash))
+        return "other-key";
+    return is(input->strings[ALG], algorithm) ? NULL : "other-algorithm";
+}
+
 /* Verifies the signature of a request whose fields are read. */
-static const char *check_signature(struct spki_text key, const char *algorithm, struct spki_text octets, struct writer *base)
+static const char *check_signature(struct spki_text key, struct spki_text algorithm, struct spki_text octets, struct writer *base)
 {
     unsigned char text[MOST_SIGNATURE + 64];
     struct writer value = {text, 0};
@@ -497,15 +532,18 @@ static const char *check_signature(struct spki_text key, const char *algorithm, 
 
 /* Tests the message, and then its signature. */
 static const char *check_message(const struct http_service *service, const struct http_request *request, const struct input *input,
-                                 const char *algorithm, struct spki_text octets, size_t wanted, struct http_proof *proof)
+                                 struct spki_text octets, struct http_proof *proof)
 {
     struct writer length = {NULL, 0};
+    size_t wanted = 0;
     if (!is_method(request->method) || !is_target(request->target))
         return is_method(request->method) ? "bad-target" : "bad-method";
     const struct spki_text *authority = authority_of(service, request);
     const char *why = authority ? put_base(&length, request, *authority, input) : "other-authority";
     if (!why)
         why = check_fields(request, input, proof);
+    if (!why)
+        why = check_key(request, input, proof, &wanted);
     if (why)
         return why;
     if (octets.length != wanted || octets.length > MOST_SIGNATURE)
@@ -514,7 +552,7 @@ static const char *check_message(const struct http_service *service, const struc
     if (!base.octets)
         return "memory";
     put_base(&base, request, *authority, input);
-    why = check_signature((struct spki_text){proof->key, proof->key_length}, algorithm, octets, &base);
+    why = check_signature((struct spki_text){proof->key, proof->key_length}, input->strings[ALG], octets, &base);
     free(base.octets);
     return why;
 }
@@ -534,23 +572,47 @@ static const char *read_both(const struct http_request *request, struct input *i
     return why ? why : read_signature(signature, octets, length);
 }
 
+/* Takes off what is before a mark, and ends it there. */
+static struct spki_text cut(char **rest, const char *mark)
+{
+    char *first = *rest, *end = strstr(first, mark);
+    *rest = end ? end + strlen(mark) : first + strlen(first);
+    if (end)
+        *end = '\0';
+    return literal(first);
+}
+
+bool http_request_read(char *head, struct http_field *fields, size_t most, struct http_request *request)
+{
+    *request = (struct http_request){.method = cut(&head, " "), .fields = fields};
+    request->target = cut(&head, " ");
+    if (!is_method(request->method) || !is_target(request->target) || !is(cut(&head, "\r\n"), "HTTP/1.1"))
+        return false;
+    for (; *head && *head != '\r'; request->field_count++) {
+        if (request->field_count == most)
+            return false;
+        fields[request->field_count].name = cut(&head, ":");
+        fields[request->field_count].value = cut(&head, "\r\n");
+        if (!is_method(fields[request->field_count].name))
+            return false;
+    }
+    return strcmp(head, "\r\n") == 0 && field_of(request, literal("host"), &request->authority) == NULL;
+}
+
 const char *http_request_proves(const struct http_service *service, const struct http_request *request, long long now, struct http_proof *proof)
 {
     struct input input;
     struct http_proof made = {.key_length = 0};
     unsigned char octets[MOST_INPUT];
-    size_t length = 0, wanted = 0;
+    size_t length = 0;
     const char *why = read_both(request, &input, octets, &length);
     if (!why)
         why = check_time(service, &input, now);
     if (why)
         return why;
-    const char *algorithm = read_key(input.strings[KEYID], &made, &wanted);
-    if (!algorithm)
-        return "bad-key";
-    if (!is(input.strings[ALG], algorithm))
-        return "other-algorithm";
-    why = check_message(service, request, &input, algorithm, (struct spki_text){octets, length}, wanted, &made);
+    if (lines_of(request, sequence, &made.sequence) == 0)
+        made.sequence = literal("(sequence)");
+    why = check_message(service, request, &input, (struct spki_text){octets, length}, &made);
     if (!why)
         why = service->take(service->store, (struct spki_text){made.key, made.key_length}, input.strings[NONCE], now, MOST_WINDOW + MOST_AHEAD);
     if (!why)

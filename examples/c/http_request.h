@@ -4,7 +4,7 @@
  *     struct http_service service = {names, 1, time(NULL), http_nonces_take, http_nonces_open(100000)};
  *     const char *refused = http_request_proves(&service, &request, time(NULL), &proof);
  *     if (!refused)
- *         question.key = (struct spki_text){proof.key, proof.key_length};
+ *         question.key = http_proven_key(&proof);
  */
 #ifndef HTTP_REQUEST_H
 #define HTTP_REQUEST_H
@@ -33,16 +33,27 @@ struct http_service {
     void *store;
 };
 
-/* The key that has signed a request, in canonical form, and the digest of the body by SHA-256 or SHA-512, whose length is 0 if there is no body.
- * Whoever reads the body compares it. */
+/* The key that has signed a request, in canonical form, the certificates that the request shows, as a question has them, which are lent by the
+ * request, and the digest of the body by SHA-256 or SHA-512, whose length is 0 if there is no body. Whoever reads the body compares it. */
 struct http_proof {
     unsigned char key[VERIFY_MOST_OCTETS], digest[64];
     size_t key_length, digest_length;
+    struct spki_text sequence;
 };
+
+/* Takes the head of a request of HTTP/1.1 apart, which ends with an octet 00 behind its empty line. The authority is that of `Host`. Each part ends
+ * with an octet 00 in its place. Whether it is a head of at most so many fields, each in one line. */
+bool http_request_read(char *head, struct http_field *fields, size_t most, struct http_request *request);
 
 /* Whether a request proves a key at a time, in seconds since 1970: null, or the name of the refusal in docs/SIGNATURES.md, or "memory". Its nonce
  * is used up. The key is set only if null is returned. */
 const char *http_request_proves(const struct http_service *service, const struct http_request *request, long long now, struct http_proof *proof);
+
+/* The key of a proof, for a question: its octets are in the proof. */
+static inline struct spki_proven_key http_proven_key(const struct http_proof *proof)
+{
+    return spki_assume_key((struct spki_text){proof->key, proof->key_length});
+}
 
 /* Nonces in memory: room for so many in each of two sets, as hashes of eight octets. One thread at a time may call. Null if there is no memory. */
 struct http_nonces;

@@ -1,5 +1,5 @@
 /* A verifier of signatures in the forms of docs/FORMATS.md, "Keys and signatures of services": Ed25519, RSA by PKCS#1 v1.5 with SHA-256,
- * ECDSA with P-256 and SHA-256. A service takes this file along with verify_gcrypt.c (libgcrypt) or verify_openssl.c (OpenSSL's libcrypto).
+ * ECDSA with P-256 and SHA-256 or with P-384 and SHA-384. A service takes this file along with verify_gcrypt.c (libgcrypt) or verify_openssl.c (OpenSSL's libcrypto).
  *
  *     if (verifies(&signature))
  *         spki_asked_mark(asked, place);
@@ -17,13 +17,36 @@
 /* Whether a signature is valid: `value` is one of `message` by `key`, all in canonical form. Several threads may call at the same time. */
 SPKI_RESULT bool verifies(const struct spki_signed *signature);
 
+enum { VERIFY_HASH = 32 };
+
+/* The SHA-256 hash of octets, such as the canonical text of a key. False if the library fails, and then there is no hash. */
+SPKI_RESULT bool verify_hash(struct spki_text octets, unsigned char hash[VERIFY_HASH]);
+
+/* The decision of a guard on a question. Only the status SPKI_YES grants. No signature is verified where none can help. */
+SPKI_RESULT static inline struct spki_decision verify_decides(const spki_guard *guard, const struct spki_question *question)
+{
+    struct spki_decision decision = {SPKI_NO, INT64_MIN};
+    struct spki_signed it;
+    spki_asked *asked;
+    char line[64];
+    if (spki_guard_ask(guard, question, &asked, NULL, 0, NULL) != SPKI_DONE)
+        return decision;
+    const size_t count = spki_asked_possible(asked) ? spki_asked_count(asked) : 0;
+    for (size_t place = 0; place < count && spki_asked_signature(asked, place, &it) == SPKI_DONE; place++)
+        if (verifies(&it))
+            spki_asked_mark(asked, place);
+    decision = spki_asked_decide(asked, line, sizeof line, NULL);
+    spki_asked_close(asked);
+    return decision;
+}
+
 /* ---- shared by the verifiers */
 
-enum { VERIFY_HALF = 32, VERIFY_POINT = 65, VERIFY_LEAST_BITS = 2048, VERIFY_MOST_BITS = 4096, VERIFY_MOST_EXPONENT_BITS = 31 };
+enum { VERIFY_HALF = 32, VERIFY_MOST_POINT = 97, VERIFY_LEAST_BITS = 2048, VERIFY_MOST_BITS = 4096, VERIFY_MOST_EXPONENT_BITS = 31 };
 /* A canonical text of more octets is no key and no value of a signature. */
 enum { VERIFY_MOST_OCTETS = 4096 };
 
-enum verify_kind { VERIFY_NONE, VERIFY_ED25519, VERIFY_RSA, VERIFY_P256 };
+enum verify_kind { VERIFY_NONE, VERIFY_ED25519, VERIFY_RSA, VERIFY_P256, VERIFY_P384 };
 
 /* A key and the value of a signature, taken apart. The key's strings are those of q, or of n and e. The value's are those of r and s, or of
  * s, for RSA and ECDSA without octets 00 in front. */
@@ -126,15 +149,29 @@ static inline bool verify_is_ed25519(struct spki_text q, struct spki_text r, str
 }
 
 /* Whether ECDSA is asked. The coordinates are below p, and r and s are from 1 to below the order. A library tests that the point is one. */
+static inline bool verify_is_ecdsa(struct spki_text q, struct spki_text r, struct spki_text s, struct spki_text p, struct spki_text order)
+{
+    const unsigned char *octets = q.octets;
+    return q.length == 1 + 2 * p.length && octets[0] == 4 && verify_is_below((struct spki_text){octets + 1, p.length}, p)
+           && verify_is_below((struct spki_text){octets + 1 + p.length, p.length}, p) && r.length && s.length && verify_is_below(r, order)
+           && verify_is_below(s, order);
+}
+
 static inline bool verify_is_p256(struct spki_text q, struct spki_text r, struct spki_text s)
 {
     static const char p[] = "\xff\xff\xff\xff\0\0\0\1\0\0\0\0\0\0\0\0\0\0\0\0\xff\xff\xff\xff\xff\xff\xff\xff\xff\xff\xff\xff",
                       order[] = "\xff\xff\xff\xff\0\0\0\0\xff\xff\xff\xff\xff\xff\xff\xff\xbc\xe6\xfa\xad\xa7\x17\x9e\x84\xf3\xb9\xca\xc2\xfc"
                                 "\x63\x25\x51";
-    const unsigned char *octets = q.octets;
-    return q.length == VERIFY_POINT && octets[0] == 4 && verify_is_below_half((struct spki_text){octets + 1, VERIFY_HALF}, p)
-           && verify_is_below_half((struct spki_text){octets + 1 + VERIFY_HALF, VERIFY_HALF}, p) && r.length && s.length
-           && verify_is_below_half(r, order) && verify_is_below_half(s, order);
+    return verify_is_ecdsa(q, r, s, (struct spki_text){p, sizeof p - 1}, (struct spki_text){order, sizeof order - 1});
+}
+
+static inline bool verify_is_p384(struct spki_text q, struct spki_text r, struct spki_text s)
+{
+    static const char p[] = "\xff\xff\xff\xff\xff\xff\xff\xff\xff\xff\xff\xff\xff\xff\xff\xff\xff\xff\xff\xff\xff\xff\xff\xff\xff\xff\xff\xff"
+                            "\xff\xff\xff\xfe\xff\xff\xff\xff\0\0\0\0\0\0\0\0\xff\xff\xff\xff",
+                      order[] = "\xff\xff\xff\xff\xff\xff\xff\xff\xff\xff\xff\xff\xff\xff\xff\xff\xff\xff\xff\xff\xff\xff\xff\xff\xc7\x63\x4d\x81"
+                                "\xf4\x37\x2d\xdf\x58\x1a\x0d\xb2\x48\xb0\xa7\x7a\xec\xec\x19\x6a\xcc\xc5\x29\x73";
+    return verify_is_ecdsa(q, r, s, (struct spki_text){p, sizeof p - 1}, (struct spki_text){order, sizeof order - 1});
 }
 
 /* Whether RSA is asked. Both numbers of the key are odd and within the limits, and s is from 1 to below the modulus. */
@@ -154,12 +191,13 @@ static inline struct verify_parts verify_parts_of(struct spki_text key, struct s
         && verify_has_form(value, "(7:sig-val(5:eddsa(1:r%)(1:s%)))", v)) {
         if (verify_is_ed25519(k[0], v[0], v[1]))
             of.kind = VERIFY_ED25519;
-    } else if (verify_has_form(key, "(10:public-key(3:ecc(5:curve10:NIST P-256)(1:q%)))", k)
-               && verify_has_form(value, "(7:sig-val(5:ecdsa(1:r%)(1:s%)))", v)) {
+    } else if (verify_has_form(value, "(7:sig-val(5:ecdsa(1:r%)(1:s%)))", v)) {
         v[0] = verify_trimmed(v[0]);
         v[1] = verify_trimmed(v[1]);
-        if (verify_is_p256(k[0], v[0], v[1]))
+        if (verify_has_form(key, "(10:public-key(3:ecc(5:curve10:NIST P-256)(1:q%)))", k) && verify_is_p256(k[0], v[0], v[1]))
             of.kind = VERIFY_P256;
+        else if (verify_has_form(key, "(10:public-key(3:ecc(5:curve10:NIST P-384)(1:q%)))", k) && verify_is_p384(k[0], v[0], v[1]))
+            of.kind = VERIFY_P384;
     } else if (verify_has_form(key, "(10:public-key(3:rsa(1:n%)(1:e%)))", k) && verify_has_form(value, "(7:sig-val(3:rsa(1:s%)))", v)) {
         v[0] = verify_trimmed(v[0]);
         if (verify_is_rsa(k[0], k[1], v[0]))

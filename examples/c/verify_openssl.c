@@ -1,4 +1,4 @@
-/* `verifies` of verify.h by OpenSSL's libcrypto, from OpenSSL 3.0 on (Debian: libssl-dev).
+/* `verifies` and `verify_hash` of verify.h by OpenSSL's libcrypto, from OpenSSL 3.0 on (Debian: libssl-dev).
  *
  *     cc -std=c11 -Wall -Wextra -c verify_openssl.c $(pkg-config --cflags spki libcrypto)
  */
@@ -42,14 +42,14 @@ static EVP_PKEY *rsa_key(struct spki_text modulus, struct spki_text exponent)
     return key;
 }
 
-/* OpenSSL's key of a point of P-256, or null. */
-static EVP_PKEY *p256_key(struct spki_text point)
+/* OpenSSL's key of a point of a curve, or null. */
+static EVP_PKEY *ecdsa_key(enum verify_kind kind, struct spki_text point)
 {
-    char curve[] = "prime256v1";
-    unsigned char octets[VERIFY_POINT];
-    memcpy(octets, point.octets, sizeof octets);
-    OSSL_PARAM parameters[] = {OSSL_PARAM_construct_utf8_string(OSSL_PKEY_PARAM_GROUP_NAME, curve, 0),
-                               OSSL_PARAM_construct_octet_string(OSSL_PKEY_PARAM_PUB_KEY, octets, sizeof octets),
+    char curve[] = "prime256v1", longer[] = "secp384r1";
+    unsigned char octets[VERIFY_MOST_POINT];
+    memcpy(octets, point.octets, point.length);
+    OSSL_PARAM parameters[] = {OSSL_PARAM_construct_utf8_string(OSSL_PKEY_PARAM_GROUP_NAME, kind == VERIFY_P256 ? curve : longer, 0),
+                               OSSL_PARAM_construct_octet_string(OSSL_PKEY_PARAM_PUB_KEY, octets, point.length),
                                OSSL_PARAM_construct_end()};
     return made_of("EC", parameters);
 }
@@ -58,7 +58,7 @@ static EVP_PKEY *key_of(const struct verify_parts *parts)
 {
     if (parts->kind == VERIFY_ED25519)
         return EVP_PKEY_new_raw_public_key(EVP_PKEY_ED25519, NULL, parts->key[0].octets, parts->key[0].length);
-    return parts->kind == VERIFY_RSA ? rsa_key(parts->key[0], parts->key[1]) : p256_key(parts->key[0]);
+    return parts->kind == VERIFY_RSA ? rsa_key(parts->key[0], parts->key[1]) : ecdsa_key(parts->kind, parts->key[0]);
 }
 
 /* Writes the two numbers of a signature by ECDSA as OpenSSL has them. Returns the count of the octets, or 0. */
@@ -82,7 +82,7 @@ static size_t ecdsa_signature(struct spki_text r, struct spki_text s, unsigned c
 static size_t signature_of(const struct verify_parts *parts, size_t size, unsigned char octets[MOST_SIGNATURE])
 {
     struct spki_text first = parts->value[0], second = parts->value[1];
-    if (parts->kind == VERIFY_P256)
+    if (parts->kind == VERIFY_P256 || parts->kind == VERIFY_P384)
         return ecdsa_signature(first, second, octets);
     if (parts->kind == VERIFY_ED25519) {
         memcpy(octets, first.octets, VERIFY_HALF);
@@ -96,13 +96,18 @@ static size_t signature_of(const struct verify_parts *parts, size_t size, unsign
     return size;
 }
 
+bool verify_hash(struct spki_text octets, unsigned char hash[VERIFY_HASH])
+{
+    return EVP_Digest(octets.octets, octets.length, hash, NULL, EVP_sha256(), NULL) == 1;
+}
+
 bool verifies(const struct spki_signed *signature)
 {
     unsigned char octets[MOST_SIGNATURE];
     struct spki_text message = signature->message;
     struct verify_parts parts = verify_parts_of(signature->key, signature->value);
     EVP_PKEY *public = parts.kind == VERIFY_NONE || message.length == 0 ? NULL : key_of(&parts);
-    const EVP_MD *digest = parts.kind == VERIFY_ED25519 ? NULL : EVP_sha256();
+    const EVP_MD *digest = parts.kind == VERIFY_ED25519 ? NULL : parts.kind == VERIFY_P384 ? EVP_sha384() : EVP_sha256();
     size_t length = public ? signature_of(&parts, (size_t)EVP_PKEY_get_size(public), octets) : 0;
     EVP_MD_CTX *context = EVP_MD_CTX_new();
     bool right = length > 0 && context && EVP_DigestVerifyInit(context, NULL, digest, NULL, public) == 1

@@ -1,7 +1,7 @@
 #!/usr/bin/env python3
 """A service whose access list is a table of a database: its entries come and go while it answers.
 
-Alice has an entry, by the hash of her key, and passes a part of her right on to Bob. Bob logs in by a signed nonce and asks. Then the same
+Alice has an entry, by the hash of her key, and passes a part of her right on to Bob. Bob signs requests. Then the same
 after the entry is removed, and after it is added again. The keys are made as in examples/signed/, and need `cryptography`
 (Debian: python3-cryptography).
 
@@ -23,41 +23,37 @@ sys.path[1:1] = [os.path.join(HERE, "..", "signed"), os.path.join(TOP, "bindings
 sys.path.append("/usr/lib/python3/dist-packages")
 import entries  # noqa: E402
 import spki  # noqa: E402
-from run import Pair, signed  # noqa: E402
-from login import Login, message  # noqa: E402
+import spki_http  # noqa: E402
+from run import Pair, asked_by, signed  # noqa: E402
 from spki_cert_tool.keys import ED25519, RSA  # noqa: E402
-from spki_cert_tool.sexp import canonical  # noqa: E402
 from spki_store_tool.tables import Store  # noqa: E402
 from spki_verify import verify  # noqa: E402
 
-SERVICE, SCHEMA = b"packages.example", "spki_story"
-READ, WRITE = (b"packages", b"read", b"/builds/x"), (b"packages", b"write", b"/builds/x")
+NAME, SCHEMA = "packages.example", "spki_story"
+READ, WRITE = ("packages", "read", "/builds/x"), ("packages", "write", "/builds/x")
 RIGHTS = b"(tag (packages (* set read write)))"
-
-
-def logged_in(pair):
-    """The key that the holder of a pair has shown to hold."""
-    login = Login(SERVICE)
-    login.answer(pair.text.encode(), pair.sign(message(SERVICE, login.nonce)))
-    return spki.ProvenKey.assume(canonical(login.key))
 
 
 def told(store):
     """Tells the story, and yields of each answer whether it is as wanted."""
     alice, bob, carol = map(Pair, (RSA, ED25519, ED25519))
     to_bob = f'(cert (issuer {alice.principal}) (subject {bob.principal}) (tag (packages read)) (not-after "9999-12-31_23:59:59"))'
-    sequence = f"(sequence {alice.text} {signed(to_bob, alice)})".encode()
+    sequence = f"(sequence {alice.text} {signed(to_bob, alice)})"
     service = entries.Service(store)
-    entry = entries.entry(alice.principal.encode(), RIGHTS, b"(propagate)")
+    entry, verifier = entries.entry(alice.principal.encode(), RIGHTS, b"(propagate)"), spki_http.Verifier(NAME)
 
     def asks(remark, pair, shown, words, wanted):
-        number = service.decide(spki.Question(shown, logged_in(pair), words=words, moment=datetime.now(timezone.utc)), verify)
+        method, target, fields = asked_by(pair, words, shown)
+        proof = verifier.prove(method, NAME, target, fields.items(), b"")
+        question = spki.Question(proof.sequence, spki.ProvenKey.assume(proof.key), words=[word.encode() for word in words],
+                                 moment=datetime.now(timezone.utc))
+        number = service.decide(question, verify)
         print(f"{remark}: {'no' if number is None else f'yes, by entry {number}'}{'' if number == wanted else '; WANTED OTHERWISE'}")
         return number == wanted
 
-    yield asks("Alice reads, and no entry is there", alice, b"(sequence)", READ, None)
+    yield asks("Alice reads, and no entry is there", alice, "(sequence)", READ, None)
     first = store.add(entry)
-    yield asks("Alice writes, and has an entry", alice, b"(sequence)", WRITE, first)
+    yield asks("Alice writes, and has an entry", alice, "(sequence)", WRITE, first)
     yield asks("Bob reads, by Alice's certificate", bob, sequence, READ, first)
     yield asks("Bob writes", bob, sequence, WRITE, None)
     yield asks("Carol shows Bob's certificate", carol, sequence, READ, None)

@@ -18,7 +18,7 @@ core.register_action("spki", { "http-req" }, function(txn)
         ["x-client-cert"] = { txn.sc:base64(txn.sf:ssl_c_der()) },
         ["authorization"] = values(headers, "authorization"), ["x-spki-sequence"] = values(headers, "x-spki-sequence"),
         ["signature"] = values(headers, "signature"), ["signature-input"] = values(headers, "signature-input"),
-        ["content-digest"] = values(headers, "content-digest"), ["x-spki-keep"] = values(headers, "x-spki-keep") } }
+        ["x-spki-public-key"] = values(headers, "x-spki-public-key"), ["content-digest"] = values(headers, "content-digest") } }
     local said = answer and answer.headers and answer.headers["x-spki-answer"]
     local is_yes = said and answer.status == 200 and said[0] == "yes" and said[1] == nil
     if is_yes then

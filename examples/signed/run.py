@@ -2,31 +2,39 @@
 """From new keys to decisions by `spki`, and the reason of each decision.
 
 A service keeps packages. Alice may read and write all builds, and may delegate that. Bob may read manuals. Alice delegates the web
-builds to her builders, and certifies that Bob is one. Bob lets Carol read. Carol logs in by a signed nonce, and asks. Then the same with
-something wrong: logins that the service refuses, and cases with another answer.
+builds to her builders, and certifies that Bob is one. Bob lets Carol read. Carol signs her request (docs/SIGNATURES.md). Then the same with
+something wrong: requests that prove no key, and cases with another answer.
+
+The service verifies the certificates' signatures, and writes the question as a case for the program `spki`. A service that holds a guard writes
+none: docs/GUIDE.md.
 
 Needs Python (3.10) and `cryptography` (Debian: python3-cryptography). New keys are made at each run, and the private ones are thrown
-away. The keys and signatures are those of `spki-cert`, whose code this example uses. Prints what it does. The last line counts the logins
+away. The keys and signatures are those of `spki-cert`, whose code this example uses. Prints what it does. The last line counts the requests
 and answers that are as wanted. With a folder, which must exist, it keeps the texts of the cases there.
 
 Build the program first (`rt run` in crates/spki).
 Usage: examples/signed/run.py [PROGRAM [FOLDER]]
 """
+import base64
 import os
 import shutil
 import sys
 import tempfile
+import urllib.parse
 
 import tools
-from login import Login, message
-from service import MOST_CERTIFICATES, MOST_SHOWN, ask
+import spki_http
 from spki_cert_tool import sexp
+from spki_cert_tool.asking import Asked, case_of
 from spki_cert_tool.keys import ED25519, P256, RSA, FileSigner, hash_of, new_private, principal_of
 from spki_cert_tool.sexp import laid_out, on_one_line, read
 from tools import canonical, spki
 
-SERVICE = b"packages.example"
+NAME = "packages.example"
 NOON = "2026-03-01_12:00:00"
+METHODS = {"GET": "read", "PUT": "write"}
+# The most octets and certificates of a sequence. README.md, "Limits", says why a service bounds them, and the time.
+MOST_SHOWN, MOST_CERTIFICATES = 65536, 16
 # The words of a request. What they hold is never read as anything but a string.
 READ = ("packages", "read", "/builds/web/index.html")
 WRITE = ("packages", "write", "/builds/web/index.html")
@@ -82,11 +90,6 @@ def with_digest_of(other, item):
     return f"{laid_out(certificate)} {laid_out(signature)}"
 
 
-def answered(pair, login, service=SERVICE):
-    """The signature by which the holder of a pair answers the nonce of a connection, for this service."""
-    return pair.sign(message(service, login.nonce))
-
-
 def changed_bit(value):
     """The value of a signature, of whose last octet one bit is changed. Three lists end behind it."""
     return value[:-4] + bytes([value[-4] ^ 1]) + value[-3:]
@@ -99,52 +102,82 @@ def with_changed_bit(item):
     return f"{laid_out(certificate)} {laid_out(signature)}"
 
 
-def logins(story):
-    """What is tried at the login: what is said of it, the connection, the key and the signature that come, and whether it passes."""
+def shown(sequence):
+    """A sequence in transport form, as a client sends it."""
+    octets = sequence if isinstance(sequence, bytes) else canonical(sequence)
+    return f"{{{base64.b64encode(octets).decode()}}}"
+
+
+def asked_by(pair, words, sequence="(sequence)", name=NAME, key=None):
+    """The method, the target and the fields of a request that the holder of a pair signs. A forger says that it is by another key."""
+    method = next(each for each, word in METHODS.items() if word == words[1])
+    target = urllib.parse.quote(words[2])
+    signer = spki_http.Signer(sexp.canonical((key or pair).key), pair.sign, shown(sequence))
+    return method, target, signer.fields(method, f"https://{name}{target}")
+
+
+class Service:
+    """A service with this access list. ONLY STATUS 0 IS A YES. A key that was only sent is not used: whoever sends Alice's would have her rights."""
+
+    def __init__(self, access_list):
+        self.access_list, self.verifier = read(canonical(access_list)), spki_http.Verifier(NAME)
+
+    def ask(self, method, target, fields, moment):
+        """The case, the status and the answer of `spki check`. All but the moment is from outside."""
+        proof = self.verifier.prove(method, NAME, target, fields.items(), b"")
+        if len(proof.sequence) > MOST_SHOWN:
+            raise ValueError(f"the sequence has more than {MOST_SHOWN} octets")
+        sequence = read(canonical(proof.sequence))
+        if [item[0] for item in sequence[1:]].count(b"cert") > MOST_CERTIFICATES:
+            raise ValueError(f"the sequence has more than {MOST_CERTIFICATES} certificates")
+        request = [b"packages", METHODS[method].encode(), urllib.parse.unquote_to_bytes(target)]
+        case = case_of(Asked(self.access_list, read(proof.key), request, moment.encode(), labels=None), sequence)
+        return case, *spki("check", sexp.canonical(case))
+
+
+def requests(story):
+    """The requests that come: a remark, the request, and the refusal, or nothing if it proves a key."""
     alice, bob, carol = story.alice, story.bob, story.carol
-    first, second, third, fourth, fifth, sixth, seventh, eighth = (Login(SERVICE) for _ in range(8))
-    good = answered(carol, first)
-    yield "Carol signs the nonce", first, carol.text, good, True
-    yield "the same answer comes again, and the nonce is used up", first, carol.text, good, False
-    yield "the same answer comes in another connection, which has another nonce", second, carol.text, good, False
-    yield "Alice signs the nonce, by RSA", third, alice.text, answered(alice, third), True
-    yield "Bob shows Carol's key and signs by his own", fourth, carol.text, answered(bob, fourth), False
-    yield "one bit of Carol's signature is changed", fifth, carol.text, changed_bit(answered(carol, fifth)), False
-    yield "Carol signed the nonce for another service", sixth, carol.text, answered(carol, sixth, b"other.example"), False
-    yield "the signature is Carol's, and of a certificate", seventh, carol.text, carol.sign(canonical(story.to_carol)), False
-    yield "the key is followed by another one", eighth, f"{carol.text} {alice.text}", answered(carol, eighth), False
+    good = asked_by(carol, READ)
+    method, target, fields = asked_by(carol, READ)
+    yield "Carol signs her request", good, None
+    yield "the same comes again, and its nonce is used up", good, "nonce-seen"
+    yield "Alice signs one, by RSA", asked_by(alice, WRITE), None
+    yield "Bob shows Carol's key and signs by his own", asked_by(bob, READ, key=carol), "invalid-signature"
+    yield "Carol signed it for another service", asked_by(carol, READ, name="other.example"), "invalid-signature"
+    yield "the path is another", (method, target + "x", fields), "invalid-signature"
+    yield "reading was signed, and writing is asked for", ("PUT", target, fields), "body-without-digest"
+    yield "the certificates are others", (method, target, {**fields, "X-Spki-Sequence": shown("(sequence (key x))")}), "invalid-signature"
+    yield "the certificates are left out", (method, target, {it: fields[it] for it in fields if it != "X-Spki-Sequence"}), "absent-field"
+    other = base64.b64encode(spki_http.octets_of(carol.sign(canonical(story.to_carol)))).decode()
+    yield "the signature is Carol's, and of a certificate", (method, target, {**fields, "Signature": f"spki=:{other}:"}), "invalid-signature"
+    yield "there is no signature", (method, target, {}), "absent"
 
 
-def login_passed(remark, login, key, value, wanted):
-    """Tries a login, prints, and says whether it passes or is refused as wanted. The service knows a key then, or none."""
-    before = login.key
-    passed = login.answer(key.encode(), value)
-    known = login.key == read(canonical(key)) if passed else login.key == before
-    print(f"  {'passes' if passed else 'refused'}: {remark}{'' if passed == wanted and known else '; WANTED OTHERWISE'}")
-    return passed == wanted and known
-
-
-def logged_in(pair):
-    """A connection in which the holder of a pair has logged in."""
-    login = Login(SERVICE)
-    login.answer(pair.text.encode(), answered(pair, login))
-    return login
+def is_proved(service, remark, request, wanted):
+    """Tries a request, prints, and says whether it proves a key or is refused as wanted."""
+    try:
+        service.ask(*request, NOON)
+        met = None
+    except spki_http.Refused as refusal:
+        met = refusal.name
+    print(f"  {met or 'proves the key'}: {remark}{'' if met == wanted else '; WANTED OTHERWISE'}")
+    return met == wanted
 
 
 def unasked(story):
-    """What the service does not ask `spki` about: a remark, the connection, the sequence, and the exception that is wanted."""
+    """What the service does not ask `spki` about: a remark and the sequence."""
     good = signed(story.to_carol, story.bob)
-    yield "Carol has not logged in", Login(SERVICE), story.sequence(good), PermissionError
-    yield "the sequence is too long", logged_in(story.carol), story.sequence(good).ljust(MOST_SHOWN + 1), ValueError
-    yield "there are too many certificates", logged_in(story.carol), story.sequence(good * (MOST_CERTIFICATES - 1)), ValueError
-    yield "there are two sequences", logged_in(story.carol), story.sequence(good) + "(sequence)", ValueError
+    yield "the sequence is too long", sexp.canonical([b"sequence", bytes(MOST_SHOWN)])
+    yield "there are too many certificates", canonical(story.sequence(good * (MOST_CERTIFICATES - 1)))
+    yield "there are two sequences", canonical(story.sequence(good)) + b"(8:sequence)"
 
 
-def is_unasked(story, remark, login, sequence, wanted):
+def is_unasked(story, remark, sequence):
     """Whether the service refuses to decide."""
     try:
-        ask(story.access_list, sequence.encode(), login, READ, NOON)
-    except wanted as refusal:
+        Service(story.access_list).ask(*asked_by(story.carol, READ, sequence), NOON)
+    except ValueError as refusal:
         print(f"  refused: {remark}: {refusal}")
         return True
     print(f"  WANTED OTHERWISE: {remark}")
@@ -187,13 +220,13 @@ def wanted_lines(wrong):
 
 def attempt(story, folder, name, remark, sequence, holder, words, moment, wrong):
     """Asks, prints, and says whether the answers are as wanted."""
-    case, status, answer, verdicts = ask(story.access_list, sequence.encode(), logged_in(holder), words, moment)
-    text = laid_out(case) + "\n"
+    case, status, answer = Service(story.access_list).ask(*asked_by(holder, words, sequence), moment)
+    answer, text = answer.decode(), laid_out(case) + "\n"
     explained = spki("explain", text)[1].decode()
     with open(os.path.join(folder, f"{name}.sexp"), "w", encoding="ascii") as file:
         file.write(text)
     print(f"\n{name}: {remark}")
-    print(f"  signatures: {', '.join('valid' if good else 'not valid' for good in verdicts)}")
+    print(f"  valid signatures: {len(case[2]) - 1} of 3")
     print(f"  spki check: {answer.strip()}")
     print("".join(f"  spki explain: {line}\n" for line in explained.splitlines()), end="")
     wanted = (1, "no\n", wanted_lines(wrong)) if wrong else (0, "yes entry 1\n", wanted_lines(wrong))
@@ -223,8 +256,9 @@ def main():
         folder = sys.argv[2] if len(sys.argv) > 2 else room
         story = Story()
         tell(story)
-        print("\nLogins:")
-        results = [login_passed(*each) for each in logins(story)]
+        print("\nRequests:")
+        service = Service(story.access_list)
+        results = [is_proved(service, *each) for each in requests(story)]
         print("\nNot asked:")
         results += [is_unasked(story, *each) for each in unasked(story)]
         results += [attempt(story, folder, *each) for each in attempts(story)]

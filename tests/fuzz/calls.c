@@ -5,6 +5,7 @@
  * The library is not instrumented, so libFuzzer is told of each new answer as of a new place in the code. */
 #include "pieces.h"
 
+#include <malloc.h>
 #include <spki.h>
 #include <stdlib.h>
 
@@ -46,7 +47,8 @@ void *__wrap_malloc(size_t size)
 
 void *__wrap_realloc(void *block, size_t size)
 {
-    return refuses() ? NULL : __real_realloc(block, size);
+    /* (a block that becomes shorter is not refused: without that it stays as it is) */
+    return (!block || malloc_usable_size(block) < size) && refuses() ? NULL : __real_realloc(block, size);
 }
 
 /* The answer of a call. */
@@ -142,13 +144,13 @@ struct of_text {
 static enum spki_status answers_text(const void *with, void *buffer, size_t length, size_t *needed)
 {
     const struct of_text *it = with;
-    return spki_answer(it->command, it->text.octets, it->text.length, buffer, length, needed);
+    return spki_answer(it->command, it->text.octets, it->text.length, buffer, length, needed).status;
 }
 
 static enum spki_status answers_rows(const void *with, void *buffer, size_t length, size_t *needed)
 {
     const struct of_text *it = with;
-    return spki_check_accepted(it->text.octets, it->text.length, it->rows.octets, it->rows.length, buffer, length, needed);
+    return spki_check_accepted(it->text.octets, it->text.length, it->rows.octets, it->rows.length, buffer, length, needed).status;
 }
 
 static int equals(struct spki_text one, struct spki_text other)
@@ -240,6 +242,16 @@ static enum spki_status answers_asked(const void *with, void *buffer, size_t len
     return it->answers(it->asked, buffer, length, needed);
 }
 
+static enum spki_status explains(const spki_asked *asked, void *buffer, size_t length, size_t *needed)
+{
+    return spki_asked_explain(asked, buffer, length, needed).status;
+}
+
+static enum spki_status reduces(const spki_asked *asked, void *buffer, size_t length, size_t *needed)
+{
+    return spki_asked_reduce(asked, buffer, length, needed).status;
+}
+
 /* The first place that has a signature equal to that at a place. */
 static size_t first_equal(const spki_asked *asked, size_t place)
 {
@@ -293,7 +305,7 @@ static void explain(struct input *in, struct of_asked *with, const struct answer
 {
     struct answer lines;
     char wanted[64] = "grants\n";
-    with->answers = spki_asked_explain;
+    with->answers = explains;
     lines = answered(in, answers_asked, with);
     holds(lines.status == SPKI_DONE || is(&lines, "refused TooLarge\n"), "no explanation");
     if (lines.status == SPKI_DONE) {
@@ -304,7 +316,7 @@ static void explain(struct input *in, struct of_asked *with, const struct answer
         holds((decision->status == SPKI_YES) == (found != NULL), "the explanation says otherwise than the decision");
     }
     free(lines.octets);
-    with->answers = spki_asked_reduce;
+    with->answers = reduces;
     lines = answered(in, answers_asked, with);
     holds(lines.status == SPKI_DONE || is(&lines, "refused TooLarge\n"), "no reduction");
     free(lines.octets);
@@ -350,11 +362,19 @@ static void compare(struct input *in, const struct parts *parts, const struct te
     }
 }
 
+/* Decides an opened question. Only a yes has an end. */
+static enum spki_status decision_of(const spki_asked *asked, void *buffer, size_t length, size_t *needed)
+{
+    const struct spki_decision said = spki_asked_decide(asked, buffer, length, needed);
+    holds((said.status == SPKI_YES) == (said.until != INT64_MIN), "a yes without an end, or the end of none");
+    return said.status;
+}
+
 /* Answers an opened question by marks. */
 static void decide(struct input *in, const struct parts *parts, spki_asked *asked, enum spki_policy policy)
 {
     static struct text rows;
-    struct of_asked with = {asked, spki_asked_decide};
+    struct of_asked with = {asked, decision_of};
     struct answer decision, again;
     const size_t count = spki_asked_count(asked);
     const bool is_possible = spki_asked_possible(asked);
@@ -370,7 +390,7 @@ static void decide(struct input *in, const struct parts *parts, spki_asked *aske
     holds(spki_asked_possible(asked) == is_possible, "a mark changes what is possible");
     compare(in, parts, &rows, policy, &decision);
     explain(in, &with, &decision);
-    with.answers = spki_asked_decide;
+    with.answers = decision_of;
     again = answered(in, answers_asked, &with);
     holds(are_same(&decision, &again), "another decision by the same marks");
     free(again.octets);
@@ -388,7 +408,7 @@ static void ask(struct input *in, const struct parts *parts, spki_guard *guard, 
     struct answer answer;
     copy = *parts;
     question.sequence = lent(&copy.sequence);
-    question.key = lent(&copy.key);
+    question.key = spki_assume_key(lent(&copy.key));
     for (size_t place = 0; place < copy.word_count; place++)
         words[place] = lent(&copy.words[place]);
     if (copy.is_worded) {

@@ -55,7 +55,7 @@ def limits_for(wish: str, rng: random.Random) -> Limits:
     few, chance = (8, 0.4) if wish == "decide" else (60, 0.15)
     return Limits(rng.randrange(1, 1200) if rng.random() < 0.05 else USUAL.octets, rng.randrange(1, 3) if rng.random() < 0.1 else USUAL.certificates,
                   rng.randrange(1, 4) if rng.random() < 0.1 else USUAL.words, rng.randrange(1, few) if rng.random() < chance else USUAL.nodes,
-                  rng.randrange(1, 80) if rng.random() < 0.15 else USUAL.work, rng.randrange(1, 120) if rng.random() < 0.1 else USUAL.answer)
+                  rng.randrange(1, 1_500) if rng.random() < 0.15 else USUAL.work, rng.randrange(1, 120) if rng.random() < 0.1 else USUAL.answer)
 
 
 def odd(question: GuardQuestion, rng: random.Random, oddity: str) -> GuardQuestion:
@@ -63,7 +63,8 @@ def odd(question: GuardQuestion, rng: random.Random, oddity: str) -> GuardQuesti
     policy = rng.choice((2, 3, 255, 2**31, 2**32 - 1)) if oddity == OPENED[0] else question.policy
     octets = rng.choice((HIGHEST.octets + 1, 2**63, 2**64 - 1)) if oddity == OPENED[1] else USUAL.octets
     nodes = rng.choice((HIGHEST.nodes + 1, 2**63, 2**64 - 1)) if oddity == OPENED[2] else USUAL.nodes
-    return replace(question, policy=policy, limits=Limits(octets, nodes=nodes), oddity=oddity)
+    work = rng.choice((HIGHEST.work + 1, 2**63, 2**64 - 1)) if oddity == OPENED[3] else USUAL.work
+    return replace(question, policy=policy, limits=Limits(octets, nodes=nodes, work=work), oddity=oddity)
 
 
 def part_text(value: Value, rng: random.Random) -> bytes:

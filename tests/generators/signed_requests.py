@@ -25,7 +25,7 @@ from typing import Optional
 from cryptography.hazmat.primitives.asymmetric import ec, padding, rsa
 from cryptography.hazmat.primitives.asymmetric.ed25519 import Ed25519PrivateKey
 from cryptography.hazmat.primitives.asymmetric.utils import decode_dss_signature, encode_dss_signature
-from cryptography.hazmat.primitives.hashes import SHA256
+from cryptography.hazmat.primitives.hashes import SHA256, SHA384
 from cryptography.hazmat.primitives.serialization import Encoding, PublicFormat, load_der_private_key
 
 # (Go keeps what a test of a package found until a file below the module changes)
@@ -33,8 +33,10 @@ ROWS = os.path.join("..", "..", "bindings", "go", "httpsig", "testdata", "rows")
 NOW = 1792000100
 TEST_KEY = base64.b64decode("MC4CAQAwBQYDK2VwBCIEIJ+DYvh6SEqVTm50DFtMDoQikTmiCqirVv9mWG9qfSnF")
 ORDER_256 = 0xFFFFFFFF00000000FFFFFFFFFFFFFFFFBCE6FAADA7179E84F3B9CAC2FC632551
+ORDER_384 = 0xFFFFFFFFFFFFFFFFFFFFFFFFFFFFFFFFFFFFFFFFFFFFFFFFC7634D81F4372DDF581A0DB248B0A77AECEC196ACCC52973
 ORDER_25519 = 2**252 + 27742317777372353535851937790883648493
-PLAIN = ("@method", "@authority", "@path", "@query")
+KEY = "x-spki-public-key"
+PLAIN = ("@method", "@authority", "@path", "@query", KEY)
 CHAIN = "{KDg6c2VxdWVuY2Up}"
 Fields = list[tuple[str, str]]
 
@@ -61,11 +63,11 @@ def ed25519(private: Ed25519PrivateKey) -> Key:
     return Key(b"(10:public-key(3:ecc(5:curve7:Ed25519)(5:flags5:eddsa)(1:q%s)))" % string(octets), "ed25519", private.sign)
 
 
-def p256(private: ec.EllipticCurvePrivateKey) -> Key:
+def ecdsa(private: ec.EllipticCurvePrivateKey, bits: int, digest: SHA256 | SHA384) -> Key:
     def sign(message: bytes) -> bytes:
-        return b"".join(it.to_bytes(32, "big") for it in decode_dss_signature(private.sign(message, ec.ECDSA(SHA256()))))
+        return b"".join(it.to_bytes(bits // 8, "big") for it in decode_dss_signature(private.sign(message, ec.ECDSA(digest))))
     octets = private.public_key().public_bytes(Encoding.X962, PublicFormat.UncompressedPoint)
-    return Key(b"(10:public-key(3:ecc(5:curve10:NIST P-256)(1:q%s)))" % string(octets), "ecdsa-p256-sha256", sign)
+    return Key(b"(10:public-key(3:ecc(5:curve10:NIST P-%d)(1:q%s)))" % (bits, string(octets)), f"ecdsa-p{bits}-sha{bits}", sign)
 
 
 def rsa2048(private: rsa.RSAPrivateKey) -> Key:
@@ -81,7 +83,9 @@ def loaded() -> Ed25519PrivateKey:
 
 
 ALICE, MALLORY = ed25519(loaded()), ed25519(Ed25519PrivateKey.generate())
-CURVE, MODULUS = p256(ec.generate_private_key(ec.SECP256R1())), rsa2048(rsa.generate_private_key(65537, 2048))
+CURVE, MODULUS = ecdsa(ec.generate_private_key(ec.SECP256R1()), 256, SHA256()), rsa2048(rsa.generate_private_key(65537, 2048))
+OTHER = ec.generate_private_key(ec.SECP384R1())
+LONGER, BY_SHORT_DIGEST = ecdsa(OTHER, 384, SHA384()), ecdsa(OTHER, 384, SHA256())
 
 
 @dataclass
@@ -101,16 +105,32 @@ class Request:
     keyid: Optional[str] = None
     algorithm: Optional[str] = None
     tag: str = "spki"
+    # The lines with the key, and the key by which it is signed.
+    keys: Optional[tuple[str, ...]] = None
     # The whole of the parameters, where they are not the usual ones.
     parameters: Optional[str] = None
     key: Key = field(default_factory=lambda: ALICE)
+
+
+def in_braces(octets: bytes) -> str:
+    return "{%s}" % in_base64(octets)
+
+
+def hash_of(key: bytes) -> str:
+    return hashlib.sha256(key).hexdigest()
+
+
+def lines_of(request: Request) -> Fields:
+    """The fields of a request, with the key."""
+    keys = request.keys if request.keys is not None else (in_braces(request.key.text),)
+    return [*request.fields, *(("X-Spki-Public-Key", key) for key in keys)]
 
 
 def parameters_of(request: Request) -> str:
     if request.parameters is not None:
         return request.parameters
     names = " ".join(f'"{name}"' for name in request.components)
-    keyid = request.keyid if request.keyid is not None else "{%s}" % in_base64(request.key.text)
+    keyid = request.keyid if request.keyid is not None else hash_of(request.key.text)
     algorithm = request.algorithm if request.algorithm is not None else request.key.algorithm
     return (f'({names});created={request.created};expires={request.expires};nonce="{request.nonce}";keyid="{keyid}";alg="{algorithm}"'
             f';tag="{request.tag}"')
@@ -120,7 +140,7 @@ def value_of(request: Request, name: str) -> str:
     path, mark, query = request.target.partition("?")
     derived = {"@method": request.method, "@authority": request.authority.lower(), "@path": path, "@query": "?" + query, "@status": "200",
                "@target-uri": f"https://{request.authority}{path}{mark}{query}", "@scheme": "https", "@request-target": request.target}
-    return derived[name] if name.startswith("@") else ", ".join(value for known, value in request.fields if known.lower() == name)
+    return derived[name] if name.startswith("@") else ", ".join(value for known, value in lines_of(request) if known.lower() == name)
 
 
 def signed(request: Request) -> Fields:
@@ -143,7 +163,7 @@ def row(name: str, gives: str, sent: Request, signature: Optional[Fields] = None
     """Writes a row: what is sent, and the fields of the signature, which is by default that of what is sent."""
     both = signed(sent) if signature is None else signature
     LINES.extend([f"row {name}", f"on {escaped(f'{sent.method}|{sent.target}|{sent.authority}|{sent.now}')}"])
-    LINES.extend(f"field {escaped(f'{known}: {value}')}" for known, value in [*sent.fields, *both])
+    LINES.extend(f"field {escaped(f'{known}: {value}')}" for known, value in [*lines_of(sent), *both])
     LINES.extend([f"body {escaped(sent.body)}"] if sent.body is not None else [])
     LINES.extend([f"again {again}"] if again is not None else [])
     LINES.extend([f"gives {gives}", ""])
@@ -159,14 +179,18 @@ GET = Request()
 POST = Request("POST", fields=[digest(BODY), ("Content-Length", "18")], body=BODY, components=(*PLAIN, "content-digest"))
 CHAINED = Request(fields=[("X-Spki-Sequence", CHAIN)], components=(*PLAIN, "x-spki-sequence"))
 AUTHORIZED = Request(fields=[("Authorization", "SPKI " + CHAIN)], components=(*PLAIN, "authorization"))
+LEAVE = Request("PUT", "/.well-known/spki-chain", fields=[digest(CHAIN), ("Content-Length", str(len(CHAIN)))], body=CHAIN,
+                components=POST.components)
 WITH_TYPE = Request(fields=[("Accept", "text/html")], components=(*PLAIN, "accept"))
-WHOLE = Request(components=("@method", "@authority", "@target-uri"))
+WHOLE = Request(components=("@method", "@authority", "@target-uri", KEY))
 
 
 def valid() -> None:
     """What is valid."""
     row("Ed25519", "valid", GET)
     row("ECDSA", "valid", Request(key=CURVE))
+    row("ECDSA with P-384", "valid", Request(key=LONGER))
+    row("ECDSA with P-384 and a body", "valid", replace(POST, key=LONGER))
     row("RSA", "valid", Request(key=MODULUS))
     row("target-uri", "valid", WHOLE)
     row("a body with its digest", "valid", POST)
@@ -189,11 +213,15 @@ def valid() -> None:
     row("created 60 seconds ahead", "valid", Request(created=str(NOW + 60)))
     row("a second before its end", "valid", Request(now=NOW + 299))
     row("components in another order", "valid", Request(components=PLAIN[::-1]))
-    keyid = in_base64(ALICE.text)
+    row("a space and a tab around the key", "valid", Request(keys=(f" {in_braces(ALICE.text)}\t",)), signed(GET))
     row("parameters in another order", "valid", Request(
-        parameters=f'("@method" "@authority" "@path" "@query");tag="spki";alg="ed25519";keyid="{{{keyid}}}";nonce="sFzj0lYlX0wQm6ZCXPBvTw"'
+        parameters=f'("@method" "@authority" "@path" "@query" "{KEY}");tag="spki";alg="ed25519";keyid="{hash_of(ALICE.text)}"'
+        ';nonce="sFzj0lYlX0wQm6ZCXPBvTw"'
         f";expires={NOW + 1};created={NOW}"))
-    row("32 components", "valid", Request(fields=[(f"x-{it}", "1") for it in range(28)], components=(*PLAIN, *(f"x-{it}" for it in range(28)))))
+    row("certificates that are left", "valid", LEAVE)
+    row("certificates that are left, of which the digest alone is known", "valid", replace(LEAVE, body=None))
+    row("certificates that are left by P-384", "valid", replace(LEAVE, key=LONGER))
+    row("32 components", "valid", Request(fields=[(f"x-{it}", "1") for it in range(27)], components=(*PLAIN, *(f"x-{it}" for it in range(27)))))
 
 
 def changed_requests() -> None:
@@ -256,6 +284,19 @@ def changed_fields() -> None:
         f"sha-256=:{body}:;a", "a digest's algorithm in capitals": f"SHA-256=:{body}:",
     }.items():
         row(name, "bad-digest", replace(POST, fields=[("Content-Digest", value)]))
+    row("other certificates left", "other-digest", replace(LEAVE, body=CHAIN[:-2] + "=}"), signed(LEAVE))
+    row("no certificates left", "other-digest", replace(LEAVE, body=""), signed(LEAVE))
+    row("other certificates left, with their digest", "invalid-signature", replace(LEAVE, fields=[digest("(sequence)")], body="(sequence)"),
+        signed(LEAVE))
+    row("certificates left with a query put in", "invalid-signature", replace(LEAVE, target=LEAVE.target + "?y"), signed(LEAVE))
+    row("certificates left in another place", "invalid-signature", replace(LEAVE, target=LEAVE.target.replace("chain", "chains")), signed(LEAVE))
+    row("certificates left by POST", "invalid-signature", replace(LEAVE, method="POST"), signed(LEAVE))
+    row("certificates left without a digest", "body-without-digest", replace(LEAVE, fields=[], components=PLAIN))
+    row("certificates left with a digest that is not covered", "uncovered-field", replace(LEAVE, components=PLAIN))
+    row("certificates left by another key", "invalid-signature", replace(LEAVE, keys=(in_braces(MALLORY.text),)), [
+        (name, value.replace(hash_of(ALICE.text), hash_of(MALLORY.text))) for name, value in signed(LEAVE)])
+    row("certificates left at another service", "invalid-signature", LEAVE, signed(replace(LEAVE, authority="evil.example")))
+    row("certificates left twice", "nonce-seen", LEAVE, again=0)
     row("another chain", "invalid-signature", replace(CHAINED, fields=[("X-Spki-Sequence", "{KDE6YSk=}")]), signed(CHAINED))
     row("a chain taken away", "absent-field", replace(CHAINED, fields=[]), signed(CHAINED))
     row("a chain put in", "uncovered-field", replace(CHAINED, components=PLAIN))
@@ -329,7 +370,7 @@ def changed_inputs() -> None:
     sent("a component in capitals", "unknown-component", text.replace("@path", "@PATH"))
     sent("an empty component", "unknown-component", text.replace("@path", ""))
     sent("the component signature", "unknown-component", text.replace("@path", "signature"))
-    sent("33 components", "malformed", text.replace('("', "(" + "".join(f'"x-{it}" ' for it in range(29)) + '"'))
+    sent("33 components", "malformed", text.replace('("', "(" + "".join(f'"x-{it}" ' for it in range(28)) + '"'))
     sent("a Signature-Input of over 8,192 octets", "malformed", text.replace('";alg', "A" * 8192 + '";alg'))
 
 
@@ -358,26 +399,70 @@ def changed_parameters() -> None:
     row("at its end", "expired", Request(now=NOW + 300))
     row("a day later", "expired", Request(now=NOW + 86_400))
     row("created before the start", "before-start", Request(now=NOW - 98, created=str(NOW - 101), expires=str(NOW)))
-    key, padded = in_base64(ALICE.text), in_base64(MODULUS.text)
-    assert padded.endswith("==")
+    row("another key than the keyid's", "other-key", Request(keyid=hash_of(MALLORY.text)))
+    alice = hash_of(ALICE.text)
     for name, value in {
-        "a hash for a key": "{%s}" % in_base64(b"(4:hash6:sha25632:%s)" % hashlib.sha256(ALICE.text).digest()), "a key without braces": key,
-        "a key in advanced form": "(public-key (test a))", "a key with a space": "{%s }" % key, "a key without padding": "{%s}" % padded.rstrip("="),
-        "a key with bits behind its end": "{%s%s==}" % (padded[:-3], chr(ord(padded[-3]) + 1)), "an empty key": "", "an empty key in braces": "{}",
-        "a key of another algorithm": "{%s}" % in_base64(b"(10:public-key(3:dsa(1:p1:\5)))"), "a key with text behind it":
-        "{%s}" % in_base64(ALICE.text + b"(1:a)"), "a key of over 4,096 characters": "{%s}" % ("AAAA" * 1025), "a key and a comment":
-        "{%s}" % in_base64(ALICE.text[:-1] + b"(7:comment1:a))"), "a length with a zero in front":
-        "{%s}" % in_base64(ALICE.text.replace(b"32:", b"032:")),
+        "the key itself": in_braces(ALICE.text), "a hash in capitals": alice.upper(), "a hash that is cut off": alice[:-1],
+        "a hash with more behind it": f"{alice}0", "a hash between signs": f"#{alice}#", "nothing": "",
+        "a hash in base64": in_base64(hashlib.sha256(ALICE.text).digest()), "a hash by SHA-512": hashlib.sha512(ALICE.text).hexdigest(),
+        "a hash by SHA-1": hashlib.sha1(ALICE.text).hexdigest(), "the hash of the key's transport form": hash_of(in_braces(ALICE.text).encode()),
+        "the hash of the point alone": hash_of(ALICE.text[-35:-3]),
     }.items():
-        row(name, "bad-key", Request(keyid=value))
-    small = b"(10:public-key(3:ecc(5:curve7:Ed25519)(5:flags5:eddsa)(1:q32:%s)))" % bytes(32)
-    row("a point of small order", "invalid-signature", Request(keyid="{%s}" % in_base64(small)), [
-        ("Signature-Input", text.replace(key, in_base64(small))), ("Signature", f"spki=:{in_base64(bytes(64))}:")])
-    row("another key", "invalid-signature", Request(keyid="{%s}" % in_base64(MALLORY.text)))
-    row("another key put in", "invalid-signature", GET, [("Signature-Input", text.replace(key, in_base64(MALLORY.text))), ("Signature", octets)])
+        row(f"{name} for a keyid", "other-key", Request(keyid=value))
     for algorithm in ("rsa-v1_5-sha256", "hmac-sha256", "ecdsa-p256-sha256", "rsa-pss-sha512", "ED25519", "none", ""):
         row(f"the algorithm {algorithm or 'of no name'}", "other-algorithm", Request(algorithm=algorithm))
     row("Ed25519 for a key of ECDSA", "other-algorithm", Request(key=CURVE, algorithm="ed25519"))
+    row("the algorithm of P-256 for P-384", "other-algorithm", Request(key=LONGER, algorithm="ecdsa-p256-sha256"))
+    row("the algorithm of P-384 for P-256", "other-algorithm", Request(key=CURVE, algorithm="ecdsa-p384-sha384"))
+    row("P-384 and SHA-256", "other-algorithm", Request(key=LONGER, algorithm="ecdsa-p384-sha256"))
+
+
+def changed_keys() -> None:
+    """The field with the key that is changed, or that has none."""
+    (_, text), (_, octets) = signed(GET)
+    alice, mallory = in_braces(ALICE.text), in_braces(MALLORY.text)
+    row("no key", "absent-field", Request(keys=()), signed(GET))
+    row("a key twice", "repeated-field", Request(keys=(alice, alice)))
+    row("another key before it", "repeated-field", Request(keys=(mallory, alice)), signed(GET))
+    row("another key behind it", "repeated-field", Request(keys=(alice, mallory)), signed(GET))
+    row("two keys in a line", "bad-key", Request(keys=(f"{alice}, {alice}",)))
+    row("a key that is not covered", "missing-component", Request(components=PLAIN[:-1]))
+    row("a key that is not there and not covered", "missing-component", Request(components=PLAIN[:-1], keys=()))
+    row("a key with an octet over ASCII", "bad-value", Request(keys=(f"{alice}\xe9",)), signed(GET))
+    key, padded = in_base64(ALICE.text), in_base64(MODULUS.text)
+    assert padded.endswith("==")
+    for name, value in {
+        "a key without braces": key, "a key in advanced form": "(public-key (test a))", "a key with a space": "{%s }" % key,
+        "a key without padding": "{%s}" % padded.rstrip("="), "a key in base64 of URLs": "{%s}" % key.replace("+", "-").replace("/", "_"),
+        "a key with bits behind its end": "{%s%s==}" % (padded[:-3], chr(ord(padded[-3]) + 1)), "an empty key": "", "an empty key in braces": "{}",
+        "a hash in hexadecimal digits for a key": hash_of(ALICE.text), "a key with a parameter": f"{alice};a=1", "a key in quotes": f'"{alice}"',
+    }.items():
+        row(name, "bad-key", Request(keys=(value,), keyid=hash_of(MODULUS.text) if padded[:-3] in value else None))
+    for name, shown in {
+        "a hash for a key": b"(4:hash6:sha25632:%s)" % hashlib.sha256(ALICE.text).digest(), "a key of another algorithm":
+        b"(10:public-key(3:dsa(1:p1:\5)))", "a key of P-521": LONGER.text.replace(b"P-384", b"P-521"), "a key with text behind it":
+        ALICE.text + b"(1:a)", "a key and a comment": ALICE.text[:-1] + b"(7:comment1:a))", "a length with a zero in front":
+        ALICE.text.replace(b"32:", b"032:"), "a key of 4,098 characters": modulus_of(3028),
+    }.items():
+        row(name, "bad-key", Request(keys=(in_braces(shown),), keyid=hash_of(shown)))
+    small = b"(10:public-key(3:ecc(5:curve7:Ed25519)(5:flags5:eddsa)(1:q32:%s)))" % bytes(32)
+    row("a point of small order", "invalid-signature", Request(keys=(in_braces(small),)), [
+        ("Signature-Input", text.replace(hash_of(ALICE.text), hash_of(small))), ("Signature", f"spki=:{in_base64(bytes(64))}:")])
+    longest = modulus_of(3027)
+    assert len(in_braces(longest)) == 4094
+    row("a key of 4,094 characters", "invalid-signature", Request(keys=(in_braces(longest),), keyid=hash_of(longest), algorithm="rsa-v1_5-sha256"))
+    row("another key", "invalid-signature", Request(keys=(mallory,), keyid=hash_of(MALLORY.text)))
+    row("another key put in", "other-key", Request(keys=(mallory,)), signed(GET))
+    row("another key put in with its hash", "invalid-signature", Request(keys=(mallory,)), [
+        ("Signature-Input", text.replace(hash_of(ALICE.text), hash_of(MALLORY.text))), ("Signature", octets)])
+    row("another key and no name of the service", "other-authority", Request(keys=(mallory,), authority="evil.example"))
+    row("another key and a chain that is not covered", "uncovered-field", replace(CHAINED, components=PLAIN, keys=(mallory,)))
+    row("another key of another algorithm", "other-key", Request(keyid=hash_of(MALLORY.text), algorithm="ecdsa-p256-sha256"))
+
+
+def modulus_of(octets: int) -> bytes:
+    """A key of RSA whose modulus has so many octets."""
+    return b"(10:public-key(3:rsa(1:n%s)(1:e3:\1\0\1)))" % string(b"\x7f" * octets)
 
 
 def changed_signatures() -> None:
@@ -385,8 +470,8 @@ def changed_signatures() -> None:
     (_, text), (_, octets) = signed(GET)
     made = base64.b64decode(octets.removeprefix("spki=:").removesuffix(":"))
 
-    def sent(name: str, gives: str, value: str, input_: str = text) -> None:
-        row(name, gives, GET, [("Signature-Input", input_), ("Signature", f"spki={value}")])
+    def sent(name: str, gives: str, value: str, request: Request = GET, input_: str = text) -> None:
+        row(name, gives, request, [("Signature-Input", input_), ("Signature", f"spki={value}")])
 
     sent("an octet changed", "invalid-signature", f":{in_base64(bytes([made[0] ^ 1]) + made[1:])}:")
     sent("a signature cut off", "invalid-signature", f":{in_base64(made[:-1])}:")
@@ -408,9 +493,24 @@ def changed_signatures() -> None:
     (_, second), (_, pair) = signed(curve)
     numbers = base64.b64decode(pair.removeprefix("spki=:").removesuffix(":"))
     r, s = int.from_bytes(numbers[:32], "big"), int.from_bytes(numbers[32:], "big")
-    sent("ECDSA in DER", "invalid-signature", f":{in_base64(encode_dss_signature(r, s))}:", second)
-    sent("ECDSA with numbers 00", "invalid-signature", f":{in_base64(bytes(64))}:", second)
-    sent("ECDSA with the other s, whose nonce is the same", "valid", f":{in_base64(numbers[:32] + (ORDER_256 - s).to_bytes(32, 'big'))}:", second)
+    sent("ECDSA in DER", "invalid-signature", f":{in_base64(encode_dss_signature(r, s))}:", curve, second)
+    sent("ECDSA with numbers 00", "invalid-signature", f":{in_base64(bytes(64))}:", curve, second)
+    other = numbers[:32] + (ORDER_256 - s).to_bytes(32, "big")
+    sent("ECDSA with the other s, whose nonce is the same", "valid", f":{in_base64(other)}:", curve, second)
+    longer = Request(key=LONGER)
+    (_, third), (_, pair) = signed(longer)
+    numbers = base64.b64decode(pair.removeprefix("spki=:").removesuffix(":"))
+    r, s = int.from_bytes(numbers[:48], "big"), int.from_bytes(numbers[48:], "big")
+    for name, made in {
+        "in DER": encode_dss_signature(r, s), "with numbers 00": bytes(96), "with numbers of 32 octets": numbers[:32] + numbers[48:80],
+        "with numbers of 49 octets": b"\0" + numbers[:48] + b"\0" + numbers[48:],
+        "with the order for r": ORDER_384.to_bytes(48, "big") + numbers[48:],
+        "of the other order": numbers[48:] + numbers[:48], "of another digest": BY_SHORT_DIGEST.sign(third.encode()),
+    }.items():
+        sent(f"P-384 {name}", "invalid-signature", f":{in_base64(made)}:", longer, third)
+    sent("P-384 with the other s", "valid", f":{in_base64(numbers[:48] + (ORDER_384 - s).to_bytes(48, 'big'))}:", longer, third)
+    row("P-384 by SHA-256", "invalid-signature", longer, signed(replace(longer, key=BY_SHORT_DIGEST, algorithm=LONGER.algorithm)))
+    row("P-384 sent again", "nonce-seen", longer, again=0)
     row("sent again at once", "nonce-seen", GET, again=0)
     row("sent again in its window", "nonce-seen", replace(GET, now=NOW + 299), again=299)
     row("sent again with another path", "nonce-seen", Request(now=NOW + 1), again=1)
@@ -419,7 +519,7 @@ def changed_signatures() -> None:
 
 
 def main() -> None:
-    for each in (valid, changed_requests, changed_fields, changed_inputs, changed_parameters, changed_signatures):
+    for each in (valid, changed_requests, changed_fields, changed_inputs, changed_parameters, changed_keys, changed_signatures):
         LINES.append(f"# {each.__doc__}\n" if each.__doc__ else "")
         each()
     with open(os.path.join(os.path.dirname(os.path.realpath(__file__)), ROWS), "w", encoding="ascii") as file:

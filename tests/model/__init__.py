@@ -15,9 +15,10 @@ decides.
 | `calls` | The library for C programs |
 | `guard` | Questions to a guard |
 
-`laws` tries on the model's own answers what the document says of them beside the tables. `coverage` counts: a table that is declared as
-`Rows` lists what the document names, and a row that no generated text reaches shows as zero. The document names more that no text
-reaches: `refused Memory`, the faults of reading and writing, and bad words of a command line (see tests/test_hostile.py and tests/test_words.py);
-TooLong of octets in braces, since their base64 is longer; and Bad where a transport form does
-not begin with `{`, since such a text is read as advanced form.
+`plain` has values as Python has them, for tests that make and read some. `laws` tries on the model's own answers what the
+document says of them beside the tables. `coverage` counts: a table that is declared as `Rows` lists what the document names, and
+a row that no generated text reaches shows as zero. The document names more that no text reaches: `refused Memory`, the faults of
+reading and writing, and bad words of a command line (see tests/suite/test_hostile.py and tests/suite/test_words.py); TooLong of
+octets in braces, since their base64 is longer; and Bad where a transport form does not begin with `{`, since such a text is read
+as advanced form.
 """

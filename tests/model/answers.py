@@ -3,13 +3,14 @@
 An answer is what the program writes, and the status that it exits with.
 """
 from collections.abc import Callable
+from contextlib import AbstractContextManager
 
 from . import case as cases
 from . import derivations, evidence, forms, reduction, tags
 from .case import Case, CaseFault, Row
 from .coverage import Rows
 from .evidence import Authorization, names
-from .intersection import TooLarge, intersection
+from .intersection import MOST_PRODUCT, MOST_WORK, TooLarge, intersection, limited
 from .printed import printed
 from .structures import Entry, ItemFault, Key, Principal, Subject, Window
 from .tags import TagFault, contains
@@ -63,7 +64,8 @@ def check_accepted(text: bytes, rows_text: bytes) -> Answer:
     """What the library answers to a case by rows that are a text of their own."""
     try:
         case = read_case(text)
-        status, said = check(case, read_rows(rows_text))
+        with of_a_case():
+            status, said = check(case, read_rows(rows_text))
     except Refused as why:
         status, said = refused(why)
     STATUSES.used(f"check_accepted: {status}")
@@ -83,7 +85,7 @@ def refusal(row: str, said: object) -> Refused:
 
 def too_large(command: str, why: TooLarge) -> Refused:
     """The refusal of tags that are too large."""
-    by = ", by a guard's work" if why.is_work else ", by a guard's product" if why.is_of_guard else ""
+    by = "" if not why.is_of_guard else ", by a guard's work" if why.is_work else ", by a guard's product"
     return refusal(f"TooLarge: {command}{by}", "TooLarge")
 
 
@@ -96,7 +98,13 @@ def answer_of_text(command: str, text: bytes) -> Answer:
     if command == "intersect":
         return YES, intersect(read_text(text))
     case = read_case(text)
-    return {"check": check, "explain": explain, "reduce": reduce}[command](case, case.rows)
+    with of_a_case():
+        return {"check": check, "explain": explain, "reduce": reduce}[command](case, case.rows)
+
+
+def of_a_case() -> AbstractContextManager[None]:
+    """Within this the work of a case has its limit."""
+    return limited(MOST_PRODUCT, MOST_WORK, MOST_PRODUCT)
 
 
 def read_text(text: bytes, within_limit: bool = True) -> Value:

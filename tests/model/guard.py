@@ -1,12 +1,14 @@
 """A guard: an access list that is read once, and questions whose parts are texts of their own (section "Questions to a guard")."""
+import calendar
 import datetime
 import hashlib
+import re
 from dataclasses import dataclass
 from typing import Any
 
 from . import answers, evidence, forms, intersection, structures, tags
 from .answers import Answer, Refused, refusal, refused
-from .calls import MISUSED, of_library, too_small
+from .calls import GRANTED, MISUSED, of_library, too_small
 from .case import Case, Row
 from .coverage import Rows
 from .structures import Certificate, Entry, ItemFault, Key, Signature, StructureFault
@@ -28,8 +30,8 @@ DECIDED = Rows("question to a guard, decided", ["yes where check is TooLarge", "
 STATUSES = Rows("question to a guard, status", [f"{wish}: {status}" for wish in WISHES for status in (0, 1, 2)])
 # what is misuse when a guard is opened, when a question is opened, when a signature is asked for, when a question is answered, when a signature
 # is marked
-OPENED = ("no policy has this number", "a limit of octets above the highest", "a limit of nodes above the highest", "no place for the guard",
-          "a list that is null with a length", "limits of another size")
+OPENED = ("no policy has this number", "a limit of octets above the highest", "a limit of nodes above the highest",
+          "a limit of work above the highest", "no place for the guard", "a list that is null with a length", "limits of another size")
 ASKED = ("no guard", "no question", "a part that is null with a length", "a part of a length over 2^63 - 1", "strings that are null with a count",
          "more strings than there are octets", "no place for the question", "a question of another size", "a request as a text and as strings",
          "a moment as a text and in seconds", "a buffer for a line that is null with a length")
@@ -41,24 +43,28 @@ POSSIBLE = Rows("question to a guard, if all signatures were valid", ["yes", "no
 ALLOWED = Rows("question to a guard, null pointers that are allowed", ["limits", "needed"])
 SMALL = Rows("question to a guard, status 4", ["the line of a refused list", "the line of a refused question", "an answer"])
 FIRST_SECOND, LAST_SECOND = 0, 253_402_300_799
+# as the last second of a decision: that of no yes, and of one that nothing ends
+NEVER, NO_END = -2**63, 2**63 - 1
+UNTIL = Rows("question to a guard, what ends a yes", ["nothing", "a window"])
+# the Gregorian calendar is the same again
+CYCLE_YEARS, CYCLE_DAYS = 400, 146_097
 DATE_OCTETS = 22
 
 
 @dataclass(frozen=True, slots=True)
 class Limits:
-    """The most octets, certificates and strings of a question, nodes of an intersection, nodes of all intersections, and octets of an
-    answer."""
+    """The most octets, certificates and strings of a question, nodes of an intersection, work, and octets of an answer."""
 
     octets: int = 65_536
     certificates: int = 16
     words: int = 64
     nodes: int = intersection.MOST_PRODUCT
-    work: int = 100_000
+    work: int = 2_000_000
     answer: int = 1_048_576
 
 
 USUAL = Limits()
-HIGHEST = Limits(octets=1_048_576)
+HIGHEST = Limits(octets=1_048_576, work=1_000_000_000)
 
 
 @dataclass(frozen=True, slots=True)
@@ -205,6 +211,30 @@ def key_of_standing(number: int, certificate: Certificate, signature: Signature,
     return None
 
 
+def until(list_text: bytes, asked: Parts, policy: int, limits: Limits, said: Answer) -> int:
+    """The last second at which a yes to the same question holds: the least not-after of its entry and of all certificates."""
+    if said[0] != GRANTED:
+        return NEVER
+    guard = open_guard(list_text, policy == STRICT, limits)
+    entry = guard.entries[int(said[1].split()[-1]) - 1]
+    certificates = [it for it in case_of(guard, asked, []).items if isinstance(it, Certificate)]
+    windows = [entry.window, *(it.window for it in certificates)]
+    ends = [it.not_after for it in windows if it.not_after]
+    UNTIL.used("a window" if ends else "nothing")
+    return last_second(min(ends)) if ends else NO_END
+
+
+def last_second(date: bytes) -> int:
+    """The last second since 1970-01-01 00:00:00 UTC that is not after a date, whose day its month may lack, and whose second may be 60."""
+    year, month, day, hour, minute, second = map(int, re.split(b"[-_:]", date))
+    alike = year % CYCLE_YEARS + CYCLE_YEARS
+    last = calendar.monthrange(alike, month)[1]
+    clock = (hour, minute, min(second, 59)) if day <= last else (23, 59, 59)
+    since = datetime.datetime(alike, month, min(day, last), *clock) - datetime.datetime(1970, 1, 1)
+    days = since.days + (year - alike) // CYCLE_YEARS * CYCLE_DAYS
+    return days * 86_400 + since.seconds
+
+
 def compare(case: Case, decided: Answer) -> None:
     """The decision is that of `check`, unless check is refused as TooLarge."""
     try:
@@ -233,7 +263,7 @@ def misuse_of_opening(policy: int, limits: Limits, oddity: str) -> str | None:
     """What is misuse when a guard is opened, None if nothing is."""
     if policy not in POLICIES:
         return OPENED[0]
-    above = [row for row, is_above in zip(OPENED[1:], (limits.octets > HIGHEST.octets, limits.nodes > HIGHEST.nodes)) if is_above]
+    above = [row for row, limit in zip(OPENED[1:], ("octets", "nodes", "work")) if getattr(limits, limit) > getattr(HIGHEST, limit)]
     return above[0] if above else oddity if oddity in OPENED else None
 
 

@@ -1,11 +1,13 @@
 """The intersection of two tags by its rules (section "The intersection of two tags"; RFC 2693, section 6.3.1)."""
+import math
 from collections.abc import Iterator
 from contextlib import contextmanager
 
 from .coverage import Rows
-from .tags import NOTHING, AnyOf, Limit, Plain, Prefix, Range, Star, Tag, Text, in_range, nodes
+from .tags import NOTHING, AnyOf, Limit, Plain, Prefix, Range, Star, Tag, Text, has_set, in_range, nodes
 
 MOST_PRODUCT = 1_000_000
+MOST_WORK = 3_000_000_000
 RULES = Rows("intersection, rule", [
     "(*) and any", "a set and any: none is left", "a set and any: one is left", "a set and any: a set is left",
     "two sets of several members: several are left", "two strings: equal",
@@ -23,26 +25,51 @@ REFUSED = Rows("intersection, refused", ["TooLarge", "the product is 1,000,000"]
 
 most_product = MOST_PRODUCT
 most_work: int | None = None
+# Chains that are small by this limit are not counted as work.
+uncounted = 0
 
 
 class TooLarge(Exception):
-    """The product of the nodes is over the limit, that of every case or the lower one of a guard; or all products are over a guard's."""
+    """The product of the nodes is over the limit, that of every case or the lower one of a guard; or the work is."""
 
-    def __init__(self, product: int, is_work: bool = False) -> None:
+    def __init__(self, product: int = 0, is_work: bool = False) -> None:
         super().__init__(product)
-        self.is_of_guard = product <= MOST_PRODUCT
+        self.is_of_guard = uncounted == 0 if is_work else product <= MOST_PRODUCT
         self.is_work = is_work
 
 
 @contextmanager
-def limited(most: int, work: int | None = None) -> Iterator[None]:
-    """Within this the product of the nodes has another limit than 1,000,000, and the sum of all products may have one."""
-    global most_product, most_work
-    before, most_product, most_work = most_product, most, work
+def limited(most: int, work: int | None = None, small: int = 0) -> Iterator[None]:
+    """Within this the product of the nodes has another limit than 1,000,000, and the sum of what all steps cost may have one. Chains that are
+    small by a limit are not counted."""
+    global most_product, most_work, uncounted
+    before, most_product, most_work, uncounted = most_product, most, work, small
     try:
         yield
     finally:
-        most_product, most_work = before, None
+        most_product, most_work, uncounted = before, None, 0
+
+
+@contextmanager
+def counted(own: Tag, others: list[Tag | None]) -> Iterator[None]:
+    """Within this the chain of an entry's tag and those of certificates is folded. A definition of a name has no tag."""
+    global most_work
+    before = most_work
+    if is_small(own, others):
+        most_work = None
+    try:
+        yield
+    finally:
+        most_work = before if most_work is None else most_work
+
+
+def is_small(own: Tag, others: list[Tag | None]) -> bool:
+    """Whether numbers of nodes show that no two tags are too large for each other: their product is small; or there is no set, and the sum times
+    the largest of the certificates is."""
+    sizes = [1 if it is None else nodes(it) for it in others]
+    if nodes(own) * math.prod(sizes) <= uncounted:
+        return True
+    return not any(has_set(it) for it in (own, *others) if it is not None) and (nodes(own) + sum(sizes)) * max([1, *sizes]) <= uncounted
 
 
 def intersection(a: Tag, b: Tag) -> Tag:
@@ -51,20 +78,19 @@ def intersection(a: Tag, b: Tag) -> Tag:
     if product > most_product:
         REFUSED.used("TooLarge")
         raise TooLarge(product)
-    work_on(product)
     if product == MOST_PRODUCT:
         REFUSED.used("the product is 1,000,000")
     return together(a, b)
 
 
-def work_on(product: int) -> None:
-    """Counts a step. TooLarge if the sum of all is over the limit, if there is one."""
+def work_on(cost: int) -> None:
+    """Counts what a step costs. TooLarge if the sum of all is over the limit, if there is one."""
     global most_work
     if most_work is None:
         return
-    most_work -= product
+    most_work -= cost
     if most_work < 0:
-        raise TooLarge(product, is_work=True)
+        raise TooLarge(is_work=True)
 
 
 def together(a: Tag, b: Tag) -> Tag:

@@ -1,9 +1,9 @@
 """What an entry and the certificates become, joined from the left (section "Evidence and decision"; RFC 2693, 6.3 and 6.4)."""
 from .coverage import Rows
 from .evidence import Authorization, Definition, Tuple, names
-from .intersection import intersection, work_on
+from .intersection import counted, intersection, work_on
 from .structures import Entry, Subject, Window
-from .tags import NOTHING, nodes
+from .tags import NOTHING, nodes, weight
 
 CAUSES = Rows("reduction, cause", [
     "NotIssuer: names left", "NotIssuer: another key", "NotTheName: no name left", "NotTheName: another key", "NotTheName: another name",
@@ -38,11 +38,12 @@ def of_entry(entry: Entry) -> Authorization:
 def fold(entry: Entry, steps: list[tuple[int, Tuple]], strict: bool) -> Authorization:
     """What the entry becomes with all steps in their order. Stopped at the first that does not join."""
     so_far = of_entry(entry)
-    for item, step in steps:
-        try:
-            so_far = joined(so_far, step, strict) if isinstance(step, Authorization) else resolved(so_far, step, strict)
-        except NoJoin as cause:
-            raise Stopped(item, str(cause)) from None
+    with counted(entry.tag, [step.tag if isinstance(step, Authorization) else None for _, step in steps]):
+        for item, step in steps:
+            try:
+                so_far = joined(so_far, step, strict) if isinstance(step, Authorization) else resolved(so_far, step, strict)
+            except NoJoin as cause:
+                raise Stopped(item, str(cause)) from None
     return so_far
 
 
@@ -58,6 +59,7 @@ def joined(left: Authorization, right: Authorization, strict: bool) -> Authoriza
     window = both(left.window, right.window)
     if window is None:
         raise no_join("NoValidity: an authorization")
+    work_on(nodes(left.tag) * (15 * nodes(right.tag) + weight(right.tag)) + len(right.subject.names))
     tag = intersection(left.tag, right.tag)
     if tag == NOTHING:
         raise no_join("NoTag")
@@ -76,7 +78,7 @@ def resolved(left: Authorization, name: Definition, strict: bool) -> Authorizati
     window = both(left.window, name.window)
     if window is None:
         raise no_join("NoValidity: a name")
-    work_on(nodes(left.tag))
+    work_on(1 + len(left.subject.names) + len(name.subject.names))
     rest = left.subject.names[1:]
     JOINS.used("a name, more left" if rest else "a name, none left")
     subject = Subject(name.subject.principal, name.subject.names + rest)

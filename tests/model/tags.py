@@ -219,6 +219,22 @@ def nodes(tag: Tag) -> int:
     return 1 + sum(map(nodes, tag.members)) if isinstance(tag, (Plain, AnyOf)) else 1
 
 
+def has_set(tag: Tag) -> bool:
+    """Whether the tag is a set, or has one inside."""
+    return isinstance(tag, AnyOf) or isinstance(tag, Plain) and any(map(has_set, tag.members))
+
+
+def weight(tag: Tag) -> int:
+    """The number of tags in a tag, heads of lists apart, and the octets of their strings."""
+    if isinstance(tag, Plain):
+        return weight(tag.members[0]) + sum(map(weight, tag.members[1:]))
+    if isinstance(tag, AnyOf):
+        return 1 + sum(map(weight, tag.members))
+    if isinstance(tag, Range):
+        return 1 + sum(len(it.body) for it in (tag.low, tag.up) if it is not None)
+    return 1 + len(tag.body if isinstance(tag, Text) else tag.start if isinstance(tag, Prefix) else b"")
+
+
 def written(tag: Tag) -> Value:
     """The value that a tag is written as."""
     if isinstance(tag, Star):

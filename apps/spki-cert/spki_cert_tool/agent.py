@@ -9,6 +9,8 @@ from .sexp import Value
 
 REQUEST_IDENTITIES, IDENTITIES, SIGN_REQUEST, SIGN_RESPONSE = 11, 12, 13, 14
 RSA_SHA2_256 = 2
+# The octets of a number of a signature by each algorithm.
+CURVES = {b"ecdsa-sha2-nistp256": 32, b"ecdsa-sha2-nistp384": 48}
 MOST_OCTETS, SECONDS = 262144, 60
 
 
@@ -69,8 +71,8 @@ class AgentSigner:
             return value_of_octets(ED25519, octets)
         if name == b"rsa-sha2-256":
             return value_of_octets(RSA, octets)
-        if name == b"ecdsa-sha2-nistp256":
+        if name in CURVES:
             r, rest = taken(octets)
             s, _ = taken(rest)
-            return value_of_numbers(int.from_bytes(r, "big"), int.from_bytes(s, "big"))
+            return value_of_numbers(int.from_bytes(r, "big"), int.from_bytes(s, "big"), CURVES[name])
         raise BadKey(f"ssh-agent signs by {name.decode(errors='replace')}, which is not used")

@@ -63,7 +63,9 @@ class Words(argparse.ArgumentParser):
                 break
         found, left = super().parse_known_args(args, namespace)
         if left:
-            self.error(f"{left[0]}: one word too many; put quotes around what has spaces or parentheses")
+            bare, why = left[0].lstrip("-\N{EN DASH}\N{EM DASH}"), "one word too many; put quotes around what has spaces or parentheses"
+            near = f"; is `--{bare}` meant?" if os.fsencode(bare) in options else ""
+            self.error(f"{left[0]}: {why if bare == left[0] else f'no such option{near}'}")
         return found, left
 
     def _print_message(self, message: str, file: IO[str] | None = None) -> None:
@@ -125,7 +127,6 @@ OPTIONS: dict[str, dict[str, Any]] = {
     "--named": {"metavar": "NAME", **MANY, "type": plain, "help": "a name of --to, instead of the key itself, or without --to of the issuer"},
     "--name": {"metavar": "NAME", "required": True, "type": plain, "help": "the name that the issuer gives to the subject"},
     "--tag": {"metavar": "TAG", "type": some, "help": "the requests that are allowed, as '(packages read (* prefix /web/))'"},
-    "sign --tag": {"metavar": "TAG", "required": True, "type": some, "help": "the requests that are allowed, as '(packages read (* prefix /web/))'"},
     "--propagate": {**FLAG, "help": "the subject may delegate the right"},
     "--try": {"metavar": "WORD", "nargs": "+", **MANY, "dest": "tries", "help": "a request that the tag is to contain, by its words"},
     "--from": {**DATE, "dest": "begins", "help": "valid from this day or moment on"},
@@ -138,6 +139,7 @@ OPTIONS: dict[str, dict[str, Any]] = {
     "--chain": {**FILE, "help": "the sequence by which the issuer has the right: it is verified, and written in front"},
     "--anyway": {**FLAG, "help": "make it although by --chain its issuer cannot give it"},
     "--acl": {**FILE, "help": "the access list to put it in, which is made if it is not there"},
+    "--store": {"metavar": "DATABASE", "type": some, "help": "the store of spki-store to put it in, by settings of libpq as 'dbname=acl'"},
     "--remove": {**FLAG, "help": "remove the entries for --to from the list instead"},
     "ask --acl": {**FILE, "help": "the access list"},
     "ask --key": {**FILE, "help": "the key that requests"},
@@ -152,11 +154,10 @@ OPTIONS: dict[str, dict[str, Any]] = {
     "--digest": {"metavar": "HEX", **MANY, "help": "the SHA-256 of a certificate, as the log of spki-authd has it"},
     "--reason": {"metavar": "TEXT", "default": "", "help": "why it ends: it is written behind the digest, with the date"},
     "address": {"metavar": "URL"},
-    "request words": {"metavar": "OPTION", "nargs": "*", "help": "after --: more options of curl"},
+    "request words": {"metavar": "OPTION", "nargs": "*", "default": [], "help": "after --: more options of curl"},
     "request --cert": {**FILE, "help": "the sequence with the certificates of this key, which is sent and signed too"},
     "--method": {"metavar": "METHOD", "help": "GET if it is not given, and PUT with --body"},
     "--body": {**FILE, "help": "the body of the request, whose digest is signed"},
-    "--keep": {**FLAG, "help": "ask the service to keep the certificates of --cert for this key"},
     "--curl": {**FLAG, "help": "have curl send the request"},
     "--undo": {**FLAG, "help": "take the digests out again: spki-authd then needs -reload -fewer"},
     "--list": {**FLAG, "help": "print the digests with date and reason, and the last line of the file"},
@@ -165,7 +166,7 @@ FIELDS = "--to --key --named --from --comment --yes --force --days|--until"
 # What each command does, in one line and in several, an example, and its options and words. Of those between `|` one may be given.
 COMMANDS: dict[str, tuple[str | None, str | None, str, str]] = {
     "key": ("write a key as SPKI has it, or make one: key new FILE", """\
-Writes the SPKI key of a key of OpenSSH, PEM (SPKI, PKCS#8, PKCS#1) or an S-expression: Ed25519, RSA or ECDSA P-256.
+Writes the SPKI key of a key of OpenSSH, PEM (SPKI, PKCS#8, PKCS#1) or an S-expression: Ed25519, RSA, ECDSA P-256 or P-384.
 Of a private key it writes the public one. `spki-cert key new FILE` makes a new key: `spki-cert key new --help`.""",
             "key --hash ~/.ssh/id_ed25519.pub", "files --key --json --output --force --hash"),
     NEW_KEY: (None, """\
@@ -183,8 +184,10 @@ Signs a certificate that defines a name: the issuer calls the subject so. Rights
              "name --by alice --name builders --to bob.pub --days 365 -o bob-builds.sexp", f"{FIELDS} --by --chain --anyway --output --name"),
     "entry": ("write an entry of an access list", """\
 Writes an entry of an access list: what a key, a hash or a name may do. With --acl it is put at the end of that list, which is
-made if it is not there. What is probably a mistake is written only with --yes, as by `spki-cert sign`.""",
-              "entry --to alice.pub --tag '(packages)' --propagate --acl acl.sexp", f"{FIELDS} --tag --propagate --try --output|--acl --remove"),
+made if it is not there, and with --store into a store in PostgreSQL, by `spki-store add`. What is probably a mistake is
+written only with --yes, as by `spki-cert sign`.""",
+              "entry --to alice.pub --tag '(packages)' --propagate --acl acl.sexp",
+              f"{FIELDS} --tag --propagate --try --output|--acl|--store --remove"),
     "show": ("say in words what a list, a certificate, a sequence or a case says", """\
 Shows access lists, certificates, sequences and cases: who, to whom, what, until when, delegated or not, and valid or not.""",
              "show acl.sexp to-bob.sexp", "files --labels --at --json --svg --force --braces"),
@@ -207,7 +210,7 @@ The file has a last line with the number and the digest of the others, and is re
 Signs an HTTP request (RFC 9421), and prints the fields that prove it: curl takes them by `-H @-`. They count for this request
 alone, once, and for 300 seconds. With --curl it has curl send the request, and the words after -- are more options of curl. KEY is
 the file of a private key, or of the public one of a key that ssh-agent holds.""",
-                "request --by alice https://files.example.org/web/index.html", "address words --by --cert --method --body --keep --curl"),
+                "request --by alice https://files.example.org/web/index.html", "address words --by --cert --method --body --curl"),
     "completion": ("write the completion of bash: eval \"$(spki-cert completion)\"", None, "", "")}
 
 

@@ -5,10 +5,12 @@ what the library's reasons mean in these files.
 """
 from __future__ import annotations
 
+import hashlib
 import itertools
 import sys
-from collections.abc import Hashable, Iterator
+from collections.abc import Iterator
 from dataclasses import dataclass, field, replace
+from functools import cached_property
 from typing import TYPE_CHECKING
 
 from .certificates import (Keys, Signed, Steps, Terms, certificates_in, chains, entries_of, fault_of_signature, keys_in, members, only, sequence_of,
@@ -18,9 +20,9 @@ from .files import Refused, now
 from .forms import Parser, meant
 from .keys import hash_of, principal_of
 from .making import sequence_with
-from .sexp import Value, canonical, on_one_line, read
+from .sexp import Value, canonical, on_one_line
 from .showing import FAULTS, Labels
-from .tag_words import lacks
+from .tag_words import covers, lacks
 
 if TYPE_CHECKING:
     from spki import Explanation, Guard, Question, Reason
@@ -53,7 +55,13 @@ class Asked:
         from spki_verify import verify_texts
         if self.accepted is None:
             return message == self.unsigned or verify_texts(key=key, message=message, value=value)
-        return [b"by", read(key), hash_of(read(message)), read(value)] in self.accepted
+        return (key, hashlib.sha256(message).digest(), value) in self.rows
+
+    @cached_property
+    def rows(self) -> set[tuple[bytes, bytes, bytes]]:
+        """The rows of a case: keys and values in canonical form, and digests of certificates."""
+        parts = [members(row) for row in self.accepted or []]
+        return {(canonical(key), string_of(members(digest)[1]) or b"", canonical(value)) for key, digest, value in parts}
 
 
 @dataclass
@@ -125,7 +133,7 @@ def answered(asked: Asked) -> Answer:
                 return others[-1]
     is_first = len(asked.sequences) == 1 and bool(certificates_in(given)) or not others
     unused = 0 if others or certificates_in(given) else sum(len(certificates_in(it)) for it in asked.sequences)
-    return replace(first if is_first else max(others, key=rank), unused=unused, is_cut=steps.left < 0)
+    return replace(first if is_first else max(others, key=rank), unused=unused, is_cut=steps.is_cut)
 
 
 def rank(answer: Answer) -> tuple[bool, int]:
@@ -141,7 +149,10 @@ def sequences_to(asked: Asked, steps: Steps) -> Iterator[Value]:
     certificates = [it for one in asked.sequences for it in certificates_in(one)]
     valid = [it for it in certificates if asked.accepted is not None or fault_of_signature(it, keys) is None]
     entries, count = entries_of(asked.access_list), 0
-    for chain in itertools.islice(chains(entries, valid, keys, asked.key, steps), MOST_CHAINS):
+    for chain in chains(entries, valid, keys, asked.key, steps):
+        if count == MOST_CHAINS:
+            steps.is_cut = True
+            return
         count += 1
         yield sequence_of(chain, keys)
     if not count and len(valid) < len(certificates):
@@ -153,9 +164,9 @@ def case_of(asked: Asked, sequence: Value) -> Value:
     keys = Keys([asked.key, *keys_in(sequence)])
     rows: list[Value] = []
     for each in certificates_in(sequence):
-        key = keys.named(each.terms.issuer or b"")
-        value = members(each.signature)[2]
-        if key is not None and asked.verify(canonical(key), canonical(each.terms.value), canonical(value)):
+        issuer, value = each.terms.issuer or b"", members(each.signature)[2]
+        key = keys.named(issuer)
+        if key is not None and asked.verify(keys.text_of(issuer)[0], canonical(each.terms.value), canonical(value)):
             rows.append([b"by", key, hash_of(each.terms.value), value])
     policy: list[Value] = [[b"policy", b"strict"]] if asked.is_strict else []
     return [b"case", asked.access_list, [b"accepted", *rows], sequence, [b"key", asked.key], [b"request", asked.request], [b"at", asked.moment],
@@ -183,19 +194,18 @@ class Words:
             yield "the access list has no entries"
             return
         if chosen.entry is not None:
-            yield from self.way(self.entries[chosen.entry - 1], chosen)
+            yield from (f"  {name}: {self.step(terms)}" for name, terms in self.way(chosen, is_whole=True))
         yield from self.end(chosen)
         if self.answer.unused:
             yield f"  of the {self.answer.unused} certificates at hand, no chain leads from an entry to {self.asker}"
         if self.answer.is_cut:
-            yield f"  the search for chains ended after {Steps.most} steps: give only the certificates of the chain"
+            yield f"  the search for chains ended after {Steps.most:,} steps or {MOST_CHAINS} chains: give only the certificates of the chain"
 
-    def way(self, entry: Terms, chosen: Reason) -> Iterator[str]:
-        """The entry and the certificates up to where the chain stops."""
-        yield f"  entry {chosen.entry}: {self.step(entry)}"
-        for each in self.chain:
-            if chosen.item is None or each.number <= chosen.item:
-                yield f"  item {each.number}: {self.step(each.terms)}"
+    def way(self, chosen: Reason, is_whole: bool = False) -> list[tuple[str, Terms]]:
+        """The entry and the certificates before the item that stops the chain, each with its name. The whole way has that item too."""
+        last = (chosen.item or sys.maxsize) - (not is_whole)
+        entry = [(f"entry {chosen.entry}", self.entries[chosen.entry - 1])] if chosen.entry else []
+        return entry + [(f"item {it.number}", it.terms) for it in self.chain if it.number <= last]
 
     def step(self, terms: Terms) -> str:
         """What an entry or a certificate says, in one line."""
@@ -217,19 +227,14 @@ class Words:
         elif item is not None:
             yield f"  item {item.number}: {self.stop(item, chosen)} ({chosen.word})"
 
-    def before(self, chosen: Reason) -> list[tuple[str, Terms]]:
-        """The entry and the certificates before the item that stops the chain, each with its name."""
-        entry = [(f"entry {chosen.entry}", self.entries[chosen.entry - 1])] if chosen.entry else []
-        return entry + [(f"item {it.number}", it.terms) for it in self.chain if chosen.item is None or it.number < chosen.item]
-
     def tag_lacks(self, chosen: Reason) -> Iterator[str]:
-        for name, terms in self.before(chosen):
+        for name, terms in self.way(chosen):
             why = lacks(terms.tag, self.asked.request) if terms.tag is not None else None
             if why:
                 yield f"the tag of {name} does not contain the request: {why}"
 
     def window_lacks(self, chosen: Reason) -> Iterator[str]:
-        for name, terms in self.before(chosen):
+        for name, terms in self.way(chosen):
             if terms.ends is not None and terms.ends < self.asked.moment:
                 yield f"{name} ended on {terms.ends.decode()}"
             if terms.begins is not None and terms.begins > self.asked.moment:
@@ -239,18 +244,23 @@ class Words:
         holder, names = self.holder(chosen)
         if names:
             defined = {it.terms.name: self.labels.of(it.terms.issuer) for one in self.asked.sequences for it in certificates_in(one) if it.terms.name}
-            others = [f"; there is {on_one_line(name)} of {issuer}, which is another name" for name, issuer in defined.items()
-                      if name == names[0] or meant(string_of(names[0]) or b"", [name])]
-            yield f"the right ends at {holder}, and that is a name, and no certificate says who it is{''.join(others[:1])}"
+            other = next((f"; there is {on_one_line(name)} of {issuer}, which is another name" for name, issuer in defined.items()
+                          if name == names[0] or meant(string_of(names[0]) or b"", [name])), "")
+            yield f"the right ends at {holder}, and that is a name, and no certificate says who it is{other}"
         else:
             yield f"the right ends at {holder}, and {self.asker} is another key"
 
     def holder(self, chosen: Reason) -> tuple[str, list[Value]]:
         """Who has the right where the chain stops, if the certificates before join, and by which names."""
         principal: Value = b""
-        names: list[Value] = []
-        for _, terms in self.before(chosen):
-            principal, names = terms.principal, [*terms.names, *(names[1:] if terms.name is not None else [])]
+        # (the last one first: a definition takes the first name away, and copies no others)
+        left: list[Value] = []
+        for _, terms in self.way(chosen):
+            left = left[:0] if terms.name is None else left
+            del left[-1:]
+            left += reversed(terms.names)
+            principal = terms.principal
+        names = left[::-1]
         return self.labels.of_subject([b"name", principal, *names] if names else principal), names
 
     def stop(self, item: Signed, chosen: Reason) -> str:
@@ -260,7 +270,7 @@ class Words:
         issuer, (holder, names) = self.labels.of(item.terms.issuer), self.holder(chosen)
         is_meant = meant(item.terms.name, [string_of(it) or b"" for it in names[:1]])
         if chosen.word == "NoTag":
-            tags = [terms.tag for _, terms in self.before(chosen)] + [item.terms.tag]
+            tags = [terms.tag for _, terms in self.way(chosen)] + [item.terms.tag]
             return f"its tag and the tags before it have no request in common: {' and '.join(on_one_line(tag) for tag in tags if tag is not None)}"
         return {
             "NotIssuer": f"{issuer} issues it, and the right is with {holder} there",
@@ -293,7 +303,7 @@ def what_cannot_be_given(chain: Value, certificate: Value, key: Value, label: st
     if why or field_of(certificate, b"tag") is None:
         return why
     alone, _ = left_of(principal_of(key), sequence_with(None, key, certificate, b"-"), certificate, key, labels)
-    return [] if unordered(left) == unordered(alone) else [f"of this tag the chain gives only `{on_one_line(left)}`: sign that"]
+    return [] if covers(left, alone) else [f"of this tag the chain gives only `{on_one_line(left)}`: sign that"]
 
 
 def left_of(subject: Value, sequence: Value, certificate: Value, key: Value, labels: Labels) -> tuple[Value, list[str]]:
@@ -305,11 +315,3 @@ def left_of(subject: Value, sequence: Value, certificate: Value, key: Value, lab
     if answer.chosen is not None and answer.chosen.word not in JOINED:
         return b"", [line.strip() for line in Words(asked, answer).end(answer.chosen)]
     return only(field_of(answer.left(1), b"tag")) or b"", []
-
-
-def unordered(tag: Value) -> Hashable:
-    """A tag, of whose sets the order of the members does not count."""
-    if not isinstance(tag, list):
-        return tag
-    parts = tuple(map(unordered, tag))
-    return (*parts[:2], frozenset(parts[2:])) if parts[:2] == (b"*", b"set") else parts

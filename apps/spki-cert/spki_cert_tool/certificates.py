@@ -8,7 +8,7 @@ from dataclasses import dataclass
 from datetime import datetime
 from typing import ClassVar, NamedTuple
 
-from .keys import hash_of, verifies
+from .keys import hash_of
 from .sexp import Value, canonical
 
 DATE_FORMAT = "%Y-%m-%d_%H:%M:%S"
@@ -145,17 +145,20 @@ def certificates_in(sequence: Value) -> list[Signed]:
 
 
 class Keys:
-    """Keys that are known, to be found by the principals that name them."""
+    """Keys that are known, to be found by the principals that name them. Each is made canonical once: many hashes may name a long one."""
 
     def __init__(self, keys: Iterable[Value] = ()) -> None:
         self.by_hash: dict[tuple[bytes, bytes], Value] = {}
+        self.texts: dict[tuple[bytes, bytes], tuple[bytes, bytes]] = {}
         for key in keys:
             self.add(key)
 
     def add(self, key: Value) -> None:
         octets = canonical(key)
         for algorithm in ("sha1", "sha256", "sha512"):
-            self.by_hash.setdefault((algorithm.encode(), hashlib.new(algorithm, octets).digest()), key)
+            names = algorithm.encode(), hashlib.new(algorithm, octets).digest()
+            self.by_hash.setdefault(names, key)
+            self.texts.setdefault(names, (octets, hashlib.sha256(octets).digest()))
 
     def named(self, principal: Value) -> Value | None:
         """The key that a principal names, or None if it is a hash of no key that is known."""
@@ -166,41 +169,53 @@ class Keys:
                 return self.by_hash.get((algorithm, digest))
         return None
 
+    def text_of(self, principal: Value) -> tuple[bytes, bytes]:
+        """The canonical text of the key that a principal names, and its SHA-256 digest; of the principal itself if the key is not known."""
+        match principal:
+            case [b"hash", bytes() as algorithm, bytes() as digest, *_] if (algorithm, digest) in self.texts:
+                return self.texts[algorithm, digest]
+        octets = canonical(principal)
+        return octets, hashlib.sha256(octets).digest()
+
     def are_one(self, one: Value | None, other: Value | None) -> bool:
         """Whether two principals name one key, as far as it is known."""
         if one is None or other is None:
             return False
-        return one == other or (self.named(one) is not None and self.named(one) == self.named(other))
+        return self.text_of(one)[1] == self.text_of(other)[1]
 
 
 def fault_of_signature(signed: Signed, keys: Keys) -> str | None:
     """Which of the four tests of a certificate fails, by the word that `explain` has for it, or None."""
-    key = keys.named(signed.terms.issuer or b"")
-    if key is None:
+    issuer = signed.terms.issuer or b""
+    if keys.named(issuer) is None:
         return "KeyNotShown"
     digest, signer, value = members(signed.signature)
     expected = hash_of(signed.terms.value)
     if string_of(members(digest)[0]) == b"sha256" and digest != expected:
         return "DigestDiffers"
-    if not keys.are_one(signer, key):
+    if not keys.are_one(signer, issuer):
         return "SignerDiffers"
-    return None if verifies(key, canonical(signed.terms.value), value) else "NotAccepted"
+    from spki_verify import verify_texts
+    is_valid = verify_texts(key=keys.text_of(issuer)[0], message=canonical(signed.terms.value), value=canonical(value))
+    return None if is_valid else "NotAccepted"
 
 
 @dataclass
 class Steps:
-    """How many certificates a search for chains may still put behind others."""
+    """How many certificates a search for chains may still put behind others. One that leads to a name takes a step for each of its strings."""
 
     most: ClassVar[int] = 20_000
     left: int = most
+    is_cut: bool = False
+    """Whether chains were left out."""
 
 
-# Whom a chain leads to: a principal and names, in canonical form.
+# Whom a chain leads to: the digest of a key, and names in canonical form.
 Holder = tuple[bytes, ...]
 
 
 def holder_of(principal: Value, names: Iterable[Value], keys: Keys) -> Holder:
-    return canonical(keys.named(principal) or principal), *map(canonical, names)
+    return keys.text_of(principal)[1], *map(canonical, names)
 
 
 def chains(entries: Iterable[Terms], certificates: list[Signed], keys: Keys, holder: Value, steps: Steps, most: int = 16) -> Iterator[list[Signed]]:
@@ -211,16 +226,18 @@ def chains(entries: Iterable[Terms], certificates: list[Signed], keys: Keys, hol
         terms = each.terms
         begins = holder_of(terms.issuer or b"", [terms.name] if terms.name is not None else [], keys)
         by_issuer.setdefault(begins, []).append((each, holder_of(terms.principal, terms.names, keys)))
-    waiting = deque[tuple[list[Holder], list[Signed]]](([holder_of(it.principal, it.names, keys)], []) for it in entries)
+    begins_at = dict.fromkeys(holder_of(it.principal, it.names, keys) for it in entries)
+    waiting = deque[tuple[list[Holder], list[Signed]]](([it], []) for it in begins_at)
     while waiting and steps.left >= 0:
         holders, chain = waiting.popleft()
         if holders[-1] == wanted:
             yield chain
         for each, after in by_issuer.get(holders[-1][:2], []) if len(chain) < most and holders[-1] != wanted else []:
-            steps.left -= 1
-            leads_to = (*after, *holders[-1][2:])
+            steps.left -= len(after) + max(0, len(holders[-1]) - 2)
+            leads_to = (*after, *holders[-1][2:]) if steps.left >= 0 else ()
             if leads_to not in holders and steps.left >= 0:
                 waiting.append(([*holders, leads_to], [*chain, each]))
+    steps.is_cut = steps.is_cut or steps.left < 0
 
 
 def sequence_of(chain: Iterable[Signed], keys: Keys) -> Value:

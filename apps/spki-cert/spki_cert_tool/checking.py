@@ -1,27 +1,26 @@
 """Checks files: what a service would refuse, with the place, and what is legal and probably a mistake."""
 import itertools
 import os
+from collections import deque
 from collections.abc import Iterator
 from typing import NamedTuple
 
 from .certificates import Keys, certificates_in, fault_of_signature, keys_in, remarks_on_window, terms_of
 from .files import Refused, octets_of, remark_on_mode
-from .forms import Node, Wrong, meant
+from .forms import Node, Wrong, meant, shape
 from .keys import ENCRYPTED, BadKey, is_key_file, is_private, is_text, kind_of, no_passphrase, pieces_of, public_of, read_public
-from .places import BY_HEAD, line_and_column, places_of, read_text, refusal
-from .sexp import on_one_line
+from .places import ALONE, BY_HEAD, Lines, places_of, read_text, refusal
+from .sexp import canonical
 from .showing import FAULTS, what_is
-from .structures import read_certificate, read_entry, read_hash, read_signature, read_tag
-from .tag_words import contains, is_everything, remarks
+from .structures import read_tag
+from .tag_words import MOST_PRODUCTS, contains, is_everything, remarks
 
 S_EXPRESSIONS, OTHER_KEYS = (".sexp", ".csexp", ".tsexp"), (".pub", ".pem", ".key")
-OTHERS = {b"cert": read_certificate, b"signature": read_signature, b"hash": read_hash, b"entry": read_entry}
-HEADS = (*BY_HEAD, *OTHERS, b"tag", b"request", b"private-key")
-KINDS = {"intersect": "a question of two tags", "rows": "rows of valid signatures", "key": "a key"}
+HEADS = (*BY_HEAD, *ALONE, b"tag", b"request", b"private-key")
 # How many keys of a file are looked at.
 MOST_KEYS = 1000
-# How many entries for one subject are compared with each other, and how many octets of tags with how many others.
-MOST_COMPARED, MOST_PRODUCTS = 64, 50_000_000
+# How many entries for one subject are compared with each other.
+MOST_COMPARED = 64
 
 
 class Remark(NamedTuple):
@@ -66,50 +65,43 @@ def remarks_on(path: str, moment: bytes, is_given: bool = True) -> tuple[str | N
 
 def of_key_file(path: str, octets: bytes) -> tuple[str, list[Remark]]:
     """What a key of OpenSSH or PEM is, or a private key, and what is said of it."""
-    found, kind, pieces = list[Remark](), "a file of keys", [octets] if is_private(octets) else pieces_of(octets)[:MOST_KEYS]
-    for piece in pieces:
+    found, kind, pieces = list[Remark](), "a file of keys", [octets] if is_private(octets) else pieces_of(octets)
+    lines, end = Lines(octets), 0
+    for piece in pieces[:MOST_KEYS]:
+        at = octets.find(piece, end)
+        end = at + len(piece)
         try:
             key = read_public(piece, no_passphrase)
             kind = f"{'a private' if is_private(octets) else 'a public'} key, {kind_of(key)}"
         except (BadKey, Wrong) as why:
             is_encrypted = is_private(octets) and str(why) == ENCRYPTED
             kind = "a private key, encrypted" if is_encrypted else kind
-            line, column = line_and_column(octets, octets.find(piece))
+            line, column = lines.line_and_column(at)
             found += [] if is_encrypted else [Remark(path, line, column, True, str(why) if isinstance(why, BadKey) else why.why)]
     found += [Remark(path, 1, 1, False, why.removeprefix(f"{path} is ")) for why in remark_on_mode(path)]
+    if len(pieces) > MOST_KEYS:
+        found.append(Remark(path, *lines.line_and_column(end), False, f"only the first {MOST_KEYS} of these keys are looked at: split the file"))
     return f"{len(pieces)} public keys" if len(pieces) > 1 else kind, found
 
 
 def of_text(path: str, octets: bytes, moment: bytes) -> tuple[str, list[Remark]]:
     """What an S-expression is, and what is said of it. What is in braces has the place where they begin."""
     (wrong, text, places), node = read_text(octets)
-    if wrong is None and node.head not in BY_HEAD:
-        wrong = fault_of_other(node)
+    if wrong is None and node.head not in (*BY_HEAD, *ALONE):
+        wrong = fault_of_tag(node)
     said = [*probable_mistakes(node, moment)] if wrong is None else places_of(wrong)[:1]
     begin = f"{refusal(wrong, places).removeprefix('refused ')}: " if wrong is not None else ""
-    found = [Remark(path, *(line_and_column(text, at) if places is None else (1, 1)), wrong is not None, begin + why) for at, why in said]
-    return "refused" if wrong is not None else kind_of_text(node), found
+    lines = Lines(text)
+    found = [Remark(path, *(lines.line_and_column(at) if places is None else (1, 1)), wrong is not None, begin + why) for at, why in said]
+    return "refused" if wrong is not None else what_is(node.value), found
 
 
-def kind_of_text(node: Node) -> str:
-    """What a value is, in words."""
-    kind = BY_HEAD.get(node.head or b"")
-    if kind in ("acl", "sequence", "case") or node.head == b"cert":
-        return what_is(node.value)
-    if kind == "key":
-        return f"a public key, {kind_of(node.value)}"
-    return KINDS[kind] if kind else f"a part, ({(node.head or b'').decode()} ..)" if node.head in OTHERS else "a tag, or another value"
-
-
-def fault_of_other(node: Node) -> Wrong | None:
-    """The fault of a value that is a part of others: a certificate, a tag, or what is headed by a word that is nearly known."""
+def fault_of_tag(node: Node) -> Wrong | None:
+    """The fault of a value that is a tag, or that is headed by a word that is nearly known."""
+    if node.head is not None and meant(node.head, HEADS):
+        return shape(node, f"no kind of text begins with `({node.head.decode(errors='replace')} ..)`{meant(node.head, HEADS)}")
     try:
-        if node.head in OTHERS:
-            OTHERS[node.head](node)
-        elif node.head is not None and meant(node.head, HEADS):
-            raise Wrong("Shape", node.begin, f"no kind of text begins with `({node.head.decode(errors='replace')} ..)`{meant(node.head, HEADS)}")
-        else:
-            read_tag(tag_of(node), [0])
+        read_tag(tag_of(node))
     except Wrong as wrong:
         return wrong
     return None
@@ -131,15 +123,15 @@ def probable_mistakes(node: Node, moment: bytes) -> Iterator[tuple[int, str]]:
         yield from of_signatures(node)
     elif kind == "key":
         yield from of_key(node)
-    elif kind is None and node.head not in (*OTHERS, b"request"):
+    elif kind is None and node.head not in (*ALONE, b"request"):
         yield from remarks(tag_of(node))
 
 
 def of_parts(node: Node, moment: bytes) -> Iterator[tuple[int, str]]:
     """What is probably a mistake in the entries, certificates, keys and hashes of a value."""
-    waiting = [node]
+    waiting = deque([node])
     while waiting:
-        each = waiting.pop(0)
+        each = waiting.popleft()
         if each.head in (b"cert", b"entry"):
             yield from of_terms(each, moment)
         if each.head == b"public-key":
@@ -174,13 +166,14 @@ def of_entries(node: Node) -> Iterator[tuple[int, str]]:
     entries = [(it, terms_of(it.value)) for it in node.rest if it.head == b"entry"]
     keys, by_subject = Keys(it.principal for _, it in entries), dict[object, list[int]]()
     for number, (_, terms) in enumerate(entries):
-        by_subject.setdefault(on_one_line([keys.named(terms.principal) or terms.principal, *terms.names]), []).append(number)
+        by_subject.setdefault(canonical([keys.text_of(terms.principal)[1], *terms.names]), []).append(number)
     left, told = MOST_PRODUCTS, set[int]()
     for one, other in (pair for same in by_subject.values() for pair in itertools.permutations(same[:MOST_COMPARED], 2)):
         (node, narrow), (its_node, wide) = entries[one], entries[other]
         left -= (node.end - node.begin) * (its_node.end - its_node.begin)
-        is_first = other < one or not contains(narrow, wide, keys)
-        if left > 0 and one not in told and contains(wide, narrow, keys) and is_first:
+        if left < 0:
+            return
+        if one not in told and contains(wide, narrow, keys) and (other < one or not contains(narrow, wide, keys)):
             told.add(one)
             yield node.begin, f"entry {other + 1} gives all of entry {one + 1}: remove entry {one + 1}"
 
@@ -191,7 +184,7 @@ def of_key(node: Node) -> Iterator[tuple[int, str]]:
     if inner.head == b"public-key":
         yield inner.begin, "this is a key in a key, so no signature by it counts: replace the whole outer `(public-key ..)` by the inner one"
     elif inner.head in (b"ecc", b"rsa", b"ecdsa", b"ed25519", b"eddsa", b"rsa-pkcs1-sha256") and public_of(node.value) is None:
-        yield inner.begin, "this is no whole key of Ed25519, RSA or ECDSA P-256, so no signature by it counts; `spki-cert key FILE` writes one"
+        yield inner.begin, "this is no whole key of Ed25519, RSA, ECDSA P-256 or P-384, so no signature by it counts; `spki-cert key FILE` writes one"
 
 
 def of_signatures(node: Node) -> Iterator[tuple[int, str]]:

@@ -5,6 +5,7 @@ import contextlib
 import json
 import os
 import signal
+import subprocess
 import sys
 import termios
 import warnings
@@ -14,19 +15,18 @@ from typing import NoReturn
 from .arguments import NEW_KEY, completion, parser_of_commands
 from .certificates import headed, members, terms_of
 from .ending import end
-from .files import (READ, TERMINAL, Refused, key_at, locked, node_of, now, octets_of, passphrase_for, put, remark_on_mode, say,
-                    signer_at, tell, text_at, value_headed, value_of, write)
+from .files import (DONE, FAILED, NO, READ, REFUSED, TERMINAL, UNCONFIRMED, Refused, key_at, locked, node_of, now, octets_of, passphrase_for, put,
+                    remark_on_mode, say, signer_at, tell, text_at, value_headed, value_of, write)
 from .forms import Wrong
 from .keys import BadKey, file_of, hash_of, kind_of, new_private, openssh_line, principal_of
 from .making import (certificate_of, fields_of, list_with, list_without, signed_sequence, text_of, warnings_of, warnings_of_certificate,
                      warnings_of_list)
-from .places import value_in
+from .places import has_private_key, value_in
 from .requesting import request
 from .sexp import Value, canonical, on_one_line
 from .showing import Labels, lines_of, rows_of, what_is
 from .structures import PRINCIPALS, read_subject, read_tag
 
-DONE, NO, REFUSED, FAILED, UNCONFIRMED = 0, 1, 2, 3, 4
 ENDING = (signal.SIGHUP, signal.SIGINT, signal.SIGQUIT, signal.SIGTERM)
 NOT_SHOWN = "only an access list, a certificate, a sequence or a case is shown; for a key there is `spki-cert key`"
 
@@ -105,8 +105,21 @@ def add(given: argparse.Namespace) -> int:
     warnings = [*warnings_of(terms_of(made), given.tag, [*map(request_of, given.tries)]), *warnings_of_list(made, before)]
     if not is_confirmed(given.yes, "--yes", warnings):
         return UNCONFIRMED
+    if given.store is not None:
+        return stored(text_of(made), given.store)
     write((given.acl or given.output, text if given.acl else text_of(made)), force=given.force, edits=is_there)
     return say(*([] if is_there else [f"made {given.acl}"]), "entries added: 1", is_aside=given.acl == "-") if given.acl else DONE
+
+
+def stored(text: bytes, settings: str) -> int:
+    """Has `spki-store`, from the folder beside that of this command or as it is installed, add an entry to a store."""
+    beside = os.path.join(os.path.dirname(os.path.realpath(__file__)), "..", "..", "spki-store", "spki-store")
+    program = beside if os.path.exists(beside) else "spki-store"
+    try:
+        status = subprocess.run([program, "add", "-"], input=text, env={**os.environ, "SPKI_STORE": settings}).returncode
+    except OSError as why:
+        raise Refused(f"{program}: {why.strerror}; --store needs it (apps/spki-store); nothing was written") from None
+    return status if status >= 0 else FAILED
 
 
 def remove(given: argparse.Namespace) -> int:
@@ -138,7 +151,7 @@ def fields_given(given: argparse.Namespace) -> list[Value]:
     """The fields of the certificate or of the entry."""
     if given.tag is None and given.name is None:
         raise Refused("a right needs --tag")
-    tag = node_of(os.fsencode(given.tag), "--tag", lambda node: read_tag(node, [0])).value if given.tag is not None else None
+    tag = node_of(os.fsencode(given.tag), "--tag", read_tag).value if given.tag is not None else None
     return fields_of(tag, given.begins, now(given.days) if given.days is not None else given.until, given.propagate, given.comment or "")
 
 
@@ -177,7 +190,7 @@ def labels_of(given: argparse.Namespace, *paths: str) -> Labels:
 
 def show(given: argparse.Namespace) -> int:
     labels, moment = labels_of(given), given.at or now()
-    values = [(path, value_headed(path, (b"acl", b"sequence", b"case"), NOT_SHOWN)) for path in given.files]
+    values = [(path, value_headed(path, (b"acl", b"cert", b"sequence", b"case"), NOT_SHOWN)) for path in given.files]
     if given.braces:
         put(b"".join(b"{%s}\n" % base64.b64encode(canonical(value)) for _, value in values))
         return DONE
@@ -255,6 +268,9 @@ def main() -> int:
     words = sys.argv[1:]
     READ.clear()
     try:
+        if any(has_private_key(os.fsencode(word)) for word in words):
+            raise Refused("a private key is among the words of this command, where other users and the history of the shell have it: replace it by a "
+                          "new one, and give the name of its file")
         given = parser_of_commands().parse_args([NEW_KEY, *words[2:]] if words[:2] == ["key", "new"] else words)
         return COMMANDS[given.command](given)
     except Refused as why:

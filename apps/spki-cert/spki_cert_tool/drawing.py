@@ -60,7 +60,7 @@ class Drawing:
     def of(self, value: Value) -> bytes:
         """The shape of a subject."""
         principal, *names = members(value) if headed(value, b"name") else [value]
-        identity = canonical([self.keys.named(principal) or principal, *names])
+        identity = canonical([self.keys.text_of(principal)[1], *names])
         label = [f"{' '.join(on_one_line(name) for name in names)} of"] if names else []
         label += [self.labels.of(principal)] if self.labels is not None else self.in_lines(on_one_line(principal))
         self.shapes.setdefault(identity, Shape(label))

@@ -6,19 +6,16 @@ that was cut, or changed by another program, is noticed by each reader. A digest
 signature signs. No text of a certificate gets into the file.
 """
 import argparse
-import contextlib
 import hashlib
 import os
 import re
 import stat
-from collections.abc import Iterable, Iterator
-from typing import NamedTuple
+from collections.abc import Iterable
 
 from .certificates import certificates_in, headed
-from .files import Refused, locked, now, replace, say, tell, value_headed
+from .files import DONE, NO, UNCONFIRMED, Refused, locked, now, octets_of, say, tell, value_headed, write
 from .keys import digest_of
 
-DONE, NO, UNCONFIRMED = 0, 1, 4
 # `spki-authd` reads no more octets.
 MOST_ENDED, MOST_REASON = 1 << 24, 200
 HEAD = b"# SHA-256 of certificates that no longer count. Only `spki-cert end` may change this file."
@@ -28,15 +25,6 @@ LAST = re.compile(rb"end (0|[1-9][0-9]*) ([0-9a-f]{64})")
 # A line as people write it: digits in capitals too, spaces, a comment right behind it.
 BY_HAND = re.compile(rb"[ \t]*([0-9A-Fa-f]{64})?[ \t]*(?:#([^\n]*))?")
 DATED = re.compile(r"(\d{4}-\d\d-\d\d)(?: (.*))?")
-
-
-class Edited(NamedTuple):
-    """The file while no other writer changes it: its name, the handle of its folder, what it is (None if it is new), and its octets."""
-
-    path: str
-    folder: int
-    about: os.stat_result | None
-    octets: bytes
 
 
 # ---- the text of the file
@@ -63,9 +51,9 @@ def last_line(lines: list[bytes]) -> bytes:
     return b"end %d %s" % (len(rows_of(lines)), hashlib.sha256(b"\n".join([*lines, b""])).hexdigest().encode())
 
 
-def lines_in(octets: bytes, path: str) -> list[bytes]:
+def lines_in(path: str) -> list[bytes]:
     """The lines of the file before the last one, which must be that of these lines. Refused otherwise, with what differs."""
-    *lines, last, behind = [b"", *octets.split(b"\n")]
+    *lines, last, behind = [b"", *read_ended(path).split(b"\n")]
     lines, met = lines[1:], LAST.fullmatch(last)
     advice = f"compare it with a copy; then `spki-cert end --adopt --ended {path}` takes its lines as they are"
     if behind or met is None:
@@ -80,9 +68,10 @@ def lines_in(octets: bytes, path: str) -> list[bytes]:
     return lines
 
 
-def lines_by_hand(octets: bytes, path: str) -> tuple[list[bytes], bool]:
+def lines_by_hand(path: str) -> tuple[list[bytes], bool]:
     """The lines of a file that people have written, in the form of the file, and whether they have as many digests as the last line says. This
     line, right or wrong, is left out."""
+    octets = read_ended(path)
     lines = octets.removesuffix(b"\n").split(b"\n") if octets else []
     last = lines.pop() if lines and lines[-1].startswith(b"end ") else None
     made = []
@@ -101,41 +90,23 @@ def lines_by_hand(octets: bytes, path: str) -> tuple[list[bytes], bool]:
 # ---- the file
 
 
-def read_ended(path: str) -> tuple[os.stat_result, bytes]:
-    """What the file is, and its octets. Only an ordinary file is opened: opening a FIFO or a device may wait, or do something. The file is
-    replaced as a whole, so one state of it is read."""
-    about = os.stat(path)
-    if not stat.S_ISREG(about.st_mode):
+def read_ended(path: str) -> bytes:
+    """The octets of the file. Only an ordinary file is opened: opening a FIFO or a device may wait, or do something. The file is replaced as a
+    whole, so one state of it is read."""
+    if not stat.S_ISREG(os.stat(path).st_mode):
         raise Refused(f"{path}: it is no ordinary file")
-    with open(path, "rb") as file:
-        octets = file.read(MOST_ENDED + 1)
+    octets = octets_of(path, MOST_ENDED + 1)
     if len(octets) > MOST_ENDED:
         raise Refused(f"{path}: more than {MOST_ENDED} octets, which `spki-authd` does not read")
-    return about, octets
+    return octets
 
 
-@contextlib.contextmanager
-def edited(path: str) -> Iterator[Edited]:
-    """The file, while no other writer changes it. It must be writable, and have no other name, since it is replaced."""
-    with locked(path) as folder:
-        about, octets = read_ended(path)
-        if not about.st_mode & 0o222:
-            raise Refused(f"{path}: its mode {stat.S_IMODE(about.st_mode):04o} lets nobody write it; nothing was written")
-        if about.st_nlink > 1:
-            raise Refused(f"{path}: it has {about.st_nlink} names, of which only one would be changed; nothing was written")
-        yield Edited(path, folder, about, octets)
-
-
-def write_lines(file: Edited, lines: list[bytes]) -> None:
+def write_lines(path: str, lines: list[bytes]) -> None:
     """Replaces the file by one of these lines and their last line. A new one may be read by all."""
     octets = b"\n".join([*lines, last_line(lines), b""])
     if len(octets) > MOST_ENDED:
-        raise Refused(f"{file.path}: it would have more than {MOST_ENDED} octets, which `spki-authd` does not read; nothing was written")
-    replace(os.path.realpath(file.path), octets, 0o644, file.about)
-    try:
-        os.fsync(file.folder)
-    except OSError as why:
-        raise Refused(f"{file.path}: it is written, but the system does not say that it is on the disk: {why.strerror}") from None
+        raise Refused(f"{path}: it would have more than {MOST_ENDED} octets, which `spki-authd` does not read; nothing was written")
+    write((path, octets), edits=True)
 
 
 # ---- the certificates that are meant
@@ -143,7 +114,7 @@ def write_lines(file: Edited, lines: list[bytes]) -> None:
 
 def meant_at(path: str, place: int | None) -> tuple[str, str]:
     """The digest of the last certificate of a file, or of that at a place, and what it is called: one of a sequence, or the one that is alone."""
-    value = value_headed(path, (b"sequence",), "only a certificate of a sequence, or one that is alone, is ended")
+    value = value_headed(path, (b"cert", b"sequence"), "only a certificate of a sequence, or one that is alone, is ended")
     certificates = [value] if headed(value, b"cert") else [each.terms.value for each in certificates_in(value)]
     count = len(certificates)
     number = count if place is None else place
@@ -156,7 +127,7 @@ def meant_by(given: argparse.Namespace) -> dict[str, str]:
     """The digests of all certificates that the command line names, with what they are called there."""
     for digest in given.digest:
         if not DIGITS.fullmatch(digest):
-            raise Refused(f"--digest {digest}: a digest has 64 hexadecimal digits")
+            raise Refused(f"--digest {digest}: a digest has 64 hexadecimal digits; `spki-cert show FILE` prints that of a certificate")
     found = [meant_at(path, given.place) for path in given.files] + [(it.lower(), it.lower()) for it in given.digest]
     return {digest: dict(reversed(found))[digest] for digest, _ in found}
 
@@ -166,10 +137,10 @@ def meant_by(given: argparse.Namespace) -> dict[str, str]:
 
 def make(given: argparse.Namespace) -> int:
     """Makes the file without digests if it is not there. Otherwise it must be whole."""
-    with locked(given.ended) as folder:
+    with locked(given.ended):
         if os.path.lexists(os.path.realpath(given.ended)):
-            return say(f"{given.ended}: it is there already, and whole; digests: {len(rows_of(lines_in(read_ended(given.ended)[1], given.ended)))}")
-        write_lines(Edited(given.ended, folder, None, b""), [HEAD])
+            return say(f"{given.ended}: it is there already, and whole; digests: {len(rows_of(lines_in(given.ended)))}")
+        write_lines(given.ended, [HEAD])
     return say(f"{given.ended}: made; digests: 0")
 
 
@@ -177,13 +148,13 @@ def add(given: argparse.Namespace) -> int:
     """Ends certificates. Those that have ended are said, and are not written twice."""
     meant = meant_by(given)
     comment = f"{now()[:10].decode()} {visible(given.reason)[:MOST_REASON]}".rstrip()
-    with edited(given.ended) as file:
-        lines = lines_in(file.octets, given.ended)
+    with locked(given.ended):
+        lines = lines_in(given.ended)
         there = digests_of(lines)
         lines += [f"{digest} # {comment}".encode() for digest in meant if digest not in there]
         count = len(digests_of(lines)) - len(there)
         if count:
-            write_lines(file, lines)
+            write_lines(given.ended, lines)
     return say(*(f"{called}: {'it had ended before' if digest in there else 'ended'}" for digest, called in meant.items()),
                *(["--digest is compared with no certificate: give the FILE of the certificate if you have it"] if given.digest else []),
                f"digests added: {count}" + ("; they count from the next reload of spki-authd on" if count else ""))
@@ -192,13 +163,13 @@ def add(given: argparse.Namespace) -> int:
 def undo(given: argparse.Namespace) -> int:
     """Takes digests out of the file: all that are named, or none."""
     meant = meant_by(given)
-    with edited(given.ended) as file:
-        lines = lines_in(file.octets, given.ended)
+    with locked(given.ended):
+        lines = lines_in(given.ended)
         missing = [called for digest, called in meant.items() if digest not in digests_of(lines)]
         if missing:
             tell(*(f"spki-cert: {called}: it has not ended; nothing was written" for called in missing))
             return NO
-        write_lines(file, [line for line in lines if line[:64].decode(errors="replace") not in meant])
+        write_lines(given.ended, [line for line in lines if line[:64].decode(errors="replace") not in meant])
     return say(*(f"{called}: taken out" for called in meant.values()),
                f"digests taken out: {len(meant)}; the next reload needs `spki-authd -reload -fewer`")
 
@@ -212,18 +183,18 @@ def listed(row: re.Match[bytes]) -> str:
 
 def list_all(given: argparse.Namespace) -> int:
     """Prints all digests, and the last line, by which two copies of the file are compared."""
-    lines = lines_in(read_ended(given.ended)[1], given.ended)
+    lines = lines_in(given.ended)
     return say(*map(listed, rows_of(lines)), last_line(lines).decode())
 
 
 def adopt(given: argparse.Namespace) -> int:
     """Takes the lines of a file that people have written or changed, and gives it its last line."""
-    with edited(given.ended) as file:
-        lines, is_as_said = lines_by_hand(file.octets, given.ended)
+    with locked(given.ended):
+        lines, is_as_said = lines_by_hand(given.ended)
         rows = rows_of(lines)
         is_taken = given.yes or bool(rows) and is_as_said
         if is_taken:
-            write_lines(file, lines)
+            write_lines(given.ended, lines)
     say(*map(listed, rows), f"digests: {len(rows)}")
     if not is_taken:
         differs = "its last line says another number of digests" if rows else "it has no digests"
@@ -239,7 +210,7 @@ def end(given: argparse.Namespace) -> int:
             (given.undo and not names_some, "--undo needs a FILE or --digest"),
             ((given.list or given.adopt) and names_some, "--list and --adopt are about all digests: they go with no FILE and no --digest"),
             (given.yes and not given.adopt, "--yes goes with --adopt"),
-            (given.reason and (given.undo or not names_some), "--reason goes with what is ended")):
+            (given.reason and (given.undo or not names_some), "--reason goes with a FILE or --digest that is ended")):
         if is_fault:
             raise Refused(text)
     does = undo if given.undo else list_all if given.list else adopt if given.adopt else add if names_some else make

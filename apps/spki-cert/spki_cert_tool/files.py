@@ -16,12 +16,14 @@ from typing import Any, TextIO, Union
 
 from .agent import AgentSigner
 from .certificates import DATE_FORMAT, is_in_calendar
-from .forms import MOST_OCTETS, Node, Wrong
+from .forms import MOST_OCTETS, Node, Wrong, meant
 from .keys import BadKey, FileSigner, is_key_file, is_private, read_private, read_public
 from .places import may_be_secret, name_foreign, read_text, told, value_in
 from .sexp import Value
-from .structures import MOMENT, Reader, read_certificate
+from .structures import MOMENT, Reader
 
+# The exit statuses of all commands.
+DONE, NO, REFUSED, FAILED, UNCONFIRMED = 0, 1, 2, 3, 4
 DAY_ENDS = "_23:59:59"
 SECONDS_TO_LOCK = 30
 Signer = Union[FileSigner, AgentSigner]
@@ -31,6 +33,9 @@ ENDED, HEAD = re.compile(rb"(?:#[^\n]*\n|\s)*(?:[0-9a-f]{64}\b|end \d)"), re.com
 # The files that this command has read, by device and inode, and whether it has read standard input. None of them is written over.
 READ: set[tuple[int, int]] = set()
 INPUT = (-1, -1)
+# What names of files hardly have, and keys do.
+PASTED = re.compile(r"[A-Za-z0-9+/=]{40,}|[A-Za-z0-9+=]{24,}|\n.*", re.DOTALL)
+NEARLY_DATE = re.compile(r"(\d{4})[-/.](\d\d?)[-/.](\d\d?)(?:[T_ ]+(\d\d?):(\d\d)(?::(\d\d))?)?(Z|[+-]\d\d:?\d\d| ?UTC)?", re.ASCII)
 # What the terminal is set to, while a passphrase is asked for on it.
 TERMINAL: list[tuple[int, list[Any]]] = []
 
@@ -38,7 +43,7 @@ TERMINAL: list[tuple[int, list[Any]]] = []
 class Refused(Exception):
     """What is wrong with a file or a word, in lines for people to read."""
 
-    status = 2
+    status = REFUSED
 
     def __init__(self, *lines: str) -> None:
         super().__init__(*lines)
@@ -48,7 +53,7 @@ class Refused(Exception):
 class Failed(Refused):
     """Reading or writing failed."""
 
-    status = 3
+    status = FAILED
 
 
 # ---- streams
@@ -88,7 +93,7 @@ def say(*lines: str, is_aside: bool = False) -> int:
         tell(*lines)
     else:
         put("".join(f"{line}\n" for line in lines))
-    return 0
+    return DONE
 
 
 # ---- reading
@@ -112,7 +117,19 @@ def octets_of(path: str, most: int = MOST_OCTETS + 1) -> bytes:
             READ.add(identity(os.fstat(sys.stdin.fileno())))
         return sys.stdin.buffer.read(most)
     except OSError as why:
-        raise Refused(f"{path}: {why.strerror}") from None
+        raise unread(path, why) from None
+
+
+def unread(path: str, why: OSError) -> Refused:
+    """What is said of a file that cannot be read. What is perhaps a key itself is not repeated, since it may be secret."""
+    shown, (folder, name) = PASTED.sub("..", path), os.path.split(path)
+    if shown != path and not os.path.lexists(path):
+        return Refused(f"{shown}: this is no file, and perhaps a key itself: write it into a file; --to also takes '(hash sha256 #..#)'")
+    names = list[bytes]()
+    with contextlib.suppress(OSError):
+        names += map(os.fsencode, os.listdir(folder or "."))
+    is_folder = isinstance(why, IsADirectoryError)
+    return Refused(f"{path}: {'this is a folder, and a file is wanted' if is_folder else f'{why.strerror}{meant(os.fsencode(name), names)}'}")
 
 
 def text_at(path: str, given: str = "") -> tuple[bytes, Node]:
@@ -130,11 +147,9 @@ def value_of(path: str, kind: str) -> Value:
 
 
 def value_headed(path: str, heads: tuple[bytes, ...], wanted: str) -> Value:
-    """The value of a file, which must be a certificate or have one of these heads."""
-    octets, node = text_at(path)
-    if node.head == b"cert":
-        node_of(octets, path, read_certificate)
-    elif node.head not in heads:
+    """The value of a file, which must have one of these heads."""
+    _, node = text_at(path)
+    if node.head not in heads:
         raise Refused(f"{path}: {wanted}")
     return node.value
 
@@ -216,19 +231,19 @@ def now(days: int = 0) -> bytes:
 
 def moment_of(text: str, day: str = "_00:00:00") -> bytes:
     """The moment of a word: a date with its time, or a day."""
-    whole = text if "_" in text else text + day
-    parts = re.fullmatch(r"(\d{4})[-/.](1[0-2]|0?[1-9])[-/.](3[01]|[12]\d|0?[1-9])(?:[T_ ]+([01]?\d|2[0-3]):([0-5]\d)(?::([0-5]\d))?)?"
-                         r"(Z|[+-]\d\d:?\d\d| ?UTC)?", text, re.ASCII)
-    if not MOMENT.fullmatch(os.fsencode(whole)):
-        right = "YYYY-MM-DD or YYYY-MM-DD_HH:MM:SS"
-        if parts and parts[7] in (None, "Z", " UTC", "UTC"):
-            year, *rest = (int(it or 0) for it in parts.groups()[:6])
-            right = f"{year:04}-{rest[0]:02}-{rest[1]:02}" + (f"_{rest[2]:02}:{rest[3]:02}:{rest[4]:02}" if parts[4] else "")
-        why = "give no zone: each moment is in UTC" if parts and parts[7] else "no date in the form that is read"
-        raise Refused(f"{text or 'an empty date'}: {why}; write {right}, in UTC")
-    if not is_in_calendar(whole.encode()):
-        raise Refused(f"{text}: no calendar has this day; write YYYY-MM-DD, in UTC")
-    return whole.encode()
+    whole = os.fsencode(text if "_" in text else text + day)
+    if MOMENT.fullmatch(whole) and is_in_calendar(whole):
+        return whole
+    right, why = "YYYY-MM-DD or YYYY-MM-DD_HH:MM:SS", "no date in the form that is read"
+    if parts := NEARLY_DATE.fullmatch(text):
+        *numbers, zone = parts.groups("0")
+        meant = "{:04}-{:02}-{:02}_{:02}:{:02}:{:02}".format(*map(int, numbers))
+        if not is_in_calendar(meant.encode()):
+            why = "no calendar has this moment"
+        elif zone[0] not in "+-":
+            right = meant if parts[4] else meant[:10]
+        why = why if zone == "0" else "give no zone: each moment is in UTC"
+    raise Refused(f"{text}: {why}; write {right}, in UTC")
 
 
 # ---- writing
@@ -239,19 +254,22 @@ def target_of(path: str, made: bytes, force: bool, edits: bool) -> tuple[str, os
     place = os.path.realpath(path)
     try:
         before = os.stat(place)
+        is_read = identity(before) in READ
         if not stat.S_ISREG(before.st_mode):
             raise Refused(f"{path}: this is no regular file, and only such a file is written; nothing was written")
-        if identity(before) in READ and not edits:
+        if is_read and not edits:
             raise Refused(f"{path}: this command reads this file, so it is not written over; nothing was written")
         if not before.st_mode & 0o222 or not os.access(place, os.W_OK):
             raise Refused(f"{path}: its mode {stat.S_IMODE(before.st_mode):o} says that it is not to be written; nothing was written")
+        if is_read and before.st_nlink > 1:
+            raise Refused(f"{path}: it has {before.st_nlink} names, of which only one would be changed; nothing was written")
         with open(place, "rb") as file:
             octets = file.read(MOST_OCTETS)
         is_key = is_key_file(octets) or may_be_secret(octets)
-        if is_key or ENDED.match(octets):
+        if not is_read and (is_key or ENDED.match(octets)):
             kept = "a key, or what may be one," if is_key else "the file of ended certificates"
             raise Refused(f"{path}: {kept} is there already, and is not written over; nothing was written")
-        if not force and not edits:
+        if not is_read and not force:
             raise Refused(f"{path}: this file is there already; {instead(path, octets, made)}; nothing was written")
         return place, before
     except FileNotFoundError:
@@ -263,8 +281,8 @@ def target_of(path: str, made: bytes, force: bool, edits: bool) -> tuple[str, os
 
 
 def instead(path: str, there: bytes, made: bytes) -> str:
-    """What to do where a file is there already. One of another kind was hardly meant."""
-    head = HEAD.match(there)
+    """What to do where a file is there already. One of another kind, also in braces, was hardly meant."""
+    head = HEAD.match(read_text(there)[0][1])
     if head is None or made.startswith(b"(" + head[1]):
         return "--force writes over it"
     is_list = head[1] == b"acl"
@@ -273,7 +291,7 @@ def instead(path: str, there: bytes, made: bytes) -> str:
 
 def write(*parts: tuple[str | None, bytes], mode: int = 0o644, force: bool = False, edits: bool = False) -> None:
     """Writes files, each whole or not at all, after none of them is refused; what has no path goes to standard output. With `force` a file may
-    be there already, and with `edits` it is one that was read: it keeps its mode and its owner."""
+    be there already, and with `edits` it may be one that was read: it keeps its mode and its owner."""
     targets = [(path, *target_of(path, octets, force, edits), octets) for path, octets in parts if path is not None and path != "-"]
     places = [place for _, place, _, _ in targets]
     if len(set(places)) < len(places):
@@ -313,15 +331,29 @@ def replace(place: str, octets: bytes, mode: int, before: os.stat_result | None)
                 raise
             # (a file system without links)
             os.rename(made, place)
+        on_disk(os.path.dirname(place))
     finally:
         with contextlib.suppress(FileNotFoundError):
             os.unlink(made)
         signal.pthread_sigmask(signal.SIG_SETMASK, blocked)
 
 
+def on_disk(folder: str) -> None:
+    """Waits until the names in a folder are on the disk, if it may be read, and its file system does that."""
+    with contextlib.suppress(PermissionError):
+        handle = os.open(folder, os.O_RDONLY)
+        try:
+            os.fsync(handle)
+        except OSError as why:
+            if why.errno != errno.EINVAL:
+                raise Failed(f"{folder}: the file is written, but the system does not say that it is on the disk: {why.strerror}") from None
+        finally:
+            os.close(handle)
+
+
 @contextlib.contextmanager
-def locked(path: str) -> Iterator[int]:
-    """Holds the lock of the folder of a file that is edited, so that no other edit is lost. It gives the folder's handle."""
+def locked(path: str) -> Iterator[None]:
+    """Holds the lock of the folder of a file that is edited, so that no other edit is lost."""
     end = time.monotonic() + SECONDS_TO_LOCK
     try:
         folder = os.open(os.path.dirname(os.path.realpath(path)), os.O_RDONLY)
@@ -335,6 +367,6 @@ def locked(path: str) -> Iterator[int]:
             if time.monotonic() > end:
                 raise Refused(f"{path}: another program has locked it for {SECONDS_TO_LOCK} seconds; nothing was written")
             time.sleep(0.05)
-        yield folder
+        yield
     finally:
         os.close(folder)

@@ -14,12 +14,16 @@ from dataclasses import dataclass, field
 from .sexp import Value
 
 MOST_OCTETS, MOST_LISTS, MOST_NODES = 1_048_576, 64, 1024
+# A longer word is compared with no other.
+MOST_MEANT = 60
 SPACES = re.compile(rb"[ \t\n\v\f\r]*")
 LETTERS = re.compile(rb"[\w\-./:*+=\x80-\xff]+")
 TOKEN = re.compile(rb"[A-Za-z\-./_:*+=][A-Za-z0-9\-./_:*+=]*")
 LENGTH = re.compile(rb"0|[1-9][0-9]*")
 BODIES = {b'"': re.compile(rb'(?:[^"\\]|\\.)*', re.DOTALL), b"#": re.compile(rb"[0-9A-Fa-f\s]*"), b"|": re.compile(rb"[A-Za-z0-9+/=\s]*")}
-ESCAPE = re.compile(rb"\\(?:([abtnvfr])|([\"'?\\])|([0-3][0-7]{2})|x([0-9A-Fa-f]{2})|(\r\n|\n\r|\r|\n))")
+# A piece of a quoted string: octets that are themselves, or an escape. A line break that is escaped is nothing.
+PIECE = re.compile(rb"([^\"\\]+)|\\(?:([\"'?\\])|([abtnvfr])|([0-3][0-7]{2})|x([0-9A-Fa-f]{2})|\r\n|\n\r|\r|\n)")
+ESCAPED = {b"a": b"\a", b"b": b"\b", b"t": b"\t", b"n": b"\n", b"v": b"\v", b"f": b"\f", b"r": b"\r"}
 DIGITS = re.compile(rb"[0-9A-Fa-f]{16}")
 SYMBOLS = re.compile(rb"([A-Za-z0-9+/]*)(=*)")
 SAID = {b";": "`;` begins no comment: there are no comments, only the field `(comment \"..\")`",
@@ -107,9 +111,9 @@ def shape(node: Node, why: str, others: Iterable[Place] = ()) -> Wrong:
 def meant(word: bytes | None, allowed: Iterable[bytes]) -> str:
     """The question whether one of the allowed words is meant, if the word is none of them and one is near."""
     allowed = list(allowed)
-    if word in allowed:
+    if word in allowed or len(word or b"") > MOST_MEANT:
         return ""
-    near = difflib.get_close_matches((word or b"").decode(errors="replace"), [it.decode() for it in allowed], 1)
+    near = difflib.get_close_matches((word or b"").decode(errors="replace"), [it.decode(errors="replace") for it in allowed], 1)
     return f"; is `{near[0]}` meant?" if near else ""
 
 
@@ -192,12 +196,13 @@ class Parser:
             raise Wrong("TooDeep", at, f"the {MOST_LISTS + 1}th list that is open at once begins here", [(self.opened[0], "the first one")])
         self.opened.append(at)
         members: list[Node] = []
-        next_at = self.skip(at + 1)
+        own_column, next_at = -1, self.skip(at + 1)
         while self.octet(next_at) != b")":
             end = members[-1].end if members else at + 1
             # (a member that begins a line no further right than its list: this was perhaps to end before it)
-            if b"\n" in self.text[end:next_at] and column(self.text, next_at) <= column(self.text, at) and not self.is_canonical:
-                self.unclosed = self.unclosed or (at, end)
+            if b"\n" in self.text[end:next_at] and not self.is_canonical:
+                own_column = column(self.text, at) if own_column < 0 else own_column
+                self.unclosed = (at, end) if self.unclosed is None and column(self.text, next_at) <= own_column else self.unclosed
             members.append(self.value(next_at, "a member or `)`"))
             next_at = self.skip(members[-1].end)
         self.opened.pop()
@@ -207,7 +212,7 @@ class Parser:
         hint, end = self.string(self.skip(at + 1), "a display hint, which is a string")
         end = self.skip(end)
         if self.octet(end, at) != b"]":
-            raise Wrong("Bad", end, "`]` must end the display hint", [(at, "which begins here")])
+            raise Wrong("Bad", end, "`]` must end the display hint; a list is in parentheses", [(at, "which begins here")])
         body, end = self.string(self.skip(end + 1), "the string of a display hint")
         return Node(at, end, body, hint)
 
@@ -266,19 +271,13 @@ class Parser:
     def unquoted(self, begin: int, at: int) -> bytes:
         """The octets of a quoted string. An escape may be wrong, or cut off by the end of the text."""
         pieces = []
-        while at < len(self.text) and self.text[at:at + 1] != b'"':
-            if self.text[at:at + 1] != b"\\":
-                pieces.append(self.text[at:at + 1])
-                at += 1
-                continue
-            found = ESCAPE.match(self.text, at)
-            if not found:
-                self.escape_fault(begin, at)
-                break
-            letter, itself, octal, hexadecimal, _ = found.groups()
-            pieces.append(bytes([b"\a\b\t\n\v\f\r"[b"abtnvfr".index(letter)]]) if letter else itself or (
-                bytes([int(octal, 8)]) if octal else bytes.fromhex(hexadecimal.decode()) if hexadecimal else b""))
+        while found := PIECE.match(self.text, at):
+            plain, itself, letter, octal, hexadecimal = found.groups(b"")
+            numbers = [int(octal, 8)] if octal else [int(hexadecimal, 16)] if hexadecimal else []
+            pieces.append(plain + itself + ESCAPED.get(letter, b"") + bytes(numbers))
             at = found.end()
+        if self.text[at:at + 1] == b"\\":
+            self.escape_fault(begin, at)
         return b"".join(pieces)
 
     def escape_fault(self, begin: int, at: int) -> None:

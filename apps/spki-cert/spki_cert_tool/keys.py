@@ -22,8 +22,8 @@ if TYPE_CHECKING:
     from spki_verify import Public
     Private = Union[Ed25519PrivateKey, RSAPrivateKey, EllipticCurvePrivateKey]
 
-ED25519, RSA, P256 = "ed25519", "rsa", "p256"
-KINDS = (ED25519, RSA, P256)
+ED25519, RSA, P256, P384 = "ed25519", "rsa", "p256", "p384"
+KINDS = (ED25519, RSA, P256, P384)
 NEW_BITS = 3072
 HALF, MOST_OCTETS = 32, 2049
 PRIVATE = (b"(private-key", b"(11:private-key")
@@ -69,9 +69,9 @@ def key_of(public: object) -> Value:
             raise BadKey(f"a key of RSA with {numbers.n.bit_length()} bits; it must have {LEAST_BITS} to {MOST_BITS}, "
                          f"and an exponent of at most {MOST_EXPONENT_BITS}")
         return [b"public-key", [b"rsa", [b"n", number(numbers.n)], [b"e", number(numbers.e)]]]
-    if isinstance(public, ec.EllipticCurvePublicKey) and isinstance(public.curve, ec.SECP256R1):
+    if isinstance(public, ec.EllipticCurvePublicKey) and isinstance(public.curve, (ec.SECP256R1, ec.SECP384R1)):
         octets = public.public_bytes(Encoding.X962, PublicFormat.UncompressedPoint)
-        return [b"public-key", [b"ecc", [b"curve", b"NIST P-256"], [b"q", octets]]]
+        return [b"public-key", [b"ecc", [b"curve", b"NIST P-%d" % public.key_size], [b"q", octets]]]
     kind = type(public).__name__.strip("_").removesuffix("PublicKey")
     raise BadKey(f"a key of the kind {kind}, and {USED}")
 
@@ -106,9 +106,9 @@ def value_of_octets(kind: str, octets: bytes) -> Value:
     return [b"sig-val", [b"rsa", [b"s", octets]]]
 
 
-def value_of_numbers(r: int, s: int) -> Value:
-    """The value of a signature of ECDSA."""
-    return [b"sig-val", [b"ecdsa", [b"r", r.to_bytes(HALF, "big")], [b"s", s.to_bytes(HALF, "big")]]]
+def value_of_numbers(r: int, s: int, octets: int = HALF) -> Value:
+    """The value of a signature of ECDSA, with so many octets for each number."""
+    return [b"sig-val", [b"ecdsa", [b"r", r.to_bytes(octets, "big")], [b"s", s.to_bytes(octets, "big")]]]
 
 
 class FileSigner:
@@ -120,11 +120,13 @@ class FileSigner:
     def sign(self, message: bytes) -> Value:
         """The value of a signature of these octets."""
         from cryptography.hazmat.primitives.asymmetric import ec, ed25519, padding, utils
-        from cryptography.hazmat.primitives.hashes import SHA256
+        from cryptography.hazmat.primitives.hashes import SHA256, SHA384
         if isinstance(self.private, ed25519.Ed25519PrivateKey):
             return value_of_octets(ED25519, self.private.sign(message))
         if isinstance(self.private, ec.EllipticCurvePrivateKey):
-            return value_of_numbers(*utils.decode_dss_signature(self.private.sign(message, ec.ECDSA(SHA256()))))
+            octets = self.private.key_size // 8
+            pair = self.private.sign(message, ec.ECDSA(SHA256() if octets == HALF else SHA384()))
+            return value_of_numbers(*utils.decode_dss_signature(pair), octets)
         return value_of_octets(RSA, self.private.sign(message, padding.PKCS1v15(), SHA256()))
 
 
@@ -264,8 +266,8 @@ def private_of_text(octets: bytes) -> Private:
     match parts:
         case [b"private-key", [b"ecc", [b"curve", b"Ed25519"], [b"flags", b"eddsa"], [b"q", _], [b"d", bytes() as secret]]]:
             return ed25519.Ed25519PrivateKey.from_private_bytes(secret)
-        case [b"private-key", [b"ecc", [b"curve", b"NIST P-256"], [b"q", _], [b"d", bytes() as secret]]]:
-            return ec.derive_private_key(int.from_bytes(secret, "big"), ec.SECP256R1())
+        case [b"private-key", [b"ecc", [b"curve", b"NIST P-256" | b"NIST P-384" as curve], [b"q", _], [b"d", bytes() as secret]]]:
+            return ec.derive_private_key(int.from_bytes(secret, "big"), ec.SECP256R1() if curve == b"NIST P-256" else ec.SECP384R1())
         case [b"private-key", [b"rsa", [b"n", bytes() as modulus], [b"e", bytes() as exponent], [b"d", bytes() as secret],
                                [b"p", bytes() as first], [b"q", bytes() as second], *_]]:
             n, e, d, p, q = (int.from_bytes(it[:2 * MOST_OCTETS], "big") for it in (modulus, exponent, secret, first, second))
@@ -279,7 +281,7 @@ def new_private(kind: str) -> Private:
     from cryptography.hazmat.primitives.asymmetric import ec, ed25519, rsa
     if kind == ED25519:
         return ed25519.Ed25519PrivateKey.generate()
-    return rsa.generate_private_key(65537, NEW_BITS) if kind == RSA else ec.generate_private_key(ec.SECP256R1())
+    return rsa.generate_private_key(65537, NEW_BITS) if kind == RSA else ec.generate_private_key(ec.SECP256R1() if kind == P256 else ec.SECP384R1())
 
 
 def file_of(private: Private, passphrase: bytes, is_pem: bool = False) -> bytes:

@@ -8,7 +8,7 @@ from .files import Refused, Signer, now
 from .keys import hash_of, principal_of, verifies
 from .places import place_shown, read_text, told, value_in
 from .sexp import Value, canonical, laid_out, on_one_line
-from .tag_words import contains, is_everything, lacks, remarks
+from .tag_words import MOST_PRODUCTS, contains, is_everything, lacks, remarks
 
 
 def certificate_of(key: Value, subject: Value, fields: list[Value], name: bytes | None = None) -> Value:
@@ -60,8 +60,9 @@ def list_without(subject: Value, before: bytes) -> tuple[bytes, list[tuple[int, 
     terms = [terms_of(it.value) for it in entries]
     keys = Keys(it.principal for it in (wanted, *terms))
     gone = [at for at, it in enumerate(terms) if it.names == wanted.names and keys.are_one(it.principal, wanted.principal)]
-    for node in (entries[at] for at in reversed(gone)):
-        before = before[:node.begin].rstrip() + before[node.end:]
+    ends = [0, *(entries[at].end for at in gone)]
+    pieces = [before[end:entries[at].begin].rstrip() for end, at in zip(ends, gone)]
+    before = b"".join(pieces) + before[ends[-1]:]
     return before, [(at + 1, on_one_line(terms[at].tag or b"")) for at in gone]
 
 
@@ -92,9 +93,12 @@ def warnings_of_certificate(terms: Terms, tag_text: str, needed: bytes | None, c
 
 def warnings_of_list(made: Value, before: bytes) -> Iterator[str]:
     """What is probably a mistake in an entry for a list that has others."""
-    entries, new = entries_of(value_in(before).value), terms_of(made)
+    entries, new, left = entries_of(value_in(before).value), terms_of(made), MOST_PRODUCTS
     keys = Keys(it.principal for it in (*entries, new))
-    yield from (f"entry {number} of the list gives all of this already" for number, it in enumerate(entries, 1) if contains(it, new, keys))
+    for number, it in enumerate(entries, 1):
+        left -= len(canonical(it.tag or b"")) * len(canonical(new.tag or b""))
+        if left > 0 and contains(it, new, keys):
+            yield f"entry {number} of the list gives all of this already"
 
 
 def warnings_of(terms: Terms, tag_text: str, tries: list[Value]) -> Iterator[str]:

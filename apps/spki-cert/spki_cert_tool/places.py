@@ -2,20 +2,21 @@
 
 A text headed `case`, `intersect`, `accepted`, `acl`, `sequence` or `public-key` is read as that, another value only as an S-expression.
 """
+import bisect
 import re
-from collections.abc import Callable
 from functools import partial
 from typing import Optional
 
 from .forms import FORM_FAULTS, MOST_OCTETS, Node, Parser, Place, Wrong, meant, without_braces
 from .sexp import canonical
-from .structures import Members, Reader, but_is, read_date, read_entry, read_item, read_key, read_request, read_row, read_tag, read_version
+from .structures import (Members, Reader, but_is, read_certificate, read_date, read_entry, read_hash, read_item, read_key, read_request, read_row,
+                         read_signature, read_tag, read_version)
 
 WIDTH = 60
 PARTS = (b"acl", b"accepted", b"sequence", b"key", b"request", b"at")
 Found = tuple[Optional[Wrong], bytes, Optional[list[int]]]
 PEM_END = rb"-----.*?(?:-----END [A-Z0-9 ]+-----|\Z)"
-USED = "only Ed25519, RSA of 2048 bits or more and ECDSA with the curve P-256 are used; `spki-cert key new FILE` makes a key"
+USED = "only Ed25519, RSA of 2048 bits or more and ECDSA with the curve P-256 or P-384 are used; `spki-cert key new FILE` makes a key"
 # What is neither a key that is used nor an S-expression, and what can be done with it.
 FOREIGN = [
     (rb"\A\xef\xbb\xbf", "a byte order mark is before the text, and is invisible: delete it, or save the file as UTF-8 without one"),
@@ -36,7 +37,7 @@ FOREIGN = [
     (rb"ssh-dss\s{1,64}AAAA[^()\n]*", f"this is a key of DSA; {USED}"),
     (rb"\A(?:(?:\s*#[^\n]*\n)*\s*AGE-SECRET-KEY-|\[Interface\]|[A-Za-z0-9+/]{43}=\s*\Z).*",
      "this is perhaps a secret key of age or WireGuard, and such keys are not used: keep it secret; `spki-cert key new FILE` makes a key"),
-    (rb"\A\s*\{\s*\"", "this is JSON, perhaps a JWK; keys are read in the form of OpenSSH, in PEM, or as S-expressions")]
+    (rb"\A\s*\{\s*\"", "this is JSON, perhaps a JWK: have the program that made it write PEM, or make a key by `spki-cert key new FILE`")]
 # Keys in a form that is no S-expression, where one is wanted.
 PASTED = [(pattern, f"this is {called}, and no S-expression; {wanted}") for pattern, called, wanted in [
     (rb"(?:ssh-|ecdsa-)[\w@.-]{1,64}\s{1,64}AAAA[A-Za-z0-9+/=]*[^()\n]*", "a key as OpenSSH writes it", "`spki-cert key FILE` writes it as one"),
@@ -47,6 +48,9 @@ INSIDE = "; replace the whole `(public-key ..)` by that S-expression"
 EMPTY = {"acl": "an access list begins as `(acl)`, and `spki-cert entry --acl FILE` adds an entry",
          "sequence": "`spki-cert sign` writes a certificate with its signature", "key": "`spki-cert key FILE` writes a key"}
 SECRET = re.compile(rb"(?i)private.?key|K(?:DExOn|H)ByaXZhdGUta2V5|AGE-SECRET-KEY")
+# What is in no word of a command but a private key itself. A file may be called `private-key`.
+PRIVATE = re.compile(rb"BEGIN [A-Z0-9 ]{0,40}PRIVATE KEY|private-key\s*\((?:\d:)?(?:ecc|rsa|dsa|ec?dsa|eddsa|elg)\b|PuTTY-User-Key-File|PrivateKey ="
+                     rb"|AGE-SECRET-KEY-1|b3BlbnNzaC1rZXktdjE|K(?:DExOn|H)ByaXZhdGUta2V5")
 COMMENT = rb"[ \t]*(?:#[^#()]{0,40}[G-Zg-z][^#]*|//.*|--.*)\Z"
 BEGINS = rb"^\((?:acl|case|cert|entry|public-key|sequence)[\s()]"
 FLAGS = re.DOTALL | re.MULTILINE
@@ -60,6 +64,11 @@ def foreign(text: bytes) -> str | None:
 def may_be_secret(text: bytes) -> bool:
     """Whether a text is perhaps a private key, in any form."""
     return SECRET.search(text) is not None or foreign(text) is not None
+
+
+def has_private_key(word: bytes) -> bool:
+    """Whether a word of a command has a private key in it."""
+    return PRIVATE.search(word) is not None or b'"kty"' in word and b'"d"' in word
 
 
 def name_foreign(text: bytes, wrong: Wrong) -> None:
@@ -81,10 +90,10 @@ def name_foreign(text: bytes, wrong: Wrong) -> None:
         wrong.shown_at, wrong.why = 0, f"this is no S-expression; one begins on line {line}: delete what is before it, and what is behind its end"
 
 
-def part_of(name: str, read: Callable[[], object]) -> None:
+def part_of(name: str, read: Reader, node: Node) -> None:
     """Reads a part. A fault gets the part's name in front."""
     try:
-        read()
+        read(node)
     except Wrong as wrong:
         is_of_tag = wrong.kind in ("EmptyList", "ListHead", "Hint", "UnknownStar", "RangeOrdering", "RangeLimit", "TooManyNodes")
         wrong.kind = f"{name} {'Tag ' if is_of_tag and name.startswith(('acl', 'sequence')) else ''}{wrong.kind}"
@@ -95,7 +104,7 @@ def read_numbered(name: str, read: Reader, nodes: list[Node], first: int = 1) ->
     """Reads entries, items or rows. A fault gets the place where the one begins that it is in."""
     for number, node in enumerate(nodes, first):
         try:
-            part_of(f"{name} {number}", partial(read, node))
+            part_of(f"{name} {number}", read, node)
         except Wrong as wrong:
             word = {"acl": "entry", "sequence": "item"}.get(name, "row")
             wrong.others.append((node.begin, f"{word} {number} begins here"))
@@ -103,15 +112,15 @@ def read_numbered(name: str, read: Reader, nodes: list[Node], first: int = 1) ->
 
 
 def read_list(node: Node) -> None:
-    part_of("acl 0", lambda: Members(node, b"acl", "the access list"))
+    part_of("acl 0", partial(Members, head=b"acl", what="the access list"), node)
     entries = node.rest
     if entries and entries[0].head == b"version":
-        part_of("acl 0", partial(read_version, entries.pop(0)))
+        part_of("acl 0", read_version, entries.pop(0))
     read_numbered("acl", read_entry, entries)
 
 
 def read_sequence(node: Node) -> None:
-    part_of("sequence 0", lambda: Members(node, b"sequence", "the sequence"))
+    part_of("sequence 0", partial(Members, head=b"sequence", what="the sequence"), node)
     waits: tuple[int, Node] | None = None
     items = node.rest
     for number, item in enumerate([*items, None], 1):
@@ -140,7 +149,7 @@ def read_case(node: Node) -> None:
 
 def read_outline(node: Node) -> None:
     """The parts of a case, by their heads."""
-    part_of("case", lambda: Members(node, b"case", "the text"))
+    part_of("case", partial(Members, head=b"case", what="the text"), node)
     parts = node.rest
     for place, head in enumerate(PARTS):
         part = parts[place] if place < len(parts) else None
@@ -159,29 +168,26 @@ def read_outline(node: Node) -> None:
 
 
 def read_intersect(node: Node) -> None:
-    part_of("intersect", lambda: Members(node, b"intersect", "the text"))
+    part_of("intersect", partial(Members, head=b"intersect", what="the text"), node)
     tags = node.rest
     if len(tags) != 2:
         raise Wrong("intersect Shape", node.begin, f"`(intersect A B)` has two tags, and this has {len(tags)} members")
     for number, tag in enumerate(tags, 1):
-        part_of(f"tag {number}", partial(read_tag, tag, [0]))
+        part_of(f"tag {number}", read_tag, tag)
 
 
 def read_rows(node: Node) -> None:
-    part_of("rows", lambda: Members(node, b"accepted", "the text"))
+    part_of("rows", partial(Members, head=b"accepted", what="the text"), node)
     read_numbered("rows", read_row, node.rest)
-
-
-def reader_of(name: str, read: Reader) -> Reader:
-    """The reader of a part that is one value."""
-    return lambda node: part_of(name, partial(read, node))
 
 
 READERS: dict[str, Reader] = {
     "case": read_case, "intersect": read_intersect, "rows": read_rows, "acl": read_list, "sequence": read_sequence,
-    "key": reader_of("key", read_key), "request": reader_of("request", read_request), "at": reader_of("at", read_date)}
+    "key": partial(part_of, "key", read_key), "request": partial(part_of, "request", read_request), "at": partial(part_of, "at", read_date)}
 # What a text is by its head. A request and a moment have none.
 BY_HEAD = {b"case": "case", b"intersect": "intersect", b"accepted": "rows", b"acl": "acl", b"sequence": "sequence", b"public-key": "key"}
+# Parts of texts, which no command of the program reads alone.
+ALONE = {b"cert": read_certificate, b"signature": read_signature, b"hash": read_hash, b"entry": read_entry}
 # The words after `refused` that a text can have in addition to its own.
 WORDS = {"case": ("acl", "accepted", "sequence", "key", "request", "at"), "intersect": ("tag",)}
 # What a text is by a word that is no text's own.
@@ -198,15 +204,8 @@ def kind_of(node: Node, word: str) -> str | None:
     return BY_WORD.get(word, word if word in READERS else None)
 
 
-def words_of(given: str) -> tuple[str, str]:
-    """The part that a refusal names, and the word after it, each empty if there is none."""
-    word, fault, *_ = *given.split()[1:3], "", ""
-    return word, fault
-
-
-def read_as(node: Node, given: str) -> None:
+def read_as(node: Node, word: str, fault: str) -> None:
     """Reads a value as what it is. Then its canonical form too is a text with a limit."""
-    word, fault = words_of(given)
     if fault in FORM_FAULTS[1:]:
         return
     kind, length = kind_of(node, word), len(canonical(node.value))
@@ -214,11 +213,14 @@ def read_as(node: Node, given: str) -> None:
         raise Wrong("TooLong", node.begin, f"the canonical form has {length:,} octets, and may have {MOST_OCTETS:,}")
     if kind:
         READERS[kind](node)
+    elif not word and node.head in ALONE:
+        ALONE[node.head](node)
 
 
 def read_text(text: bytes, given: str = "") -> tuple[Found, Node]:
     """What is wrong with a text, or None; the text in which its places are, and the places of that text's octets in the text. And the value
-    of the text, which is an empty list where the text has no form."""
+    of the text, which is an empty list where the text has no form. Given is a refusal: it names the part that the text is, and a fault."""
+    word, fault, *_ = *given.split()[1:3], "", ""
     node, inner, places = Node(0, members=[]), text, None
     try:
         inner, places, closing = without_braces(text)
@@ -226,17 +228,18 @@ def read_text(text: bytes, given: str = "") -> tuple[Found, Node]:
         if closing < len(text):
             places, inner = None, text
             raise Wrong("Trailing", closing, "the braces end before this octet; a text is one value")
-        read_as(node, given)
+        read_as(node, word, fault)
     except Wrong as wrong:
         if wrong.kind in FORM_FAULTS:
             if places and wrong.kind != "TooDeep":
-                wrong.kind, wrong.why = "Bad", f"what is in the braces is no canonical form: {wrong.why}"
-            word, fault = words_of(given)
+                wrong.kind, wrong.why = "Bad", f"what is in the braces is no canonical form in base64 (a list is in parentheses): {wrong.why}"
             wrong.kind = f"{word if word in NAMED and fault in FORM_FAULTS else 'form'} {wrong.kind}"
         if places is None:
             name_foreign(text, wrong)
         if not text.strip():
-            wrong.why = f"the file is empty; {EMPTY.get(words_of(given)[0], '; '.join(EMPTY.values()))}"
+            wrong.why = f"the file is empty; {EMPTY.get(word, '; '.join(EMPTY.values()))}"
+        elif wrong.shown_at == 0 and word in ("acl", "sequence"):
+            wrong.why += f"; {EMPTY[word]}"
         return (wrong, inner, places), node
     return (None, inner, places), node
 
@@ -257,13 +260,21 @@ def refusal(wrong: Wrong, places: list[int] | None) -> str:
     return f"refused {wrong.kind} {places[-1] if places else wrong.at}"
 
 
-def line_and_column(text: bytes, at: int) -> tuple[int, int]:
-    return text.count(b"\n", 0, at) + 1, at - text.rfind(b"\n", 0, at)
+class Lines:
+    """The lines of a text, which are counted once."""
+
+    def __init__(self, text: bytes) -> None:
+        self.begins = [0, *(found.end() for found in re.finditer(b"\n", text))]
+
+    def line_and_column(self, at: int) -> tuple[int, int]:
+        """The line and the column of an offset, from 1."""
+        line = bisect.bisect_right(self.begins, at)
+        return line, at - self.begins[line - 1] + 1
 
 
 def place_shown(text: bytes, places: list[int] | None, at: int) -> tuple[str, str]:
     """A place as line and column, with the text around it and a mark below."""
-    line, column = line_and_column(text, at)
+    line, column = Lines(text).line_and_column(at)
     starts, ends = at - column + 1, text.find(b"\n", at)
     first, last = max(starts, at - WIDTH), min(len(text) if ends < 0 else ends, at + WIDTH)
     front = "".join(printable(octet) for octet in text[first:at])

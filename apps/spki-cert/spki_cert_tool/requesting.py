@@ -11,7 +11,6 @@ from .files import Refused, octets_of, put, remark_on_mode, signer_at, tell, val
 from .sexp import canonical
 
 DONE, BY_SIGNAL = 0, 128
-KEEP = "X-Spki-Keep"
 METHOD = re.compile(r"[A-Z]{1,32}")
 ADDRESS = re.compile(r"https?://[^/?#@\s]+(?:[/?][!\"$-~]*)?")
 
@@ -24,17 +23,13 @@ def request(given: argparse.Namespace) -> int:
         raise Refused(f"{method}: a method is in capital letters, as PUT")
     if not ADDRESS.fullmatch(given.address):
         raise Refused(f"{given.address}: no address of https or http, or one with a space, a fragment or a password; write %20 for a space")
-    if given.keep and given.cert is None:
-        raise Refused("--keep goes with --cert")
     if given.words and not given.curl:
         raise Refused(f"{given.words[0]}: options of curl go with --curl")
     sequence = "{%s}" % base64.b64encode(canonical(value_of(given.cert, "sequence"))).decode() if given.cert is not None else ""
     by = signer_at(given.by)
     tell(*(f"spki-cert: {remark}" for remark in remark_on_mode(given.by)))
     signer = Signer(canonical(by.key), lambda message: canonical(by.sign(message)), sequence)
-    own = {KEEP: "yes"} if given.keep else {}
-    fields = {**own, **signer.fields(method, given.address, body, own.items(), [KEEP.lower()])}
-    lines = "".join(f"{name}: {value}\n" for name, value in fields.items())
+    lines = "".join(f"{name}: {value}\n" for name, value in signer.fields(method, given.address, body).items())
     if given.curl:
         return sent(method, given.address, lines.encode(), body if given.body is not None else None, given.words)
     put(lines)

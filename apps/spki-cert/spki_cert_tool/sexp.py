@@ -42,6 +42,22 @@ def on_one_line(value: Value) -> str:
     return spelled(value)
 
 
+def in_short(value: Value, room: int = 400) -> str:
+    """A value on one line, cut off where it is long. No more of it is read."""
+    if isinstance(value, list):
+        parts: list[str] = []
+        for member in value:
+            if room <= 0:
+                parts.append("..")
+                break
+            parts.append(in_short(member, room))
+            room -= len(parts[-1]) + 1
+        return f"({' '.join(parts)})"
+    if isinstance(value, tuple):
+        return f"[{in_short(value[0], room)}]{in_short(value[1], room)}"
+    return spelled(value) if len(value) <= room else f"{spelled(value[:room])}.."
+
+
 def laid_out(value: Value, indent: int = 0) -> str:
     """A text of a value with line breaks, for people to read. Whitespace is ignored in base64 and hexadecimal."""
     line, margin, room = on_one_line(value), "\n" + " " * (indent + 1), WIDTH - indent

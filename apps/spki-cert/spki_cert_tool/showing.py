@@ -9,11 +9,13 @@ from .certificates import Keys, Terms, certificates_in, entries_of, fault_of_sig
 from .files import octets_of
 from .forms import Wrong
 from .keys import OPENSSH, BadKey, digest_of, hash_of, is_private, kind_of, no_passphrase, read_public
-from .sexp import Value, canonical, on_one_line
+from .sexp import Value, on_one_line
 
 SHORT_KEY, SHORT_DIGITS = 40, 8
 FAULTS = {"KeyNotShown": "the key of its issuer is not here, so the signature is not tested", "DigestDiffers": "its signature has another digest",
           "SignerDiffers": "signed by another key than its issuer's", "NotAccepted": "the signature is not valid"}
+KINDS = {b"cert": "a certificate", b"case": "a case", b"intersect": "a question of two tags", b"accepted": "rows of valid signatures",
+         b"signature": "a signature", b"hash": "a hash", b"entry": "an entry"}
 Row = dict[str, object]
 
 
@@ -28,7 +30,7 @@ class Labels:
         """Calls a key so, if it is called nothing yet."""
         self.keys.add(key)
         if label:
-            self.labels.setdefault(canonical(key), label)
+            self.labels.setdefault(digest_of(key), label)
 
     def add_path(self, path: str) -> None:
         """Takes the public keys of a file, or of the files of a folder: lines of OpenSSH with their comments, as authorized_keys has them, or
@@ -44,15 +46,14 @@ class Labels:
         """What a principal is called."""
         if principal is None:
             return "the list"
-        key = self.keys.named(principal)
-        label = self.labels.get(canonical(key)) if key is not None else None
-        if label:
-            return label
+        is_known, digest = self.keys.named(principal) is not None, self.keys.text_of(principal)[1]
+        if is_known and digest in self.labels:
+            return self.labels[digest]
         text = on_one_line(principal)
         if headed(principal, b"public-key") and len(text) <= SHORT_KEY:
             return text
-        digest = digest_of(key) if key is not None else string_of(members(principal)[1]) or b""
-        return f"key {digest.hex()[:SHORT_DIGITS]}"
+        shown = digest if is_known else string_of(members(principal)[1]) or b""
+        return f"key {shown.hex()[:SHORT_DIGITS]}"
 
     def of_subject(self, subject: Value) -> str:
         """What a subject is called, which may be a name."""
@@ -122,4 +123,6 @@ def what_is(value: Value) -> str:
         return f"an access list, entries: {len(entries_of(value))}"
     if headed(value, b"sequence"):
         return f"a sequence, certificates: {len(certificates_in(value))}"
-    return "a certificate" if headed(value, b"cert") else "a case"
+    if headed(value, b"public-key"):
+        return f"a public key, {kind_of(value)}"
+    return next((what for head, what in KINDS.items() if headed(value, head)), "a tag, or another value")

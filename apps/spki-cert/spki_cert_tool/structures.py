@@ -151,7 +151,7 @@ def field_of(read: Reader) -> Reader:
 
 read_version = list_of(b"version", "a version", ("the version's string", read_number))
 FIELDS: dict[bytes, Reader] = {
-    b"not-before": field_of(read_date), b"not-after": field_of(read_date), b"tag": field_of(lambda node: read_tag(node, [0])),
+    b"not-before": field_of(read_date), b"not-after": field_of(read_date), b"tag": field_of(lambda node: read_tag(node)),
     b"issuer": field_of(read_issuer), b"subject": field_of(read_subject), b"version": read_version,
     b"propagate": list_of(None, "a field"), b"valid": lambda node: read_fields(node, node.rest, LIMITS)}
 
@@ -178,6 +178,9 @@ def read_fields(owner: Node, nodes: list[Node], allowed: tuple[bytes, ...]) -> S
             raise shape(node, f"the field `{head.decode()}` is here a second time: {both if head == b'tag' else 'remove one of them'}",
                         [(said[head][0].begin, "the first one"), (owner.begin, "in the list that begins here")])
         said[head] = node, FIELDS.get(head, lambda _: None)(node)
+    for head in LIMITS:
+        if b"valid" in said and head in said:
+            raise shape(said[head][0], f"`{head.decode()}` is given directly, and there is `(valid ..)` too", [(said[b'valid'][0].begin, "here")])
     return said
 
 
@@ -187,12 +190,6 @@ def needed(owner: Node, said: Said, *heads: bytes) -> None:
             raise shape(owner, f"the field `({head.decode()} ..)` is missing in the list that begins here")
 
 
-def one_validity(said: Said) -> None:
-    for head in LIMITS:
-        if b"valid" in said and head in said:
-            raise shape(said[head][0], f"`{head.decode()}` is given directly, and there is `(valid ..)` too", [(said[b'valid'][0].begin, "here")])
-
-
 def read_entry(node: Node) -> None:
     if node.head == b"deny":
         raise shape(node, "there are no denials: what no entry gives is denied, so leave this out")
@@ -200,9 +197,7 @@ def read_entry(node: Node) -> None:
     subject = members.next("the subject")
     if not read_subject(subject):
         raise Wrong("RelativeInEntry", subject.begin, "a name in an entry needs the key that defines it: `(name KEY n ..)`")
-    said = read_fields(node, members.left, ENTRY_FIELDS)
-    needed(node, said, b"tag")
-    one_validity(said)
+    needed(node, read_fields(node, members.left, ENTRY_FIELDS), b"tag")
 
 
 def read_certificate(node: Node) -> None:
@@ -215,7 +210,6 @@ def read_certificate(node: Node) -> None:
                             f"`{head.decode()}`, or write the key alone as issuer", [(said[b"issuer"][0].begin, "its issuer is a name")])
     else:
         needed(node, said, b"tag")
-    one_validity(said)
 
 
 def read_digest_of_row(node: Node) -> None:
@@ -258,8 +252,9 @@ def list_head(node: Node) -> Node:
     return node.members[0]
 
 
-def read_tag(node: Node, nodes: list[int]) -> None:
-    """A tag. `nodes` counts in its one place."""
+def read_tag(node: Node, nodes: list[int] | None = None) -> None:
+    """A tag. `nodes` counts in its one place, for the tags in a tag too."""
+    nodes = [0] if nodes is None else nodes
     nodes[0] += 1
     if nodes[0] > MOST_NODES:
         raise Wrong("TooManyNodes", node.begin, f"the {MOST_NODES + 1}th node of the tag begins here")

@@ -5,53 +5,65 @@ from collections.abc import Iterator
 
 from .certificates import Keys, Terms, headed, members, string_of
 from .forms import Node, Place
-from .sexp import Value, on_one_line
-from .structures import MOMENT
+from .sexp import Value, in_short, on_one_line
+from .structures import MOMENT, STARS
 
 TIME = re.compile(rb"([01]\d|2[0-3]):[0-5]\d:([0-5]\d|60)")
-FORMS = {b"alpha": re.compile(rb".*", re.DOTALL), b"time": TIME, b"date": MOMENT}
+FORMS = {b"time": TIME, b"date": MOMENT}
 COMPARED = {b"g": operator.gt, b"ge": operator.ge, b"l": operator.lt, b"le": operator.le}
 ACTIONS = {b"read", b"write", b"get", b"put", b"post", b"delete", b"list", b"create", b"update", b"execute", b"admin", b"push", b"pull"}
-STARLESS = (b"set", b"prefix", b"range")
+# The octets of tags, times those of others, that are compared at most.
+MOST_PRODUCTS = 50_000_000
+
+
+def holds(tag: Value, request: Value) -> bool:
+    """Whether a tag contains a request."""
+    if tag == [b"*"]:
+        return True
+    if headed(tag, b"*"):
+        word, *behind = members(tag)
+        if word == b"set":
+            return any(holds(member, request) for member in behind)
+        if word == b"prefix":
+            return isinstance(request, bytes) and request.startswith(string_of(behind[0]) or b"")
+        return isinstance(request, bytes) and is_in_range(behind, request)
+    if isinstance(tag, list) and isinstance(request, list):
+        return len(request) >= len(tag) and all(map(holds, tag, request))
+    return tag == request
 
 
 def lacks(tag: Value, request: Value, place: str = "the request") -> str | None:
     """Why a tag does not contain a request: the first member that differs. None if it contains it."""
+    if holds(tag, request):
+        return None
+    asked = in_short(request)
     if headed(tag, b"*"):
-        return lacks_star(tag, request, place)
+        word, *behind = members(tag)
+        if word == b"set" and len(behind) == 1:
+            return lacks(behind[0], request, place)
+        what = f"no member of `{on_one_line(tag)}` contains it" if word == b"set" else f"the tag has `{on_one_line(tag)}`"
+        return f"{place} is `{asked}`, and {what}"
     if not isinstance(tag, list):
-        return None if tag == request else f"{place} is `{on_one_line(request)}`, and the tag has `{on_one_line(tag)}`"
+        return f"{place} is `{asked}`, and the tag has `{on_one_line(tag)}`"
     if not isinstance(request, list):
-        return f"{place} is the string `{on_one_line(request)}`, and the tag has the list `{on_one_line(tag)}`"
-    for number, member in enumerate(tag, 1):
-        if number > len(request):
-            return f"{place} has {len(request)} members, and the tag at least {len(tag)}: `{on_one_line(member)}` is asked for as member {number}"
-        said = lacks(member, request[number - 1], f"member {number} of {place}")
-        if said:
-            return said
-    return None
-
-
-def lacks_star(tag: Value, request: Value, place: str) -> str | None:
-    """The same of a tag that begins with the star."""
-    if tag == [b"*"]:
-        return None
-    word, *behind = members(tag)
-    if word == b"set":
-        said = [lacks(member, request, place) for member in behind]
-        if None in said:
-            return None
-        return said[0] if len(said) == 1 else f"{place} is `{on_one_line(request)}`, and no member of `{on_one_line(tag)}` contains it"
-    if isinstance(request, bytes) and (request.startswith(string_of(behind[0]) or b"") if word == b"prefix" else is_in_range(behind, request)):
-        return None
-    return f"{place} is `{on_one_line(request)}`, and the tag has `{on_one_line(tag)}`"
+        return f"{place} is the string `{asked}`, and the tag has the list `{on_one_line(tag)}`"
+    for number, (member, other) in enumerate(zip(tag, request), 1):
+        if not holds(member, other):
+            return lacks(member, other, f"member {number} of {place}")
+    at = len(request)
+    return f"{place} has {at} members, and the tag at least {len(tag)}: `{on_one_line(tag[at])}` is asked for as member {at + 1}"
 
 
 def is_in_range(behind: list[Value], request: bytes) -> bool:
     """Whether a string is in a range, of which the ordering and the limits are given."""
     ordering, limits = string_of(behind[0]) or b"", [string_of(it) or b"" for it in behind[1:]]
     given = dict(zip(limits[::2], limits[1::2]))
-    return FORMS[ordering].fullmatch(request) is not None and all(COMPARED[word](request, limit) for word, limit in given.items())
+    return has_form(ordering, request) and all(COMPARED[word](request, limit) for word, limit in given.items())
+
+
+def has_form(ordering: bytes, octets: bytes) -> bool:
+    """Whether a string has the form of an ordering."""
+    return ordering == b"alpha" or FORMS[ordering].fullmatch(octets) is not None
 
 
 def covers(wide: Value, narrow: Value) -> bool:
@@ -66,8 +78,8 @@ def covers(wide: Value, narrow: Value) -> bool:
     if members(wide)[0] == b"set":
         return any(covers(it, narrow) for it in members(wide)[1:])
     if headed(narrow, b"*"):
-        return members(narrow)[:1] == members(wide)[:1] == [b"prefix"] and lacks_star(wide, members(narrow)[1], "") is None
-    return isinstance(narrow, bytes) and lacks_star(wide, narrow, "") is None
+        return members(narrow)[:1] == members(wide)[:1] == [b"prefix"] and holds(wide, members(narrow)[1])
+    return isinstance(narrow, bytes) and holds(wide, narrow)
 
 
 def contains(wide: Terms, narrow: Terms, keys: Keys) -> bool:
@@ -93,10 +105,10 @@ def remarks(node: Node, is_outermost: bool = True) -> Iterator[Place]:
         yield node.begin, f"`(tag ..)` is written around it: give `{on_one_line(rest[0].value)}` alone"
         return
     words = [member.body for member in node.members]
-    if head[:1] == b"*" and head[1:] in STARLESS:
+    if head[:1] == b"*" and head[1:] in STARS:
         word = head[1:].decode()
         yield node.begin, f"`(*{word} ..)` is a list that begins with the string `*{word}`; with a space behind the star it is `(* {word} ..)`"
-    elif head in STARLESS:
+    elif head in STARS:
         yield node.begin, f"`({head.decode()} ..)` is a list that begins with this word; with a star it is `(* {head.decode()} ..)`"
     elif None not in words and len(words) > 1 and (not is_outermost or ACTIONS.issuperset(word or b"" for word in words)):
         text = on_one_line(node.value)
@@ -110,8 +122,8 @@ def of_string(node: Node) -> Iterator[Place]:
     body = node.body or b""
     front = re.match(rb"[^*?]*", body)
     if b"*" in body or body.endswith(b"?"):
-        begin = on_one_line(front[0]) if front else ""
-        yield node.begin, f"a string is no pattern: `{on_one_line(body)}` contains only itself; what begins so is `(* prefix {begin})`"
+        instead = f"what begins so is `(* prefix {on_one_line(front[0])})`" if front and front[0] else "what contains every string is `(*)`"
+        yield node.begin, f"a string is no pattern: `{on_one_line(body)}` contains only itself; {instead}"
     elif found := re.search(rb"[\s()]", body):
         what = "parentheses" if found[0] in b"()" else "a space"
         yield node.begin, f"this is one string with {what} in it; without its quotes it is several values"
@@ -148,7 +160,7 @@ def of_range(node: Node, ordering: bytes, limits: list[bytes]) -> Iterator[Place
     given = dict(zip(limits[::2], limits[1::2]))
     low, up = given.get(b"g", given.get(b"ge")), given.get(b"l", given.get(b"le"))
     for limit in filter(None, (low, up)):
-        if not FORMS[ordering].fullmatch(limit):
+        if not has_form(ordering, limit):
             yield node.begin, f"the limit `{on_one_line(limit)}` is no {ordering.decode()} as requests have them"
     if low is not None and up is not None and (low > up or low == up and (b"g" in given or b"l" in given)):
         yield node.begin, f"no string is between `{on_one_line(low)}` and `{on_one_line(up)}`: {'exchange them' if low > up else 'remove the range'}"

@@ -10,7 +10,7 @@ from collections.abc import Callable, Sequence
 
 import psycopg
 
-from .tables import Store
+from .tables import ROLES, Store
 from .texts import MOST, Wrong, advanced, alone, batches, entry_of, fault_of, principal_of
 from .transfer import MOST_AT_ONCE, differences, exported, forget, imported
 
@@ -31,7 +31,7 @@ def put(line: str) -> None:
 
 def init(store: Store, given: argparse.Namespace) -> int:
     store.make()
-    put(f"made the schema {store.schema} and the roles {store.schema}_reader and {store.schema}_writer: grant these to accounts")
+    put(f"made the schema {store.schema} and the roles {', '.join(f'{store.schema}_{role}' for role in ROLES)}: grant these to accounts")
     return DONE
 
 
@@ -106,7 +106,7 @@ def diff(store: Store, given: argparse.Namespace) -> int:
 
 
 def beat(store: Store, given: argparse.Namespace) -> int:
-    """Increases the number of the heartbeat each second, and connects again where the database does not answer."""
+    """Increases the number of the heartbeat each second. After any fault of the database it connects again: another server may be the primary."""
     count = 0
     while not given.times or count < given.times:
         begun = time.monotonic()
@@ -115,7 +115,7 @@ def beat(store: Store, given: argparse.Namespace) -> int:
                 store.connect()
             store.beat()
             count += 1
-        except psycopg.OperationalError as why:
+        except psycopg.Error as why:
             print(f"spki-store: {first_line(why)}", file=sys.stderr)
             store.close()
         time.sleep(max(0.0, BEAT_SECONDS - (time.monotonic() - begun)) if count != given.times else 0)
@@ -144,7 +144,7 @@ def parser_of_commands() -> argparse.ArgumentParser:
         made.set_defaults(does=does)
         return made
 
-    command("init", init, "makes the schema, and the roles of readers and writers")
+    command("init", init, "makes the schema, and the roles that accounts are put in")
     made = command("import", import_, "adds the entries of a list; if it was stopped, the same command continues")
     made.add_argument("file")
     made.add_argument("--again", action="store_true", help="adds them also if this list was imported before")

@@ -1,5 +1,5 @@
 -- A store of access-list entries. `spki-store init` runs this once, in one transaction, with the name of the schema in place of @SCHEMA@.
--- The roles @SCHEMA@_reader and @SCHEMA@_writer cannot log in: grant them to accounts.
+-- The roles @SCHEMA@_reader, @SCHEMA@_writer, @SCHEMA@_adder and @SCHEMA@_keeper cannot log in: grant them to accounts.
 CREATE SCHEMA @SCHEMA@;
 
 -- What an entry is found by: the digest of its subject's hash, or the SHA-256 digest of its subject's key. The text must be one list in canonical
@@ -66,6 +66,7 @@ END $$;
 CREATE TABLE @SCHEMA@.entries (
     number bigint GENERATED ALWAYS AS IDENTITY PRIMARY KEY,
     principal bytea NOT NULL GENERATED ALWAYS AS (@SCHEMA@.principal_of(text)) STORED CHECK (octet_length(principal) IN (20, 32, 64)),
+    who text NOT NULL DEFAULT session_user,
     text bytea NOT NULL CHECK (octet_length(text) <= 1048576)
 );
 -- One index by the length of the digest: those by SHA-1 and SHA-512 are small where few entries are for such hashes, and so cost no read of a disk.
@@ -75,6 +76,16 @@ CREATE INDEX entries_by_sha512 ON @SCHEMA@.entries (principal, number) WHERE oct
 
 -- The certificates that have ended early, by their SHA-256 digests. They stay.
 CREATE TABLE @SCHEMA@.ended (certificate bytea PRIMARY KEY CHECK (octet_length(certificate) = 32), remark text NOT NULL DEFAULT '');
+
+-- The certificates that clients left with daemons, by the SHA-256 digests of their keys. They give nothing by themselves.
+CREATE TABLE @SCHEMA@.chains (
+    key bytea NOT NULL CHECK (octet_length(key) = 32),
+    digest bytea NOT NULL GENERATED ALWAYS AS (sha256(text)) STORED,
+    until timestamptz NOT NULL,
+    text bytea NOT NULL CHECK (octet_length(text) <= 8192),
+    PRIMARY KEY (key, digest)
+);
+CREATE INDEX chains_by_end ON @SCHEMA@.chains (until);
 
 -- Who changed what. `digest` is that of the entry's principal or of the ended certificate. The text of a removed entry is kept here.
 CREATE TABLE @SCHEMA@.changes (
@@ -91,7 +102,7 @@ CREATE TABLE @SCHEMA@.changes (
 -- change with a lower number appears after one with a higher number.
 CREATE TABLE @SCHEMA@.state (one boolean PRIMARY KEY DEFAULT true CHECK (one), version integer NOT NULL, changes bigint NOT NULL)
     WITH (fillfactor = 10);
-INSERT INTO @SCHEMA@.state (version, changes) VALUES (1, 0);
+INSERT INTO @SCHEMA@.state (version, changes) VALUES (2, 0);
 
 -- `spki-store beat` increases this number each second.
 CREATE TABLE @SCHEMA@.heartbeat (one boolean PRIMARY KEY DEFAULT true CHECK (one), number bigint NOT NULL, moment timestamptz NOT NULL)
@@ -137,13 +148,43 @@ CREATE TRIGGER refused BEFORE UPDATE OR TRUNCATE ON @SCHEMA@.entries FOR EACH ST
 CREATE TRIGGER refused BEFORE UPDATE OR DELETE OR TRUNCATE ON @SCHEMA@.ended FOR EACH STATEMENT EXECUTE FUNCTION @SCHEMA@.refuse_change();
 CREATE TRIGGER refused BEFORE UPDATE OR DELETE OR TRUNCATE ON @SCHEMA@.changes FOR EACH STATEMENT EXECUTE FUNCTION @SCHEMA@.refuse_change();
 
+-- Keeps the certificates of a key until a time, and says what became of that: `kept`, `known`, or `full` if this key has as many as it may, or as many
+-- keys have some. Those that have ended are removed. Only this function adds any, one after the other.
+CREATE FUNCTION @SCHEMA@.keep(of_key bytea, shown bytea, ends timestamptz, most_each integer, most_keys integer) RETURNS text
+LANGUAGE plpgsql SECURITY DEFINER SET search_path = pg_catalog, pg_temp AS $$
+DECLARE
+    known bigint;
+BEGIN
+    LOCK TABLE @SCHEMA@.chains IN SHARE ROW EXCLUSIVE MODE;
+    DELETE FROM @SCHEMA@.chains WHERE until <= clock_timestamp();
+    IF EXISTS (SELECT FROM @SCHEMA@.chains WHERE key = of_key AND digest = sha256(shown)) THEN
+        RETURN 'known';
+    END IF;
+    SELECT count(*) INTO known FROM @SCHEMA@.chains WHERE key = of_key;
+    IF known >= most_each OR known = 0 AND (SELECT count(DISTINCT key) FROM @SCHEMA@.chains) >= most_keys THEN
+        RETURN 'full';
+    END IF;
+    INSERT INTO @SCHEMA@.chains (key, until, text) VALUES (of_key, ends, shown);
+    RETURN 'kept';
+END $$;
+
+-- Who writes may remove any entry, and who adds only those of its own account.
+ALTER TABLE @SCHEMA@.entries ENABLE ROW LEVEL SECURITY;
+CREATE POLICY seen ON @SCHEMA@.entries FOR SELECT USING (true);
+CREATE POLICY added ON @SCHEMA@.entries FOR INSERT TO @SCHEMA@_writer, @SCHEMA@_adder WITH CHECK (true);
+CREATE POLICY removed ON @SCHEMA@.entries FOR DELETE TO @SCHEMA@_writer USING (true);
+CREATE POLICY removed_again ON @SCHEMA@.entries FOR DELETE TO @SCHEMA@_adder USING (who = session_user);
+
 REVOKE ALL ON ALL FUNCTIONS IN SCHEMA @SCHEMA@ FROM PUBLIC;
-GRANT USAGE ON SCHEMA @SCHEMA@ TO @SCHEMA@_reader, @SCHEMA@_writer;
-GRANT SELECT ON @SCHEMA@.entries, @SCHEMA@.ended, @SCHEMA@.state, @SCHEMA@.heartbeat TO @SCHEMA@_reader, @SCHEMA@_writer;
-GRANT SELECT (number, moment, what, entry, digest) ON @SCHEMA@.changes TO @SCHEMA@_reader;
+GRANT USAGE ON SCHEMA @SCHEMA@ TO @SCHEMA@_reader, @SCHEMA@_writer, @SCHEMA@_adder, @SCHEMA@_keeper;
+GRANT SELECT ON @SCHEMA@.entries, @SCHEMA@.ended, @SCHEMA@.state, @SCHEMA@.heartbeat TO @SCHEMA@_reader, @SCHEMA@_writer, @SCHEMA@_adder;
+GRANT SELECT (number, moment, what, entry, digest) ON @SCHEMA@.changes TO @SCHEMA@_reader, @SCHEMA@_adder;
 GRANT SELECT ON @SCHEMA@.changes TO @SCHEMA@_writer;
-GRANT INSERT (text), DELETE ON @SCHEMA@.entries TO @SCHEMA@_writer;
+GRANT INSERT (text), DELETE ON @SCHEMA@.entries TO @SCHEMA@_writer, @SCHEMA@_adder;
 GRANT INSERT (certificate, remark) ON @SCHEMA@.ended TO @SCHEMA@_writer;
 GRANT UPDATE (number, moment) ON @SCHEMA@.heartbeat TO @SCHEMA@_writer;
 GRANT SELECT, INSERT, UPDATE, DELETE ON @SCHEMA@.imports TO @SCHEMA@_writer;
-GRANT EXECUTE ON FUNCTION @SCHEMA@.principal_of(bytea) TO @SCHEMA@_reader, @SCHEMA@_writer;
+GRANT SELECT, DELETE ON @SCHEMA@.chains TO @SCHEMA@_writer;
+GRANT SELECT ON @SCHEMA@.state, @SCHEMA@.chains TO @SCHEMA@_keeper;
+GRANT EXECUTE ON FUNCTION @SCHEMA@.keep(bytea, bytea, timestamptz, integer, integer) TO @SCHEMA@_keeper;
+GRANT EXECUTE ON FUNCTION @SCHEMA@.principal_of(bytea) TO @SCHEMA@_reader, @SCHEMA@_writer, @SCHEMA@_adder;

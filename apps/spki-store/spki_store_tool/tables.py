@@ -9,14 +9,18 @@ from typing import Any
 
 import psycopg
 from psycopg import sql
+from psycopg.conninfo import conninfo_to_dict, make_conninfo
 
 from .texts import Wrong
 
 SCHEMA = os.path.join(os.path.dirname(os.path.abspath(__file__)), "schema.sql")
 NAME = re.compile(r"[a-z_][a-z0-9_]{0,40}\Z")
-VERSION = 1
+VERSION = 2
+ROLES = ("reader", "writer", "adder", "keeper")
 # The octets of a digest by SHA-1, SHA-256 and SHA-512.
 LENGTHS = (20, 32, 64)
+# How long a server may take to take a connection, in seconds, and to take what was sent, in milliseconds.
+PATIENCE: dict[str, Any] = {"connect_timeout": 3, "tcp_user_timeout": 3000, "keepalives_idle": 3, "keepalives_interval": 1, "keepalives_count": 3}
 # The rows that a reader of all rows has in memory.
 PAGE = 2000
 
@@ -40,8 +44,18 @@ class Store:
         self.connect()
 
     def connect(self) -> None:
-        """Connects, also after the connection was closed."""
-        self.connection = psycopg.connect(self.settings, autocommit=True, fallback_application_name="spki-store")
+        """Connects to the first of the hosts that takes it, also after the connection was closed. A host that is cut off is left soon: otherwise it
+        would be waited for by minutes, and no other one be asked."""
+        given = {**PATIENCE, **conninfo_to_dict(self.settings)}
+        hosts, ports = (str(given.get(each, "")).split(",") for each in ("host", "port"))
+        for place, host in enumerate(hosts):
+            one = make_conninfo(**{**given, "host": host, "port": ports[place % len(ports)]})
+            try:
+                self.connection = psycopg.connect(one, autocommit=True, fallback_application_name="spki-store")
+                return
+            except psycopg.OperationalError:
+                if place + 1 == len(hosts):
+                    raise
 
     def close(self) -> None:
         self.connection.close()
@@ -49,7 +63,7 @@ class Store:
     def named(self, text: str) -> sql.Composed:
         """A statement with the name of the schema before each table: `{entries}` is one."""
         return sql.SQL(text).format(**{table: sql.Identifier(self.schema, table)
-                                       for table in ("entries", "ended", "changes", "state", "heartbeat", "imports")})
+                                       for table in ("entries", "ended", "chains", "changes", "state", "heartbeat", "imports")})
 
     def rows(self, text: str, *values: Any) -> list[Any]:
         """The rows of one statement, which is one transaction outside of another one."""
@@ -61,7 +75,7 @@ class Store:
         with open(SCHEMA, encoding="utf-8") as file:
             text = file.read().replace("@SCHEMA@", self.schema)
         with self.connection.transaction():
-            for role in ("reader", "writer"):
+            for role in ROLES:
                 name = f"{self.schema}_{role}"
                 if not self.connection.execute("SELECT 1 FROM pg_roles WHERE rolname = %s", (name,)).fetchall():
                     self.connection.execute(sql.SQL("CREATE ROLE {}").format(sql.Identifier(name)))
@@ -79,11 +93,8 @@ class Store:
         return int(number)
 
     def copy(self, texts: list[bytes]) -> None:
-        """Adds many entries in canonical form."""
-        with self.connection.cursor() as cursor, cursor.copy(self.named("COPY {entries} (text) FROM STDIN (FORMAT BINARY)")) as copied:
-            copied.set_types(["bytea"])
-            for text in texts:
-                copied.write_row((text,))
+        """Adds many entries in canonical form, by one statement: COPY knows no grants of single rows."""
+        self.rows("INSERT INTO {entries} (text) SELECT * FROM unnest(%b::bytea[])", texts)
 
     def remove(self, number: int) -> bool:
         """Removes an entry. Returns whether it was there."""

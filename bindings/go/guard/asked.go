@@ -13,6 +13,8 @@ import (
 type Asked struct {
 	held  *heldAsked
 	count int
+	// most is the most octets of an answer.
+	most int
 }
 
 // A heldAsked is what the copies of an Asked share. It is closed when none is left.
@@ -187,7 +189,7 @@ func (a *Asked) lines(wish wish) (string, error) {
 		return "", err
 	}
 	defer a.held.mutex.Unlock()
-	return lines(handle, wish)
+	return lines(handle, wish, a.most)
 }
 
 // helps says whether it helps to verify: there is a signature, and the request can be granted.

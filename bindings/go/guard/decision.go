@@ -2,13 +2,16 @@ package guard
 
 import (
 	"fmt"
+	"math"
 	"strconv"
 	"strings"
+	"time"
 )
 
 // A Decision says whether a request is granted. The zero value is a no.
 type Decision struct {
 	entry int
+	until int64
 }
 
 // Granted says whether the request is granted.
@@ -21,6 +24,21 @@ func (d Decision) Entry() int {
 	return d.entry
 }
 
+// Until returns a second. From its own moment to then the same question is granted, if the same signatures are valid: it is the least not-after
+// of the entry and of all certificates. After it another entry may grant it. It is zero if no window ends, and for a no.
+func (d Decision) Until() time.Time {
+	if !d.Granted() || d.until == math.MaxInt64 {
+		return time.Time{}
+	}
+	return time.Unix(d.until, 0).UTC()
+}
+
+// HoldsAt says whether a decision that was kept still grants the request at a time, from the question's own on. Never before 1970, as where a
+// clock failed. It says nothing of a list that was read anew, nor of a certificate that its verifier would reject by now.
+func (d Decision) HoldsAt(now time.Time) bool {
+	return d.Granted() && now.Unix() >= 0 && now.Unix() <= d.until
+}
+
 // String returns the line of the decision, `yes entry N` or `no`.
 func (d Decision) String() string {
 	if d.Granted() {
@@ -29,17 +47,17 @@ func (d Decision) String() string {
 	return "no"
 }
 
-// decisionOf reads the line of a yes.
-func decisionOf(line []byte) (Decision, error) {
+// decisionOf reads the line of a yes until a second.
+func decisionOf(line string, until int64) (Decision, error) {
 	const before = "yes entry "
 	entry, err := strconv.Atoi(strings.TrimPrefix(lineOf(line), before))
-	if !strings.HasPrefix(lineOf(line), before) || err != nil || entry < 1 {
+	if !strings.HasPrefix(line, before) || err != nil || entry < 1 {
 		return Decision{}, fmt.Errorf("libspki_c is of another version than this module: %q", line)
 	}
-	return Decision{entry}, nil
+	return Decision{entry, until}, nil
 }
 
 // lineOf returns lines without the last line feed.
-func lineOf(lines []byte) string {
-	return strings.TrimSuffix(string(lines), "\n")
+func lineOf(lines string) string {
+	return strings.TrimSuffix(lines, "\n")
 }

@@ -17,7 +17,7 @@
 //		// denied
 //	}
 //
-// A decision holds for its moment alone: ask again for the next one.
+// A yes holds from its moment to Until, and a no for its moment alone.
 //
 // The library's decisions are proved. The lines of this module are tested and not proved.
 //
@@ -41,6 +41,8 @@ const Version = "0.2.0"
 type Guard struct {
 	held *heldGuard
 	log  func(Event)
+	// most is the most octets of an answer.
+	most int
 }
 
 // An Event is what a guard has decided, for a log. It grants nothing.
@@ -55,7 +57,7 @@ type Event struct {
 // Logged returns the same guard, which calls a function after each Decide, DecideContext and Require, before they return. Calls may be under way
 // at the same time. If it panics, nothing is granted.
 func (g *Guard) Logged(log func(Event)) *Guard {
-	return &Guard{g.held, log}
+	return &Guard{g.held, log, g.most}
 }
 
 // A heldGuard is what the copies of a Guard share. It is closed when none is left.
@@ -107,7 +109,7 @@ func Open(list []byte, policy Policy, limits Limits) (*Guard, error) {
 	}
 	held := &heldGuard{handle: opened}
 	runtime.SetFinalizer(held, (*heldGuard).close)
-	return &Guard{held: held}, nil
+	return &Guard{held: held, most: limits.most()}, nil
 }
 
 // Close frees the memory of the guard, once the questions that it was asked are closed too. Nothing else depends on it. It may be called at
@@ -146,11 +148,11 @@ func (g *Guard) ask(question *Question) (Asked, error) {
 		return Asked{}, err
 	}
 	defer g.held.mutex.RUnlock()
-	opened, err := ask(handle, question)
+	opened, count, err := ask(handle, question)
 	if err != nil {
 		return Asked{}, err
 	}
-	return Asked{held: &heldAsked{handle: opened}, count: count(opened)}, nil
+	return Asked{held: &heldAsked{handle: opened}, count: count, most: g.most}, nil
 }
 
 // Decide asks a question, verifies its signatures in order, up to the first that is not valid, and decides. Nothing is verified where the

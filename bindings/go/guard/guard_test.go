@@ -382,8 +382,10 @@ func TestUsualLimits(t *testing.T) {
 			t.Errorf("%s: %v", name, err)
 		}
 	}
-	if _, err := guard.Open([]byte(list), guard.Strict, guard.Limits{Octets: 1_048_577}); !errors.Is(err, guard.ErrMisused) {
-		t.Error(err)
+	for _, limits := range []guard.Limits{{Octets: 1_048_577}, {Answer: guard.Highest().Answer + 1}} {
+		if _, err := guard.Open([]byte(list), guard.Strict, limits); !errors.Is(err, guard.ErrMisused) {
+			t.Error(err)
+		}
 	}
 	if _, err := guard.Open([]byte(list), guard.Policy(2), guard.Limits{}); !errors.Is(err, guard.ErrMisused) {
 		t.Error(err)
@@ -467,6 +469,30 @@ func TestAClockThatFailed(t *testing.T) {
 	question.Time = time.Unix(253_402_300_799, 999_999_999)
 	if decision, err := last.Decide(question, valid); err != nil || !decision.Granted() {
 		t.Errorf("%v, %v", decision, err)
+	}
+}
+
+// TestUntil keeps a grant. It holds till the least window ends, and no second longer.
+func TestUntil(t *testing.T) {
+	ending := opened(t, `(acl (entry (public-key (test a)) (propagate) (tag (*)) (not-after "2026-06-30_23:59:59")))`)
+	last, question := time.Date(2026, 6, 30, 23, 59, 59, 0, time.UTC), shown(1)
+	kept, err := ending.Decide(question, valid)
+	if err != nil || !kept.Until().Equal(last) {
+		t.Errorf("%v, %v", kept.Until(), err)
+	}
+	for later, holds := range map[time.Duration]bool{-time.Second: true, 0: true, 999 * time.Millisecond: true, time.Second: false} {
+		question.Time = last.Add(later)
+		if decision, err := ending.Decide(question, valid); err != nil || decision.Granted() != holds || kept.HoldsAt(question.Time) != holds {
+			t.Errorf("%v: %v, %v, %v", later, decision, err, kept.HoldsAt(question.Time))
+		}
+	}
+	endless, err := opened(t, list).Decide(shown(1), valid)
+	if err != nil || !endless.Until().IsZero() || !endless.HoldsAt(last.Add(time.Second)) || endless.HoldsAt(time.Unix(-1, 0)) {
+		t.Errorf("%v, %v", endless, err)
+	}
+	no, err := ending.Decide(shown(1), invalid)
+	if err != nil || !no.Until().IsZero() || no.HoldsAt(last) || (guard.Decision{}).HoldsAt(last) {
+		t.Errorf("%v, %v", no, err)
 	}
 }
 
@@ -637,6 +663,10 @@ func TestForms(t *testing.T) {
 	}
 	if _, err := guard.Canonical([]byte("(a ~)")); fmt.Sprint(err) != "refused form Bad 3" {
 		t.Error(err)
+	}
+	// (nothing becomes longer: 7 octets for 3)
+	if text, err := guard.Advanced([]byte("(" + strings.Repeat("1:\x00", 1000) + ")")); err != nil || len(text) != 7002 {
+		t.Errorf("%d, %v", len(text), err)
 	}
 	if _, err := guard.Canonical(nil); fmt.Sprint(err) != "refused form Short" {
 		t.Error(err)

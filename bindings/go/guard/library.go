@@ -17,12 +17,6 @@ import (
 	"unsafe"
 )
 
-// The length of a buffer for one line, and for the lines of an explanation. A call that needs more is repeated with more.
-const (
-	roomForLine  = 128
-	roomForLines = 4096
-)
-
 // status is an enum spki_status.
 type status = C.enum_spki_status
 
@@ -35,14 +29,18 @@ type (
 // A wish says which answer to a question is asked for.
 type wish = C.enum_library_wish
 
-// The most that limits may set.
+// The most that limits may set, and the usual limit of an answer.
 const (
-	mostOctets = C.SPKI_MOST_OCTETS
-	mostNodes  = C.SPKI_MOST_NODES
+	mostOctets  = C.SPKI_MOST_OCTETS
+	mostNodes   = C.SPKI_MOST_NODES
+	mostWork    = C.SPKI_MOST_WORK
+	mostAnswer  = C.SPKI_MOST_ANSWER
+	usualAnswer = C.SPKI_USUAL_ANSWER
+	// The octets that each decision and each refusal fits in.
+	roomForLine = C.LIBRARY_LINE
 )
 
 const (
-	toDecide  wish = C.LIBRARY_DECIDE
 	toExplain wish = C.LIBRARY_EXPLAIN
 	toReduce  wish = C.LIBRARY_REDUCE
 )
@@ -83,25 +81,23 @@ func policyOf(policy Policy) C.enum_spki_policy {
 	return ^C.enum_spki_policy(0)
 }
 
-// answered calls until the buffer, which begins with so much room, is large enough for the answer.
-func answered(room int, call func(buffer unsafe.Pointer, room C.size_t, needed *C.size_t) status) (status, []byte) {
-	for {
-		buffer, needed := make([]byte, room), C.size_t(0)
-		met := call(unsafe.Pointer(&buffer[0]), C.size_t(room), &needed)
-		if met != C.SPKI_TOO_SMALL {
-			return met, buffer[:needed]
-		}
-		room = int(needed)
+// lineIn returns the line of what a call says. One that did not fit is none.
+func lineIn(said *C.struct_library_said) string {
+	if said.length > roomForLine {
+		return ""
 	}
+	return string(unsafe.Slice((*byte)(unsafe.Pointer(&said.line)), int(said.length)))
 }
 
 // failed returns the error of a call whose status is none that the caller wants.
-func failed(met status, line []byte) error {
+func failed(met status, line string) error {
 	switch met {
 	case C.SPKI_REFUSED:
 		return refusalOf(line)
 	case C.SPKI_MISUSED:
 		return ErrMisused
+	case C.SPKI_NO_MEMORY:
+		return &Refusal{ErrMemory.Error()}
 	}
 	return fmt.Errorf("libspki_c is of another version than this module: status %d", uint(met))
 }
@@ -115,14 +111,11 @@ func open(list []byte, policy Policy, limits Limits) (handle, error) {
 		octets: C.size_t(limits.Octets), certificates: C.size_t(limits.Certificates), words: C.size_t(limits.Words),
 		nodes: C.size_t(limits.Nodes), work: C.size_t(limits.Work), answer: C.size_t(limits.Answer),
 	}
-	var guard handle
-	met, line := answered(roomForLine, func(buffer unsafe.Pointer, room C.size_t, needed *C.size_t) status {
-		return C.library_open(text(list), policyOf(policy), given, &guard, buffer, room, needed)
-	})
-	if met != C.SPKI_DONE || guard == nil {
-		return nil, failed(met, line)
+	said := C.library_open(text(list), policyOf(policy), given)
+	if said.status != C.SPKI_DONE || said.guard == nil {
+		return nil, failed(said.status, lineIn(&said))
 	}
-	return guard, nil
+	return said.guard, nil
 }
 
 // closeGuard frees a guard, once its questions are closed too.
@@ -139,7 +132,7 @@ func entries(guard handle) int {
 func partsOf(question *Question) (C.struct_library_question, *C.size_t) {
 	joined, lengths := question.joined()
 	parts := C.struct_library_question{
-		sequence: text(question.Sequence), key: textOf(question.Key.Text()), request: text(question.Request), joined: text(joined),
+		sequence: text(question.Sequence), key: textOf(question.Key.Text()), request: text(question.Request), joined: textOf(joined),
 		moment: text(question.Moment), word_count: C.size_t(len(question.Words)),
 	}
 	if question.Words != nil {
@@ -151,33 +144,21 @@ func partsOf(question *Question) (C.struct_library_question, *C.size_t) {
 	return parts, (*C.size_t)(unsafe.Pointer(&lengths[0]))
 }
 
-// ask reads a question.
-func ask(guard handle, question *Question) (opened, error) {
+// ask reads a question, and counts its signatures.
+func ask(guard handle, question *Question) (asked opened, count int, err error) {
 	parts, lengths := partsOf(question)
-	var asked opened
-	met, line := answered(roomForLine, func(buffer unsafe.Pointer, room C.size_t, needed *C.size_t) status {
-		return C.library_ask(guard, parts, lengths, &asked, buffer, room, needed)
-	})
-	if met != C.SPKI_DONE || asked == nil {
-		return nil, failed(met, line)
+	said := C.library_ask(guard, parts, lengths)
+	if said.status != C.SPKI_DONE || said.asked == nil {
+		return nil, 0, failed(said.status, lineIn(&said))
 	}
-	return asked, nil
-}
-
-// count returns the number of signatures of a question.
-func count(asked opened) int {
-	return int(C.spki_asked_count(asked))
+	return said.asked, int(said.count), nil
 }
 
 // signature returns a copy of what is to be verified at a place. Its key is the given one if that is equal.
 func signature(asked opened, place int, key []byte) (Signature, error) {
 	var signed C.struct_spki_signed
-	switch met := C.spki_asked_signature(asked, C.size_t(place), &signed); met {
-	case C.SPKI_DONE:
-	case C.SPKI_NO_MEMORY:
-		return Signature{}, ErrMemory
-	default:
-		return Signature{}, failed(met, nil)
+	if met := C.spki_asked_signature(asked, C.size_t(place), &signed); met != C.SPKI_DONE {
+		return Signature{}, failed(met, "")
 	}
 	if lent := octetsOf(signed.key); !bytes.Equal(lent, key) {
 		key = append([]byte(nil), lent...)
@@ -191,7 +172,7 @@ func signature(asked opened, place int, key []byte) (Signature, error) {
 // mark says that the signature at a place is valid.
 func mark(asked opened, place int) error {
 	if met := C.spki_asked_mark(asked, C.size_t(place)); met != C.SPKI_DONE {
-		return failed(met, nil)
+		return failed(met, "")
 	}
 	return nil
 }
@@ -201,32 +182,30 @@ func possible(asked opened) bool {
 	return bool(C.spki_asked_possible(asked))
 }
 
-// answer returns the status and the lines by the marks of a question.
-func answer(asked opened, wish wish, room int) (status, []byte) {
-	return answered(room, func(buffer unsafe.Pointer, room C.size_t, needed *C.size_t) status {
-		return C.library_answer(asked, wish, buffer, room, needed)
-	})
-}
-
 // decide returns the decision by the marks of a question.
 func decide(asked opened) (Decision, error) {
-	met, line := answer(asked, toDecide, roomForLine)
-	switch met {
+	said := C.library_decide(asked)
+	switch said.status {
 	case C.SPKI_YES:
-		return decisionOf(line)
+		return decisionOf(lineIn(&said), int64(said.until))
 	case C.SPKI_NO:
 		return Decision{}, nil
 	}
-	return Decision{}, failed(met, line)
+	return Decision{}, failed(said.status, lineIn(&said))
 }
 
-// lines returns the lines of an answer that is no decision.
-func lines(asked opened, wish wish) (string, error) {
-	met, written := answer(asked, wish, roomForLines)
-	if met != C.SPKI_DONE {
-		return "", failed(met, written)
+// lines returns the lines of an answer that is no decision, which has at most so many octets.
+func lines(asked opened, wish wish, most int) (string, error) {
+	if most < roomForLine {
+		most = roomForLine
 	}
-	return lineOf(written), nil
+	var written C.struct_spki_text
+	met := C.library_lines(asked, wish, C.size_t(most), &written)
+	defer C.library_free(written)
+	if met != C.SPKI_DONE {
+		return "", failed(met, string(octetsOf(written)))
+	}
+	return lineOf(string(octetsOf(written))), nil
 }
 
 // closeAsked frees a question.
@@ -236,14 +215,17 @@ func closeAsked(asked opened) {
 
 // converted returns a text in another form.
 func converted(command C.enum_spki_command, given []byte) ([]byte, error) {
-	met, written := answered(2*len(given)+roomForLine, func(buffer unsafe.Pointer, room C.size_t, needed *C.size_t) status {
-		lent := text(given)
-		return C.spki_answer(command, lent.octets, lent.length, buffer, room, needed)
-	})
-	if met != C.SPKI_DONE {
-		return nil, failed(met, written)
+	// (an octet that is printed in base64 takes 7 for the 3 of its canonical text)
+	buffer, needed := make([]byte, 3*len(given)+roomForLine), C.size_t(0)
+	lent := text(given)
+	met := C.spki_answer(command, lent.octets, lent.length, unsafe.Pointer(&buffer[0]), C.size_t(len(buffer)), &needed).status
+	if met == C.SPKI_TOO_SMALL {
+		return nil, failed(met, "")
 	}
-	return written, nil
+	if met != C.SPKI_DONE {
+		return nil, failed(met, string(buffer[:needed]))
+	}
+	return append([]byte(nil), buffer[:needed]...), nil
 }
 
 // Canonical returns the canonical form of the one value that a text is, in any of the three forms of RFC 9804.

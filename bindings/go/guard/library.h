@@ -2,12 +2,21 @@
  * Go's. */
 #include <spki.h>
 #include <stdlib.h>
-#include <string.h>
 
-enum library_wish { LIBRARY_DECIDE, LIBRARY_EXPLAIN, LIBRARY_REDUCE };
+enum library_wish { LIBRARY_EXPLAIN, LIBRARY_REDUCE };
 
-/* As many strings of a request need no allocation. */
-enum { LIBRARY_FEW_WORDS = 64 };
+/* As many strings of a request need no allocation, and each decision and each refusal fits in so many octets. */
+enum { LIBRARY_FEW_WORDS = 64, LIBRARY_LINE = 128 };
+
+/* What a call says. It is returned as a value: Go takes no memory for what C would write through a pointer. */
+struct library_said {
+    enum spki_status status;
+    spki_guard *guard;
+    spki_asked *asked;
+    size_t count, length;
+    int64_t until;
+    char line[LIBRARY_LINE];
+};
 
 /* The parts of a question. The strings of the request are one after the other in `joined`. */
 struct library_question {
@@ -17,52 +26,60 @@ struct library_question {
     int64_t seconds;
 };
 
-static inline enum spki_status library_open(struct spki_text list, enum spki_policy policy, struct spki_limits limits, spki_guard **guard,
-                                            void *buffer, size_t room, size_t *needed)
+static inline struct library_said library_open(struct spki_text list, enum spki_policy policy, struct spki_limits limits)
 {
+    struct library_said said = {0};
     bool is_set = limits.octets || limits.certificates || limits.words || limits.nodes || limits.work || limits.answer;
     limits.size = sizeof limits;
-    return spki_guard_open(list.octets, list.length, policy, is_set ? &limits : NULL, guard, buffer, room, needed);
+    said.status = spki_guard_open(list.octets, list.length, policy, is_set ? &limits : NULL, &said.guard, said.line, sizeof said.line, &said.length);
+    return said;
 }
 
-/* Writes the line of a call before which an allocation failed. */
-static inline enum spki_status library_no_memory(void *buffer, size_t room, size_t *needed)
+static inline struct library_said library_ask(const spki_guard *guard, struct library_question parts, const size_t *lengths)
 {
-    static const char line[] = "refused Memory\n";
-    *needed = sizeof line - 1;
-    if (room < *needed)
-        return SPKI_TOO_SMALL;
-    memcpy(buffer, line, *needed);
-    return SPKI_REFUSED;
-}
-
-static inline enum spki_status library_ask(const spki_guard *guard, struct library_question parts, const size_t *lengths,
-                                           spki_asked **asked, void *buffer, size_t room, size_t *needed)
-{
+    struct library_said said = {.status = SPKI_NO_MEMORY};
     const size_t count = parts.word_count;
     struct spki_text few[LIBRARY_FEW_WORDS], *words = count <= LIBRARY_FEW_WORDS ? few : calloc(count, sizeof *words);
     const char *at = parts.joined.octets;
     if (!words)
-        return library_no_memory(buffer, room, needed);
+        return said;
     for (size_t place = 0; place < count; place++) {
         words[place] = (struct spki_text){at, lengths[place]};
         at += lengths[place];
     }
     const struct spki_question question = {
-        .size = sizeof question, .sequence = parts.sequence, .key = parts.key, .request = parts.request,
+        .size = sizeof question, .sequence = parts.sequence, .key = spki_assume_key(parts.key), .request = parts.request,
         .words = parts.by_words ? words : NULL, .word_count = count, .moment = parts.moment,
         .seconds = parts.by_seconds ? &parts.seconds : NULL};
-    enum spki_status status = spki_guard_ask(guard, &question, asked, buffer, room, needed);
+    said.status = spki_guard_ask(guard, &question, &said.asked, said.line, sizeof said.line, &said.length);
+    said.count = spki_asked_count(said.asked);
     if (words != few)
         free(words);
+    return said;
+}
+
+static inline struct library_said library_decide(const spki_asked *asked)
+{
+    struct library_said said = {0};
+    struct spki_decision decision = spki_asked_decide(asked, said.line, sizeof said.line, &said.length);
+    said.status = decision.status, said.until = decision.until;
+    return said;
+}
+
+/* The lines of an answer, which library_free frees. They have room for the longest answer, in memory of C's, of which the system gives no more
+ * than is used. */
+static inline enum spki_status library_lines(const spki_asked *asked, enum library_wish wish, size_t room, struct spki_text *lines)
+{
+    void *buffer = malloc(room);
+    size_t length = 0;
+    if (!buffer)
+        return SPKI_NO_MEMORY;
+    enum spki_status status = (wish == LIBRARY_EXPLAIN ? spki_asked_explain : spki_asked_reduce)(asked, buffer, room, &length).status;
+    *lines = (struct spki_text){buffer, status == SPKI_TOO_SMALL ? 0 : length};
     return status;
 }
 
-static inline enum spki_status library_answer(const spki_asked *asked, enum library_wish wish, void *buffer, size_t room, size_t *needed)
+static inline void library_free(struct spki_text lines)
 {
-    if (wish == LIBRARY_DECIDE)
-        return spki_asked_decide(asked, buffer, room, needed);
-    if (wish == LIBRARY_EXPLAIN)
-        return spki_asked_explain(asked, buffer, room, needed);
-    return spki_asked_reduce(asked, buffer, room, needed);
+    free((void *)lines.octets);
 }

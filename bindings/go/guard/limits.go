@@ -23,24 +23,36 @@ type Limits struct {
 	Words int
 	// Nodes is the most nodes of one tag times nodes of another whose intersection is computed.
 	Nodes int
-	// Work is the most of these products together, over all certificates and entries.
+	// Work is the most work of all certificates and entries together, as struct spki_limits of spki.h counts it.
 	Work int
-	// Answer is the most octets of the lines.
+	// Answer is the most octets of the lines: a call takes address space for as many, of which only those of the answer are used. It is at most
+	// 256 MiB.
 	Answer int
 }
 
-// Highest returns the highest limits, for questions that come from no stranger. On some questions within them an explanation takes minutes.
+// Highest returns the highest limits, for questions that come from no stranger. On some questions within them an explanation takes seconds.
 func Highest() Limits {
 	const most = int(^uint(0) >> 1)
-	return Limits{Octets: mostOctets, Certificates: most, Words: most, Nodes: mostNodes, Work: most, Answer: most}
+	return Limits{Octets: mostOctets, Certificates: most, Words: most, Nodes: mostNodes, Work: mostWork, Answer: mostAnswer}
 }
 
-// check returns ErrMisused if a limit is below zero.
+// most returns the most octets of an answer.
+func (l Limits) most() int {
+	if l.Answer == 0 {
+		return usualAnswer
+	}
+	return l.Answer
+}
+
+// check returns ErrMisused if a limit is below zero, or that of an answer is over the highest.
 func (l Limits) check() error {
 	for _, limit := range []int{l.Octets, l.Certificates, l.Words, l.Nodes, l.Work, l.Answer} {
 		if limit < 0 {
 			return fmt.Errorf("%w: a limit is %d", ErrMisused, limit)
 		}
+	}
+	if l.Answer > mostAnswer {
+		return fmt.Errorf("%w: the limit of an answer is %d", ErrMisused, l.Answer)
 	}
 	return nil
 }

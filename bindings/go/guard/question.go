@@ -23,10 +23,10 @@ type Question struct {
 }
 
 // joined returns the strings of the request in one piece, and their lengths, of which there is at least one.
-func (q *Question) joined() ([]byte, []uintptr) {
+func (q *Question) joined() (string, []uintptr) {
 	lengths := make([]uintptr, len(q.Words)+1)
 	for place, word := range q.Words {
 		lengths[place] = uintptr(len(word))
 	}
-	return []byte(strings.Join(q.Words, "")), lengths
+	return strings.Join(q.Words, ""), lengths
 }

@@ -71,6 +71,6 @@ func (r *Refusal) Is(target error) bool {
 }
 
 // refusalOf returns the refusal of a line.
-func refusalOf(line []byte) error {
+func refusalOf(line string) error {
 	return &Refusal{lineOf(line)}
 }

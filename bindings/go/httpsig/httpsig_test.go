@@ -182,9 +182,10 @@ func TestPublishedExamples(t *testing.T) {
 func signers(t testing.TB) map[string]*Signer {
 	_, edwards, _ := ed25519.GenerateKey(rand.Reader)
 	curve, _ := ecdsa.GenerateKey(elliptic.P256(), rand.Reader)
+	longer, _ := ecdsa.GenerateKey(elliptic.P384(), rand.Reader)
 	modulus, _ := rsa.GenerateKey(rand.Reader, 2048)
 	made := map[string]*Signer{}
-	for name, private := range map[string]crypto.Signer{Ed25519: edwards, P256: curve, RSA: modulus} {
+	for name, private := range map[string]crypto.Signer{Ed25519: edwards, P256: curve, P384: longer, RSA: modulus} {
 		signer, err := NewSigner(private)
 		if err != nil {
 			t.Fatal(err)
@@ -295,7 +296,8 @@ func TestNonces(t *testing.T) {
 // Whatever is in the fields, there is no panic, and what Check takes was signed.
 func FuzzFields(f *testing.F) {
 	for _, row := range rowsOf(f) {
-		f.Add(row.message.Header.Get("Signature-Input"), row.message.Header.Get("Signature"), row.message.Header.Get("Content-Digest"), "/foo")
+		header := row.message.Header
+		f.Add(header.Get("Signature-Input"), header.Get("Signature"), header.Get("Content-Digest"), header.Get(publicKey), "/foo")
 	}
 	now := int64(1792000100)
 	verifier := at(&now)
@@ -304,15 +306,15 @@ func FuzzFields(f *testing.F) {
 		asked = bytes.HasPrefix(signed.Message, []byte(`"`)) && bytes.Contains(signed.Message, []byte(`"@signature-params": (`))
 		return asked
 	}
-	f.Fuzz(func(t *testing.T, input, signature, digest, target string) {
-		header := http.Header{"Signature-Input": {input}, "Signature": {signature}}
+	f.Fuzz(func(t *testing.T, input, signature, digest, key, target string) {
+		header := http.Header{"Signature-Input": {input}, "Signature": {signature}, "X-Spki-Public-Key": {key}}
 		if digest != "" {
 			header["Content-Digest"] = []string{digest}
 		}
 		asked = false
 		proof, err := verifier.Check(Message{Method: "GET", Authority: "example.com", Target: target, Header: header})
-		if err == nil && (!asked || proof.Key.Text() == "") {
-			t.Errorf("%q %q", input, signature)
+		if err == nil && (!asked || proof.Key.Text() == "" || !strings.Contains(input, proof.Hash())) {
+			t.Errorf("%q %q %q", input, signature, key)
 		}
 	})
 }
@@ -320,17 +322,18 @@ func FuzzFields(f *testing.F) {
 // What a client can send is what a server takes.
 func FuzzSigned(f *testing.F) {
 	f.Add("GET", "/foo?a=b", "accept", "text/html", "body")
-	all := signers(f)
+	all, kinds := signers(f), []string{Ed25519, P256, P384, RSA}
 	f.Fuzz(func(t *testing.T, method, target, name, value, body string) {
+		signer, verifier := all[kinds[(len(target)+len(body))%len(kinds)]], NewVerifier("example.com")
 		message := Message{Method: method, Authority: "example.com", Target: target, Header: http.Header{}, Body: []byte(body)}
 		message.Header.Set(name, value)
-		if all[Ed25519].Sign("https", message, strings.ToLower(name)) != nil {
+		if signer.Sign("https", message, strings.ToLower(name)) != nil {
 			return
 		}
 		if !isComponent(strings.ToLower(name)) || strings.HasPrefix(name, "@") {
 			return
 		}
-		if _, err := NewVerifier("example.com").Message(message); err != nil {
+		if _, err := verifier.Message(message); err != nil {
 			t.Errorf("%q %q %q: %v", method, target, message.Header, err)
 		}
 	})

@@ -28,13 +28,16 @@ const (
 	query     = "@query"
 )
 
+// publicKey is the field with the key that signs, which is always covered.
+const publicKey = "x-spki-public-key"
+
 // An input is the value of `Signature-Input`.
 type input struct {
 	// The value of `@signature-params`: what follows the label, as it was sent.
 	text             string
 	components       []string
 	created, expires int64
-	nonce, key       string
+	nonce, keyID     string
 	algorithm, tag   string
 }
 
@@ -195,9 +198,8 @@ func inputOf(text string) (*input, error) {
 	if err != nil {
 		return nil, err
 	}
-	hasTarget := has(made.components, targetURI) || has(made.components, path) && has(made.components, query)
 	switch {
-	case !has(made.components, method) || !has(made.components, authority) || !hasTarget:
+	case !made.hasComponents():
 		return nil, MissingComponent
 	case count != len(made.places()):
 		return nil, MissingParameter
@@ -205,10 +207,16 @@ func inputOf(text string) (*input, error) {
 	return made, nil
 }
 
+// hasComponents says whether all components are there that must be.
+func (i *input) hasComponents() bool {
+	hasTarget := has(i.components, targetURI) || has(i.components, path) && has(i.components, query)
+	return hasTarget && has(i.components, method) && has(i.components, authority) && has(i.components, publicKey)
+}
+
 // places returns where the parameters go: numbers and strings.
 func (i *input) places() map[string]any {
 	return map[string]any{
-		"created": &i.created, "expires": &i.expires, "nonce": &i.nonce, "keyid": &i.key, "alg": &i.algorithm, "tag": &i.tag,
+		"created": &i.created, "expires": &i.expires, "nonce": &i.nonce, "keyid": &i.keyID, "alg": &i.algorithm, "tag": &i.tag,
 	}
 }
 

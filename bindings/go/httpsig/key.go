@@ -2,7 +2,9 @@ package httpsig
 
 import (
 	"bytes"
+	"crypto/sha256"
 	"encoding/base64"
+	"encoding/hex"
 	"strconv"
 )
 
@@ -10,27 +12,28 @@ import (
 const (
 	Ed25519 = "ed25519"
 	P256    = "ecdsa-p256-sha256"
+	P384    = "ecdsa-p384-sha384"
 	RSA     = "rsa-v1_5-sha256"
 )
 
-// The octets of half a signature by Ed25519 or ECDSA, and the most characters of a key.
-const (
-	half    = 32
-	mostKey = 4096
-)
+// The most characters of a key.
+const mostKey = 4096
 
-// The canonical texts of keys and of the values of signatures, with `%` for each string.
+// The canonical texts of keys and of the values of signatures, with `%` for each string, and the octets of signatures where the key does not say it.
 var (
 	keyForms = map[string]string{
 		Ed25519: "(10:public-key(3:ecc(5:curve7:Ed25519)(5:flags5:eddsa)(1:q%)))",
 		P256:    "(10:public-key(3:ecc(5:curve10:NIST P-256)(1:q%)))",
+		P384:    "(10:public-key(3:ecc(5:curve10:NIST P-384)(1:q%)))",
 		RSA:     "(10:public-key(3:rsa(1:n%)(1:e%)))",
 	}
 	valueForms = map[string]string{
 		Ed25519: "(7:sig-val(5:eddsa(1:r%)(1:s%)))",
 		P256:    "(7:sig-val(5:ecdsa(1:r%)(1:s%)))",
+		P384:    "(7:sig-val(5:ecdsa(1:r%)(1:s%)))",
 		RSA:     "(7:sig-val(3:rsa(1:s%)))",
 	}
+	signatureOctets = map[string]int{Ed25519: 64, P256: 64, P384: 96}
 )
 
 // transport returns a canonical text in transport form.
@@ -38,7 +41,13 @@ func transport(canonical []byte) string {
 	return "{" + base64.StdEncoding.EncodeToString(canonical) + "}"
 }
 
-// keyOf returns the key of a `keyid`, its algorithm and the octets that a signature by it has.
+// hashOf returns the SHA-256 hash of a key, in hexadecimal digits: its `keyid`.
+func hashOf(key []byte) string {
+	made := sha256.Sum256(key)
+	return hex.EncodeToString(made[:])
+}
+
+// keyOf returns the key that a text is in transport form, its algorithm and the octets that a signature by it has.
 func keyOf(text string) (key []byte, algorithm string, octets int, err error) {
 	if len(text) < 2 || len(text) > mostKey || text[0] != '{' || text[len(text)-1] != '}' {
 		return nil, "", 0, BadKey
@@ -63,7 +72,7 @@ func kindOf(key []byte) (algorithm string, octets int) {
 		case algorithm == RSA:
 			return algorithm, len(bytes.TrimLeft(strings[0], "\x00"))
 		default:
-			return algorithm, 2 * half
+			return algorithm, signatureOctets[algorithm]
 		}
 	}
 	return "", 0
@@ -72,7 +81,7 @@ func kindOf(key []byte) (algorithm string, octets int) {
 // valueOf returns the canonical value of the octets of a signature. They are as many as the algorithm has.
 func valueOf(algorithm string, octets []byte) []byte {
 	strings := [][]byte{octets}
-	if algorithm != RSA {
+	if half := len(octets) / 2; algorithm != RSA {
 		strings = [][]byte{octets[:half], octets[half:]}
 	}
 	var made []byte

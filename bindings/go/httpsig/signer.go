@@ -6,7 +6,6 @@ import (
 	"crypto/ed25519"
 	"crypto/rand"
 	"crypto/rsa"
-	"crypto/sha256"
 	"encoding/asn1"
 	"encoding/base64"
 	"fmt"
@@ -29,7 +28,7 @@ type Signer struct {
 	random   func(octets []byte) (int, error)
 }
 
-// NewSigner returns a signer by a private key: an ed25519.PrivateKey, an *ecdsa.PrivateKey of P-256 or an *rsa.PrivateKey, or one of a device.
+// NewSigner returns a signer by a private key: an ed25519.PrivateKey, an *ecdsa.PrivateKey of P-256 or P-384, or an *rsa.PrivateKey, or one of a device.
 func NewSigner(private crypto.Signer) (*Signer, error) {
 	key, err := verify.KeyOf(private.Public())
 	if err != nil {
@@ -39,10 +38,11 @@ func NewSigner(private crypto.Signer) (*Signer, error) {
 	return &Signer{private: private, key: key, kind: kind, now: time.Now, random: rand.Read}, nil
 }
 
-// Sign puts the fields of a signature into the header of a request: also the certificates, and the digest of the body where one is due. The
+// Sign puts the fields of a signature into the header of a request: also the key, the certificates, and the digest of the body where one is due. The
 // header must be whole otherwise. More names of fields may be given that are to be covered. What is written is for this request alone.
 func (s *Signer) Sign(scheme string, message Message, covered ...string) error {
-	names := []string{method, authority, path, query}
+	names := []string{method, authority, path, query, publicKey}
+	message.Header.Set(publicKey, transport(s.key))
 	if s.Sequence != "" {
 		message.Header.Set("X-Spki-Sequence", s.Sequence)
 	}
@@ -82,7 +82,7 @@ func (s *Signer) parameters(names []string) (string, error) {
 	}
 	created := s.now().Unix()
 	return fmt.Sprintf(`("%s");created=%d;expires=%d;nonce="%s";keyid="%s";alg="%s";tag="%s"`, strings.Join(names, `" "`), created,
-		created+mostWindow, base64.RawURLEncoding.EncodeToString(nonce), transport(s.key), s.kind, tag), nil
+		created+mostWindow, base64.RawURLEncoding.EncodeToString(nonce), hashOf(s.key), s.kind, tag), nil
 }
 
 // octets returns the octets of a signature.
@@ -90,8 +90,13 @@ func (s *Signer) octets(text []byte) ([]byte, error) {
 	if s.kind == Ed25519 {
 		return s.private.Sign(rand.Reader, text, crypto.Hash(0))
 	}
-	digest := sha256.Sum256(text)
-	octets, err := s.private.Sign(rand.Reader, digest[:], crypto.SHA256)
+	hash := crypto.SHA256
+	if s.kind == P384 {
+		hash = crypto.SHA384
+	}
+	digest := hash.New()
+	digest.Write(text)
+	octets, err := s.private.Sign(rand.Reader, digest.Sum(nil), hash)
 	if err != nil || s.kind == RSA {
 		return octets, err
 	}
@@ -99,9 +104,9 @@ func (s *Signer) octets(text []byte) ([]byte, error) {
 	if _, err := asn1.Unmarshal(octets, &pair); err != nil {
 		return nil, err
 	}
-	made := make([]byte, 2*half)
-	pair.R.FillBytes(made[:half])
-	pair.S.FillBytes(made[half:])
+	made := make([]byte, signatureOctets[s.kind])
+	pair.R.FillBytes(made[:len(made)/2])
+	pair.S.FillBytes(made[len(made)/2:])
 	return made, nil
 }
 

@@ -1,8 +1,6 @@
 package httpsig
 
 import (
-	"crypto/sha256"
-	"encoding/hex"
 	"errors"
 	"io"
 	"net/http"
@@ -51,16 +49,16 @@ func NewVerifier(authorities ...string) *Verifier {
 
 // A Proof says which key has signed a request.
 type Proof struct {
-	// The key, as a guard.Question has it.
-	Key    spki.ProvenKey
-	nonce  string
-	digest digest
+	// The key, and the certificates that the request shows, as a guard.Question has them.
+	Key      spki.ProvenKey
+	Sequence []byte
+	nonce    string
+	digest   digest
 }
 
 // Hash returns the SHA-256 digest of the key, in hexadecimal digits.
 func (p *Proof) Hash() string {
-	made := sha256.Sum256([]byte(p.Key.Text()))
-	return hex.EncodeToString(made[:])
+	return hashOf([]byte(p.Key.Text()))
 }
 
 // Body reads a body of at most so many octets, and returns it if it is the signed one. Otherwise it returns an error: OtherDigest, or one of
@@ -114,28 +112,51 @@ func (v *Verifier) Check(message Message) (*Proof, error) {
 	if err := v.checkTime(input); err != nil {
 		return nil, err
 	}
-	key, algorithm, length, err := keyOf(input.key)
+	text, digest, err := v.checkMessage(message, input)
 	if err != nil {
 		return nil, err
 	}
-	if algorithm != input.algorithm {
-		return nil, OtherAlgorithm
-	}
-	text, digest, err := v.checkMessage(message, input)
+	key, length, err := signerOf(message.Header, input)
 	if err != nil {
 		return nil, err
 	}
 	if len(octets) != length {
 		return nil, InvalidSignature
 	}
-	proven, err := spki.ProveKey(spki.Signature{Key: key, Message: text, Value: valueOf(algorithm, octets)}, v.Verify)
+	proven, err := spki.ProveKey(spki.Signature{Key: key, Message: text, Value: valueOf(input.algorithm, octets)}, v.Verify)
 	if err != nil {
 		return nil, InvalidSignature
 	}
 	if digest.octets != nil && message.Body != nil && !digest.is(message.Body) {
 		return nil, OtherDigest
 	}
-	return &Proof{proven, input.nonce, digest}, nil
+	return &Proof{proven, v.sequenceOf(message.Header), input.nonce, digest}, nil
+}
+
+// signerOf returns the key that a request names as its signer, and the octets that a signature by it has.
+func signerOf(header http.Header, input *input) (key []byte, octets int, err error) {
+	text, err := fieldOf(header, publicKey)
+	if err != nil {
+		return nil, 0, err
+	}
+	key, algorithm, octets, err := keyOf(text)
+	switch {
+	case err != nil:
+		return nil, 0, err
+	case hashOf(key) != input.keyID:
+		return nil, 0, OtherKey
+	case algorithm != input.algorithm:
+		return nil, 0, OtherAlgorithm
+	}
+	return key, octets, nil
+}
+
+// sequenceOf returns the certificates that a request shows, whose field is there once at most.
+func (v *Verifier) sequenceOf(header http.Header) []byte {
+	if shown := header.Get(v.Sequence); shown != "" {
+		return []byte(shown)
+	}
+	return []byte("(sequence)")
 }
 
 // signatureOf reads both fields.

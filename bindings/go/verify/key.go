@@ -24,14 +24,35 @@ const (
 // The texts around the octets of a key.
 const (
 	beforeEd25519 = "(10:public-key(3:ecc(5:curve7:Ed25519)(5:flags5:eddsa)(1:q"
-	beforeP256    = "(10:public-key(3:ecc(5:curve10:NIST P-256)(1:q"
 	beforeModulus = "(10:public-key(3:rsa(1:n"
 	beforeE       = ")(1:e"
 	afterKey      = ")))"
 )
 
-// ErrKey is what errors.Is knows of a key that is none of the three kinds, is in another form, or is too weak.
-var ErrKey = errors.New("no key of Ed25519, of RSA with at least 2048 bits, or of ECDSA with P-256")
+// A curve is one of ECDSA, with the text before the point of a key and the digest of messages.
+type curve struct {
+	elliptic.Curve
+	before string
+	hash   crypto.Hash
+}
+
+var curves = []curve{
+	{elliptic.P256(), "(10:public-key(3:ecc(5:curve10:NIST P-256)(1:q", crypto.SHA256},
+	{elliptic.P384(), "(10:public-key(3:ecc(5:curve10:NIST P-384)(1:q", crypto.SHA384},
+}
+
+// curveOf returns a curve, or nil if it is not used.
+func curveOf(of elliptic.Curve) *curve {
+	for place := range curves {
+		if curves[place].Curve == of {
+			return &curves[place]
+		}
+	}
+	return nil
+}
+
+// ErrKey is what errors.Is knows of a key that is none of these kinds, is in another form, or is too weak.
+var ErrKey = errors.New("no key of Ed25519, of RSA with at least 2048 bits, or of ECDSA with P-256 or P-384")
 
 // KeyOf returns the SPKI key, in canonical form, of an ed25519.PublicKey, an *rsa.PublicKey or an *ecdsa.PublicKey, as a certificate of X.509
 // has it. Its SHA-256 digest is the hash that may name it.
@@ -46,8 +67,8 @@ func KeyOf(public crypto.PublicKey) ([]byte, error) {
 			return written(beforeModulus, number(public.N), beforeE, number(big.NewInt(int64(public.E))), afterKey), nil
 		}
 	case *ecdsa.PublicKey:
-		if public.Curve == elliptic.P256() && public.X != nil && public.Y != nil && public.Curve.IsOnCurve(public.X, public.Y) {
-			return written(beforeP256, elliptic.Marshal(public.Curve, public.X, public.Y), afterKey), nil
+		if of := curveOf(public.Curve); of != nil && public.X != nil && public.Y != nil && public.Curve.IsOnCurve(public.X, public.Y) {
+			return written(of.before, elliptic.Marshal(public.Curve, public.X, public.Y), afterKey), nil
 		}
 	}
 	return nil, fmt.Errorf("%w: %T", ErrKey, public)
@@ -78,14 +99,17 @@ func publicOf(text *reader) crypto.PublicKey {
 		if octets, ok := text.string(ed25519.PublicKeySize); ok && isOfLargeOrder(octets) && text.ends(afterKey) {
 			return ed25519.PublicKey(octets)
 		}
-	case text.skips(beforeP256):
-		if octets, ok := text.string(pointOctets); ok && text.ends(afterKey) {
-			return pointOf(octets)
-		}
 	case text.skips(beforeModulus):
 		if modulus, ok := text.string(MostBits/8 + 1); ok && text.skips(beforeE) {
 			if exponent, ok := text.string(MostExponentBits/8 + 1); ok && text.ends(afterKey) {
 				return rsaKey(modulus, exponent)
+			}
+		}
+	}
+	for _, of := range curves {
+		if text.skips(of.before) {
+			if octets, ok := text.string(mostPoint); ok && text.ends(afterKey) {
+				return pointOf(of, octets)
 			}
 		}
 	}
@@ -125,16 +149,16 @@ func littleEndian(octets []byte) *big.Int {
 	return new(big.Int).SetBytes(reversed)
 }
 
-// The octets of a point of P-256: 04 and both coordinates.
-const pointOctets = 1 + 2*half
+// The most octets of a point: 04 and both coordinates.
+const mostPoint = 1 + 2*48
 
 // pointOf returns the key of a point, or nil if it is none of the curve.
-func pointOf(octets []byte) crypto.PublicKey {
-	x, y := elliptic.Unmarshal(elliptic.P256(), octets)
+func pointOf(of curve, octets []byte) crypto.PublicKey {
+	x, y := elliptic.Unmarshal(of.Curve, octets)
 	if x == nil {
 		return nil
 	}
-	return &ecdsa.PublicKey{Curve: elliptic.P256(), X: x, Y: y}
+	return &ecdsa.PublicKey{Curve: of.Curve, X: x, Y: y}
 }
 
 // rsaKey returns the key of a modulus and an exponent, or nil if it is too weak.

@@ -6,7 +6,7 @@ import (
 	"math/big"
 )
 
-// The octets of half a signature by Ed25519, and of a coordinate.
+// The octets of half a signature by Ed25519.
 const half = 32
 
 // The most octets of a key, and of the value of a signature.
@@ -47,10 +47,10 @@ func rsaValue(value []byte, public *rsa.PublicKey) ([]byte, bool) {
 	return s.FillBytes(make([]byte, public.Size())), true
 }
 
-// ecdsaValue returns the numbers of a signature by ECDSA.
-func ecdsaValue(value []byte) (*big.Int, *big.Int, bool) {
+// ecdsaValue returns the numbers of a signature by ECDSA with a curve.
+func ecdsaValue(value []byte, curve elliptic.Curve) (*big.Int, *big.Int, bool) {
 	first, second, ok := pair(value, beforeECDSA)
-	r, s, order := new(big.Int).SetBytes(first), new(big.Int).SetBytes(second), elliptic.P256().Params().N
+	r, s, order := new(big.Int).SetBytes(first), new(big.Int).SetBytes(second), curve.Params().N
 	return r, s, ok && r.Sign() > 0 && s.Sign() > 0 && r.Cmp(order) < 0 && s.Cmp(order) < 0
 }
 

@@ -1,8 +1,8 @@
 // Package verify verifies signatures by Go's standard library, and makes SPKI keys of Go's public keys.
 //
 // Keys and signatures have the forms of docs/FORMATS.md, "Keys and signatures of services", which libgcrypt and GnuPG read: Ed25519, RSA with
-// SHA-256 and ECDSA with P-256 and SHA-256. Each form is one text: a key that is written otherwise is another key, and nothing is a signature
-// by it.
+// SHA-256, ECDSA with P-256 and SHA-256 or with P-384 and SHA-384. Each form is one text: a key that is written otherwise is another key, and
+// nothing is a signature by it.
 //
 //	(public-key (ecc (curve Ed25519) (flags eddsa) (q #..#)))    (sig-val (eddsa (r #..#) (s #..#)))
 //	(public-key (rsa (n #..#) (e #..#)))                         (sig-val (rsa (s #..#)))
@@ -14,7 +14,10 @@ import (
 	"crypto/ecdsa"
 	"crypto/ed25519"
 	"crypto/rsa"
-	"crypto/sha256"
+
+	// (these are the digests)
+	_ "crypto/sha256"
+	_ "crypto/sha512"
 
 	"conguraki/spki"
 )
@@ -47,17 +50,23 @@ func signature(signed spki.Signature, scheme scheme) bool {
 	if err != nil || len(signed.Message) == 0 {
 		return false
 	}
-	digest := sha256.Sum256(signed.Message)
 	switch public := public.(type) {
 	case ed25519.PublicKey:
 		octets, ok := ed25519Value(signed.Value)
 		return ok && ed25519.Verify(public, signed.Message, octets)
 	case *rsa.PublicKey:
 		octets, ok := rsaValue(signed.Value, public)
-		return ok && scheme(public, digest[:], octets) == nil
+		return ok && scheme(public, digestOf(crypto.SHA256, signed.Message), octets) == nil
 	case *ecdsa.PublicKey:
-		r, s, ok := ecdsaValue(signed.Value)
-		return ok && ecdsa.Verify(public, digest[:], r, s)
+		r, s, ok := ecdsaValue(signed.Value, public.Curve)
+		return ok && ecdsa.Verify(public, digestOf(curveOf(public.Curve).hash, signed.Message), r, s)
 	}
 	return false
+}
+
+// digestOf returns the digest of a message.
+func digestOf(hash crypto.Hash, message []byte) []byte {
+	made := hash.New()
+	made.Write(message)
+	return made.Sum(nil)
 }

@@ -41,7 +41,7 @@ func bySpkiCert(t testing.TB) []signed {
 	if err == nil {
 		err = json.Unmarshal(octets, &rows)
 	}
-	if err != nil || len(rows) != 3 {
+	if err != nil || len(rows) != 4 {
 		t.Fatal(err, len(rows))
 	}
 	return rows
@@ -158,21 +158,25 @@ func TestPointsOffTheCurve(t *testing.T) {
 	if err != nil {
 		t.Fatal(err)
 	}
+	longer, err := ecdsa.GenerateKey(elliptic.P384(), rand.Reader)
+	if err != nil {
+		t.Fatal(err)
+	}
 	point := elliptic.Marshal(elliptic.P256(), private.X, private.Y)
 	off := append([]byte{}, point...)
 	off[64] ^= 1
 	for name, octets := range map[string][]byte{
 		"off the curve": off, "compressed": elliptic.MarshalCompressed(elliptic.P256(), private.X, private.Y), "infinity": {0}, "nothing": nil,
-		"zeros": append([]byte{4}, make([]byte, 64)...), "long": append(point, 0),
+		"zeros": append([]byte{4}, make([]byte, 64)...), "long": append(point, 0), "of another curve": elliptic.Marshal(elliptic.P384(), longer.X, longer.Y),
 	} {
-		if _, err := PublicOf(written(beforeP256, octets, afterKey)); !errors.Is(err, ErrKey) {
+		if _, err := PublicOf(written(curves[0].before, octets, afterKey)); !errors.Is(err, ErrKey) {
 			t.Errorf("%s: %v", name, err)
 		}
 	}
 }
 
 func TestKeysOfOtherKinds(t *testing.T) {
-	p384, err := ecdsa.GenerateKey(elliptic.P384(), rand.Reader)
+	other, err := ecdsa.GenerateKey(elliptic.P521(), rand.Reader)
 	if err != nil {
 		t.Fatal(err)
 	}
@@ -181,7 +185,7 @@ func TestKeysOfOtherKinds(t *testing.T) {
 		t.Fatal(err)
 	}
 	for _, public := range []crypto.PublicKey{
-		nil, "key", p384.Public(), weak.Public(), ed25519.PublicKey("short"), &rsa.PublicKey{}, &ecdsa.PublicKey{},
+		nil, "key", other.Public(), weak.Public(), ed25519.PublicKey("short"), &rsa.PublicKey{}, &ecdsa.PublicKey{},
 		&ecdsa.PublicKey{Curve: elliptic.P256(), X: big.NewInt(1), Y: big.NewInt(1)},
 	} {
 		if text, err := KeyOf(public); !errors.Is(err, ErrKey) || text != nil {

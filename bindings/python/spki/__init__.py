@@ -14,7 +14,7 @@ A service reads its access list once, into a `Guard`, and asks it a `Question` f
 
 The parts of a question come from different sources, so each is a separate text. It is one value in any of the three forms of RFC 9804. No
 octets of one part can become another part. The client must have proved that it holds the key: `ProvenKey` says how. The moment is the time of
-the service's own clock. A decision holds for this moment alone: ask again for the next one.
+the service's own clock. A grant holds from this moment to `Grant.until`, and a no for its moment alone.
 
 `decide` returns a `Grant`, or `None` for a no. `require` raises `Denied` instead.
 Several threads may use one guard and one opened question. A thread that calls has 256 KiB of stack left: `threading.stack_size` must not be
@@ -32,6 +32,7 @@ from __future__ import annotations
 
 import ctypes
 import functools
+import mmap
 import os
 import threading
 from collections.abc import Callable, Iterator
@@ -43,7 +44,7 @@ from typing import NoReturn, TypeVar, cast
 from . import _library as of
 from ._library import library
 from ._values import (Denied, Explanation, Grant, Limits, NoDecision, NotProved, Policy, ProvenKey, Question, Reason, Reduction, Refused,
-                      Scheme, Signature, Verify, answer_of, octets_of, signature_of, whole)
+                      Scheme, Signature, Verify, answer_of, moment_of, octets_of, signature_of, whole)
 from ._words import Cause, Fault, Part
 
 __version__ = "0.2.0"
@@ -52,8 +53,8 @@ __all__ = ["Asked", "Cause", "Denied", "Explanation", "Fault", "Grant", "Guard",
 
 _Opened = TypeVar("_Opened", bound="_Open")
 
-# The octets of a buffer that most answers fit in.
-_USUAL = 1024
+# The octets of a buffer that each decision and each refusal fits in.
+_LINE = 128
 
 
 class _Alone:
@@ -121,9 +122,9 @@ class Asked(_Open, NoDecision):
     mark that is made, and a mark for the calls before it.
     """
 
-    def __init__(self, guard: c_void_p, question: Question) -> None:
-        """`Guard.ask` makes it."""
-        self._handle = _AskedHandle(_asked(guard, question))
+    def __init__(self, guard: c_void_p, question: Question, most: int) -> None:
+        """`Guard.ask` makes it. Its answers have at most so many octets."""
+        self._handle, self._most = _AskedHandle(_asked(guard, question)), most
         self._count = of.count(self._handle)
         self._calls = threading.Lock()
 
@@ -192,7 +193,7 @@ class Asked(_Open, NoDecision):
         """The lines of a call that decides nothing."""
         handle = self._held()
         with self._calls:
-            status, lines = _answered(call, handle)
+            status, lines = _answered(self._most, call, handle)
         _expect(status, lines)
         return lines.decode().rstrip("\n")
 
@@ -209,10 +210,10 @@ class Guard(_Open):
         """Reads `(acl entry ..)`, in any of the three forms. Raises `Refused` if the text is no access list."""
         if not isinstance(policy, Policy) or not isinstance(limits, Limits):
             raise TypeError("a guard has a `Policy` and `Limits`")
-        text, self._policy = octets_of(access_list), policy
+        text, self._policy, self._most = octets_of(access_list), policy, limits.answer or of.USUAL_ANSWER
         values = of.Limits(ctypes.sizeof(of.Limits), *(getattr(limits, field.name) for field in fields(limits))) if limits != Limits() else None
         self._handle = handle = _GuardHandle()
-        _expect(*_answered(library.spki_guard_open, text, len(text), policy.value, values, byref(handle)))
+        _expect(*_answered(_LINE, library.spki_guard_open, text, len(text), policy.value, values, byref(handle)))
         self._entries: int = library.spki_guard_entries(handle)
 
     @property
@@ -226,7 +227,7 @@ class Guard(_Open):
 
     def ask(self, question: Question) -> Asked:
         """Opens a question, whose signatures the caller marks. Raises `Refused` if a part of it cannot be read."""
-        return Asked(self._held(), question)
+        return Asked(self._held(), question, self._most)
 
     def decide(self, question: Question, verify: Verify) -> Grant | None:
         """The grant of the question's request. `None` is a no. Raises `Refused` if a part of the question cannot be read."""
@@ -292,7 +293,8 @@ def transport(text: bytes) -> bytes:
 
 
 def _converted(command: int, text: bytes) -> bytes:
-    status, answer = _answered(library.spki_answer, command, text, len(text))
+    # (an octet that is printed in base64 takes 7 for the 3 of its canonical text)
+    status, answer = _answered(3 * len(text), library.spki_answer, command, text, len(text))
     _expect(status, answer)
     return answer
 
@@ -303,9 +305,9 @@ def _converted(command: int, text: bytes) -> bytes:
 class _Room:
     """Memory for the answer of one call, and what the call is given of it."""
 
-    def __init__(self, octets: int) -> None:
-        self.buffer, self.needed, self.opened, self.signed = (c_char * octets)(), c_size_t(), c_void_p(), bytearray(of.SIGNED.size)
-        self.at_buffer, self.octets = c_void_p(addressof(self.buffer)), c_size_t(octets)
+    def __init__(self) -> None:
+        self.buffer, self.needed, self.opened, self.signed = (c_char * _LINE)(), c_size_t(), c_void_p(), bytearray(of.SIGNED.size)
+        self.at_buffer, self.octets = c_void_p(addressof(self.buffer)), c_size_t(_LINE)
         self.at_needed, self.at_opened = c_void_p(addressof(self.needed)), c_void_p(addressof(self.opened))
         self.at_signed = c_void_p(addressof((c_char * of.SIGNED.size).from_buffer(self.signed)))
 
@@ -315,8 +317,18 @@ class _Room:
         return cast(bytes, self.buffer[:self.needed.value])
 
 
+class _Lines:
+    """Memory for the longest answer of a call. The system gives no more of it than was used."""
+
+    def __init__(self, octets: int) -> None:
+        self.buffer, self.octets, self.needed = mmap.mmap(-1, octets, mmap.MAP_PRIVATE), c_size_t(octets), c_size_t()
+        self.first = c_char.from_buffer(self.buffer)
+        self.at_buffer = c_void_p(addressof(self.first))
+
+
 # Rooms that no call uses: at most as many as calls were under way at the same time. Making one takes some microseconds.
 _spare: list[_Room] = []
+_spare_lines: list[_Lines] = []
 _numbers = [c_size_t(number) for number in range(64)]
 
 
@@ -325,7 +337,15 @@ def _taken() -> _Room:
     try:
         return _spare.pop()
     except IndexError:
-        return _Room(_USUAL)
+        return _Room()
+
+
+def _room_for_lines() -> _Lines:
+    """The same for the usual limit of an answer."""
+    try:
+        return _spare_lines.pop()
+    except IndexError:
+        return _Lines(of.USUAL_ANSWER)
 
 
 def _number(number: int) -> c_size_t:
@@ -333,15 +353,17 @@ def _number(number: int) -> c_size_t:
     return _numbers[number] if number < len(_numbers) else c_size_t(number)
 
 
-def _answered(call: Callable[..., int], *given: object) -> tuple[int, bytes]:
-    """The status and the answer of a call, which is repeated if its buffer is not large enough."""
-    room = _taken()
-    status = call(*given, room.at_buffer, room.octets, room.at_needed)
-    answer = room.answer() if status != of.TOO_SMALL else b""
-    if status == of.TOO_SMALL:
-        larger = _Room(room.needed.value)
-        status, answer = call(*given, larger.at_buffer, larger.octets, larger.at_needed), larger.answer()
-    _spare.append(room)
+def _answered(most: int, call: Callable[..., int], *given: object) -> tuple[int, bytes]:
+    """The status and the answer of a call that writes at most so many octets, or one line. So no call is made twice."""
+    is_usual = most <= of.USUAL_ANSWER
+    try:
+        room = _room_for_lines() if is_usual else _Lines(most)
+    except OSError:
+        return of.NO_MEMORY, b""
+    status = call(*given, room.at_buffer, room.octets, byref(room.needed))
+    answer = room.buffer[:room.needed.value] if status != of.TOO_SMALL else b""
+    if is_usual:
+        _spare_lines.append(room)
     return status, answer
 
 
@@ -404,10 +426,11 @@ def _decided(handle: c_void_p) -> Grant | None:
     """The decision by the marks."""
     # (each line of a decision fits)
     room = _taken()
-    status, line = of.decide(handle, room.at_buffer, room.octets, room.at_needed), room.answer()
+    decision, line = of.decide(handle, room.at_buffer, room.octets, room.at_needed), room.answer()
     _spare.append(room)
+    status = decision.status
     if status == of.YES:
-        return _granted(line)
+        return _granted(line, decision.until)
     if status == of.NO:
         return None
     raise _refused(status, line)
@@ -421,9 +444,9 @@ def _required(grant: Grant | None) -> int:
 
 
 @functools.lru_cache(1024)
-def _granted(line: bytes) -> Grant:
-    """The grant of a line, which does not change."""
-    return Grant(int(line[len("yes entry "):]))
+def _granted(line: bytes, until: int) -> Grant:
+    """The grant of a line till a second, which does not change."""
+    return Grant(int(line[len("yes entry "):]), None if until == of.ENDLESS else moment_of(until))
 
 
 def _expect(status: int, answer: bytes) -> None:

@@ -10,8 +10,13 @@ from typing import Protocol, cast
 
 NO, REFUSED, TOO_SMALL, DONE, NO_MEMORY, YES = 1, 2, 4, 6, 8, 9
 CANONICAL, ADVANCED, TRANSPORT = 0, 1, 2
-# The most that limits may set.
-MOST_OCTETS, MOST_NODES, HIGHEST = 1_048_576, 1_000_000, c_size_t(-1).value
+# The most that limits may set, and the usual limit of an answer.
+MOST_OCTETS = 1_048_576
+MOST_NODES = 1_000_000
+MOST_WORK = 1_000_000_000
+MOST_ANSWER = 268_435_456
+USUAL_ANSWER = 1_048_576
+HIGHEST = c_size_t(-1).value
 # The first two numbers of a library's version that this module can call.
 VERSION = "0.2"
 
@@ -43,6 +48,18 @@ class Signed(Structure):
 
 # The same as numbers. A null address is 0.
 SIGNED = struct.Struct("8N")
+
+
+class Decision(Structure):
+    """`struct spki_decision`."""
+
+    status: int
+    until: int
+    _fields_ = [("status", c_int), ("until", c_int64)]
+
+
+# What `until` is if no window ends.
+ENDLESS = 2 ** 63 - 1
 
 
 class Memory(Protocol):
@@ -97,10 +114,11 @@ mark: Callable[[c_void_p, c_size_t], int] = at_once.spki_asked_mark
 possible: Callable[[c_void_p], bool] = at_once.spki_asked_possible
 close: Callable[[c_void_p], None] = library.spki_asked_close
 Answers = Callable[[c_void_p, c_void_p, c_size_t, c_void_p], int]
-decide: Answers = library.spki_asked_decide
+decide: Callable[[c_void_p, c_void_p, c_size_t, c_void_p], Decision] = library.spki_asked_decide
 explain: Answers = library.spki_asked_explain
 reduce: Answers = library.spki_asked_reduce
 
+# (a structure of one number, `struct spki_answered`, is returned as this number)
 _answer = [c_void_p, c_size_t, c_void_p]
 for _name, _types in {
     "guard_open": [c_char_p, c_size_t, c_uint, POINTER(Limits), c_void_p, *_answer], "guard_close": [c_void_p], "guard_entries": [c_void_p],
@@ -110,3 +128,4 @@ for _name, _types in {
 library.spki_guard_close.restype = library.spki_asked_close.restype = None
 library.spki_guard_entries.restype = at_once.spki_asked_count.restype = c_size_t
 at_once.spki_asked_possible.restype = c_bool
+library.spki_asked_decide.restype = Decision

@@ -66,21 +66,22 @@ class Limits:
     nodes: int = 0
     """The most nodes of one tag times nodes of another whose intersection is computed."""
     work: int = 0
-    """The most of these products together, over all certificates and entries."""
+    """The most work of all certificates and entries together, as `struct spki_limits` of spki.h counts it."""
     answer: int = 0
-    """The most octets of the lines."""
+    """The most octets of the lines: a call takes address space for as many, of which only those of the answer are used."""
 
     def __post_init__(self) -> None:
         for field in fields(self):
-            most = {"octets": of.MOST_OCTETS, "nodes": of.MOST_NODES}.get(field.name, of.HIGHEST)
+            mosts = {"octets": of.MOST_OCTETS, "nodes": of.MOST_NODES, "work": of.MOST_WORK, "answer": of.MOST_ANSWER}
+            most = mosts.get(field.name, of.HIGHEST)
             if not 0 <= whole(getattr(self, field.name)) <= most:
                 raise ValueError(f"the limit `{field.name}` is a number from 0 to {most:,}")
 
     @classmethod
     def highest(cls) -> Limits:
-        """The highest limits. On some questions within them an explanation takes minutes."""
+        """The highest limits. On some questions within them an explanation takes seconds."""
         most = of.HIGHEST
-        return cls(octets=of.MOST_OCTETS, certificates=most, words=most, nodes=of.MOST_NODES, work=most, answer=most)
+        return cls(octets=of.MOST_OCTETS, certificates=most, words=most, nodes=of.MOST_NODES, work=of.MOST_WORK, answer=of.MOST_ANSWER)
 
 
 class Scheme(enum.Enum):
@@ -134,7 +135,7 @@ class NotProved(Exception):
 
 class ProvenKey:
     """A key that a client has proved to hold. A public key is public: without a proof, each client that sends Alice's key would have Alice's
-    rights. `by` makes one of a signature of the service's own challenge, and `assume` of a key that something else has proved."""
+    rights. `by` makes one of a signed message of the service's own, and `assume` of a key that something else has proved."""
 
     __slots__ = ("_text",)
     _text: bytes
@@ -151,12 +152,12 @@ class ProvenKey:
         return made
 
     @classmethod
-    def by(cls, login: Signature, verify: Verify) -> ProvenKey:
-        """The key of a login: its message is a challenge that the service itself made, with a nonce that it takes once. Raises `NotProved` if
+    def by(cls, signed: Signature, verify: Verify) -> ProvenKey:
+        """The key that has signed a message which the service itself made, with a nonce that it takes once. Raises `NotProved` if
         the signature is not valid, or its message is a certificate, which proves nothing about who shows it."""
-        if login.message.startswith(b"(4:cert") or not answer_of(verify(login)):
+        if signed.message.startswith(b"(4:cert") or not answer_of(verify(signed)):
             raise NotProved("the client has not proved that it holds the key")
-        return cls.assume(login.key)
+        return cls.assume(signed.key)
 
     @property
     def text(self) -> bytes:
@@ -256,6 +257,16 @@ class Grant:
 
     entry: int
     """The number of the first entry that grants the request, from 1."""
+    until: datetime | None = None
+    """From its own moment to this second the same question is granted, if the same signatures are valid: it is the least `not-after` of the
+    entry and of all certificates. After it another entry may grant it. `None` if no window ends."""
+
+    def holds_at(self, moment: datetime) -> bool:
+        """Whether a grant that was kept still holds at a moment, from the question's own on. Never before 1970, as where a clock failed.
+
+        It says nothing of a list that was read anew, nor of a certificate that its verifier would reject by now."""
+        seconds = seconds_of(moment)
+        return seconds >= 0 and (self.until is None or seconds <= seconds_of(self.until))
 
 
 class Denied(Exception):
@@ -325,6 +336,12 @@ def whole(number: int) -> int:
     if not isinstance(number, int) or isinstance(number, bool):
         raise TypeError(f"this is an int, and not {type(number).__name__}")
     return int.__index__(number)
+
+
+def moment_of(seconds: int) -> datetime:
+    """The moment of seconds, or the last or the first that Python has."""
+    last, first = (limit.replace(tzinfo=timezone.utc) for limit in (datetime.max, datetime.min))
+    return last if seconds > seconds_of(last) else first if seconds < seconds_of(first) else EPOCH + seconds * SECOND
 
 
 def seconds_of(moment: datetime) -> int:

@@ -5,9 +5,9 @@
 
 It needs neither the package `spki` nor the library. Signatures are verified by `spki_verify`, which needs `cryptography`, or by another function.
 """
-from ._fields import Refused, content_digest
+from ._fields import Refused, content_digest, octets_of
 from ._message import Message
 from ._signer import Auth, Handler, Signer
 from ._verifier import Memory, Nonces, Proof, Verifier
 
-__all__ = ["Auth", "Handler", "Memory", "Message", "Nonces", "Proof", "Refused", "Signer", "Verifier", "content_digest"]
+__all__ = ["Auth", "Handler", "Memory", "Message", "Nonces", "Proof", "Refused", "Signer", "Verifier", "content_digest", "octets_of"]

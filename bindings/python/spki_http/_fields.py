@@ -8,8 +8,10 @@ import re
 from dataclasses import dataclass
 
 LABEL = TAG = "spki"
-MOST_INPUT, MOST_COMPONENTS, MOST_KEY, HALF = 8192, 32, 4096, 32
+MOST_INPUT, MOST_COMPONENTS, MOST_KEY = 8192, 32, 4096
 DERIVED = ("@method", "@authority", "@target-uri", "@path", "@query")
+# The field with the key that signs, which is always covered.
+PUBLIC_KEY = "x-spki-public-key"
 NUMBERS, STRINGS = ("created", "expires"), ("nonce", "keyid", "alg", "tag")
 NAME = re.compile(r"[a-z*][a-z0-9_.*-]*")
 FIELD = re.compile(r"[a-z0-9!#$%&'*+.^_`|~-]+")
@@ -18,11 +20,14 @@ INTEGER = re.compile(r"(?:0|[1-9][0-9]{0,14})(?![0-9])")
 OCTETS = re.compile(r":([A-Za-z0-9+/]*={0,2}):")
 MORE = re.compile(r"[ \t]*,")
 DIGESTS = {"sha-256": 32, "sha-512": 64}
-# The algorithms, and the canonical texts of their keys and of the values of their signatures, with `%` for each string.
+ECDSA = b"(7:sig-val(5:ecdsa(1:r%)(1:s%)))"
+# The algorithms, the canonical texts of their keys and of the values of their signatures, with `%` for each string, and the octets of a signature: 0
+# where the key says it.
 FORMS = {
-    "ed25519": (b"(10:public-key(3:ecc(5:curve7:Ed25519)(5:flags5:eddsa)(1:q%)))", b"(7:sig-val(5:eddsa(1:r%)(1:s%)))"),
-    "ecdsa-p256-sha256": (b"(10:public-key(3:ecc(5:curve10:NIST P-256)(1:q%)))", b"(7:sig-val(5:ecdsa(1:r%)(1:s%)))"),
-    "rsa-v1_5-sha256": (b"(10:public-key(3:rsa(1:n%)(1:e%)))", b"(7:sig-val(3:rsa(1:s%)))"),
+    "ed25519": (b"(10:public-key(3:ecc(5:curve7:Ed25519)(5:flags5:eddsa)(1:q%)))", b"(7:sig-val(5:eddsa(1:r%)(1:s%)))", 64),
+    "ecdsa-p256-sha256": (b"(10:public-key(3:ecc(5:curve10:NIST P-256)(1:q%)))", ECDSA, 64),
+    "ecdsa-p384-sha384": (b"(10:public-key(3:ecc(5:curve10:NIST P-384)(1:q%)))", ECDSA, 96),
+    "rsa-v1_5-sha256": (b"(10:public-key(3:rsa(1:n%)(1:e%)))", b"(7:sig-val(3:rsa(1:s%)))", 0),
 }
 
 
@@ -123,7 +128,7 @@ def input_of(text: str) -> Input:
     begin = parser.at
     components, found = parser.components(), parser.parameters()
     has_target = "@target-uri" in components or {"@path", "@query"} <= set(components)
-    if not has_target or not {"@method", "@authority"} <= set(components):
+    if not has_target or not {"@method", "@authority", PUBLIC_KEY} <= set(components):
         raise Refused("missing-component")
     if len(found) != len(NUMBERS + STRINGS):
         raise Refused("missing-parameter")
@@ -164,9 +169,19 @@ def content_digest(body: bytes) -> str:
     return f"sha-256=:{base64.b64encode(hashlib.sha256(body).digest()).decode()}:"
 
 
-def key_of(keyid: str) -> tuple[bytes, str, int]:
-    """The key of a `keyid`, its algorithm, and the octets of a signature by it."""
-    key = decoded(keyid[1:-1]) if len(keyid) <= MOST_KEY and keyid.startswith("{") and keyid.endswith("}") else None
+def hash_of(key: bytes) -> str:
+    """The SHA-256 hash of a key, in hexadecimal digits: its `keyid`."""
+    return hashlib.sha256(key).hexdigest()
+
+
+def in_braces(key: bytes) -> str:
+    """A key in transport form."""
+    return f"{{{base64.b64encode(key).decode()}}}"
+
+
+def key_of(text: str) -> tuple[bytes, str, int]:
+    """The key that a text is in transport form, its algorithm, and the octets of a signature by it."""
+    key = decoded(text[1:-1]) if len(text) <= MOST_KEY and text.startswith("{") and text.endswith("}") else None
     return (key, *kind_of(key)) if key else refuse_key()
 
 
@@ -176,21 +191,22 @@ def refuse_key() -> tuple[bytes, str, int]:
 
 def kind_of(key: bytes) -> tuple[str, int]:
     """The algorithm of a key, and the octets of a signature by it."""
-    for name, (form, _) in FORMS.items():
+    for name, (form, _, length) in FORMS.items():
         if strings := strings_of(key, form):
-            return name, len(strings[0].lstrip(b"\0")) if name.startswith("rsa") else 2 * HALF
+            return name, length or len(strings[0].lstrip(b"\0"))
     raise Refused("bad-key")
 
 
 def value_of(algorithm: str, octets: bytes) -> bytes:
     """The canonical value of the octets of a signature."""
-    strings = [octets] if algorithm.startswith("rsa") else [octets[:HALF], octets[HALF:]]
+    half = len(octets) if algorithm.startswith("rsa") else len(octets) // 2
+    strings = [octets[:half], octets[half:]][:len(octets) // half]
     return FORMS[algorithm][1].replace(b"%", b"%d:%s") % tuple(part for it in strings for part in (len(it), it))
 
 
 def octets_of(value: bytes) -> bytes:
-    """The octets of a signature with a canonical value, whose halves have 32 octets each."""
-    for _, form in FORMS.values():
+    """The octets of a signature with a canonical value, whose halves are equally long."""
+    for _, form, _ in FORMS.values():
         if strings := strings_of(value, form):
             return b"".join(strings)
     raise ValueError("this is no value of a signature")

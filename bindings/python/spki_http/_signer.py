@@ -9,11 +9,11 @@ import urllib.request
 from collections.abc import Callable, Iterable
 from typing import Any
 
-from ._fields import LABEL, TAG, content_digest, kind_of, octets_of
+from ._fields import LABEL, PUBLIC_KEY, TAG, content_digest, hash_of, in_braces, kind_of, octets_of
 from ._message import CHAINED, DIGEST, Message, base_of
 from ._verifier import MOST_WINDOW
 
-SEQUENCE = "X-Spki-Sequence"
+SEQUENCE, KEY = "X-Spki-Sequence", "X-Spki-Public-Key"
 
 
 class Signer:
@@ -28,17 +28,20 @@ class Signer:
         self.algorithm, self.length = kind_of(key)
 
     def fields(self, method: str, url: str, body: bytes = b"", fields: Iterable[tuple[str, str]] = (), covered: Iterable[str] = ()) -> dict[str, str]:
-        """The fields that a request to an address gets. Of those that it has already, those are covered that the profile asks for, and those
-        that are named in small letters."""
+        """The fields that a request to an address gets, in place of those of these names. Of the others that it has, those are covered that the
+        profile asks for, and those that are named in small letters."""
         parts = urllib.parse.urlsplit(url)
         if parts.scheme not in ("https", "http") or not parts.hostname or parts.username is not None:
             raise ValueError("no address of https or http, or one with a name and a password")
         target = (parts.path or "/") + (f"?{parts.query}" if "?" in url.partition("#")[0] else "")
-        own, known = {SEQUENCE: self.sequence} if self.sequence else {}, [*fields]
+        own, known = {KEY: in_braces(self.key), **({SEQUENCE: self.sequence} if self.sequence else {})}, [*fields]
         if Message(method, parts.netloc, target, known, body).may_have_body():
             own["Content-Digest"] = content_digest(body)
-        message = Message(method, parts.netloc, target, [*known, *own.items()], body)
-        names = ["@method", "@authority", "@path", "@query", *(it for it in (CHAINED, SEQUENCE.lower(), DIGEST, *covered) if message.values(it))]
+        replaced = {name.lower() for name in own}
+        kept = [(name, value) for name, value in known if name.lower() not in replaced]
+        message = Message(method, parts.netloc, target, [*kept, *own.items()], body)
+        more = (CHAINED, SEQUENCE.lower(), DIGEST, *covered)
+        names = ["@method", "@authority", "@path", "@query", PUBLIC_KEY, *(it for it in more if message.values(it))]
         parameters = self._parameters(names)
         octets = octets_of(self.sign(base_of(message, parts.scheme, names, parameters))).rjust(self.length, b"\0")
         return {**own, "Signature-Input": f"{LABEL}={parameters}", "Signature": f"{LABEL}=:{base64.b64encode(octets).decode()}:"}
@@ -46,16 +49,15 @@ class Signer:
     def _parameters(self, names: list[str]) -> str:
         """The value of `@signature-params`, with a new nonce."""
         created, listed = int(time.time()), " ".join(f'"{name}"' for name in names)
-        keyid, nonce = base64.b64encode(self.key).decode(), secrets.token_urlsafe(16)
-        return (f'({listed});created={created};expires={created + MOST_WINDOW};nonce="{nonce}";keyid="{{{keyid}}}";alg="{self.algorithm}"'
-                f';tag="{TAG}"')
+        keyid, nonce = hash_of(self.key), secrets.token_urlsafe(16)
+        return f'({listed});created={created};expires={created + MOST_WINDOW};nonce="{nonce}";keyid="{keyid}";alg="{self.algorithm}";tag="{TAG}"'
 
 
 class Auth:
     """Signs the requests of `requests` and of `httpx`, to one of some names: `requests.put(url, data=body, auth=Auth(signer, "files.example.org"))`.
 
     A request to any other name gets no signature and no certificates. But `requests` follows a redirection with the fields of the first request,
-    which prove nothing there: `allow_redirects=False` keeps the certificates from other names. The body must be octets, and not a stream.
+    which prove nothing there: `allow_redirects=False` keeps the key and the certificates from other names. The body must be octets, and not a stream.
     """
 
     def __init__(self, signer: Signer, *names: str) -> None:

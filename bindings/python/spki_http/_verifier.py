@@ -8,13 +8,14 @@ from collections.abc import Callable, Iterable
 from dataclasses import dataclass, replace
 from typing import NamedTuple, Protocol
 
-from ._fields import TAG, Input, Refused, digest_of, input_of, key_of, signature_of, value_of
+from ._fields import PUBLIC_KEY, TAG, Input, Refused, digest_of, hash_of, input_of, key_of, signature_of, value_of
 from ._message import CHAINED, DIGEST, METHOD, TARGET, Message, authority_of, base_of
 from ._message import value_of as component_of
 
 MOST_WINDOW, MOST_AHEAD = 300, 60
 LEAST_NONCE, MOST_NONCE = 16, 64
 USUAL_NONCES = 100_000
+NOTHING_SHOWN = b"(sequence)"
 
 
 class Signed(NamedTuple):
@@ -61,9 +62,11 @@ class Memory:
 
 @dataclass(frozen=True)
 class Proof:
-    """The key that has signed a request, in canonical form. `digest` is that of its body, if one is covered."""
+    """The key that has signed a request, in canonical form, and the certificates that the request shows, as a question has them. `digest` is that of
+    its body, if one is covered."""
 
     key: bytes
+    sequence: bytes
     nonce: str
     digest: tuple[str, bytes] | None
 
@@ -109,13 +112,16 @@ class Verifier:
             raise Refused("malformed")
         given, octets = input_of(inputs[0]), signature_of(signatures[0])
         self._check_time(given)
-        key, algorithm, length = key_of(given.keyid)
+        text, digest = self._check_message(message, given)
+        key, algorithm, length = key_of(component_of(message, self.scheme, PUBLIC_KEY))
+        if hash_of(key) != given.keyid:
+            raise Refused("other-key")
         if algorithm != given.alg:
             raise Refused("other-algorithm")
-        text, digest = self._check_message(message, given)
         if len(octets) != length or not self.verify(Signed(key, text, value_of(algorithm, octets))):
             raise Refused("invalid-signature")
-        proof = Proof(key, given.nonce, digest)
+        shown = message.values(self.sequence)
+        proof = Proof(key, shown[0].encode() if shown else NOTHING_SHOWN, given.nonce, digest)
         if message.body is not None and not proof.covers(message.body):
             raise Refused("other-digest")
         return proof

@@ -1,5 +1,5 @@
 """Verifies signatures by `cryptography` (Debian: python3-cryptography), in the forms of docs/FORMATS.md, "Keys and signatures of services":
-Ed25519, RSA by PKCS#1 v1.5 with SHA-256, ECDSA with P-256 and SHA-256. libgcrypt and GnuPG have the same forms.
+Ed25519, RSA by PKCS#1 v1.5 with SHA-256, ECDSA with P-256 and SHA-256 or with P-384 and SHA-384. libgcrypt and GnuPG have the same forms.
 
     guard.decide(question, spki_verify.verify)
 
@@ -7,35 +7,51 @@ It needs neither the package `spki` nor the library. `spki-cert` verifies by it 
 """
 from __future__ import annotations
 
-from collections.abc import Sequence
-from typing import Protocol, Union
+from typing import NamedTuple, Protocol, Union
 
 from cryptography.exceptions import InvalidSignature
-from cryptography.hazmat.primitives.asymmetric.ec import ECDSA, SECP256R1, EllipticCurvePublicKey
+from cryptography.hazmat.primitives.asymmetric.ec import ECDSA, SECP256R1, SECP384R1, EllipticCurve, EllipticCurvePublicKey
 from cryptography.hazmat.primitives.asymmetric.ed25519 import Ed25519PublicKey
 from cryptography.hazmat.primitives.asymmetric.padding import PKCS1v15
 from cryptography.hazmat.primitives.asymmetric.rsa import RSAPublicKey, RSAPublicNumbers
 from cryptography.hazmat.primitives.asymmetric.utils import encode_dss_signature
-from cryptography.hazmat.primitives.hashes import SHA256
+from cryptography.hazmat.primitives.hashes import SHA256, SHA384, HashAlgorithm
 
-__all__ = ["Public", "Signed", "LEAST_BITS", "MOST_BITS", "MOST_EXPONENT_BITS", "challenge", "number", "public_of", "verify", "verify_texts"]
+__all__ = ["Public", "Signed", "LEAST_BITS", "MOST_BITS", "MOST_EXPONENT_BITS", "number", "public_of", "verify", "verify_texts"]
 
 Public = Union[Ed25519PublicKey, RSAPublicKey, EllipticCurvePublicKey]
 
 LEAST_BITS, MOST_BITS, MOST_EXPONENT_BITS = 2048, 4096, 31
-HALF, POINT = 32, 65
+HALF = 32
 # A canonical text of more octets is no key and no value of a signature.
 MOST_OCTETS = 4096
-# The prime and the order of Ed25519, and those of P-256.
+# The prime and the order of Ed25519.
 P_25519, ORDER_25519 = 2**255 - 19, 2**252 + 27742317777372353535851937790883648493
-P_256, ORDER_256 = 2**256 - 2**224 + 2**192 + 2**96 - 1, 0xFFFFFFFF00000000FFFFFFFFFFFFFFFFBCE6FAADA7179E84F3B9CAC2FC632551
 # The coordinate y of the four points of order 8.
 EIGHTHS = (0x05FC536D880238B13933C6D305ACDFD5F098EFF289F4C345B027B2C28F95E826, 0x7A03AC9277FDC74EC6CC392CFA53202A0F67100D760B3CBA4FD84D3D706A17C7)
 # The canonical texts of keys and of values, with `%` for each string that differs.
 ED25519_KEY = b"(10:public-key(3:ecc(5:curve7:Ed25519)(5:flags5:eddsa)(1:q%)))"
 RSA_KEY = b"(10:public-key(3:rsa(1:n%)(1:e%)))"
-P256_KEY = b"(10:public-key(3:ecc(5:curve10:NIST P-256)(1:q%)))"
+ECDSA_KEY = b"(10:public-key(3:ecc(5:curve%)(1:q%)))"
 EDDSA, RSA, ECDSA_ = b"(7:sig-val(5:eddsa(1:r%)(1:s%)))", b"(7:sig-val(3:rsa(1:s%)))", b"(7:sig-val(5:ecdsa(1:r%)(1:s%)))"
+
+
+class Curve(NamedTuple):
+    """A curve of ECDSA: its prime and its order, the octets of a coordinate, and the digest of the message."""
+
+    curve: EllipticCurve
+    prime: int
+    order: int
+    octets: int
+    digest: HashAlgorithm
+
+
+CURVES = {
+    b"NIST P-256": Curve(SECP256R1(), 2**256 - 2**224 + 2**192 + 2**96 - 1,
+                         0xFFFFFFFF00000000FFFFFFFFFFFFFFFFBCE6FAADA7179E84F3B9CAC2FC632551, 32, SHA256()),
+    b"NIST P-384": Curve(SECP384R1(), 2**384 - 2**128 - 2**96 + 2**32 - 1,
+                         0xFFFFFFFFFFFFFFFFFFFFFFFFFFFFFFFFFFFFFFFFFFFFFFFFC7634D81F4372DDF581A0DB248B0A77AECEC196ACCC52973, 48, SHA384()),
+}
 
 
 class Signed(Protocol):
@@ -69,26 +85,17 @@ def verify_texts(*, key: bytes, message: bytes, value: bytes) -> bool:
 
 
 def public_of(key: bytes) -> Public | None:
-    """The public key of a canonical text. `None` if it is in none of the three forms, or has a number or a point that docs/FORMATS.md, "What a
+    """The public key of a canonical text. `None` if it is in none of the forms, or has a number or a point that docs/FORMATS.md, "What a
     verifier tests first", excludes."""
     try:
         if found := _strings(key, ED25519_KEY):
             return Ed25519PublicKey.from_public_bytes(found[0]) if _is_of_large_order(found[0]) else None
-        if found := _strings(key, P256_KEY):
-            return EllipticCurvePublicKey.from_encoded_point(SECP256R1(), found[0]) if _is_written_point(found[0]) else None
+        if found := _strings(key, ECDSA_KEY):
+            curve = CURVES.get(found[0])
+            return EllipticCurvePublicKey.from_encoded_point(curve.curve, found[1]) if curve and _is_written_point(curve, found[1]) else None
         return _rsa(*found) if (found := _strings(key, RSA_KEY)) else None
     except ValueError:
         return None
-
-
-def challenge(service: bytes, nonce: bytes, words: Sequence[bytes]) -> bytes:
-    """The octets that a client signs for one request: `(challenge SERVICE NONCE REQUEST)`. docs/FORMATS.md, "Challenges", says what it is for.
-
-    The service makes the nonce, of 32 random octets, and takes it once. `words` has the strings of the request that it decides.
-    """
-    strings = [b"%d:%s" % (len(it), it) for it in (service, nonce, *words)]
-    request = strings[2] if len(words) == 1 else b"(%s)" % b"".join(strings[2:])
-    return b"(9:challenge%s%s%s)" % (strings[0], strings[1], request)
 
 
 def number(value: int) -> bytes:
@@ -102,10 +109,10 @@ def _is_of_large_order(q: bytes) -> bool:
     return len(q) == HALF and 2**192 <= y < P_25519 - 1 and y not in EIGHTHS
 
 
-def _is_written_point(q: bytes) -> bool:
-    """Whether octets are those of two coordinates of P-256. The library tests that they are a point."""
-    x, y = int.from_bytes(q[1:1 + HALF], "big"), int.from_bytes(q[1 + HALF:], "big")
-    return len(q) == POINT and q[0] == 4 and x < P_256 and y < P_256
+def _is_written_point(curve: Curve, q: bytes) -> bool:
+    """Whether octets are those of two coordinates of a curve. The library tests that they are a point."""
+    x, y = int.from_bytes(q[1:1 + curve.octets], "big"), int.from_bytes(q[1 + curve.octets:], "big")
+    return len(q) == 1 + 2 * curve.octets and q[0] == 4 and x < curve.prime and y < curve.prime
 
 
 def _rsa(modulus: bytes, exponent: bytes) -> RSAPublicKey | None:
@@ -128,9 +135,11 @@ def _is_signed(public: Public, message: bytes, value: bytes) -> bool:
     if isinstance(public, RSAPublicKey) and numbers and 1 <= numbers[0] < public.public_numbers().n:
         public.verify(numbers[0].to_bytes((public.key_size + 7) // 8, "big"), message, PKCS1v15(), SHA256())
         return True
-    if isinstance(public, EllipticCurvePublicKey) and numbers and all(1 <= it < ORDER_256 for it in numbers):
-        public.verify(encode_dss_signature(*numbers), message, ECDSA(SHA256()))
-        return True
+    if isinstance(public, EllipticCurvePublicKey) and numbers:
+        curve = next(it for it in CURVES.values() if it.curve.key_size == public.key_size)
+        if all(1 <= it < curve.order for it in numbers):
+            public.verify(encode_dss_signature(*numbers), message, ECDSA(curve.digest))
+            return True
     return False
 
 

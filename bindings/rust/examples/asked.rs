@@ -3,7 +3,7 @@
 //! Reads strings from standard input, each as LENGTH:OCTETS, and writes the lines of each answer as one string. A list of strings is its
 //! number of strings, and the strings. A question is these, in this order:
 //!
-//! - the strings COMMAND, POLICY, ACL, SEQUENCE and KEY
+//! - the strings COMMAND, POLICY, LIMITS (`usual` or `highest`), ACL, SEQUENCE and KEY
 //! - `text` or `words`, and a list of strings
 //! - `text` or `seconds`, and a string
 //! - a list of what the verifier accepts, three strings each: a key, a message and a value
@@ -56,7 +56,7 @@ fn spelled(reason: Reason) -> String {
 
 /// The next question's answer, without the last line feed.
 fn answer(input: &mut Input) -> Option<Result<String, Refusal>> {
-    let (command, policy) = (input.text()?, input.text()?);
+    let (command, policy, limits) = (input.text()?, input.text()?, input.text()?);
     let texts: Vec<_> = (0..3)
         .map(|_| input.next().map(<[u8]>::to_vec))
         .collect::<Option<_>>()?;
@@ -79,13 +79,17 @@ fn answer(input: &mut Input) -> Option<Result<String, Refusal>> {
     } else {
         Policy::AllowSha1
     };
-    Some(answer_to(&command, &texts[0], policy, &question, &accepted))
+    let limits = match &limits[..] {
+        "highest" => Limits::highest(),
+        _ => Limits::default(),
+    };
+    let guard = Guard::read(&texts[0], policy, limits);
+    Some(guard.and_then(|guard| answer_to(&command, &guard, &question, &accepted)))
 }
 
 fn answer_to(
     command: &str,
-    list: &[u8],
-    policy: Policy,
+    guard: &Guard,
     question: &Question,
     accepted: &[Vec<u8>],
 ) -> Result<String, Refusal> {
@@ -94,7 +98,6 @@ fn answer_to(
             .chunks(3)
             .any(|row| row == [it.key, it.message, it.value])
     };
-    let guard = Guard::read(list, policy, Limits::highest())?;
     let mut asked = guard.ask(question)?;
     match asked.verify(verify) {
         Ok(()) => {}

@@ -3,7 +3,7 @@
 mod by_openssl;
 
 use by_openssl::Openssl;
-use spki::{Denied, Guard, Limits, Policy, ProvenKey, Question, Request};
+use spki::{Denied, Grant, Guard, Limits, Policy, ProvenKey, Question, Request};
 use std::time::SystemTime;
 use std::{env, error::Error, fs, io};
 
@@ -15,18 +15,17 @@ fn is_normal(path: &str) -> bool {
         && parts.all(|it| !["", ".", ".."].contains(&it))
 }
 
-/// Ends well if the guard grants an action on a path.
-fn require(
+/// Decides an action on a path.
+fn decide(
     guard: &Guard,
     client: &ProvenKey,
     sequence: &[u8],
     action: &str,
     path: &str,
-) -> Result<(), Denied<io::Error>> {
+) -> Result<Grant, Denied<io::Error>> {
     let words = [b"cache", action.as_bytes(), path.as_bytes()];
     let question = Question::new(sequence, client, Request::Words(&words), SystemTime::now());
-    guard.decide_by(&question, &mut Openssl)?;
-    Ok(())
+    guard.decide_by(&question, &mut Openssl)
 }
 
 fn main() -> Result<(), Box<dyn Error>> {
@@ -36,15 +35,18 @@ fn main() -> Result<(), Box<dyn Error>> {
     };
     let guard = Guard::read(&fs::read(list)?, Policy::Strict, Limits::default())?;
     let (client, sequence) = (ProvenKey::assume(fs::read(key)?), fs::read(sequence)?);
+    let mut kept: Option<(String, Grant)> = None;
     for line in io::stdin().lines() {
         let line = line?;
         let mut words = line.splitn(3, ' ').chain(["", ""]);
         let [action, path, text] = [(); 3].map(|()| words.next().unwrap_or_default());
-        let file = format!("{folder}{path}");
-        if !["read", "write"].contains(&action)
-            || !is_normal(path)
-            || require(&guard, &client, &sequence, action, path).is_err()
+        let (file, asked) = (format!("{folder}{path}"), format!("{action} {path}"));
+        if !matches!(&kept, Some((last, grant)) if *last == asked && grant.holds_at(SystemTime::now()))
         {
+            let decided = decide(&guard, &client, &sequence, action, path);
+            kept = decided.ok().map(|grant| (asked, grant));
+        }
+        if !["read", "write"].contains(&action) || !is_normal(path) || kept.is_none() {
             println!("denied");
         } else if action == "write" {
             fs::write(file, text)?;

@@ -1,4 +1,5 @@
-//! Threads that decide by one guard and one opened question. The last one to end closes the guard. `tests/test_bindings.py` runs it under helgrind.
+//! Threads that decide by one guard and one opened question. The last one to end closes the guard.
+//! `tests/suite/test_bindings.py` runs it under helgrind.
 
 use spki::{Guard, Limits, Moment, Policy, ProvenKey, Question, Request};
 use std::sync::Arc;

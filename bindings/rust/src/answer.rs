@@ -1,4 +1,4 @@
-//! What the calls answer: lines, in a buffer that is made larger until they fit.
+//! What the calls answer: lines, in a buffer that every answer of the call fits in. So no call is made twice.
 
 use crate::words::{Fault, Part};
 use spki_sys::{self as sys, Status};
@@ -6,7 +6,7 @@ use std::error::Error;
 use std::ffi::c_void;
 use std::fmt;
 
-/// The octets that a decision and most refusals fit in.
+/// The octets that each decision and each refusal fits in.
 pub(crate) const LINE: usize = 128;
 
 /// A line that begins with `refused`: a text is no input, or an allocation failed. Nothing is granted.
@@ -28,11 +28,13 @@ pub struct Refusal {
 impl Refusal {
     /// The refusal of a call.
     pub(crate) fn of(status: Status, answer: &[u8]) -> Refusal {
-        if status != sys::REFUSED {
-            return Refusal::misused(&format!("libspki_c answered with the status {status}"));
-        }
+        let line = match status {
+            sys::REFUSED => line_of(answer),
+            sys::NO_MEMORY => "refused Memory",
+            _ => return Refusal::misused(&format!("libspki_c answered with the status {status}")),
+        };
         Refusal {
-            line: line_of(answer).to_owned(),
+            line: line.to_owned(),
         }
     }
 
@@ -40,13 +42,6 @@ impl Refusal {
     pub(crate) fn misused(why: &str) -> Refusal {
         Refusal {
             line: format!("misused: {why}"),
-        }
-    }
-
-    /// The refusal of a call that writes no line, where an allocation failed.
-    pub(crate) fn memory() -> Refusal {
-        Refusal {
-            line: String::from("refused Memory"),
         }
     }
 
@@ -89,32 +84,30 @@ pub(crate) fn line_of(answer: &[u8]) -> &str {
         .trim_end_matches('\n')
 }
 
-/// The answer of a call that writes one line: its status, and what a function makes of both.
-pub(crate) fn with_line<T>(
-    call: impl FnOnce(*mut c_void, usize, *mut usize) -> Status,
-    made: impl FnOnce(Status, &[u8]) -> T,
+/// The answer of a call that writes one line: what it returns, and what a function makes of both.
+pub(crate) fn with_line<A, T>(
+    call: impl FnOnce(*mut c_void, usize, *mut usize) -> A,
+    made: impl FnOnce(A, &[u8]) -> T,
 ) -> T {
     let (mut buffer, mut needed) = ([0u8; LINE], 0);
-    let status = call(buffer.as_mut_ptr().cast(), LINE, &mut needed);
-    made(status, &buffer[..needed.min(LINE)])
+    let returned = call(buffer.as_mut_ptr().cast(), LINE, &mut needed);
+    made(returned, &buffer[..needed.min(LINE)])
 }
 
-/// Calls until the buffer, which begins with so much room, is large enough: the status and the answer.
+/// The answer of a call that writes at most so many octets, or one line: its status and the answer.
 pub(crate) fn answered(
-    room: usize,
-    mut call: impl FnMut(*mut c_void, usize, *mut usize) -> Status,
+    most: usize,
+    call: impl FnOnce(*mut c_void, usize, *mut usize) -> Status,
 ) -> (Status, Vec<u8>) {
-    let mut buffer: Vec<u8> = Vec::with_capacity(room);
-    loop {
-        let mut needed = 0;
-        let status = call(buffer.as_mut_ptr().cast(), buffer.capacity(), &mut needed);
-        if status == sys::TOO_SMALL {
-            buffer.reserve(needed);
-            continue;
-        }
-        let length = needed.min(buffer.capacity());
-        // SAFETY: the answer has so many octets, and the call has written them to the front of the buffer.
-        unsafe { buffer.set_len(length) };
-        return (status, buffer);
+    let (mut buffer, mut needed) = (Vec::<u8>::new(), 0);
+    if buffer.try_reserve_exact(most.max(LINE)).is_err() {
+        return (sys::NO_MEMORY, buffer);
     }
+    let status = call(buffer.as_mut_ptr().cast(), buffer.capacity(), &mut needed);
+    if status != sys::TOO_SMALL {
+        // SAFETY: the answer has so many octets, and the call has written them to the front of the buffer.
+        unsafe { buffer.set_len(needed) };
+        buffer.shrink_to_fit();
+    }
+    (status, buffer)
 }

@@ -10,9 +10,6 @@ use std::fmt;
 use std::ptr::NonNull;
 use std::slice;
 
-/// Room for so many octets of lines is there at first. More is made where it is needed.
-const LINES: usize = 4096;
-
 /// A question that was read. It owns all that it needs of the question's texts and of its guard, which may be dropped before it. So it may be
 /// stored, sent to another thread, and held while something else is awaited.
 ///
@@ -30,6 +27,7 @@ const LINES: usize = 4096;
 pub struct Asked {
     handle: NonNull<sys::Asked>,
     count: usize,
+    most: usize,
 }
 
 // SAFETY: the library's calls only read what the handle points to, except `mark`, and the last one, which frees it, and only `drop` makes that.
@@ -53,11 +51,15 @@ impl fmt::Debug for Asked {
 }
 
 impl Asked {
-    /// The question of a handle that is open.
-    pub(crate) fn new(handle: NonNull<sys::Asked>) -> Asked {
+    /// The question of a handle that is open, whose answers have at most so many octets.
+    pub(crate) fn new(handle: NonNull<sys::Asked>, most: usize) -> Asked {
         // SAFETY: the handle is open.
         let count = unsafe { sys::spki_asked_count(handle.as_ptr()) };
-        Asked { handle, count }
+        Asked {
+            handle,
+            count,
+            most,
+        }
     }
 
     /// The number of the signatures.
@@ -98,7 +100,6 @@ impl Asked {
         let status = unsafe { sys::spki_asked_signature(self.handle.as_ptr(), place, &mut signed) };
         match status {
             sys::DONE => {}
-            sys::NO_MEMORY => return Err(Refusal::memory()),
             _ => return Err(Refusal::of(status, b"")),
         }
         let of = |text: sys::Text| {
@@ -174,10 +175,10 @@ impl Asked {
     /// The same, with the error of any verifier.
     pub(crate) fn decided<E>(&self) -> Result<Grant, Denied<E>> {
         let call = |buffer, room, needed| self.call(sys::spki_asked_decide, (buffer, room, needed));
-        with_line(call, |status, line| match status {
-            sys::YES => granted(line).map_err(Denied::Refused),
+        with_line(call, |met: sys::Decision, line| match met.status {
+            sys::YES => granted(line, met.until).map_err(Denied::Refused),
             sys::NO => Err(Denied::No),
-            _ => Err(Denied::Refused(Refusal::of(status, line))),
+            status => Err(Denied::Refused(Refusal::of(status, line))),
         })
     }
 
@@ -202,8 +203,8 @@ impl Asked {
 
     /// The lines of a call that decides nothing.
     fn lines(&self, call: sys::Answers) -> Result<String, Refusal> {
-        let (status, lines) = answered(LINES, |buffer, room, needed| {
-            self.call(call, (buffer, room, needed))
+        let (status, lines) = answered(self.most, |buffer, room, needed| {
+            self.call(call, (buffer, room, needed)).status
         });
         match status {
             sys::DONE => Ok(line_of(&lines).to_owned()),
@@ -212,21 +213,21 @@ impl Asked {
     }
 
     /// A call with a buffer, its room, and the place of the length of the answer.
-    fn call(
+    fn call<A>(
         &self,
-        call: sys::Answers,
+        call: sys::Answers<A>,
         (buffer, room, needed): (*mut c_void, usize, *mut usize),
-    ) -> sys::Status {
+    ) -> A {
         // SAFETY: the handle is open. Each pointer is to as many octets as its length says, and they do not overlap.
         unsafe { call(self.handle.as_ptr(), buffer, room, needed) }
     }
 }
 
-/// The grant of a line `yes entry N`.
-fn granted(line: &[u8]) -> Result<Grant, Refusal> {
+/// The grant of a line `yes entry N`, and its last second.
+fn granted(line: &[u8], until: i64) -> Result<Grant, Refusal> {
     line_of(line)
         .strip_prefix("yes entry ")
         .and_then(|number| number.parse().ok())
-        .map(|entry| Grant { entry })
+        .map(|entry| Grant::until(entry, until))
         .ok_or_else(|| Refusal::misused("libspki_c wrote another line"))
 }

@@ -5,6 +5,7 @@ use crate::signature::Signature;
 use std::convert::Infallible;
 use std::error::Error;
 use std::fmt;
+use std::time::{Duration, SystemTime, UNIX_EPOCH};
 
 /// The request is granted. There is a value of this type only if the library decided so.
 #[non_exhaustive]
@@ -12,6 +13,30 @@ use std::fmt;
 pub struct Grant {
     /// The number of the first entry that grants the request, from 1.
     pub entry: usize,
+    /// From its own moment to this second the same question is granted, if the same signatures are valid: it is the least `not-after` of the
+    /// entry and of all certificates. After it another entry may grant it. `None` if no window ends.
+    pub until: Option<SystemTime>,
+}
+
+impl Grant {
+    /// The grant by an entry till a second since 1970. The highest number is no end.
+    pub(crate) fn until(entry: usize, seconds: i64) -> Grant {
+        let (after, length) = (seconds >= 0, Duration::from_secs(seconds.unsigned_abs()));
+        let until = (seconds < i64::MAX).then(|| match after {
+            true => UNIX_EPOCH + length,
+            false => UNIX_EPOCH - length,
+        });
+        Grant { entry, until }
+    }
+
+    /// Whether a grant that was kept still holds at a time, from the question's own moment on. Never before 1970, as where a clock failed.
+    ///
+    /// It says nothing of a list that was read anew, nor of a certificate that its verifier would reject by now.
+    #[must_use]
+    pub fn holds_at(&self, now: SystemTime) -> bool {
+        let is_over = |until| now >= until + Duration::from_secs(1);
+        now >= UNIX_EPOCH && !self.until.is_some_and(is_over)
+    }
 }
 
 /// The request is not granted, and why. `E` is the error of the verifier.

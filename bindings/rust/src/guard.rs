@@ -39,7 +39,7 @@ pub struct Limits {
 }
 
 impl Limits {
-    /// The highest limits. On some questions within them an explanation takes minutes.
+    /// The highest limits. On some questions within them an explanation takes seconds.
     #[must_use]
     pub const fn highest() -> Limits {
         let most = usize::MAX;
@@ -62,10 +62,32 @@ impl Limits {
         }
     }
 
+    /// The most octets of an answer.
+    const fn most(&self) -> usize {
+        match self.values.answer {
+            0 => sys::USUAL_ANSWER,
+            set => set,
+        }
+    }
+
     /// Whether no limit is set.
     const fn is_none(&self) -> bool {
         let of = &self.values;
         of.octets | of.certificates | of.words | of.nodes | of.work | of.answer == 0
+    }
+
+    /// The limits by the names of the calls that set them. One that is not set is 0.
+    #[must_use]
+    pub const fn named(&self) -> [(&'static str, usize); 6] {
+        let of = &self.values;
+        [
+            ("octets", of.octets),
+            ("certificates", of.certificates),
+            ("words", of.words),
+            ("nodes", of.nodes),
+            ("work", of.work),
+            ("answer", of.answer),
+        ]
     }
 
     /// The most octets that the texts of a question may have together. More than the library's highest means that.
@@ -97,17 +119,19 @@ impl Limits {
         self
     }
 
-    /// The most of these products together, over all certificates and entries.
+    /// The most work of all certificates and entries together, as `struct spki_limits` of `spki.h` counts it. More than the library's
+    /// highest means that.
     #[must_use]
     pub const fn work(mut self, most: usize) -> Limits {
-        self.values.work = most;
+        self.values.work = at_most(most, sys::MOST_WORK);
         self
     }
 
-    /// The most octets of the lines of `explain` and `reduce`.
+    /// The most octets of the lines of `explain` and `reduce`: a call takes address space for as many, of which only those of the answer are
+    /// used. More than 256 MiB means that.
     #[must_use]
     pub const fn answer(mut self, most: usize) -> Limits {
-        self.values.answer = most;
+        self.values.answer = at_most(most, sys::MOST_ANSWER);
         self
     }
 }
@@ -136,6 +160,7 @@ impl Default for Limits {
 /// A thread that calls has 256 KiB of stack left. No call is made in a child that a process with several threads forked.
 pub struct Guard {
     handle: NonNull<sys::Guard>,
+    most: usize,
 }
 
 // SAFETY: the library's calls only read what the handle points to, except the last one, which frees it, and only `drop` makes that. The library keeps
@@ -196,7 +221,10 @@ impl Guard {
         };
         with_line(call, |status, line| (status, line.to_owned()))
             .opened(handle)
-            .map(|handle| Guard { handle })
+            .map(|handle| Guard {
+                handle,
+                most: limits.most(),
+            })
     }
 
     /// The number of entries of the list.
@@ -221,7 +249,9 @@ impl Guard {
             };
             with_line(call, |status, line| (status, line.to_owned()))
         });
-        answer.opened(handle).map(Asked::new)
+        answer
+            .opened(handle)
+            .map(|handle| Asked::new(handle, self.most))
     }
 
     /// Decides whether the question's request is granted. Only `Ok` is a yes.

@@ -4,10 +4,12 @@
 //! use spki::http::{Message, Nonces, Requests};
 //! use spki::Signature;
 //!
-//! let requests = Requests::new(&["files.example.org"], Nonces::new(100_000), 1_792_000_000);
+//! // Name a function of your crypto library here, as `openssl::sha::sha256`. This stand-in is no hash: with it no request of a client is proved.
+//! let sha256 = |_: &[u8]| [0; 32];
+//! let requests = Requests::new(&["files.example.org"], Nonces::new(100_000), 1_792_000_000, sha256);
 //! let fields: &[(&str, &[u8])] = &[("Host", b"files.example.org")];
 //! let message = Message::new("GET", "files.example.org", "/web/index.html", fields);
-//! // Call your crypto library here: it is the verifier that a guard asks, too.
+//! // Call the same library here: it is the verifier that a guard asks, too.
 //! let verify = |_signature: Signature| false;
 //! let proof = requests.prove(&message, 1_792_000_100, verify);
 //! assert_eq!(proof.unwrap_err().name(), "absent");
@@ -15,17 +17,20 @@
 
 mod fields;
 mod form;
+mod head;
 mod message;
 mod nonces;
 mod unproved;
 
 pub use fields::ContentDigest;
+pub use head::Head;
 pub use message::Message;
 pub use nonces::{Nonces, TakeNonce};
 pub use unproved::Unproved;
 
 use crate::{NotProved, ProvenKey, Signature, Verdict};
-use fields::Input;
+use fields::{Input, PUBLIC_KEY};
+use form::Kind;
 use message::{authority_of, is_target};
 
 /// The seconds from `created` to `expires` at most, and those that a client's clock may be ahead.
@@ -39,6 +44,7 @@ pub struct Requests<N = Nonces> {
     names: Vec<String>,
     nonces: N,
     start: u64,
+    sha256: fn(&[u8]) -> [u8; 32],
     scheme: &'static str,
     sequence: String,
 }
@@ -48,6 +54,8 @@ pub struct Requests<N = Nonces> {
 pub struct Proof {
     /// The key, as a question has it.
     pub key: ProvenKey<'static>,
+    /// The certificates that the request shows, as a question has them.
+    pub sequence: Vec<u8>,
     /// The digest of the body, if one is covered. Whoever reads the body compares it: without a digest there is none.
     pub digest: Option<ContentDigest>,
     nonce: String,
@@ -56,8 +64,17 @@ pub struct Proof {
 impl<N: TakeNonce> Requests<N> {
     /// Requests to a service of these names, with ports that are not those of https. `start` is the time in seconds since 1970 before which
     /// nothing may be created, since its nonce may be forgotten: the start of the process, or 0 if the nonces outlast it.
+    ///
+    /// `sha256` is the hash function of your crypto library: of the crate `openssl` it is `openssl::sha::sha256`. The hash of a request's key is
+    /// compared with `keyid`, and used for nothing else. A wrong function refuses the requests of clients. It proves no key that has not signed:
+    /// the key itself is in a signed field, and the signature is verified by this key.
     #[must_use]
-    pub fn new(names: &[&str], nonces: N, start: u64) -> Requests<N> {
+    pub fn new(
+        names: &[&str],
+        nonces: N,
+        start: u64,
+        sha256: fn(&[u8]) -> [u8; 32],
+    ) -> Requests<N> {
         Requests {
             names: names
                 .iter()
@@ -65,6 +82,7 @@ impl<N: TakeNonce> Requests<N> {
                 .collect(),
             nonces,
             start,
+            sha256,
             scheme: "https",
             sequence: "x-spki-sequence".to_string(),
         }
@@ -105,11 +123,8 @@ impl<N: TakeNonce> Requests<N> {
     {
         let (input, octets) = signature_of(message)?;
         self.check_time(&input, now)?;
-        let (key, kind) = form::key_of(input.keyid)?;
-        if kind.algorithm != input.alg {
-            return Err(Unproved::OtherAlgorithm);
-        }
         let (text, digest) = self.check_message(message, &input)?;
+        let (key, kind) = self.signer_of(message, &input)?;
         if octets.len() != kind.octets {
             return Err(Unproved::InvalidSignature);
         }
@@ -121,12 +136,19 @@ impl<N: TakeNonce> Requests<N> {
         match ProvenKey::by(signed, verify) {
             Ok(key) => Ok(Proof {
                 key: key.into_owned(),
+                sequence: self.sequence_of(message),
                 digest,
                 nonce: input.nonce.to_string(),
             }),
             Err(NotProved::No) => Err(Unproved::InvalidSignature),
             Err(NotProved::Verifier(_)) => Err(Unproved::VerifierFailed),
         }
+    }
+
+    /// The certificates that a request shows, whose field is there once at most.
+    fn sequence_of(&self, message: &Message) -> Vec<u8> {
+        let shown = message.values(&self.sequence).next();
+        shown.unwrap_or(b"(sequence)").to_vec()
     }
 
     /// Tests the tag, the nonce and the window.
@@ -181,6 +203,20 @@ impl<N: TakeNonce> Requests<N> {
         }
         let digest = fields::digest_of(&message.field(message::DIGEST)?)?;
         Ok((text, Some(digest)))
+    }
+
+    /// The key that a request names as its signer, and its kind.
+    fn signer_of(&self, message: &Message, input: &Input) -> Result<(Vec<u8>, Kind), Unproved> {
+        let (key, kind) = form::key_of(&message.field(PUBLIC_KEY)?)?;
+        let hash = (self.sha256)(&key);
+        let digits: String = hash.iter().map(|octet| format!("{octet:02x}")).collect();
+        if digits != input.keyid {
+            return Err(Unproved::OtherKey);
+        }
+        if kind.algorithm != input.alg {
+            return Err(Unproved::OtherAlgorithm);
+        }
+        Ok((key, kind))
     }
 }
 

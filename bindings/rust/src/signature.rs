@@ -57,7 +57,7 @@ impl<'a> Signature<'a> {
 
 /// A key that a client has proved to hold. A public key is public: without a proof, each client that sends Alice's key would have Alice's rights.
 ///
-/// [`by`](ProvenKey::by) makes one of a signature of the service's own challenge, and [`assume`](ProvenKey::assume) of a key that something else
+/// [`by`](ProvenKey::by) makes one of a signed message of the service's own, and [`assume`](ProvenKey::assume) of a key that something else
 /// has proved. No other octets are one:
 ///
 /// ```compile_fail,E0308
@@ -88,20 +88,20 @@ impl<'k> ProvenKey<'k> {
         ProvenKey { text: key.into() }
     }
 
-    /// The key of a login: its message is a challenge that the service itself made, with a nonce that it takes once. A certificate is no login: it
+    /// The key that has signed a message which the service itself made, with a nonce that it takes once. A certificate is none: it
     /// proves nothing about who shows it.
     ///
     /// # Errors
     ///
     /// The signature is not valid, or its message is a certificate; the verifier failed.
     pub fn by<A: Verdict>(
-        login: Signature<'k>,
+        signed: Signature<'k>,
         verify: impl FnOnce(Signature<'_>) -> A,
     ) -> Result<ProvenKey<'k>, NotProved<A::Error>> {
-        let is_proved = !login.message.starts_with(b"(4:cert")
-            && verify(login).verdict().map_err(NotProved::Verifier)?;
+        let is_proved = !signed.message.starts_with(b"(4:cert")
+            && verify(signed).verdict().map_err(NotProved::Verifier)?;
         is_proved
-            .then(|| ProvenKey::assume(login.key))
+            .then(|| ProvenKey::assume(signed.key))
             .ok_or(NotProved::No)
     }
 

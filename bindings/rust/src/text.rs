@@ -38,7 +38,7 @@ pub fn string_at<'t>(text: &'t [u8], path: &[usize]) -> Result<Option<&'t [u8]>,
         )
     };
     if status == sys::NO_MEMORY {
-        return Err(Refusal::memory());
+        return Err(Refusal::of(status, b""));
     }
     if status != sys::DONE {
         return Ok(None);
@@ -91,7 +91,8 @@ pub fn transport(text: &[u8]) -> Result<Vec<u8>, Refusal> {
 
 fn converted(command: c_int, text: &[u8]) -> Result<Vec<u8>, Refusal> {
     library::check();
-    let (status, answer) = answered(2 * text.len() + 64, |buffer, room, needed| {
+    // (an octet that is printed in base64 takes 7 for the 3 of its canonical text)
+    let (status, answer) = answered(3 * text.len() + 64, |buffer, room, needed| {
         // SAFETY: as above.
         unsafe {
             sys::spki_answer(
@@ -102,6 +103,7 @@ fn converted(command: c_int, text: &[u8]) -> Result<Vec<u8>, Refusal> {
                 room,
                 needed,
             )
+            .status
         }
     });
     if status == sys::DONE {

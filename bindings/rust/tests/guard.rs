@@ -1,4 +1,4 @@
-//! What the crate does beside the library: opened questions, marks, its buffers and its types. `tests/test_bindings.py` at the top of the
+//! What the crate does beside the library: opened questions, marks, its buffers and its types. `tests/suite/test_bindings.py` at the top of the
 //! repository compares the answers to many questions with the program's.
 
 use spki::{
@@ -362,6 +362,36 @@ fn a_moment_before_1970_or_past_9999_is_refused() {
     assert_eq!(refused(guard.decide(&before, right)), "refused at BadDate");
 }
 
+/// A grant holds till the least window ends, and no second longer.
+#[test]
+fn a_grant_says_until_when_it_holds() -> Outcome {
+    let sequence = shown(1);
+    let list = b"(acl (entry (public-key (test a)) (propagate) (tag (*)) (not-after \"2026-06-30_23:59:59\")))";
+    let (last, second) = (
+        UNIX_EPOCH + Duration::from_secs(1_782_863_999),
+        Duration::from_secs(1),
+    );
+    let ending = guard(list);
+    let ask = |time| ending.decide(&Question::new(&sequence, held(KEY), WORDS, time), right);
+    let grant = ask(last - 1000 * second)?;
+    assert_eq!(grant.until, Some(last));
+    for (time, holds) in [
+        (last - second, true),
+        (last, true),
+        (last + Duration::from_millis(999), true),
+        (last + second, false),
+    ] {
+        assert_eq!((grant.holds_at(time), ask(time).is_ok()), (holds, holds));
+    }
+    assert!(!grant.holds_at(UNIX_EPOCH - Duration::from_nanos(1)));
+    let endless = guard(LIST).decide(&shows(&sequence), right)?;
+    assert_eq!(
+        (endless.until, endless.holds_at(last + second)),
+        (None, true)
+    );
+    Ok(())
+}
+
 #[test]
 fn a_login_proves_its_key() {
     let login = |message| Signature {
@@ -493,7 +523,8 @@ fn questions_have_limits() -> Outcome {
     let words = [&b"w"[..]; 65];
     let line = refused(decided(usual, &requests(Request::Words(&words))));
     assert_eq!(line, "refused question TooManyWords");
-    assert!(decided(usual.octets(usize::MAX).nodes(usize::MAX), &shows(&one)).is_ok());
+    let most = usize::MAX;
+    assert!(decided(usual.octets(most).nodes(most).answer(most), &shows(&one)).is_ok());
     assert!(decided(usual.octets(0).words(0), &shows(&one)).is_ok());
     let line = refused(decided(usual.certificates(0).work(7), &shows(&many)));
     assert_eq!(line, "refused question TooManyCertificates");
@@ -525,6 +556,14 @@ fn long_answers_are_whole() -> Outcome {
     assert_eq!(lines(&explanation), wanted);
     let five = "entry 500 (five (subject (public-key (test b))) (tag (*)))";
     assert_eq!(asked.reduce()?.lines().last(), Some(five));
+    Ok(())
+}
+
+/// Nothing becomes longer than an octet that is printed in base64: 7 octets for 3.
+#[test]
+fn long_forms_are_whole() -> Outcome {
+    let text = format!("({})", "1:\0".repeat(1000));
+    assert_eq!(spki::advanced(text.as_bytes())?.len(), 7002);
     Ok(())
 }
 

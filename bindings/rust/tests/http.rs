@@ -1,9 +1,9 @@
-//! Requests that are signed: the table that the verifiers of all languages read. `openssl` verifies, and coreutils make digests.
+//! Requests that are signed: the table that the verifiers of all languages read. `openssl` verifies and hashes keys, and coreutils make digests.
 
 #[path = "../examples/by_openssl/mod.rs"]
 mod by_openssl;
 
-use by_openssl::Openssl;
+use by_openssl::{sha256, Openssl};
 use spki::http::{ContentDigest, Message, Nonces, Requests, TakeNonce, Unproved};
 use spki::{Signature, Verifier};
 use std::fs;
@@ -140,7 +140,7 @@ fn the_rows_are_answered() {
     let rows = rows();
     assert!(rows.len() > 200);
     for row in &rows {
-        let requests = Requests::new(&["example.com"], Nonces::new(10), START);
+        let requests = Requests::new(&["example.com"], Nonces::new(10), START, sha256);
         let now: u64 = row.on[3].parse().expect("a time");
         if let Some(before) = row.again {
             assert_eq!(
@@ -151,6 +151,22 @@ fn the_rows_are_answered() {
             );
         }
         assert_eq!(answer(&requests, row, now), row.gives, "{}", row.name);
+    }
+}
+
+/// A wrong hash function only refuses.
+#[test]
+fn a_wrong_hash_proves_no_key() {
+    for row in &rows() {
+        let requests = Requests::new(&["example.com"], Nonces::new(10), START, |_| [0; 32]);
+        let now: u64 = row.on[3].parse().expect("a time");
+        let answer = answer(&requests, row, now);
+        assert_ne!(answer, "valid", "{}", row.name);
+        assert!(
+            row.gives != "valid" || answer == "other-key",
+            "{}",
+            row.name
+        );
     }
 }
 
@@ -215,7 +231,7 @@ fn a_verifier_that_fails_proves_nothing() {
         .map(|(name, value)| (&name[..], &value[..]))
         .collect();
     let message = Message::new(&row.on[0], &row.on[2], &row.on[1], &fields);
-    let requests = Requests::new(&["example.com"], Nonces::new(10), START);
+    let requests = Requests::new(&["example.com"], Nonces::new(10), START, sha256);
     assert_eq!(
         requests
             .prove(&message, START + 100, |_: Signature| Err::<bool, ()>(()))

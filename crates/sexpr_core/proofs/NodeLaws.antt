@@ -243,6 +243,11 @@ siblings-nodes_all (more v vs) (suc most) le =
     let behind : drop (size v - 1) (rest ++ nodes_all vs) ≡ nodes_all vs = drop_at rest (nodes_all vs) (size v - 1) (omega arith) in
     ap (siblings (suc most)) row_is ∙ ap (λ (r : List Value). v ∷ siblings most r) behind ∙ ap (λ (ws : List Value). v ∷ ws) (siblings-nodes_all vs most (omega (arith, length-append (nodes v) (nodes_all vs))))
 
+pub length-siblings-le : (most : ℕ) (row : List Value) → length (siblings most row) ≤ most
+length-siblings-le zero row = omega arith
+length-siblings-le (suc most) [] = omega arith
+length-siblings-le (suc most) (v ∷ row) = omega (arith, length-siblings-le most (drop (size v - 1) row))
+
 -- siblings are what their nodes show
 siblings_are : (v : Value) (from to : ℕ) (vs : List Value) → AreSiblings v from to vs → siblings_between v from to ≡ vs
 siblings_are v from to vs a = search (rules, length-take-le, length-take, siblings-nodes_all, members-values)

@@ -17,6 +17,13 @@ pub const MOST_OCTETS: usize = 1_048_576;
 /// The largest number of lists that may be open at once.
 pub const MOST_LISTS: usize = 64;
 
+/// A table of nodes begins with room for so many records, and one more for each 8 octets of the text. A node of a certificate has 6 to 12 octets.
+/// A key, an entry or a request has fewer nodes than this.
+const LEAST_ROOM: usize = 24;
+
+/// The most records for which a table of nodes keeps room without need: 28 KiB.
+const MOST_SPARE: usize = 1024;
+
 /// The length before a string, at most `MOST_OCTETS` plus one, and the offset after its colon.
 #[derive(Clone, Copy)]
 struct Length {
@@ -284,11 +291,22 @@ pub(crate) fn parse(alloc: Global, text: &[u8]) -> Result<Vec<Record>, FormFault
     if text.len() > MOST_OCTETS {
         return Err(FormFault::TooLong);
     }
-    // A node of a certificate has some 12 octets of text.
-    let mut nodes = Vec::with_capacity(alloc, text.len() / 12)?;
+    let mut nodes = Vec::with_capacity(alloc, text.len() / 8 + LEAST_ROOM)?;
     let end = read_value(text, 0, MOST_LISTS, &mut nodes)?;
     if end < text.len() {
         return Err(FormFault::Trailing(end));
     }
-    Ok(nodes)
+    Ok(fitted(nodes))
+}
+
+/// The same records, with room for at most `MOST_SPARE` more. A vector that grew has up to twice as much room as it needs. To fit a small one
+/// costs more than it saves.
+fn fitted(nodes: Vec<Record>) -> Vec<Record>
+    ensures { result.items ≡ nodes.items }
+{
+    let mut fitted = nodes;
+    if fitted.capacity() - fitted.len() > MOST_SPARE {
+        fitted.shrink_to_fit();
+    }
+    fitted
 }

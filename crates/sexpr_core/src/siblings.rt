@@ -1,6 +1,6 @@
 //! The members of a list, one after another.
 
-ghost use Rattle.std.specs.Prelude.{◌≡◌, ◌<◌, ◌∷◌, [], MatchOption, IsTrue, ◌↔◌};
+ghost use Rattle.std.specs.Prelude.{◌≡◌, ◌<◌, ◌∷◌, [], length, MatchOption, IsTrue, ◌↔◌};
 ghost use Rattle.std.specs.Iterator.{YieldsFirst, item_count};
 ghost use Rattle.sexpr_core.specs.Value.{list, size, values};
 ghost use Rattle.sexpr_core.specs.Nodes.{IsList, node_at};
@@ -47,6 +47,18 @@ impl<'d, 'a> Members<'d, 'a> {
             from: n + 1,
             to: n + size,
         }
+    }
+
+    /// How many members are still to be read. A step is taken for each.
+    pub fn len(&self) -> usize
+        ensures { result ≡ length self.now }
+    {
+        let rest = Members {
+            document: self.document,
+            from: self.from,
+            to: self.to,
+        };
+        rest.count()
     }
 
     /// Whether all members were read: none is left.

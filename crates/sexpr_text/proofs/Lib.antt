@@ -8,7 +8,7 @@ pub mod StringLaws
 pub mod Trees
 pub mod WholeTexts
 pub mod RefusedParts
-pub mod Unfinished
+pub mod UnclosedStrings
 pub mod Beginnings
 pub mod StringEnds
 pub mod MarkedEnds

@@ -17,7 +17,7 @@ use Rattle.sexpr_text.proofs.Beginnings.{count_begins}
 use Rattle.sexpr_text.proofs.CountedLaws.{count_once, ends_written}
 use Rattle.sexpr_text.proofs.Marked.{is_mark, hexadecimal_octets}
 use Rattle.sexpr_text.proofs.RefusedParts.{marked_too, count_too, ends_too, no_mark}
-use Rattle.sexpr_text.proofs.Unfinished.{unclosed_marked, unclosed_first, cut_open}
+use Rattle.sexpr_text.proofs.UnclosedStrings.{unclosed_marked, unclosed_first, cut_open}
 use Rattle.sexpr_text.proofs.OneValue.{mark_no_digit}
 use Rattle.sexpr_core.proofs.Refusals.{begins_front}
 use Rattle.sexpr_text.proofs.StringEnds.{nothing_begun, part_later, pieces_open, body_fails, quoted_is, digits_are, symbols_are}

@@ -8,7 +8,7 @@ use Rattle.sexpr_core.specs.Reading.{IsOfForm, StandsAt, Passed, is_whitespace, 
 use Rattle.sexpr_text.specs.AdvancedForm.{IsSpelledWithin, Spells, IsText, IsTextWithin}
 use Rattle.sexpr_text.specs.Refusal.{GoesOn, GoesOnWithin, RefusesSpelling, IsSpelling, OpensBrace, RefusesText, IsSomeText}
 use Rattle.sexpr_core.proofs.Refusals.{goes_part, StopsThere, no_deep, AreApart, one_fault, no_fault}
-use Rattle.sexpr_text.proofs.Unfinished.{goes_front, goes_on_front, goes_anyhow}
+use Rattle.sexpr_text.proofs.UnclosedStrings.{goes_front, goes_on_front, goes_anyhow}
 use Rattle.std.proofs.lemmas.Bool.{cases_lt, cases_Bool}
 use Rattle.std.proofs.lemmas.List.{drop-drop, take-append-le}
 use Rattle.sexpr_core.proofs.Spans.{Agree, agree, same_head, skips_too, nothing_passed, one_passed, spaces_front, one_end}

@@ -15,7 +15,7 @@ use Rattle.sexpr_text.specs.Refusal.{UnclosedMembers, UnclosedValue}
 use Rattle.sexpr_text.specs.Inner.Begun.{AreUnclosedMembers, GoesMembers}
 use Rattle.sexpr_text.proofs.Beginnings.{goes_spaces, goes_first}
 use Rattle.sexpr_text.proofs.OneValue.{value_first, value_visible, simple_differs, hinted_text, list_text, member_text, apart_append, apart_front, one_spelling, spaces_members}
-use Rattle.sexpr_text.proofs.Unfinished.{unclosed_value, unclosed_value_visible}
+use Rattle.sexpr_text.proofs.UnclosedStrings.{unclosed_value, unclosed_value_visible}
 
 -- ---- strings and values, read of longer texts
 

@@ -16,7 +16,7 @@ use Rattle.sexpr_text.proofs.OneValue.{one_simple, simple_visible, apart_append,
 use Rattle.sexpr_text.proofs.StringEnds.{begun_later, end_later}
 use Rattle.sexpr_text.proofs.MarkedEnds.{none_string}
 use Rattle.sexpr_core.proofs.Texts.{head_is, tail_is}
-use Rattle.sexpr_text.proofs.Unfinished.{unclosed_simple, unclosed_visible, unclosed_string_differs, unclosed_value_visible}
+use Rattle.sexpr_text.proofs.UnclosedStrings.{unclosed_simple, unclosed_visible, unclosed_string_differs, unclosed_value_visible}
 
 -- a text that goes on so far in the same way has no such part
 stops_other : (T : List ℕ → Type 0) (text : List ℕ) (at k : ℕ) (other : List ℕ) → Agree text other k → StopsAt T text at k → T other → ⊥

@@ -15,7 +15,7 @@ use Rattle.sexpr_core.specs.declared.fault.FormFault.{FormFault}
 use Rattle.sexpr_core.specs.declared.fault.FormFault.TheVariants.{TooDeep, Short, Bad, Trailing, Memory}
 use Rattle.sexpr_text.specs.Refusal.{IsUnclosedText, IsSpelling, IsSpellingWithin, GoesOn, GoesOnWithin, RefusesSpelling}
 use Rattle.sexpr_text.specs.Inner.Begun.{Begun, From, Anywhere, GoesValue, IsUnclosedValue, ValueStandsIn, IsValueEnd}
-use Rattle.sexpr_text.proofs.Unfinished.{value_begins, goes_anyhow, unclosed_value, unclosed_value_visible}
+use Rattle.sexpr_text.proofs.UnclosedStrings.{value_begins, goes_anyhow, unclosed_value, unclosed_value_visible}
 use Rattle.sexpr_text.proofs.StringLaws.{token_grows}
 use Rattle.sexpr_text.proofs.Printed.{hinted_is}
 use Rattle.sexpr_core.proofs.Texts.{fails_among}

@@ -1,6 +1,6 @@
 -- Questions of a C program: their parts, also if there is no memory for the strings, and the status of an answer.
 use Rattle.std.proofs.Common.{◌≡◌, ◌⊎◌, ℕ, List, [], ◌∷◌, Bool, Some, slice_get, refl, sym, ap, ◌∙◌, subst, inl, inr, rules, map, true, false, Bor}
-use Rattle.spki_service.specs.AccessLists.{Held}
+use Rattle.spki_service.specs.AccessLists.{GuardModel}
 use Rattle.spki_service.specs.declared.question.Question.{Question}
 use Rattle.spki_guard.specs.declared.answers.Verdict.{Verdict}
 use Rattle.spki_guard.specs.declared.answers.Verdict.TheVariants.{Refused}
@@ -31,7 +31,7 @@ one_query : (v w : Query) → query_number v ≡ query_number w → v ≡ w
 one_query v w e = search (rules, at_number, slice_get, all)
 
 module _ (w v : Query) (n : ℕ) (e : n ≡ query_number w) (f : n ≡ query_number v) where
-  pub answered : (guard held : Held) (q : Question) (marks taken : List Bool) (verdict : Verdict) (output old new : List ℕ) (needed status given : ℕ)
+  pub answered : (guard held : GuardModel) (q : Question) (marks taken : List Bool) (verdict : Verdict) (output old new : List ℕ) (needed status given : ℕ)
       → held ≡ guard → taken ≡ marks → IsAnswerHeld v held q taken verdict output → given ≡ status_for v verdict
       → IsHanded old new needed status given output → IsAnswered w guard q marks old new needed status
   answered guard held q marks taken verdict output old new needed status given g m answer number handed =
@@ -40,7 +40,7 @@ module _ (w v : Query) (n : ℕ) (e : n ≡ query_number w) (f : n ≡ query_num
         verdict = verdict;
         output = output;
         answer = subst (λ (u : Query). IsAnswerHeld u guard q marks verdict output) same
-            (subst (λ (h : Held). IsAnswerHeld v h q marks verdict output) g (subst (λ (t : List Bool). IsAnswerHeld v held q t verdict output) m answer));
+            (subst (λ (h : GuardModel). IsAnswerHeld v h q marks verdict output) g (subst (λ (t : List Bool). IsAnswerHeld v held q t verdict output) m answer));
         handed = subst (λ (s : ℕ). IsHanded old new needed status s output) (number ∙ ap (λ u. status_for u verdict) same) handed;
       }
 

@@ -5,3 +5,4 @@ pub mod Reading
 pub mod BoxPointerValues
 pub mod Places
 pub mod OneCommand
+pub mod Until

@@ -1,12 +1,12 @@
 -- Questions of a C program: the texts that it lends, what it receives, and the signatures that it reads.
 use Rattle.std.specs.Prelude.{◌≡◌, List, length, All, ◌≢◌, ◌⊎◌, ℕ, ℤ, [], ◌∷◌, map, Bool, true, false, Option, Some, None}
-use Rattle.spki_c.specs.declared.content.Content.{Content}
-use Rattle.spki_c.specs.declared.content.Content.TheVariants as contents
+use Rattle.spki_c.specs.declared.handle_value.HandleValue.{HandleValue}
+use Rattle.spki_c.specs.declared.handle_value.HandleValue.TheVariants as contents
 use Rattle.spki_c.specs.declared.text.Text.{Text}
 use Rattle.spki_c.specs.declared.parts.Parts.{Parts}
-use Rattle.spki_service.specs.AccessLists.{Held}
+use Rattle.spki_service.specs.AccessLists.{GuardModel}
 use Rattle.spki_service.specs.GuardQuestions.{IsOpened, NoneMarked}
-use Rattle.spki_service.specs.declared.opened.Opened.{Opened}
+use Rattle.spki_service.specs.declared.owned_question.OwnedQuestion.{OwnedQuestion}
 use Rattle.spki_service.specs.declared.question.Question.{Question}
 use Rattle.spki_service.specs.declared.question.RequestInput.{RequestInput}
 use Rattle.spki_service.specs.declared.question.RequestInput.TheVariants as wanted
@@ -17,7 +17,7 @@ use Rattle.spki_guard.specs.HeldQuestions.{IsUnreadQuestion}
 use Rattle.spki_c.specs.Results.{IsHanded}
 use Rattle.std.specs.Borrow.{Bor}
 use Rattle.sexpr_core.specs.Value.{Value, canon, IsWithinLimits}
-use Rattle.spki_decision.specs.Standing.{Signed}
+use Rattle.spki_decision.specs.CertificateTests.{Signed}
 use Rattle.spki_c.specs.Strings.{octets_of}
 use Rattle.spki_c.specs.declared.signatures.SignatureTexts.{SignatureTexts}
 
@@ -68,8 +68,8 @@ IsQuestionOf parts words seconds q = IsQuestionBy parts (map (λ t. t.octets) wo
 -- ---- opened
 
 -- The question is read, and the handle has it.
-pub record IsHeldQuestion (guard : Held) (q : Question) (held : Option Content) (old new : List ℕ) (needed status : ℕ) : Type 0 where
-  pub question : Opened
+pub record IsHeldQuestion (guard : GuardModel) (q : Question) (held : Option HandleValue) (old new : List ℕ) (needed status : ℕ) : Type 0 where
+  pub question : OwnedQuestion
   pub held_is : held ≡ Some (contents.Question question)
   pub opened : IsOpened guard q question
   pub unmarked : NoneMarked question.marks.items
@@ -78,7 +78,7 @@ pub record IsHeldQuestion (guard : Held) (q : Question) (held : Option Content) 
   pub status_is : status ≡ 6
 
 -- The question is refused, or memory ran out. The line says which, and the handle is unchanged.
-pub record IsUnheld {H : Type 0} (guard : Held) (q : Question) (before after : H) (old new : List ℕ) (needed status : ℕ) : Type 0 where
+pub record IsUnheld {H : Type 0} (guard : GuardModel) (q : Question) (before after : H) (old new : List ℕ) (needed status : ℕ) : Type 0 where
   pub kept : after ≡ before
   pub verdict : Verdict
   pub output : List ℕ

@@ -2,7 +2,7 @@
 use Rattle.std.specs.Prelude.{◌≡◌, ◌⊎◌, ℕ, zero, suc, ◌≤◌, List, [], ◌∷◌, Bool, Option, Some}
 use Rattle.spki_cert.specs.declared.principal.Policy.{Policy}
 use Rattle.spki_cert.specs.declared.principal.Policy.TheVariants.{Open, Strict}
-use Rattle.spki_service.specs.AccessLists.{Held, HoldsList, IsNoAccessList}
+use Rattle.spki_service.specs.AccessLists.{GuardModel, HoldsList, IsNoAccessList}
 use Rattle.spki_service.specs.declared.limits.Limits.{Limits}
 use Rattle.spki_service.specs.declared.list_fault.AclFault.{AclFault}
 use Rattle.spki_service.specs.declared.question.Question.{Question}
@@ -12,8 +12,8 @@ use Rattle.spki_guard.specs.declared.question_answers.Query.TheVariants.{Decide,
 use Rattle.spki_guard.specs.HeldQuestions.{IsAnswerHeld, refused_list}
 use Rattle.spki_guard.specs.Lines.{refused_memory}
 use Rattle.spki_c.specs.Results.{IsHanded, decided, written}
-use Rattle.spki_c.specs.declared.content.Content.{Content}
-use Rattle.spki_c.specs.declared.content.Content.TheVariants as contents
+use Rattle.spki_c.specs.declared.handle_value.HandleValue.{HandleValue}
+use Rattle.spki_c.specs.declared.handle_value.HandleValue.TheVariants as contents
 use Rattle.spki_c.specs.declared.limits.LimitParts.{LimitParts}
 
 -- ---- numbers
@@ -52,19 +52,19 @@ or_usual (suc limit) usual = suc limit
 
 -- the first limits that are passed, or the usual ones if there are none
 abbrev pub numbers_in : List LimitParts → Numbers
-numbers_in [] = record { octets = 65536; certificates = 16; words = 64; nodes = 1000000; work = 100000; answer = 1048576 }
+numbers_in [] = record { octets = 65536; certificates = 16; words = 64; nodes = 1000000; work = 2000000; answer = 1048576 }
 numbers_in (l ∷ others) = record {
   octets = or_usual l.octets 65536;
   certificates = or_usual l.certificates 16;
   words = or_usual l.words 64;
   nodes = or_usual l.nodes 1000000;
-  work = or_usual l.work 100000;
+  work = or_usual l.work 2000000;
   answer = or_usual l.answer 1048576;
 }
 
 -- no limit is over the highest
 abbrev pub AreAllowed : Numbers → Type 0
-AreAllowed n = (n.octets ≤ 1048576) × (n.nodes ≤ 1000000)
+AreAllowed n = (n.octets ≤ 1048576) × (n.nodes ≤ 1000000) × (n.work ≤ 1000000000)
 
 -- These are the limits.
 pub record AreLimits (n : Numbers) (l : Limits) : Type 0 where
@@ -76,7 +76,7 @@ pub record AreLimits (n : Numbers) (l : Limits) : Type 0 where
   pub answer_is : l.answer ≡ n.answer
 
 -- The guard has these limits.
-pub record HasNumbers (guard : Held) (n : Numbers) : Type 0 where
+pub record HasNumbers (guard : GuardModel) (n : Numbers) : Type 0 where
   pub octets_are : guard.octets ≡ n.octets
   pub certificates_are : guard.certificates ≡ n.certificates
   pub words_are : guard.words ≡ n.words
@@ -85,8 +85,8 @@ pub record HasNumbers (guard : Held) (n : Numbers) : Type 0 where
   pub answer_is : guard.answer ≡ n.answer
 
 -- The list is read, and the handle has its guard.
-pub record IsOpened (list : List ℕ) (p : Policy) (n : Numbers) (held : Option Content) (old new : List ℕ) (needed status : ℕ) : Type 0 where
-  pub guard : Held
+pub record IsOpened (list : List ℕ) (p : Policy) (n : Numbers) (held : Option HandleValue) (old new : List ℕ) (needed status : ℕ) : Type 0 where
+  pub guard : GuardModel
   pub held_is : held ≡ Some (contents.Guard guard)
   pub list_is : HoldsList list guard.texts
   pub policy_is : guard.policy ≡ p
@@ -109,7 +109,7 @@ pub record IsUnopened {H : Type 0} (list : List ℕ) (before after : H) (old new
 -- ---- answered
 
 -- The answer is in the buffer.
-pub record IsAnswered (query : Query) (guard : Held) (q : Question) (marks : List Bool) (old new : List ℕ) (needed status : ℕ) : Type 0 where
+pub record IsAnswered (query : Query) (guard : GuardModel) (q : Question) (marks : List Bool) (old new : List ℕ) (needed status : ℕ) : Type 0 where
   pub verdict : Verdict
   pub output : List ℕ
   pub answer : IsAnswerHeld query guard q marks verdict output

@@ -4,4 +4,5 @@ pub mod Results
 pub mod Pointers
 pub mod Strings
 pub mod Readables
-pub mod Contents
+pub mod HandleValues
+pub mod Until

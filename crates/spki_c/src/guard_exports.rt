@@ -1,18 +1,18 @@
 //! The exported functions for guards that a caller holds.
 ghost use Rattle.std.specs.Prelude.{◌≡◌, ◌≢◌, ◌⊎◌, None, Some, IsSome, length};
-ghost use Rattle.spki_c.specs.declared.content.Content.{Content};
-ghost use Rattle.spki_c.specs.Contents.{IsClosed};
+ghost use Rattle.spki_c.specs.declared.handle_value.HandleValue.{HandleValue};
+ghost use Rattle.spki_c.specs.HandleValues.{IsClosed};
 ghost use Rattle.spki_cert.specs.declared.principal.Policy.{Policy};
-ghost use Rattle.spki_service.specs.AccessLists.{Held};
+ghost use Rattle.spki_service.specs.AccessLists.{GuardModel};
 ghost use Rattle.spki_c.specs.Guards.{policy_number, numbers_in, AreAllowed, IsOpened, IsUnopened};
 ghost use Rattle.spki_c.specs.Results.{IsMisuse};
 ghost use Rattle.spki_c.specs.Asking.{IsLent};
 
 use crate::box_pointer::BoxPointer;
 use crate::buffer::{hand_over, misused};
-use crate::content::Content;
 use crate::guards::{policy_of, read_guard};
-use crate::handle::{Handle, Lent};
+use crate::handle::{BorrowedHandle, Handle};
+use crate::handle_value::HandleValue;
 use crate::limits::{LimitParts, limits_of};
 use crate::numbers::{DONE, REFUSED};
 use crate::text::Text;
@@ -71,7 +71,7 @@ pub extern "C" fn spki_c_guard_open(
 pub extern "C" fn spki_c_close(alloc: Global, is_question: bool, handle: Handle, back: &mut Handle)
     requires held { IsSome handle.held }
     requires empty { back.old.held ≡ None }
-    ensures { (c : Content) → handle.held ≡ Some c → IsClosed is_question c back.new.held }
+    ensures { (c : HandleValue) → handle.held ≡ Some c → IsClosed is_question c back.new.held }
 {
     let content = handle.take(alloc).into_box();
     if content.is_question() == is_question {
@@ -83,9 +83,9 @@ pub extern "C" fn spki_c_close(alloc: Global, is_question: bool, handle: Handle,
 
 /// The number of entries of the guard's access list. 0 for a question.
 #[unsafe(no_mangle)]
-pub extern "C" fn spki_c_guard_entries(lent: &mut Lent) -> usize
-    ensures entries { (g : Held) → lent.old.content ≡ Content.Guard g → result ≡ length g.texts }
-    ensures other { ((g : Held) → lent.old.content ≢ Content.Guard g) → result ≡ 0 }
+pub extern "C" fn spki_c_guard_entries(lent: &mut BorrowedHandle) -> usize
+    ensures entries { (g : GuardModel) → lent.old.content ≡ HandleValue.Guard g → result ≡ length g.texts }
+    ensures other { ((g : GuardModel) → lent.old.content ≢ HandleValue.Guard g) → result ≡ 0 }
 {
     match lent.content().guard() {
         Some(guard) => guard.guard().entries(),

@@ -1,9 +1,9 @@
 //! Guards on the heap, and what a caller may set for them.
 ghost use Rattle.std.specs.Prelude.{◌≡◌, ◌≢◌, IfOk, IfErr, MatchOption};
-ghost use Rattle.spki_service.specs.AccessLists.{Held, HasLimits, HoldsList, IsNoAccessList};
+ghost use Rattle.spki_service.specs.AccessLists.{GuardModel, HasLimits, HoldsList, IsNoAccessList};
 ghost use Rattle.spki_c.specs.Guards.{policy_number};
 
-use crate::content::{Content, boxed};
+use crate::handle_value::{HandleValue, boxed};
 use spki_cert::Policy;
 use spki_guard::{AclFault, Guard, Limits, SharedGuard};
 use std::alloc::Global;
@@ -14,14 +14,14 @@ pub(crate) fn read_guard(
     list: &[u8],
     policy: Policy,
     limits: Limits,
-) -> Result<Box<Content>, AclFault>
-    ensures read { IfOk result (λ c. (g : Held) × (c.value ≡ Content.Guard g) × HoldsList list.now g.texts
+) -> Result<Box<HandleValue>, AclFault>
+    ensures read { IfOk result (λ c. (g : GuardModel) × (c.value ≡ HandleValue.Guard g) × HoldsList list.now g.texts
         × (g.policy ≡ policy) × HasLimits g limits) }
     ensures refused { IfErr result (λ fault. fault ≢ AclFault.Memory → IsNoAccessList list.now fault) }
 {
     let guard = Guard::read(alloc, list, policy, limits)?;
     match SharedGuard::new(alloc, guard) {
-        Ok(guard) => Ok(boxed(alloc, Content::Guard(guard))?),
+        Ok(guard) => Ok(boxed(alloc, HandleValue::Guard(guard))?),
         Err(_) => Err(AclFault::Memory),
     }
 }

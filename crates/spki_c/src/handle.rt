@@ -2,12 +2,12 @@
 ghost use Rattle.std.specs.Prelude.{◌≡◌, Some, None, IsSome};
 ghost use Rattle.std.specs.declared.option.Option.{Option};
 ghost use Rattle.std.specs.Coded.{coded_option};
-ghost use Rattle.spki_c.specs.declared.content.Content.{Content};
-ghost use Rattle.spki_c.specs.contracts.content.Content.{the_row};
+ghost use Rattle.spki_c.specs.declared.handle_value.HandleValue.{HandleValue};
+ghost use Rattle.spki_c.specs.contracts.handle_value.HandleValue.{the_row};
 ghost use Rattle.spki_c.specs.Pointers.{held_owns, held_lent};
 
 use crate::box_pointer::BoxPointer;
-use crate::content::Content;
+use crate::handle_value::HandleValue;
 use std::alloc::Global;
 use std::marker::Model;
 
@@ -15,7 +15,7 @@ use std::marker::Model;
 #[repr(C)]
 pub struct Handle {
     at: *mut u8,
-    pub ghost held: { Option Content } by { coded_option the_row.coded },
+    pub ghost held: { Option HandleValue } by { coded_option the_row.coded },
 }
 
 impl Model for Handle {
@@ -24,18 +24,18 @@ impl Model for Handle {
 
 /// A pointer to a guard or a question that a call borrows. The value lasts at least as long as the call.
 #[repr(C)]
-pub struct Lent {
+pub struct BorrowedHandle {
     at: *const u8,
-    pub ghost content: { Content } by { the_row.coded },
+    pub ghost content: { HandleValue } by { the_row.coded },
 }
 
-impl Model for Lent {
+impl Model for BorrowedHandle {
     ghost also_owns = { λ l. held_lent the_row l.at l.content };
 }
 
 impl Handle {
     /// Makes the handle own the value of this pointer. The handle must have none.
-    pub(crate) fn hold(&mut self, pointer: BoxPointer<Content, Global>)
+    pub(crate) fn hold(&mut self, pointer: BoxPointer<HandleValue, Global>)
         requires { self.old.held ≡ None }
         ensures { self.new.held ≡ Some pointer.value }
     {
@@ -44,25 +44,25 @@ impl Handle {
     }
 
     /// Returns the pointer of the value, with the right to free it. The handle must have a value.
-    pub(crate) fn take(self, alloc: Global) -> BoxPointer<Content, Global>
+    pub(crate) fn take(self, alloc: Global) -> BoxPointer<HandleValue, Global>
         requires { IsSome self.held }
         ensures { self.held ≡ Some result.value }
     {
         let Handle { at } = self;
         BoxPointer {
-            at: at as *mut Content,
+            at: at as *mut HandleValue,
             alloc,
         }
     }
 }
 
-impl Lent {
+impl BorrowedHandle {
     /// The value that this call borrows.
-    pub(crate) fn content(&mut self) -> &Content
+    pub(crate) fn content(&mut self) -> &HandleValue
         ensures { result.now ≡ self.entry.now.content }
     {
         let at = self.at;
-        unsafe { &*(at as *const Content) }
+        unsafe { &*(at as *const HandleValue) }
     }
 }
 
@@ -70,4 +70,4 @@ impl Lent {
 unsafe impl Send for Handle {}
 
 // Both are `Sync`, so they may be lent to calls in several threads at the same time.
-unsafe impl Send for Lent {}
+unsafe impl Send for BorrowedHandle {}

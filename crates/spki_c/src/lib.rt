@@ -5,11 +5,12 @@
 
 mod box_pointer;
 mod buffer;
-mod content;
+mod ends;
 mod exports;
 mod guard_exports;
 mod guards;
 mod handle;
+mod handle_value;
 mod lent_texts;
 mod limits;
 mod numbers;

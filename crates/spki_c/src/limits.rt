@@ -17,14 +17,14 @@ pub struct LimitParts {
     pub words: usize,
     /// The most nodes of an intersection.
     pub nodes: usize,
-    /// The most of these products together.
+    /// The most work of all intersections together.
     pub work: usize,
     /// The most octets of an answer.
     pub answer: usize,
 }
 
 /// The limits that C passes: the first of `limits`, or the default ones if there are none. A limit of 0 is the default one. None if
-/// `octets` is over 1,048,576 or `nodes` over 1,000,000. `size` is not tested.
+/// `octets` is over 1,048,576, `nodes` over 1,000,000 or `work` over 1,000,000,000. `size` is not tested.
 pub(crate) fn limits_of(limits: &[LimitParts]) -> Option<Limits>
     ensures { MatchOption result (¬ AreAllowed (numbers_in limits.now)) (AreLimits (numbers_in limits.now)) }
 {

@@ -1,13 +1,13 @@
 //! Opened questions on the heap.
 ghost use Rattle.std.specs.Prelude.{◌≡◌, IfOk, IfErr};
 ghost use Rattle.spki_service.specs.GuardQuestions.{IsOpened, NoneMarked};
-ghost use Rattle.spki_service.specs.declared.opened.Opened.{Opened};
+ghost use Rattle.spki_service.specs.declared.owned_question.OwnedQuestion.{OwnedQuestion};
 ghost use Rattle.spki_guard.specs.TextAnswers.{written_by};
 ghost use Rattle.spki_guard.specs.HeldQuestions.{IsUnreadQuestion};
 ghost use Rattle.spki_service.specs.declared.question.Question.{Question};
 ghost use Rattle.spki_c.specs.Asking.{AreLent, IsQuestionOf};
 
-use crate::content::{Content, boxed};
+use crate::handle_value::{HandleValue, boxed};
 use crate::lent_texts::words_of;
 use crate::parts::Parts;
 use crate::text::Text;
@@ -22,10 +22,10 @@ pub(crate) fn open_parts(
     mut parts: Parts,
     mut texts: Vec<Text>,
     seconds: &[i64],
-) -> Result<Box<Content>, Answer>
+) -> Result<Box<HandleValue>, Answer>
     requires { AreLent parts texts.items }
     ensures opened { IfOk result (λ c. (q : Question) × IsQuestionOf parts texts.items seconds.now q
-        × ((o : Opened) × (c.value ≡ Content.Question o) × IsOpened guard.now q o × NoneMarked o.marks.items)) }
+        × ((o : OwnedQuestion) × (c.value ≡ HandleValue.Question o) × IsOpened guard.now q o × NoneMarked o.marks.items)) }
     ensures refused { IfErr result (λ a. (q : Question) × IsQuestionOf parts texts.items seconds.now q
         × IsUnreadQuestion guard.now q a.verdict (written_by a)) }
 {
@@ -41,12 +41,12 @@ fn open_boxed(
     alloc: Global,
     guard: &SharedGuard,
     question: &Question,
-) -> Result<Box<Content>, Answer>
-    ensures opened { IfOk result (λ c. (o : Opened) × (c.value ≡ Content.Question o) × IsOpened guard.now question.now o × NoneMarked o.marks.items) }
+) -> Result<Box<HandleValue>, Answer>
+    ensures opened { IfOk result (λ c. (o : OwnedQuestion) × (c.value ≡ HandleValue.Question o) × IsOpened guard.now question.now o × NoneMarked o.marks.items) }
     ensures refused { IfErr result (λ a. IsUnreadQuestion guard.now question.now a.verdict (written_by a)) }
 {
     let opened = open_question(alloc, guard, question)?;
-    match boxed(alloc, Content::Question(opened)) {
+    match boxed(alloc, HandleValue::Question(opened)) {
         Ok(opened) => Ok(opened),
         Err(_) => Err(refused_question(alloc, AskFault::Memory)),
     }

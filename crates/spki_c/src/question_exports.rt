@@ -1,30 +1,34 @@
 //! The exported functions for opened questions that a caller holds.
-ghost use Rattle.std.specs.Prelude.{◌≡◌, ◌≢◌, ◌⊎◌, None, Some, IsSome, false, length, slice_get};
-ghost use Rattle.spki_decision.specs.Standing.{Signed};
-ghost use Rattle.spki_service.specs.AccessLists.{Held};
+ghost use Rattle.std.specs.Prelude.{◌≡◌, ◌≢◌, ◌⊎◌, negsuc, None, Some, IsSome, false, length, slice_get};
+ghost use Rattle.spki_decision.specs.CertificateTests.{Signed};
+ghost use Rattle.spki_service.specs.AccessLists.{GuardModel};
 ghost use Rattle.spki_service.specs.declared.question.Question.{Question};
-ghost use Rattle.spki_service.specs.declared.opened.Opened.{Opened};
+ghost use Rattle.spki_service.specs.declared.owned_question.OwnedQuestion.{OwnedQuestion};
 ghost use Rattle.spki_service.specs.GuardQuestions.{IsOpened};
 ghost use Rattle.spki_guard.specs.declared.question_answers.Query.{Query};
 ghost use Rattle.spki_c.specs.Asking.{IsAmbiguous, IsQuestionOf, IsHeldQuestion, IsUnheld, AreLent, IsSignature};
-ghost use Rattle.spki_c.specs.declared.content.Content.{Content};
-ghost use Rattle.spki_c.specs.Contents.{HandsBack};
+ghost use Rattle.spki_c.specs.declared.handle_value.HandleValue.{HandleValue};
+ghost use Rattle.spki_c.specs.HandleValues.{HandsBack};
 ghost use Rattle.spki_c.specs.Guards.{query_number, IsAnswered};
+ghost use Rattle.spki_c.specs.Until.{IsHeldUntil};
 ghost use Rattle.spki_guard.specs.HeldQuestions.{GrantsHeld, MayGrant};
 ghost use Rattle.spki_c.specs.Readables.{AreReadable};
 ghost use Rattle.spki_c.specs.Results.{IsMisuse};
 
 use crate::box_pointer::BoxPointer;
 use crate::buffer::{hand_over, misused};
-use crate::content::Content;
-use crate::handle::{Handle, Lent};
+use crate::ends::until_number;
+use crate::handle::{BorrowedHandle, Handle};
+use crate::handle_value::HandleValue;
 use crate::lent_texts::{TextsFault, texts_at};
 use crate::numbers::{DONE, MISUSED, NO_MEMORY, NONE, REFUSED, query_of, query_status};
 use crate::opening::open_parts;
 use crate::parts::Parts;
 use crate::readable::{Readable, TextPlace};
 use crate::signatures::{SignatureTexts, texts_of};
-use spki_guard::{AskFault, answer_opened, is_granted, is_possible, refused_question};
+use spki_guard::{
+    AskFault, OpenedAnswer, answer_opened, is_granted, is_possible, refused_question,
+};
 use std::alloc::Global;
 
 /// Reads a question for a guard, and keeps what it needs of it on the heap. The caller holds the question by the
@@ -38,7 +42,7 @@ use std::alloc::Global;
 #[unsafe(no_mangle)]
 pub extern "C" fn spki_c_guard_ask(
     alloc: Global,
-    lent: &mut Lent,
+    lent: &mut BorrowedHandle,
     mut parts: Parts,
     words: &[TextPlace],
     readable: Readable,
@@ -49,7 +53,7 @@ pub extern "C" fn spki_c_guard_ask(
 ) -> u32
     requires empty { handle.old.held ≡ None }
     requires readable { AreReadable words.now readable.texts }
-    ensures asked { (g : Held) → lent.old.content ≡ Content.Guard g → AreLent parts readable.texts → ¬ IsAmbiguous parts seconds.now
+    ensures asked { (g : GuardModel) → lent.old.content ≡ HandleValue.Guard g → AreLent parts readable.texts → ¬ IsAmbiguous parts seconds.now
         → (q : Question) × IsQuestionOf parts readable.texts seconds.now q
         × (IsHeldQuestion g q handle.new.held buffer.old buffer.new needed.new result
         ⊎ IsUnheld g q handle.old handle.new buffer.old buffer.new needed.new result) }
@@ -57,7 +61,7 @@ pub extern "C" fn spki_c_guard_ask(
         → (handle.new ≡ handle.old) × IsMisuse buffer.old buffer.new needed.new result }
     ensures unlent { ¬ AreLent parts readable.texts
         → (handle.new ≡ handle.old) × IsMisuse buffer.old buffer.new needed.new result }
-    ensures other { ((g : Held) → lent.old.content ≢ Content.Guard g)
+    ensures other { ((g : GuardModel) → lent.old.content ≢ HandleValue.Guard g)
         → (handle.new ≡ handle.old) × IsMisuse buffer.old buffer.new needed.new result }
 {
     if !parts.are_lent() || parts.is_ambiguous(seconds) {
@@ -86,9 +90,9 @@ pub extern "C" fn spki_c_guard_ask(
 
 /// The number of signatures that a verifier must decide for this question. 0 for a guard.
 #[unsafe(no_mangle)]
-pub extern "C" fn spki_c_asked_count(lent: &mut Lent) -> usize
-    ensures count { (o : Opened) → lent.old.content ≡ Content.Question o → result ≡ length o.signed.items }
-    ensures other { ((o : Opened) → lent.old.content ≢ Content.Question o) → result ≡ 0 }
+pub extern "C" fn spki_c_asked_count(lent: &mut BorrowedHandle) -> usize
+    ensures count { (o : OwnedQuestion) → lent.old.content ≡ HandleValue.Question o → result ≡ length o.signed.items }
+    ensures other { ((o : OwnedQuestion) → lent.old.content ≢ HandleValue.Question o) → result ≡ 0 }
 {
     match lent.content().question() {
         Some(opened) => opened.signed().len(),
@@ -103,15 +107,15 @@ pub extern "C" fn spki_c_asked_count(lent: &mut Lent) -> usize
 #[unsafe(no_mangle)]
 pub extern "C" fn spki_c_asked_signature<'a>(
     alloc: Global,
-    lent: &'a mut Lent,
+    lent: &'a mut BorrowedHandle,
     place: usize,
     texts: &mut SignatureTexts<'a>,
 ) -> u32
-    ensures set { (o : Opened) (s : Signed) → lent.entry.now.content ≡ Content.Question o → slice_get o.signed.items place ≡ Some s
+    ensures set { (o : OwnedQuestion) (s : Signed) → lent.entry.now.content ≡ HandleValue.Question o → slice_get o.signed.items place ≡ Some s
         → ((result ≡ 6) × IsSignature s texts.new) ⊎ ((result ≡ 8) × (texts.new ≡ texts.old)) }
-    ensures none { (o : Opened) → lent.entry.now.content ≡ Content.Question o → slice_get o.signed.items place ≡ None
+    ensures none { (o : OwnedQuestion) → lent.entry.now.content ≡ HandleValue.Question o → slice_get o.signed.items place ≡ None
         → (result ≡ 7) × (texts.new ≡ texts.old) }
-    ensures other { ((o : Opened) → lent.entry.now.content ≢ Content.Question o) → (result ≡ 5) × (texts.new ≡ texts.old) }
+    ensures other { ((o : OwnedQuestion) → lent.entry.now.content ≢ HandleValue.Question o) → (result ≡ 5) × (texts.new ≡ texts.old) }
 {
     let Some(opened) = lent.content().question() else {
         return MISUSED;
@@ -142,7 +146,7 @@ pub extern "C" fn spki_c_asked_mark(
 ) -> u32
     requires held { IsSome asked.held }
     requires empty { back.old.held ≡ None }
-    ensures { (c : Content) → asked.held ≡ Some c → HandsBack c place back.new.held result }
+    ensures { (c : HandleValue) → asked.held ≡ Some c → HandsBack c place back.new.held result }
 {
     let mut content = asked.take(alloc).into_box();
     let is_marked = content.mark(place);
@@ -152,10 +156,10 @@ pub extern "C" fn spki_c_asked_mark(
 
 /// Whether the question is granted, if exactly the marked signatures are valid. False for a guard.
 #[unsafe(no_mangle)]
-pub extern "C" fn spki_c_asked_granted(lent: &mut Lent) -> bool
-    ensures granted { (o : Opened) (q : Question) → lent.old.content ≡ Content.Question o → IsOpened o.guard q o
+pub extern "C" fn spki_c_asked_granted(lent: &mut BorrowedHandle) -> bool
+    ensures granted { (o : OwnedQuestion) (q : Question) → lent.old.content ≡ HandleValue.Question o → IsOpened o.guard q o
         → GrantsHeld o.guard q o.marks.items result }
-    ensures other { ((o : Opened) → lent.old.content ≢ Content.Question o) → result ≡ false }
+    ensures other { ((o : OwnedQuestion) → lent.old.content ≢ HandleValue.Question o) → result ≡ false }
 {
     match lent.content().question() {
         Some(opened) => is_granted(opened),
@@ -165,10 +169,10 @@ pub extern "C" fn spki_c_asked_granted(lent: &mut Lent) -> bool
 
 /// Whether the question is granted if all of its signatures are valid. False for a guard. If it is false, no signature has to be verified.
 #[unsafe(no_mangle)]
-pub extern "C" fn spki_c_asked_possible(lent: &mut Lent) -> bool
-    ensures possible { (o : Opened) (q : Question) → lent.old.content ≡ Content.Question o → IsOpened o.guard q o
+pub extern "C" fn spki_c_asked_possible(lent: &mut BorrowedHandle) -> bool
+    ensures possible { (o : OwnedQuestion) (q : Question) → lent.old.content ≡ HandleValue.Question o → IsOpened o.guard q o
         → MayGrant o.guard q result }
-    ensures other { ((o : Opened) → lent.old.content ≢ Content.Question o) → result ≡ false }
+    ensures other { ((o : OwnedQuestion) → lent.old.content ≢ HandleValue.Question o) → result ≡ false }
 {
     match lent.content().question() {
         Some(opened) => is_possible(opened),
@@ -182,26 +186,36 @@ pub extern "C" fn spki_c_asked_possible(lent: &mut Lent) -> bool
 /// A decision returns 9 for yes and 1 for no. An explanation or a reduction returns 6. All return 2 for a refusal, also
 /// if memory ran out, and 4 if the buffer is too small. All return 5 if no query has this number, or if `lent` is no question. `needed`
 /// is the length of the answer, and 0 with status 5. With 4 and 5 the buffer is unchanged.
+///
+/// With 9 `until` is the last second, since 1970-01-01 00:00:00 UTC, at which the same question is a yes by this entry. It is the highest
+/// number if no window ends. With every other status it is the lowest.
 #[unsafe(no_mangle)]
 pub extern "C" fn spki_c_asked_answer(
     alloc: Global,
     query: u32,
-    lent: &mut Lent,
+    lent: &mut BorrowedHandle,
+    until: &mut i64,
     buffer: &mut [u8],
     needed: &mut usize,
 ) -> u32
-    ensures answered { (o : Opened) (w : Query) (q : Question) → lent.old.content ≡ Content.Question o → query ≡ query_number w
+    ensures until { (o : OwnedQuestion) (q : Question) → lent.old.content ≡ HandleValue.Question o → IsOpened o.guard q o → result ≡ 9
+        → IsHeldUntil o.guard q o.marks.items until.new }
+    ensures no_until { result ≢ 9 → until.new ≡ negsuc 9_223_372_036_854_775_807 }
+    ensures answered { (o : OwnedQuestion) (w : Query) (q : Question) → lent.old.content ≡ HandleValue.Question o → query ≡ query_number w
         → IsOpened o.guard q o → IsAnswered w o.guard q o.marks.items buffer.old buffer.new needed.new result }
     ensures misused { ((w : Query) → query ≢ query_number w) → IsMisuse buffer.old buffer.new needed.new result }
-    ensures other { ((o : Opened) → lent.old.content ≢ Content.Question o) → IsMisuse buffer.old buffer.new needed.new result }
+    ensures other { ((o : OwnedQuestion) → lent.old.content ≢ HandleValue.Question o) → IsMisuse buffer.old buffer.new needed.new result }
 {
+    *until = i64::MIN;
     let Some(query) = query_of(query) else {
         return misused(needed);
     };
     let Some(opened) = lent.content().question() else {
         return misused(needed);
     };
-    let answer = answer_opened(alloc, query, opened);
-    let status = query_status(query, answer.verdict);
-    hand_over(answer, status, buffer, needed)
+    let OpenedAnswer { answer, grant } = answer_opened(alloc, query, opened);
+    let answered = query_status(query, answer.verdict);
+    let status = hand_over(answer, answered, buffer, needed);
+    *until = until_number(status, grant);
+    status
 }

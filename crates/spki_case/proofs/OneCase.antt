@@ -91,7 +91,8 @@ case-one v c d read other =
     let moment = date-one q.at c.moment d.moment (subst (λ (w : Value). DateOf w c.moment) same.at read.moment) other.moment in
     let policy : c.policy ≡ d.policy = read.policy ∙ same.policy ∙ sym other.policy in
     let limit : c.most_nodes ≡ d.most_nodes = read.limit ∙ sym other.limit in
-    let work : c.most_work ≡ d.most_work = read.unbounded ∙ sym other.unbounded in
+    let work : c.most_work ≡ d.most_work = read.work ∙ sym other.work in
+    let uncounted : c.uncounted ≡ d.uncounted = read.uncounted ∙ sym other.uncounted in
     λ i. record {
       entries = entries i;
       rows = rows i;
@@ -102,6 +103,7 @@ case-one v c d read other =
       policy = policy i;
       most_nodes = limit i;
       most_work = work i;
+      uncounted = uncounted i;
     }
 
 -- a canonical text is that of one value

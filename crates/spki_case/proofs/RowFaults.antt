@@ -16,7 +16,7 @@ use Rattle.spki_case.specs.Case.{begins_sha256, sha256_fault, row_fault, rows_fa
 use Rattle.std.specs.List.{AllZip}
 use Rattle.spki_tag.proofs.Faultless.{request_none_exactly}
 use Rattle.spki_cert.specs.StructureFaults.{acl_fault, sequence_fault, IsRefusedAt}
-use Rattle.spki_cert.proofs.Looking.{Reads, none-found, unless-none, behind-group}
+use Rattle.spki_cert.proofs.HeadedLists.{Reads, none-found, unless-none, behind-group}
 use Rattle.spki_cert.proofs.SubjectFaultNone.{key-none, hash-none, date-none}
 use Rattle.spki_cert.proofs.EntryFaultNone.{each-none, each-first, acl-none}
 use Rattle.spki_cert.proofs.SequenceFaultNone.{sequence-none}
@@ -114,7 +114,8 @@ case-of p octets (acl, rows, sequence, key, request, at) =
         moment = moment.0;
         policy = p.policy;
         most_nodes = 1000000;
-        most_work = None;
+        most_work = 3000000000;
+        uncounted = 1000000;
       },
       record {
         parts = p;
@@ -127,7 +128,8 @@ case-of p octets (acl, rows, sequence, key, request, at) =
         moment = moment.1;
         policy = refl;
         limit = refl;
-        unbounded = refl;
+        work = refl;
+        uncounted = refl;
       },
     )
 

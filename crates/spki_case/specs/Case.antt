@@ -49,8 +49,8 @@ pub record Row : Type 0 where
 
 -- The access list's entries, the signatures that are accepted, the items of the sequence, and the question. The question is
 -- whether the key may do the request at the moment, under the policy. If two tags are intersected, the product of their
--- nodes is at most `most_nodes`. If there is a `most_work`, all these products of an explanation or a reduction are together at most
--- this.
+-- nodes is at most `most_nodes`. The work of the entries that are folded is together at most `most_work`. An entry is not counted there
+-- if its chain is small: if the product of the nodes of its tag and of all certificates' tags is at most `uncounted`, among others.
 pub record Case : Type 0 where
   pub entries : List Entry
   pub rows : List Row
@@ -60,7 +60,8 @@ pub record Case : Type 0 where
   pub moment : List ℕ
   pub policy : Policy
   pub most_nodes : ℕ
-  pub most_work : Option ℕ
+  pub most_work : ℕ
+  pub uncounted : ℕ
 
 -- whether a row is of this key, message and value
 abbrev pub is_row_of : List ℕ → List ℕ → List ℕ → Row → Bool
@@ -250,7 +251,7 @@ pub record RequestOf (v : Value) (g : Request) : Type 0 where
   pub written : request_value g ≡ v
   pub is_request : IsRequest g
 
--- The value is read as the case. Its limit of nodes is the one of all tags, and its work has no limit.
+-- The value is read as the case. Its limit of nodes is the one of all tags, and chains within it are not counted as work.
 pub record CaseOf (v : Value) (c : Case) : Type 0 where
   pub parts : Parts
   pub written : v ≡ case_value parts
@@ -262,7 +263,8 @@ pub record CaseOf (v : Value) (c : Case) : Type 0 where
   pub moment : DateOf parts.at c.moment
   pub policy : c.policy ≡ parts.policy
   pub limit : c.most_nodes ≡ 1000000
-  pub unbounded : c.most_work ≡ None
+  pub work : c.most_work ≡ 3000000000
+  pub uncounted : c.uncounted ≡ 1000000
 
 -- ---- refusals
 

@@ -29,6 +29,7 @@ model c = record {
   policy = c.policy;
   most_nodes = c.most_nodes;
   most_work = c.most_work;
+  uncounted = c.uncounted;
 }
 
 -- ---- the results of the readers of a case's parts

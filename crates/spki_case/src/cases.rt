@@ -1,6 +1,6 @@
 //! Cases: an access list, accepted rows, a sequence, and a question.
 
-ghost use Rattle.std.specs.Prelude.{◌≡◌, ◌≢◌, [], ◌<◌, ◌≤◌, ◌↔◌, Some, length, IfOk, IfErr, IsErrOf};
+ghost use Rattle.std.specs.Prelude.{◌≡◌, ◌≢◌, [], ◌<◌, ◌≤◌, ◌↔◌, length, IfOk, IfErr, IsErrOf};
 ghost use Rattle.spki_case.specs.Case.{CaseOf, ValueRefused, IsCaseText, TextRefused, AreSigned, IsOuter};
 
 use crate::digests::{asking_key, digested_items, entry_algorithms};
@@ -69,22 +69,29 @@ pub struct Case<'a> {
     pub policy: Policy,
     /// The greatest product of the numbers of nodes of two tags that are intersected.
     pub most_nodes: usize,
-    /// The greatest sum of these products over all certificates and entries, for an explanation or a reduction. None if there is no
-    /// bound.
-    pub most_work: Option<usize>,
+    /// The most work of the entries that are folded, together: what `spki_reduce::Work` says of their steps.
+    pub most_work: usize,
+    /// Chains that are small by this limit do not count as work. A chain is small if the product of the numbers of nodes of its tags
+    /// is at most this; or if no tag has a set, and the nodes of all, times those of the largest certificate's tag, are.
+    pub uncounted: usize,
     /// Each certificate is followed by its signature.
     ghost signed: { AreSigned sequence.items },
     /// The limit is at most that of all tags.
     ghost bounded: { most_nodes ≤ 1000000 },
+    /// A chain that does not count is within the limit.
+    ghost small: { uncounted ≤ most_nodes },
 }
 
 /// The greatest product of the numbers of nodes of two tags that are intersected, for a case that is read.
 const MOST_NODES: usize = 1_000_000;
 
+/// The most work of entries whose chains are not small, for a case that is read.
+const MOST_WORK: usize = 3_000_000_000;
+
 impl<'a> Case<'a> {
     ghost use Rattle.spki_case.specs.View.{model};
 
-    /// Reads a case in canonical form. Its `most_nodes` is 1,000,000, and its `most_work` None.
+    /// Reads a case in canonical form. Its `most_nodes` and `uncounted` are 1,000,000, and its `most_work` 3,000,000,000.
     ///
     /// # Errors
     ///
@@ -147,13 +154,14 @@ impl<'a> Case<'a> {
             moment,
             policy: parts.policy,
             most_nodes: MOST_NODES,
-            most_work: None,
+            most_work: MOST_WORK,
+            uncounted: MOST_NODES,
         })
     }
 
     /// Makes a case with empty access and accepted lists, for a question to a separate access list. Each certificate in
     /// `sequence` must be followed by its signature. `most_nodes`, which must be at most 1,000,000, and `most_work`
-    /// limit intersections, as the fields of a case do. `algorithms` are those of the hashes in the separate list. The
+    /// limit intersections, as the fields of a case do; all chains count as work. `algorithms` are those of the hashes in the separate list. The
     /// keys carry their digests by these and by those of the hashes in the sequence; this saves time and changes no
     /// answer.
     ///
@@ -181,7 +189,8 @@ impl<'a> Case<'a> {
         ensures moment { IfOk result (λ c. c.moment ≡ moment) }
         ensures policy { IfOk result (λ c. c.policy ≡ policy) }
         ensures nodes { IfOk result (λ c. c.most_nodes ≡ most_nodes) }
-        ensures work { IfOk result (λ c. c.most_work ≡ Some most_work) }
+        ensures work { IfOk result (λ c. c.most_work ≡ most_work) }
+        ensures counted { IfOk result (λ c. c.uncounted ≡ 0) }
     {
         let accepted = AcceptedTable::new(alloc, Vec::new(alloc))?;
         let sequence = digested_items(sequence, algorithms, policy);
@@ -195,7 +204,8 @@ impl<'a> Case<'a> {
             moment,
             policy,
             most_nodes,
-            most_work: Some(most_work),
+            most_work,
+            uncounted: 0,
         })
     }
 

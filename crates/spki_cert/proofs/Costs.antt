@@ -16,7 +16,7 @@ use Rattle.spki_cert.specs.declared.certificate.NameCert.{NameCert}
 use Rattle.spki_cert.specs.declared.certificate.SeqItem.{SeqItem}
 use Rattle.spki_cert.specs.declared.certificate.SeqItem.TheVariants as items
 use Rattle.spki_cert.specs.Readings.{alg_name}
-use Rattle.spki_cert.specs.Fields.{PrincipalOf, plains, RelativeOf, IsWho, SubjectOf, IssuedTo, IssuerOf, is_headed, behind_head, contents, TagOf}
+use Rattle.spki_cert.specs.Fields.{PrincipalOf, plains, RelativeOf, IsNamedSubject, SubjectOf, IssuedTo, IssuerOf, is_headed, behind_head, contents, TagOf}
 use Rattle.spki_cert.specs.Structures.{EntryOf, AuthCertOf, NameCertOf, ItemOf, SeqOf, IssuedBy, IssuedFor}
 use Rattle.spki_cert.specs.Cost.{names_weight, principal_weight, subject_weight, entry_weight, item_weight, items_weight}
 
@@ -59,7 +59,7 @@ principal_ge v (Hash alg digest) is =
       verbatim_ge digest,
     )
 
-who_ge : (v : Value) (p : Principal) (ns : List (List ℕ)) → IsWho v p ns → names_weight ns + principal_weight p ≤ long v
+who_ge : (v : Value) (p : Principal) (ns : List (List ℕ)) → IsNamedSubject v p ns → names_weight ns + principal_weight p ≤ long v
 who_ge v p ns (inl is) = omega (arith, principal_ge v p is.0, ap names_weight is.1)
 who_ge v p ns (inr is) =
     omega (

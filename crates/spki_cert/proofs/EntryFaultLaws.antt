@@ -5,10 +5,10 @@ use Rattle.std.specs.List.{AllZip}
 use Rattle.sexpr_core.specs.Value.{Value, plain, group, IsNotHeaded}
 use Rattle.spki_cert.specs.declared.entry.Entry.{Entry}
 use Rattle.spki_cert.specs.declared.entry.Subject.{Subject}
-use Rattle.spki_cert.specs.Fields.{SubjectOf, RelativeOf, plains, is_headed, PrincipalOf, WhoOf, behind_head}
+use Rattle.spki_cert.specs.Fields.{SubjectOf, RelativeOf, plains, is_headed, PrincipalOf, WrittenSubjectOf, behind_head}
 use Rattle.spki_cert.specs.Structures.{EntryOf, AclOf, IsVersion, BeginsWell}
 use Rattle.spki_cert.specs.StructureFaults.{behind_version, entry_fault, at_item, acl_version_fault, outer_fault, entries_fault, acl_fault}
-use Rattle.spki_cert.proofs.Looking.{same_others, not-headed, behind-group, of-form, of-no_form, one-look}
+use Rattle.spki_cert.proofs.HeadedLists.{same_others, not-headed, behind-group, of-form, of-no_form, one-look}
 use Rattle.spki_cert.proofs.SubjectFaultLaws.{name-is_no_principal, string-is_no_principal, principal-else}
 use Rattle.spki_tag.specs.Faults.{first_fault, unless}
 use Rattle.spki_cert.specs.declared.fault.CertFault.{CertFault}
@@ -73,7 +73,7 @@ subject-tested v b e f = λ i. subject_looked (e i) (f i)
 relative-form : (v : Value) (rest : List Value) → v ≡ group (plain (codes "name") ∷ rest) → is_relative v ≡ begins_named rest
 relative-form v rest e = of-form (λ b vs. b && begins_named vs) (codes "name") v rest e
 
-pub subject-relative : (v : Value) (names : List (List ℕ)) → subject_fault v ≡ None → WhoOf v None names → entry_subject_fault v ≡ Some RelativeInEntry
+pub subject-relative : (v : Value) (names : List (List ℕ)) → subject_fault v ≡ None → WrittenSubjectOf v None names → entry_subject_fault v ≡ Some RelativeInEntry
 subject-relative v names e read = search (rules, subject-tested, relative-form)
 
 -- a principal is no name
@@ -81,7 +81,7 @@ no-name : (v : Value) (p : Principal) → PrincipalOf v p → is_name v ≡ fals
 no-name v (Key octets) read = ap is_name read.written
 no-name v (Hash alg digest) read = ap is_name read.written
 
-pub subject-absolute : (v : Value) (p : Principal) (names : List (List ℕ)) → subject_fault v ≡ None → WhoOf v (Some p) names → entry_subject_fault v ≡ None
+pub subject-absolute : (v : Value) (p : Principal) (names : List (List ℕ)) → subject_fault v ≡ None → WrittenSubjectOf v (Some p) names → entry_subject_fault v ≡ None
 subject-absolute v p names e (inl read) = subject-tested v false e (ap (λ (b : Bool). b && begins_named (behind_head v)) (principal-else (codes "name") v p read.0 refl refl))
 subject-absolute v p names e (inr read) = subject-tested v false e (relative-form v (read.owner ∷ plains names) read.written ∙ no-name read.owner p read.owner_is)
 

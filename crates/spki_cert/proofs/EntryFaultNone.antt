@@ -18,7 +18,7 @@ use Rattle.spki_cert.specs.StructureFaults.{IsRefusedAt, behind_version, entry_f
 use Rattle.spki_cert.specs.Structures.{EntryOf, AclOf, IsVersion, BeginsWell}
 use Rattle.spki_cert.specs.FieldFaults.{sole_fault, has, version_fault, is_both_ways}
 use Rattle.spki_cert.specs.Inner.Gathering.{is_word_among}
-use Rattle.spki_cert.proofs.Looking.{Reads, is-group, unless-none, unless_not-none, behind-none, none-found}
+use Rattle.spki_cert.proofs.HeadedLists.{Reads, is-group, unless-none, unless_not-none, behind-none, none-found}
 use Rattle.spki_cert.proofs.FieldLaws.{none-headed, headed-none, other-word, time-first, time-last, time-valid, field-tag}
 use Rattle.spki_cert.proofs.EntryFaultLaws.{entries-behind, entry-unversioned, acl-read, entry_looked, entry-looked, outer-form, acl-entries}
 use Rattle.spki_cert.proofs.FieldFaultLaws.{has-given, version-faultless}

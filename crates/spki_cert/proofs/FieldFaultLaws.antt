@@ -13,11 +13,11 @@ use Rattle.spki_tag.specs.Reading.{ReadsAs}
 use Rattle.spki_cert.specs.Fields.{is_headed, behind_head, contents, Given, Sole, IsLimitField, ValidOf, IsUnread, display, issuer_info, subject_info}
 use Rattle.spki_cert.specs.FieldFaults.{sole_fault, unless_none, subject_fault, issuer_fault, date_fault, head_of, has, has_head, is_again, fields_looked, fields_fault, version_fault, limit_fault, time_fault, as_tag, kind_of_tag, entry_field_fault, is_unread, cert_field_fault, is_both_ways}
 use Rattle.spki_tag.specs.declared.fault.TagFault.{TagFault}
-use Rattle.spki_cert.specs.declared.fields.Known.{Known}
+use Rattle.spki_cert.specs.declared.fields.FieldValues.{FieldValues}
 use Rattle.spki_cert.specs.declared.fields.Place.{Place}
 use Rattle.spki_cert.specs.declared.fields.Place.TheVariants as places
-use Rattle.spki_cert.specs.Inner.Gathering.{IsTagKind, is_word_among, IsNew, AreRead, KnownOf, IsOneWay, IsBothWays, fault_in}
-use Rattle.spki_cert.proofs.Looking.{headed-by, not-headed, head-group, is-group, behind-group, of-form, first-of, one-look, headed-else}
+use Rattle.spki_cert.specs.Inner.Gathering.{IsTagKind, is_word_among, IsNew, AreRead, FieldValuesOf, IsOneWay, IsBothWays, fault_in}
+use Rattle.spki_cert.proofs.HeadedLists.{headed-by, not-headed, head-group, is-group, behind-group, of-form, first-of, one-look, headed-else}
 
 -- ---- versions
 
@@ -215,7 +215,7 @@ headless-field places.Entry v e = headless-entry v e
 headless-field places.Certificate v e = search (rules, cert-else, headless, headless-entry)
 
 -- a field whose head is not new, or that has none
-pub field-not_new : (place : Place) (before : List Value) (heads : List (List ℕ)) (k : Known) (v : Value) → AreRead before heads k
+pub field-not_new : (place : Place) (before : List Value) (heads : List (List ℕ)) (k : FieldValues) (v : Value) → AreRead before heads k
     → ((head : List ℕ) → IsNew v heads head → ⊥) → first_fault (field_looked (fault_in place) before v) ≡ Some Shape
 field-not_new place before heads k v read none = by (head_of v) refl
   where
@@ -226,20 +226,20 @@ field-not_new place before heads k v read none = by (head_of v) refl
         let again = true_from_ne_false (is_word_among heads head) (λ f. none head (record { rest = behind_head v; written = form; fresh = f })) in
         field-again (fault_in place) before v (again-headed head before v (behind_head v) form ∙ sym (read.heads_are head) ∙ again)
 
-pub field-is_new : (before : List Value) (heads : List (List ℕ)) (k : Known) (v : Value) (head : List ℕ) → AreRead before heads k → IsNew v heads head
+pub field-is_new : (before : List Value) (heads : List (List ℕ)) (k : FieldValues) (v : Value) (head : List ℕ) → AreRead before heads k → IsNew v heads head
     → is_again before v ≡ false
 field-is_new before heads k v head read new = again-headed head before v new.rest new.written ∙ sym (read.heads_are head) ∙ new.fresh
 
 -- ---- clashes
 
-pub both-known : (fields : List Value) (k : Known) → KnownOf fields k → is_both_ways fields ≡ (is_some k.valid && (is_some k.limits.not_before || is_some k.limits.not_after))
+pub both-known : (fields : List Value) (k : FieldValues) → FieldValuesOf fields k → is_both_ways fields ≡ (is_some k.valid && (is_some k.limits.not_before || is_some k.limits.not_after))
 both-known fields k known = search (rules, has-given)
 
-pub both-ways : (fields : List Value) (k : Known) → KnownOf fields k → IsBothWays k.limits k.valid → is_both_ways fields ≡ true
+pub both-ways : (fields : List Value) (k : FieldValues) → FieldValuesOf fields k → IsBothWays k.limits k.valid → is_both_ways fields ≡ true
 both-ways fields k known both = search (rules, both-known fields k known)
 
-pub one-way : (fields : List Value) (k : Known) (w : Window) → KnownOf fields k → IsOneWay k.limits k.valid w → is_both_ways fields ≡ false
+pub one-way : (fields : List Value) (k : FieldValues) (w : Window) → FieldValuesOf fields k → IsOneWay k.limits k.valid w → is_both_ways fields ≡ false
 one-way fields k w known one = search (rules, both-known fields k known)
 
-pub has-tag : (fields : List Value) (k : Known) → KnownOf fields k → has (codes "tag") fields ≡ is_some k.tag
+pub has-tag : (fields : List Value) (k : FieldValues) → FieldValuesOf fields k → has (codes "tag") fields ≡ is_some k.tag
 has-tag fields k known = has-given (codes "tag") (Sole ReadsAs) fields k.tag known.tag_is

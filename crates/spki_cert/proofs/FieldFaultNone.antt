@@ -15,12 +15,12 @@ use Rattle.spki_cert.specs.declared.fault.CertFaultKind.TheVariants.{Shape}
 use Rattle.spki_cert.specs.declared.principal.Principal.{Principal}
 use Rattle.spki_cert.specs.declared.window.Window.{Window}
 use Rattle.spki_cert.specs.Readings.{DateOf}
-use Rattle.spki_cert.specs.Fields.{WhoOf, IssuerOf, is_headed, behind_head, contents, Sole, Given, IsLimitWord, IsLimitField, ValidOf, IssuerIn, WhoIn, IsTimeField, limit, valid, IsField, propagate, tag, time, comment, IsCertField, common, version, issuer, subject, unread, AreFields}
+use Rattle.spki_cert.specs.Fields.{WrittenSubjectOf, IssuerOf, is_headed, behind_head, contents, Sole, Given, IsLimitWord, IsLimitField, ValidOf, IssuerIn, WrittenSubjectIn, IsTimeField, limit, valid, IsField, propagate, tag, time, comment, IsCertField, common, version, issuer, subject, unread, AreFields}
 use Rattle.spki_cert.specs.FieldFaults.{sole_fault, unless_none, date_fault, subject_fault, issuer_fault, is_again, fields_looked, fields_fault, version_fault, limit_fault, time_fault, kind_of_tag, entry_field_fault, is_unread, cert_field_fault}
 use Rattle.spki_cert.specs.declared.fields.Place.{Place}
 use Rattle.spki_cert.specs.declared.fields.Place.TheVariants as places
 use Rattle.spki_cert.specs.Inner.Gathering.{fault_in, IsFieldOf}
-use Rattle.spki_cert.proofs.Looking.{Reads, headed-by, is-group, unless-none, unless_not-none, none-found, sole-read, sole-none}
+use Rattle.spki_cert.proofs.HeadedLists.{Reads, headed-by, is-group, unless-none, unless_not-none, none-found, sole-read, sole-none}
 use Rattle.spki_cert.proofs.FieldLaws.{each-push, each-at, contents-headed, contents-other, once-before, once-new, none-headed, headed-none, HasHead, field-word, cert-word, among-else, limit-not_valid, time_words, field_words, time-head, field-head, first-limit, last-limit}
 use Rattle.spki_cert.proofs.FieldFaultLaws as faults
 use Rattle.spki_cert.proofs.FieldFaultLaws.{unread-read, again-headed, version-faultless, limit-first, limit-last, entry-tag_field, entry-propagate, entry-comment, entry-else, cert-issuer_field, cert-subject_field, cert-version_field, cert-unread, cert-else}
@@ -174,8 +174,8 @@ pub issuers-none : (rest : List Value) → (sole_fault Shape issuer_fault rest �
 issuers-none rest = sole-none Shape issuer_fault (λ w (j : Principal × Option (List ℕ)). IssuerOf w j.0 j.1)
     (λ v. (λ e. let read = (issuer-none v).0 e in ((read.0, read.1), read.2), λ some. (issuer-none v).1 (some.0.0, some.0.1, some.1))) rest
 
-pub subjects-none : (rest : List Value) → (sole_fault Shape subject_fault rest ≡ None) ↔ Reads WhoIn rest
-subjects-none rest = sole-none Shape subject_fault (λ w (t : Option Principal × List (List ℕ)). WhoOf w t.0 t.1)
+pub subjects-none : (rest : List Value) → (sole_fault Shape subject_fault rest ≡ None) ↔ Reads WrittenSubjectIn rest
+subjects-none rest = sole-none Shape subject_fault (λ w (t : Option Principal × List (List ℕ)). WrittenSubjectOf w t.0 t.1)
     (λ v. (λ e. let read = (subject-none v).0 e in ((read.0, read.1), read.2), λ some. (subject-none v).1 (some.0.0, some.0.1, some.1))) rest
 
 cert_field-read : (v : Value) → cert_field_fault v ≡ None → IsCertField v

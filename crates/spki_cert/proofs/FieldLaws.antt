@@ -2,18 +2,18 @@
 use Rattle.std.proofs.Common.{◌≡◌, ℕ, ◌+◌, ◌≤◌, Bool, true, false, cond, List, [], ◌∷◌, ◌++◌, length, Option, Some, None, refl, ap, ◌∙◌, arith, append-nil, length-append, rules, inl, inr, sym, subst}
 use Rattle.std.specs.List.{AllByRecursion, list_any}
 use Rattle.sexpr_core.specs.Value.{Value, plain, group}
-use Rattle.spki_cert.specs.Fields.{is_headed, behind_head, contents, AreOnce, Given, Sole, IsLimitField, ValidOf, IsTimeField, limit, valid, IsField, propagate, tag, time, comment, IssuerIn, WhoIn, IsUnread, IsCertField, common, version, issuer, subject, unread}
+use Rattle.spki_cert.specs.Fields.{is_headed, behind_head, contents, AreOnce, Given, Sole, IsLimitField, ValidOf, IsTimeField, limit, valid, IsField, propagate, tag, time, comment, IssuerIn, WrittenSubjectIn, IsUnread, IsCertField, common, version, issuer, subject, unread}
 use Rattle.std.proofs.lemmas.Bool.{false_from_ne_true}
-use Rattle.spki_cert.proofs.Looking.{Reads, other-head, head-same, headed-by, behind-group, headed-else}
+use Rattle.spki_cert.proofs.HeadedLists.{Reads, other-head, head-same, headed-by, behind-group, headed-else}
 use Rattle.std.specs.Prelude.{codes}
 use Rattle.spki_cert.specs.declared.window.Window.{Window}
 use Rattle.spki_cert.specs.Readings.{DateOf}
-use Rattle.spki_cert.specs.Inner.Gathering.{Headed, AddsLimit, first, last, is_word_among, IsSilent, Says, gather, KnownOf, IsNew, AreRead}
+use Rattle.spki_cert.specs.Inner.Gathering.{Headed, AddsLimit, first, last, is_word_among, IsSilent, FieldValueOf, gather, FieldValuesOf, IsNew, AreRead}
 use Rattle.spki_tag.specs.Reading.{ReadsAs}
 use Rattle.std.proofs.lemmas.List.Folds.{list_any-append}
-use Rattle.spki_cert.specs.declared.fields.Known.{Known}
-use Rattle.spki_cert.specs.declared.fields.Said.{Said}
-use Rattle.spki_cert.specs.declared.fields.Said.TheVariants as said
+use Rattle.spki_cert.specs.declared.fields.FieldValues.{FieldValues}
+use Rattle.spki_cert.specs.declared.fields.FieldValue.{FieldValue}
+use Rattle.spki_cert.specs.declared.fields.FieldValue.TheVariants as field_value
 
 -- ---- what fields say, one field after the other
 
@@ -202,7 +202,7 @@ cert-issuer v h (version e) = absurd (other-head (codes "issuer") v _ e h refl)
 cert-issuer v h (subject rest s e read) = absurd (other-head (codes "issuer") v _ e h refl)
 cert-issuer v h (unread u) = absurd (other-word unread_words v (codes "issuer") h refl (unread-head v u))
 
-pub cert-subject : (v : Value) → is_headed (codes "subject") v ≡ true → IsCertField v → Reads WhoIn (behind_head v)
+pub cert-subject : (v : Value) → is_headed (codes "subject") v ≡ true → IsCertField v → Reads WrittenSubjectIn (behind_head v)
 cert-subject v h (common f) = absurd (other-word field_words v (codes "subject") h refl (field-head v f))
 cert-subject v h (subject rest s e read) = (s, rw (behind-group v (plain (codes "subject")) rest e) read)
 cert-subject v h (version e) = absurd (other-head (codes "subject") v _ e h refl)
@@ -237,7 +237,7 @@ headed-none word [] e = refl
 headed-none word (x ∷ xs) e = search (rules, contents-headed, contents-other, headed-none word xs)
 
 -- the head of a new field was not met
-pub new-first : (xs : List Value) (heads : List (List ℕ)) (k : Known) (v : Value) (head : List ℕ) → AreRead xs heads k → IsNew v heads head
+pub new-first : (xs : List Value) (heads : List (List ℕ)) (k : FieldValues) (v : Value) (head : List ℕ) → AreRead xs heads k → IsNew v heads head
     → (word : List ℕ) → is_headed word v ≡ true → contents word xs ≡ []
 new-first xs heads k v head read new word e =
     let same : head ≡ word = head-same v head word new.rest new.written e in
@@ -250,7 +250,7 @@ heads-push xs heads v head rest e are word = search (rules, list_any-append)
 
 -- ---- what one more field says
 
-silent-more : (xs : List Value) (v : Value) (k : Known) → KnownOf xs k → IsSilent v → KnownOf (xs ++ v ∷ []) k
+silent-more : (xs : List Value) (v : Value) (k : FieldValues) → FieldValuesOf xs k → IsSilent v → FieldValuesOf (xs ++ v ∷ []) k
 silent-more xs v k known says = search (rules, given-kept)
 
 abbrev Fresh : List Value → Value → Type 0
@@ -260,15 +260,15 @@ Fresh xs v = (word : List ℕ) → is_headed word v ≡ true → contents word x
 filled : {A : Type 0} (word : List ℕ) (R : List Value → A → Type 0) (xs : List Value) (v : Value) (a : A) → Headed word R v a → Fresh xs v → Given word R (xs ++ v ∷ []) (Some a)
 filled word R xs v a says fresh = search (rules, headed-by, given-first, behind-group)
 
-gather-more : (xs : List Value) (v : Value) (k : Known) (s : Said) → KnownOf xs k → Says v s → Fresh xs v → KnownOf (xs ++ v ∷ []) (gather k s)
-gather-more xs v k said.Nothing known says fresh = silent-more xs v k known says
+gather-more : (xs : List Value) (v : Value) (k : FieldValues) (s : FieldValue) → FieldValuesOf xs k → FieldValueOf v s → Fresh xs v → FieldValuesOf (xs ++ v ∷ []) (gather k s)
+gather-more xs v k field_value.Nothing known says fresh = silent-more xs v k known says
 gather-more xs v k s known says fresh = search (rules, filled, given-kept, headed-else)
 
 -- ---- all fields
 
-pub read-none : (k : Known) → KnownOf [] k → AreRead [] [] k
+pub read-none : (k : FieldValues) → FieldValuesOf [] k → AreRead [] [] k
 read-none k known = search rules
 
-pub read-more : (xs : List Value) (heads : List (List ℕ)) (k : Known) (v : Value) (head : List ℕ) (s : Said)
-    → AreRead xs heads k → IsNew v heads head → Says v s → AreRead (xs ++ v ∷ []) (heads ++ head ∷ []) (gather k s)
+pub read-more : (xs : List Value) (heads : List (List ℕ)) (k : FieldValues) (v : Value) (head : List ℕ) (s : FieldValue)
+    → AreRead xs heads k → IsNew v heads head → FieldValueOf v s → AreRead (xs ++ v ∷ []) (heads ++ head ∷ []) (gather k s)
 read-more xs heads k v head s read new says = search (rules, heads-push, gather-more, new-first)

@@ -18,10 +18,10 @@ use Rattle.spki_cert.specs.declared.certificate.Signature.{Signature}
 use Rattle.spki_cert.specs.declared.certificate.SeqItem.{SeqItem}
 use Rattle.spki_cert.specs.declared.certificate.SeqItem.TheVariants as items
 use Rattle.spki_cert.specs.Readings.{KeyOf, HashOf, DateOf, alg_name}
-use Rattle.spki_cert.specs.Fields.{PrincipalOf, plains, NameOf, IsWho, SubjectOf, IssuedTo, IssuerOf, Sole, Given, LimitsAre, WindowOf, directly, in_valid, TagOf, propagates, IssuerIn}
+use Rattle.spki_cert.specs.Fields.{PrincipalOf, plains, NameOf, IsNamedSubject, SubjectOf, IssuedTo, IssuerOf, Sole, Given, LimitsAre, WindowOf, directly, in_valid, TagOf, propagates, IssuerIn}
 use Rattle.spki_cert.specs.Structures.{EntryOf, AclOf, IssuedFor, AuthCertOf, NameCertOf, SignatureOf, DoHashOf, ItemOf, SeqOf}
 use Rattle.spki_cert.specs.StructureFaults.{behind_version}
-use Rattle.spki_cert.proofs.Looking.{same_others, same_second, same_rest, apart}
+use Rattle.spki_cert.proofs.HeadedLists.{same_others, same_second, same_rest, apart}
 use Rattle.spki_cert.specs.FieldFaults.{alg_named}
 use Rattle.spki_cert.proofs.SubjectFaultLaws.{named-alg, name-is_no_principal}
 use Rattle.spki_cert.proofs.FieldLaws.{given-else}
@@ -70,7 +70,7 @@ name-one v p q ns ms read other =
     let names : plains ns ≡ plains ms = cc in
     (principal-one other.owner p q (subst (λ (w : Value). PrincipalOf w p) owner read.owner_is) other.owner_is, names-one ns ms names)
 
-who-one : (v : Value) (p q : Principal) (ns ms : List (List ℕ)) → IsWho v p ns → IsWho v q ms → Same p q ns ms
+who-one : (v : Value) (p q : Principal) (ns ms : List (List ℕ)) → IsNamedSubject v p ns → IsNamedSubject v q ms → Same p q ns ms
 who-one v p q ns ms (inl read) (inl other) = (principal-one v p q read.0 other.0, read.1 ∙ sym other.1)
 who-one v p q ns ms (inl read) (inr other) = absurd (name-is_no_principal v (other.owner ∷ plains ms) other.written p read.0)
 who-one v p q ns ms (inr read) (inl other) = absurd (name-is_no_principal v (read.owner ∷ plains ns) read.written q other.0)

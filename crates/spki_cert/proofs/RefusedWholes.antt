@@ -14,7 +14,7 @@ use Rattle.spki_cert.specs.FieldFaults.{sole_fault, version_fault}
 use Rattle.spki_cert.specs.Structures.{EntryOf, BeginsWell, ItemOf, AreInPlace, IsInPlace, waits_behind, waits_after}
 use Rattle.spki_cert.specs.StructureFaults.{IsRefusedAt, entry_fault, at_item, acl_version_fault, outer_fault, entries_fault, acl_fault, behind_version, item_fault, place_fault, waiting, items_looked, items_fault, sequence_fault}
 use Rattle.spki_cert.specs.RefusedWholes.{HasRefusedEntry, HasOtherVersion, IsNoListOfEntries, BeginsWith, HasRefusedItem, HasStraySignature, GoesOn, HasUnsignedCertificate, HasWrongItem}
-use Rattle.spki_cert.proofs.Looking.{is-group, one-look, moved}
+use Rattle.spki_cert.proofs.HeadedLists.{is-group, one-look, moved}
 use Rattle.spki_cert.proofs.EntryFaultNone.{entries-refused, outer-read, version-well}
 use Rattle.spki_cert.proofs.SequenceFaultNone.{item-none, place-read, waits-same}
 

@@ -8,21 +8,21 @@ use Rattle.spki_cert.specs.declared.fault.CertFaultKind.TheVariants.{Shape, Unkn
 use Rattle.spki_cert.specs.Fields.{is_headed, behind_head, IssuerOf}
 use Rattle.spki_cert.specs.FieldFaults.{fault_at, unless_none, is_plain, alg_fault, hash_fault, principal_fault, has, fields_fault, cert_field_fault, is_both_ways}
 use Rattle.spki_cert.specs.StructureFaults.{any_value, signature_fault, do_fault, is_hash_word, at_item, has_name_issuer, is_tagged_right, cert_fault, items_fault, sequence_fault}
-use Rattle.spki_cert.proofs.Looking.{is-group, of-form, of-no_form, unless-none, none-found, first-of, one-look}
+use Rattle.spki_cert.proofs.HeadedLists.{is-group, of-form, of-no_form, unless-none, none-found, first-of, one-look}
 use Rattle.spki_cert.proofs.FieldFaultLaws.{has-given}
 use Rattle.spki_cert.specs.declared.certificate.AuthCert.{AuthCert}
 use Rattle.spki_cert.specs.declared.certificate.NameCert.{NameCert}
 use Rattle.spki_cert.specs.declared.certificate_reader.CertParts.{CertParts}
 use Rattle.spki_cert.specs.Structures.{AuthCertOf, NameCertOf, IssuedBy}
-use Rattle.spki_cert.specs.Inner.Gathering.{PartsOf, KnownOf, parts_looked, parts_fault}
+use Rattle.spki_cert.specs.Inner.Gathering.{PartsOf, FieldValuesOf, parts_looked, parts_fault}
 use Rattle.std.specs.Prelude.{codes, is_some, not, if◌then◌else◌, ◌||◌}
 use Rattle.spki_cert.specs.declared.fault.CertFault.{CertFault}
 use Rattle.spki_cert.specs.declared.principal.Principal.{Principal}
 use Rattle.spki_cert.proofs.SubjectFaultLaws.{principal-else}
 use Rattle.std.proofs.Math.Bool.{or-false}
 use Rattle.spki_cert.specs.declared.principal_reader.Issuer.{Issuer}
-use Rattle.spki_cert.specs.declared.principal_reader.Who.{Who}
-use Rattle.spki_cert.specs.declared.fields.Known.{Known}
+use Rattle.spki_cert.specs.declared.principal_reader.WrittenSubject.{WrittenSubject}
+use Rattle.spki_cert.specs.declared.fields.FieldValues.{FieldValues}
 
 -- ---- lists of a head and three members
 
@@ -127,7 +127,7 @@ unfolding parts_fault
 parts-tested fields found both issuer subject e f g h = λ i. parts_found (e i) (f i) (g i) (h i)
 
 -- the same by what is known of the fields
-pub parts-known : (fields : List Value) (k : Known) (both : Bool) (issuer : Option Issuer) (subject : Option Who) → KnownOf fields k
+pub parts-known : (fields : List Value) (k : FieldValues) (both : Bool) (issuer : Option Issuer) (subject : Option WrittenSubject) → FieldValuesOf fields k
     → fields_fault cert_field_fault fields ≡ None → is_both_ways fields ≡ both → k.issuer ≡ issuer → k.subject ≡ subject
     → parts_fault fields ≡ parts_found None both (is_some issuer) (is_some subject)
 parts-known fields k both issuer subject known e f g h = search (rules, parts-tested, has-given)

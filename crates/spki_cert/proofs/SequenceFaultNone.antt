@@ -15,12 +15,12 @@ use Rattle.spki_cert.specs.declared.certificate.NameCert.{NameCert}
 use Rattle.spki_cert.specs.declared.certificate.Signature.{Signature}
 use Rattle.spki_cert.specs.declared.certificate_reader.CertParts.{CertParts}
 use Rattle.spki_cert.specs.Readings.{alg_name}
-use Rattle.spki_cert.specs.Fields.{unread, issuer_info, subject_info, WhoOf, IssuedTo, is_headed, Sole, Given, propagate, tag, IsCertField, common, version, issuer, subject, display, IssuerIn, WhoIn, propagates, behind_head}
+use Rattle.spki_cert.specs.Fields.{unread, issuer_info, subject_info, WrittenSubjectOf, IssuedTo, is_headed, Sole, Given, propagate, tag, IsCertField, common, version, issuer, subject, display, IssuerIn, WrittenSubjectIn, propagates, behind_head}
 use Rattle.spki_cert.specs.Structures.{IssuedBy, IssuedFor, AuthCertOf, NameCertOf, SignatureOf, DoHashOf, ItemOf, SeqOf, IsInPlace, AreInPlace, waits_behind, waits_after}
 use Rattle.spki_cert.specs.FieldFaults.{is_plain, key_fault}
 use Rattle.spki_cert.specs.StructureFaults.{signature_fault, do_fault, cert_fault, is_hash_word, is_tagged_right, at_item, item_fault, place_fault, waiting, items_looked, items_fault, sequence_fault}
 use Rattle.spki_cert.specs.Inner.Gathering.{PartsOf, parts_fault}
-use Rattle.spki_cert.proofs.Looking.{Reads, other-head, headed-by, is-group, unless-none, unless_not-none, behind-none, none-found, headed-else}
+use Rattle.spki_cert.proofs.HeadedLists.{Reads, other-head, headed-by, is-group, unless-none, unless_not-none, behind-none, none-found, headed-else}
 use Rattle.spki_cert.proofs.FieldLaws.{other-word, unread_words, unread-head, field-tag, cert-issuer, cert-subject}
 use Rattle.spki_cert.proofs.FieldFaultLaws.{has-given}
 use Rattle.spki_cert.proofs.SequenceFaultLaws.{triple-read, triple-form, signature-looks, do-form, parts-tested, cert-looked, tagged-right, right, auth_parts, auth-parts, name_parts, name-parts, do_looked, sequence-items}
@@ -99,11 +99,11 @@ cert-tag v h (subject rest s e read) = absurd (other-head (codes "tag") v _ e h 
 cert-tag v h (unread u) = absurd (other-word unread_words v (codes "tag") h refl (unread-head v u))
 
 -- the subject of a certificate, where the issuer's principal stands for one that is not written
-issued-to : (p : Principal) (v : Value) (o : Option Principal) (names : List (List ℕ)) → WhoOf v o names → (s : Subject) × IssuedTo p v s
+issued-to : (p : Principal) (v : Value) (o : Option Principal) (names : List (List ℕ)) → WrittenSubjectOf v o names → (s : Subject) × IssuedTo p v s
 issued-to p v None names read = (record { principal = p; names = names }, inr (refl, read))
 issued-to p v (Some q) names read = (record { principal = q; names = names }, inl read)
 
-issued-for : (p : Principal) (fields : List Value) (s : Option Principal × List (List ℕ)) → Given (codes "subject") WhoIn fields (Some s) → (t : Subject) × IssuedFor fields p t
+issued-for : (p : Principal) (fields : List Value) (s : Option Principal × List (List ℕ)) → Given (codes "subject") WrittenSubjectIn fields (Some s) → (t : Subject) × IssuedFor fields p t
 issued-for p fields s (rest, once, (v, e, read)) = let issued = issued-to p v s.0 s.1 read in (issued.0, (rest, once, (v, e, issued.1)))
 
 parts-read : (fields : List Value) → parts_fault fields ≡ None → Reads PartsOf fields
@@ -113,8 +113,8 @@ parts-read fields e =
     let window = window-read IsCertField cert-timed fields read (search (rules, none-found, unless_not-none)) in
     let by = given-read (codes "issuer") IssuerIn IsCertField cert-issuer fields read in
     let who = some-given (codes "issuer") IssuerIn fields by.0 by.1 (search (rules, none-found, unless-none)) in
-    let for_one = given-read (codes "subject") WhoIn IsCertField cert-subject fields read in
-    let given = some-given (codes "subject") WhoIn fields for_one.0 for_one.1 (search (rules, none-found, unless-none)) in
+    let for_one = given-read (codes "subject") WrittenSubjectIn IsCertField cert-subject fields read in
+    let given = some-given (codes "subject") WrittenSubjectIn fields for_one.0 for_one.1 (search (rules, none-found, unless-none)) in
     let named = issued-for who.0.0 fields given.0 given.1 in
     let tagged = given-read (codes "tag") (Sole ReadsAs) IsCertField cert-tag fields read in (
       record {

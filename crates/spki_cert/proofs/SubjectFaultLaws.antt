@@ -16,11 +16,11 @@ use Rattle.spki_cert.specs.declared.fault.CertFaultKind.{CertFaultKind}
 use Rattle.spki_cert.specs.declared.fault.CertFaultKind.TheVariants.{Shape, HashAlg as UnknownAlg, DigestLength, BadDate, Threshold, Keyholder}
 use Rattle.spki_cert.specs.Readings.{IsAlgorithm, alg_name, digest_len, AreUris, IsNoKey, IsNoHash}
 use Rattle.spki_cert.specs.FieldFaults.{fault_at, is_plain, any_octets, begins_plain, behind_key, key_fault, date_fault, alg_fault, hash_fault, alg_named, is_alg, digest_fits, are_uris, principal_fault, is_name, are_names, names_fault, subject_fault, issuer_name_fault, issuer_fault}
-use Rattle.spki_cert.proofs.Looking.{headed-by, is-group, of-form, first-of, same_others, apart, behind-group, one-look, headed-else}
-use Rattle.spki_cert.specs.Inner.Gathering.{digest_fault, NamesWho}
+use Rattle.spki_cert.proofs.HeadedLists.{headed-by, is-group, of-form, first-of, same_others, apart, behind-group, one-look, headed-else}
+use Rattle.spki_cert.specs.Inner.Gathering.{digest_fault, NamesWrittenSubject}
 use Rattle.spki_cert.specs.declared.principal.Principal.{Principal}
 use Rattle.spki_cert.specs.declared.principal.Principal.TheVariants.{Key, Hash}
-use Rattle.spki_cert.specs.Fields.{PrincipalOf, WhoOf, plains, is_headed, behind_head}
+use Rattle.spki_cert.specs.Fields.{PrincipalOf, WrittenSubjectOf, plains, is_headed, behind_head}
 use Rattle.std.specs.List.{list_all}
 
 -- ---- the fault that is named of a key, a hash or a date, along the way of its reading
@@ -139,19 +139,19 @@ string-is_no_principal octets p read = absurd (search rules)
 
 -- ---- subjects
 
-pub name-names_who : (v : Value) (rest : List Value) → v ≡ group (plain (codes "name") ∷ rest) → (p : Option Principal) (names : List (List ℕ)) → WhoOf v p names → NamesWho rest p names
+pub name-names_who : (v : Value) (rest : List Value) → v ≡ group (plain (codes "name") ∷ rest) → (p : Option Principal) (names : List (List ℕ)) → WrittenSubjectOf v p names → NamesWrittenSubject rest p names
 name-names_who v rest e None names read = (read.first, read.others, read.names_are, same_others v (codes "name") rest (plains names) e read.written)
 name-names_who v rest e (Some principal) names (inl read) = absurd (name-is_no_principal v rest e principal read.0)
 name-names_who v rest e (Some principal) names (inr read) = search (rules, same_others)
 
-pub name-who : (v : Value) (rest : List Value) → v ≡ group (plain (codes "name") ∷ rest) → (p : Option Principal) (names : List (List ℕ)) → NamesWho rest p names → WhoOf v p names
+pub name-who : (v : Value) (rest : List Value) → v ≡ group (plain (codes "name") ∷ rest) → (p : Option Principal) (names : List (List ℕ)) → NamesWrittenSubject rest p names → WrittenSubjectOf v p names
 name-who v rest e None names read = search rules
 name-who v rest e (Some principal) names read = search rules
 
 -- ---- what was read behind a principal
 
 pub principal-names : (vs : List Value) (owner : Value) (rest : List Value) (p : Principal) (all behind : List (List ℕ))
-    → vs ≡ owner ∷ rest → PrincipalOf owner p → (rest ≡ [] → ⊥) → all ≡ [] ++ behind → rest ≡ plains behind → NamesWho vs (Some p) all
+    → vs ≡ owner ∷ rest → PrincipalOf owner p → (rest ≡ [] → ⊥) → all ≡ [] ++ behind → rest ≡ plains behind → NamesWrittenSubject vs (Some p) all
 principal-names vs owner rest p all [] e read some f g = absurd (some g)
 principal-names vs owner rest p all (first ∷ others) e read some f g = search rules
 

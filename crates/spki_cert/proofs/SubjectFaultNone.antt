@@ -7,13 +7,13 @@ use Rattle.spki_tag.specs.Faults.{unless, first_fault}
 use Rattle.spki_cert.specs.declared.fault.CertFaultKind.TheVariants.{Shape, Threshold, Keyholder, RelativeInEntry}
 use Rattle.spki_cert.specs.declared.hash.HashAlg.{HashAlg}
 use Rattle.spki_cert.specs.Readings.{KeyOf, HashOf, DateOf, alg_name}
-use Rattle.spki_cert.specs.Fields.{is_headed, PrincipalOf, WhoOf, SubjectOf, IssuerOf, plains, behind_head}
+use Rattle.spki_cert.specs.Fields.{is_headed, PrincipalOf, WrittenSubjectOf, SubjectOf, IssuerOf, plains, behind_head}
 use Rattle.spki_cert.specs.FieldFaults.{any_octets, key_fault, alg_fault, hash_fault, date_fault, principal_fault, is_name, are_names, names_fault, subject_fault, is_relative, entry_subject_fault, issuer_name_fault, issuer_fault}
-use Rattle.spki_cert.proofs.Looking.{Reads, unless-none, none-found, behind-none, is-group, plain-passes, no-plain}
+use Rattle.spki_cert.proofs.HeadedLists.{Reads, unless-none, none-found, behind-none, is-group, plain-passes, no-plain}
 use Rattle.spki_cert.proofs.SubjectFaultLaws.{key_looked, key-form, begins-plain, algorithm, named-alg, named-read, digest-sized, hash_looked, hash-digest, uris-are, uris-read, alg-known, date-tested, string-is_no_principal, name-who, name-names_who, principal-else, plains-all, all-plains, subject-names, issuer-form}
 use Rattle.spki_cert.specs.declared.principal.Principal.{Principal}
 use Rattle.spki_cert.specs.declared.principal.Principal.TheVariants.{Key, Hash}
-use Rattle.spki_cert.specs.Inner.Gathering.{NamesWho}
+use Rattle.spki_cert.specs.Inner.Gathering.{NamesWrittenSubject}
 use Rattle.spki_cert.proofs.EntryFaultLaws.{subject-relative, subject-absolute}
 
 -- ---- a value has no fault as a key, a hash or a date exactly where it is one
@@ -97,7 +97,7 @@ principal-no_string v p read octets e = string-is_no_principal octets p (subst (
 -- ---- names
 
 abbrev SomeNames : List Value → Type 0
-SomeNames vs = (p : Option Principal) × (names : List (List ℕ)) × NamesWho vs p names
+SomeNames vs = (p : Option Principal) × (names : List (List ℕ)) × NamesWrittenSubject vs p names
 
 plains-read : (vs : List Value) → are_names vs ≡ true → (first : List ℕ) × (others : List (List ℕ)) × (vs ≡ plains (first ∷ others))
 plains-read (sexpr.string None octets ∷ vs) e = let more = all-plains vs e in (octets, more.0, ap (λ (ws : List Value). plain octets ∷ ws) more.1)
@@ -115,30 +115,30 @@ names-read (v ∷ vs) e = by (is_name v) e
         let who = principal-read v (search (rules, none-found)) in
         (Some who.0, names.0 ∷ names.1, (v, names.0, names.1, who.1, refl, ap (λ (ws : List Value). v ∷ ws) names.2))
 
-names-faultless : (vs : List Value) (p : Option Principal) (names : List (List ℕ)) → NamesWho vs p names → names_fault vs ≡ None
+names-faultless : (vs : List Value) (p : Option Principal) (names : List (List ℕ)) → NamesWrittenSubject vs p names → names_fault vs ≡ None
 unfolding names_fault
 names-faultless vs None names read = let all = plains-all read.1 in search rules
 names-faultless vs (Some p) names read = search (rules, plains-all, principal-faultless, no-plain, principal-no_string)
 
 -- ---- subjects
 
-abbrev SomeWho : Value → Type 0
-SomeWho v = (p : Option Principal) × (names : List (List ℕ)) × WhoOf v p names
+abbrev SomeWrittenSubject : Value → Type 0
+SomeWrittenSubject v = (p : Option Principal) × (names : List (List ℕ)) × WrittenSubjectOf v p names
 
-subject-read : (v : Value) → subject_fault v ≡ None → SomeWho v
+subject-read : (v : Value) → subject_fault v ≡ None → SomeWrittenSubject v
 unfolding subject_fault
 subject-read v e = by (is_headed (codes "k-of-n") v) (is_headed (codes "keyholder") v) (is_headed (codes "name") v) refl e
   where
     by : (threshold keyholder named : Bool) → is_headed (codes "name") v ≡ named
         → first_fault (unless (not threshold) Threshold ∷ unless (not keyholder) Keyholder ∷ (if named then names_fault (behind_head v) else principal_fault v) ∷ []) ≡ None
-        → SomeWho v
+        → SomeWrittenSubject v
     by false false true h f =
         let read = names-read (behind_head v) (none-found (names_fault (behind_head v)) [] f).0 in
         (read.0, read.1, name-who v (behind_head v) (is-group (codes "name") v h) read.0 read.1 read.2)
     by false false false h f = let read = principal-read v (none-found (principal_fault v) [] f).0 in (Some read.0, [], inl (read.1, refl))
     by threshold keyholder named h f = absurd (cc)
 
-subject-faultless : (v : Value) (p : Option Principal) (names : List (List ℕ)) → WhoOf v p names → subject_fault v ≡ None
+subject-faultless : (v : Value) (p : Option Principal) (names : List (List ℕ)) → WrittenSubjectOf v p names → subject_fault v ≡ None
 unfolding subject_fault
 subject-faultless v None names read =
     subject-names v (plains names) None read.written (names-faultless (plains names) None names (name-names_who v (plains names) read.written None names read))
@@ -147,7 +147,7 @@ subject-faultless v (Some p) names (inr read) =
     subject-names v (read.owner ∷ plains names) None read.written
     (names-faultless (read.owner ∷ plains names) (Some p) names (name-names_who v (read.owner ∷ plains names) read.written (Some p) names (inr read)))
 
-pub subject-none : (v : Value) → (subject_fault v ≡ None) ↔ SomeWho v
+pub subject-none : (v : Value) → (subject_fault v ≡ None) ↔ SomeWrittenSubject v
 subject-none v = (subject-read v, λ who. subject-faultless v who.0 who.1 who.2)
 
 -- ---- subjects of entries
@@ -158,7 +158,7 @@ entry_subject-read v e =
     let looks = none-found (subject_fault v) (unless (not (is_relative v)) RelativeInEntry ∷ []) e in
     let who = subject-read v looks.0 in by who.0 who.1 looks.0 who.2
   where
-    by : (p : Option Principal) (names : List (List ℕ)) → subject_fault v ≡ None → WhoOf v p names → Reads SubjectOf v
+    by : (p : Option Principal) (names : List (List ℕ)) → subject_fault v ≡ None → WrittenSubjectOf v p names → Reads SubjectOf v
     by None names f read = absurd (let g = sym (subject-relative v names f read) ∙ e in cc)
     by (Some p) names f read = (record { principal = p; names = names }, read)
 

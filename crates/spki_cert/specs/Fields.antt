@@ -44,17 +44,17 @@ pub record RelativeOf (v : Value) (names : List (List ℕ)) : Type 0 where
   pub written : v ≡ group (plain (codes "name") ∷ plains names)
 
 -- a principal, or a name
-abbrev pub IsWho : Value → Principal → List (List ℕ) → Type 0
-IsWho v principal names = (PrincipalOf v principal × (names ≡ [])) ⊎ NameOf v principal names
+abbrev pub IsNamedSubject : Value → Principal → List (List ℕ) → Type 0
+IsNamedSubject v principal names = (PrincipalOf v principal × (names ≡ [])) ⊎ NameOf v principal names
 
 -- the subject of an entry
 abbrev pub SubjectOf : Value → Subject → Type 0
-SubjectOf v s = IsWho v s.principal s.names
+SubjectOf v s = IsNamedSubject v s.principal s.names
 
 -- a principal or a name; without a principal it is a relative name
-abbrev pub WhoOf : Value → Option Principal → List (List ℕ) → Type 0
-WhoOf v None names = RelativeOf v names
-WhoOf v (Some principal) names = IsWho v principal names
+abbrev pub WrittenSubjectOf : Value → Option Principal → List (List ℕ) → Type 0
+WrittenSubjectOf v None names = RelativeOf v names
+WrittenSubjectOf v (Some principal) names = IsNamedSubject v principal names
 
 -- the subject of a certificate: a relative name is a name of the issuer
 abbrev pub IssuedTo : Principal → Value → Subject → Type 0
@@ -156,8 +156,8 @@ pub data IsField (v : Value) : Type 0 where
 abbrev pub IssuerIn : List Value → Principal × Option (List ℕ) → Type 0
 IssuerIn rest i = Sole (λ v (j : Principal × Option (List ℕ)). IssuerOf v j.0 j.1) rest i
 
-abbrev pub WhoIn : List Value → Option Principal × List (List ℕ) → Type 0
-WhoIn rest s = Sole (λ v (t : Option Principal × List (List ℕ)). WhoOf v t.0 t.1) rest s
+abbrev pub WrittenSubjectIn : List Value → Option Principal × List (List ℕ) → Type 0
+WrittenSubjectIn rest s = Sole (λ v (t : Option Principal × List (List ℕ)). WrittenSubjectOf v t.0 t.1) rest s
 
 abbrev pub version_field : Value
 version_field = group (plain (codes "version") ∷ plain (codes "0") ∷ [])
@@ -176,7 +176,7 @@ pub data IsCertField (v : Value) : Type 0 where
       (rest : List Value) (i : Principal × Option (List ℕ)) → v ≡ group (plain (codes "issuer") ∷ rest) → IssuerIn rest i
       → IsCertField v
   subject :
-      (rest : List Value) (s : Option Principal × List (List ℕ)) → v ≡ group (plain (codes "subject") ∷ rest) → WhoIn rest s
+      (rest : List Value) (s : Option Principal × List (List ℕ)) → v ≡ group (plain (codes "subject") ∷ rest) → WrittenSubjectIn rest s
       → IsCertField v
   unread : IsUnread v → IsCertField v
 

@@ -1,6 +1,6 @@
 //! Reads entries and access lists.
 
-ghost use Rattle.std.specs.Prelude.{◌≡◌, ◌≢◌, ◌∷◌, [], Some, None, IsSome, IfSome, IfOk, IfErr, codes, List};
+ghost use Rattle.std.specs.Prelude.{◌≡◌, ◌≢◌, ◌∷◌, [], Some, None, IsSome, IfSome, IfOk, IfErr, codes, map, List};
 ghost use Rattle.std.specs.List.{AllZip};
 ghost use Rattle.sexpr_core.specs.Value.{Value, node, plain, group};
 ghost use Rattle.spki_cert.specs.declared.entry.Entry as spec;
@@ -12,10 +12,11 @@ ghost use Rattle.spki_cert.specs.Structures.{EntryOf, AclOf, BeginsWell};
 
 use crate::entry::{Entry, Subject};
 use crate::fault::{CertFault, CertFaultKind};
-use crate::fields::{Fields, Known, Place, fields_of};
+use crate::fields::{FieldValues, Fields, Place, fields_of};
 use crate::items::push_read;
 use crate::names::Names;
-use crate::principal_reader::{Who, written_subject_of};
+use crate::principal::Principal;
+use crate::principal_reader::{WrittenSubject, written_subject_of};
 use crate::validity::one_way;
 use crate::version::check_version;
 use sexpr_core::syntax::{Members, Node};
@@ -29,7 +30,7 @@ fn entry_subject<'a>(alloc: Global, node: &Node<'_, 'a>) -> Result<Subject<'a>, 
     ensures found { IfOk result (λ subject. SubjectOf node.now subject) }
     ensures named { IfErr result (λ kind. kind ≢ CertFaultKind.Memory → entry_subject_fault node.now ≡ Some kind) }
 {
-    let Who { principal, names } = written_subject_of(alloc, node)?;
+    let WrittenSubject { principal, names } = written_subject_of(alloc, node)?;
     match principal {
         Some(principal) => Ok(Subject {
             principal,
@@ -59,7 +60,7 @@ pub fn entry_of<'a>(alloc: Global, node: &Node<'_, 'a>) -> Result<Entry<'a>, Cer
     };
     let subject = entry_subject(alloc, &subject)?;
     let Fields { propagate, known } = fields_of(alloc, Place::Entry, rest)?;
-    let Known {
+    let FieldValues {
         issuer,
         subject: who,
         tag,
@@ -135,6 +136,53 @@ pub fn acl_of<'a>(alloc: Global, node: &Node<'_, 'a>) -> Result<Vec<Entry<'a>>, 
 {
     match behind_version(node) {
         Ok(members) => entries_of(alloc, members),
+        Err(kind) => Err(CertFault { item: 0, kind }),
+    }
+}
+
+/// Reads the entries of an access list as `entries_of`, and returns the principals of their subjects, in order. Only one entry is kept at
+/// a time.
+#[tactic(auto, using(crate::proofs::Heads::heads), unfolding(crate::specs::StructureFaults::entries_fault))]
+fn principals_in<'a>(
+    alloc: Global,
+    members: Members<'_, 'a>,
+) -> Result<Vec<Principal<'a>>, CertFault>
+    ensures entries { IfOk result (λ principals. (es : List spec.Entry)
+        × AllZip EntryOf members.entry es × (principals.items ≡ map (λ e. e.subject.principal) es)) }
+    ensures faultless { IfOk result (λ _. entries_fault members.entry ≡ None) }
+    ensures named { IfErr result (λ fault. fault.kind ≢ CertFaultKind.Memory → entries_fault members.entry ≡ Some fault) }
+{
+    let mut rest = members;
+    let mut principals = Vec::new(alloc);
+    while let Some((member, others)) = rest.split_first() {
+        match entry_of(alloc, &member) {
+            Ok(entry) => push_read(&mut principals, Ok(entry.subject.principal.share()))?,
+            Err(kind) => {
+                return Err(CertFault {
+                    item: principals.len() + 1,
+                    kind,
+                });
+            }
+        }
+        rest = others;
+    }
+    Ok(principals)
+}
+
+/// The principals of the subjects of an access list's entries, in order. The list is read like `acl_of`, with the same errors, and in
+/// less memory: no entry is kept.
+#[tactic(auto, using(crate::proofs::Heads::heads), unfolding(crate::specs::StructureFaults::acl_fault))]
+pub fn acl_principals<'a>(
+    alloc: Global,
+    node: &Node<'_, 'a>,
+) -> Result<Vec<Principal<'a>>, CertFault>
+    ensures acl { IfOk result (λ principals. (es : List spec.Entry)
+        × AclOf node.now es × (principals.items ≡ map (λ e. e.subject.principal) es)) }
+    ensures named { IfErr result (λ fault. fault.kind ≢ CertFaultKind.Memory → acl_fault node.now ≡ Some fault) }
+    ensures faultless { IfOk result (λ _. acl_fault node.now ≡ None) }
+{
+    match behind_version(node) {
+        Ok(members) => principals_in(alloc, members),
         Err(kind) => Err(CertFault { item: 0, kind }),
     }
 }

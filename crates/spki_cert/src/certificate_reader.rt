@@ -8,11 +8,11 @@ ghost use Rattle.spki_cert.specs.Inner.Gathering.{parts_fault, PartsOf, CertOf, 
 use crate::certificate::{AuthCert, NameCert, SeqItem};
 use crate::entry::Subject;
 use crate::fault::CertFaultKind;
-use crate::fields::{Fields, Known, Place, fields_of};
+use crate::fields::{FieldValues, Fields, Place, fields_of};
 use crate::names::Names;
 use crate::octets::Octets;
 use crate::principal::Principal;
-use crate::principal_reader::{Issuer, Who};
+use crate::principal_reader::{Issuer, WrittenSubject};
 use crate::validity::one_way;
 use crate::window::Window;
 use sexpr_core::syntax::{Members, Node};
@@ -31,10 +31,10 @@ pub(crate) struct CertParts<'a> {
 
 /// The subject of a certificate. If it was written as a name without a principal, the principal is the certificate's
 /// issuer.
-fn issued_to<'a>(who: Who<'a>, issuer: &Principal<'a>) -> Subject<'a>
+fn issued_to<'a>(who: WrittenSubject<'a>, issuer: &Principal<'a>) -> Subject<'a>
     ensures { IsSubjectOf issuer.now who.entry.principal who.entry.names.items result }
 {
-    let Who { principal, names } = who;
+    let WrittenSubject { principal, names } = who;
     let names = Names::of(names);
     match principal {
         Some(principal) => Subject { principal, names },
@@ -52,7 +52,7 @@ fn parts_of<'a>(alloc: Global, members: Members<'_, 'a>) -> Result<CertParts<'a>
     ensures named { IfErr result (λ kind. kind ≢ CertFaultKind.Memory → parts_fault members.entry ≡ Some kind) }
 {
     let Fields { propagate, known } = fields_of(alloc, Place::Certificate, members)?;
-    let Known {
+    let FieldValues {
         issuer,
         subject,
         tag,

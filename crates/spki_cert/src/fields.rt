@@ -5,14 +5,14 @@ ghost use Rattle.sexpr_core.specs.Value.{Value, plain, group};
 ghost use Rattle.spki_tag.specs.Reading.{ReadsAs};
 ghost use Rattle.spki_tag.specs.Tag as tags;
 ghost use Rattle.spki_cert.specs.declared.principal.Principal.{Principal};
-ghost use Rattle.spki_cert.specs.Fields.{Sole, IssuerIn, WhoIn, IsUnread, AreFields, propagates};
+ghost use Rattle.spki_cert.specs.Fields.{Sole, IssuerIn, WrittenSubjectIn, IsUnread, AreFields, propagates};
 ghost use Rattle.spki_cert.specs.FieldFaults.{sole_fault, subject_fault, issuer_fault, kind_of_tag, fields_fault, time_fault, entry_field_fault, cert_field_fault};
-ghost use Rattle.spki_cert.specs.Inner.Gathering.{fault_in, IsTagKind, IssuerAt, WhoAt, Says, gather, KnownOf, IsFieldOf, is_word_among, IsNew};
+ghost use Rattle.spki_cert.specs.Inner.Gathering.{fault_in, IsTagKind, IssuerAt, WrittenSubjectAt, FieldValueOf, gather, FieldValuesOf, IsFieldOf, is_word_among, IsNew};
 
 use crate::date::Date;
 use crate::fault::CertFaultKind;
 use crate::octets::Octets;
-use crate::principal_reader::{Issuer, Who, issuer_of, written_subject_of};
+use crate::principal_reader::{Issuer, WrittenSubject, issuer_of, written_subject_of};
 use crate::validity::{date_in, valid_in};
 use crate::version::check_version;
 use crate::window::Window;
@@ -29,11 +29,11 @@ pub(crate) enum Place {
 
 /// The content of one field.
 #[derive(Drop)]
-pub(crate) enum Said<'a> {
+pub(crate) enum FieldValue<'a> {
     /// No content that is kept: `propagate`, a version, or a field that is ignored.
     Nothing,
     Issuer(Issuer<'a>),
-    Subject(Who<'a>),
+    Subject(WrittenSubject<'a>),
     Tag(Tag),
     NotBefore(Date),
     NotAfter(Date),
@@ -42,9 +42,9 @@ pub(crate) enum Said<'a> {
 
 /// The contents of some fields.
 #[derive(Drop)]
-pub(crate) struct Known<'a> {
+pub(crate) struct FieldValues<'a> {
     pub issuer: Option<Issuer<'a>>,
-    pub subject: Option<Who<'a>>,
+    pub subject: Option<WrittenSubject<'a>>,
     pub tag: Option<Tag>,
     /// The limits that are given directly.
     pub limits: Window,
@@ -56,7 +56,7 @@ pub(crate) struct Known<'a> {
 #[derive(Drop)]
 pub(crate) struct Fields<'a> {
     pub propagate: bool,
-    pub known: Known<'a>,
+    pub known: FieldValues<'a>,
 }
 
 /// The fault of the field `tag`: `Tag` with this fault, or `Memory` if memory ran out.
@@ -110,8 +110,11 @@ fn issuer_in<'a>(members: Members<'_, 'a>) -> Result<Issuer<'a>, CertFaultKind>
 
 /// Reads the subject from the members of `(subject S)` after the head. Err is a fault of the subject, or `Shape` if
 /// there is not exactly one member.
-fn subject_in<'a>(alloc: Global, members: Members<'_, 'a>) -> Result<Who<'a>, CertFaultKind>
-    ensures found { IfOk result (λ who. WhoAt members.entry who) }
+fn subject_in<'a>(
+    alloc: Global,
+    members: Members<'_, 'a>,
+) -> Result<WrittenSubject<'a>, CertFaultKind>
+    ensures found { IfOk result (λ who. WrittenSubjectAt members.entry who) }
     ensures named { IfErr result (λ kind. kind ≢ CertFaultKind.Memory → sole_fault CertFaultKind.Shape subject_fault members.entry ≡ Some kind) }
 {
     let Some((value, more)) = members.split_first() else {
@@ -128,23 +131,23 @@ fn subject_in<'a>(alloc: Global, members: Members<'_, 'a>) -> Result<Who<'a>, Ce
 /// Reads a field that both an entry and a certificate may have: `tag`, `propagate`, `comment` or a field of validity.
 /// Err is its fault, `Shape` for any other field.
 #[tactic(auto, using(crate::proofs::Heads::heads), unfolding(crate::specs::FieldFaults::entry_field_fault))]
-fn read_common_field<'a>(alloc: Global, field: &Node) -> Result<Said<'a>, CertFaultKind>
-    ensures says { IfOk result (λ said. Says field.now said) }
+fn read_common_field<'a>(alloc: Global, field: &Node) -> Result<FieldValue<'a>, CertFaultKind>
+    ensures says { IfOk result (λ said. FieldValueOf field.now said) }
     ensures faultless { IfOk result (λ _. entry_field_fault field.now ≡ None) }
     ensures named { IfErr result (λ kind. kind ≢ CertFaultKind.Memory → entry_field_fault field.now ≡ Some kind) }
 {
     if let Some(members) = field.headed(b"tag") {
-        return Ok(Said::Tag(tag_in(alloc, members)?));
+        return Ok(FieldValue::Tag(tag_in(alloc, members)?));
     }
     if let Some(members) = field.headed(b"propagate") {
         return if members.is_empty() {
-            Ok(Said::Nothing)
+            Ok(FieldValue::Nothing)
         } else {
             Err(CertFaultKind::Shape)
         };
     }
     if let Some(_) = field.headed(b"comment") {
-        return Ok(Said::Nothing);
+        return Ok(FieldValue::Nothing);
     }
     read_validity_field(field)
 }
@@ -152,20 +155,20 @@ fn read_common_field<'a>(alloc: Global, field: &Node) -> Result<Said<'a>, CertFa
 /// Reads a field of validity: `(not-before DATE)`, `(not-after DATE)` or `(valid ..)`. Err is its fault: `Online` for
 /// `(online ..)`, and `Shape` for any other field.
 #[tactic(auto, using(crate::proofs::Heads::heads), unfolding(crate::specs::FieldFaults::time_fault, crate::specs::FieldFaults::limit_fault))]
-fn read_validity_field<'a>(field: &Node) -> Result<Said<'a>, CertFaultKind>
-    ensures says { IfOk result (λ said. Says field.now said) }
+fn read_validity_field<'a>(field: &Node) -> Result<FieldValue<'a>, CertFaultKind>
+    ensures says { IfOk result (λ said. FieldValueOf field.now said) }
     ensures faultless { IfOk result (λ _. time_fault field.now ≡ None) }
     ensures named { IfErr result (λ kind. time_fault field.now ≡ Some kind) }
     ensures fault { IfErr result (λ kind. kind ≢ CertFaultKind.Memory) }
 {
     if let Some(members) = field.headed(b"not-before") {
-        return Ok(Said::NotBefore(date_in(members)?));
+        return Ok(FieldValue::NotBefore(date_in(members)?));
     }
     if let Some(members) = field.headed(b"not-after") {
-        return Ok(Said::NotAfter(date_in(members)?));
+        return Ok(FieldValue::NotAfter(date_in(members)?));
     }
     if let Some(members) = field.headed(b"valid") {
-        return Ok(Said::Valid(valid_in(members)?));
+        return Ok(FieldValue::Valid(valid_in(members)?));
     }
     match field.headed(b"online") {
         Some(_) => Err(CertFaultKind::Online),
@@ -178,23 +181,23 @@ fn read_validity_field<'a>(field: &Node) -> Result<Said<'a>, CertFaultKind>
 fn read_certificate_field<'a>(
     alloc: Global,
     field: &Node<'_, 'a>,
-) -> Result<Said<'a>, CertFaultKind>
-    ensures says { IfOk result (λ said. Says field.now said) }
+) -> Result<FieldValue<'a>, CertFaultKind>
+    ensures says { IfOk result (λ said. FieldValueOf field.now said) }
     ensures faultless { IfOk result (λ _. cert_field_fault field.now ≡ None) }
     ensures named { IfErr result (λ kind. kind ≢ CertFaultKind.Memory → cert_field_fault field.now ≡ Some kind) }
 {
     if let Some(members) = field.headed(b"issuer") {
-        return Ok(Said::Issuer(issuer_in(members)?));
+        return Ok(FieldValue::Issuer(issuer_in(members)?));
     }
     if let Some(members) = field.headed(b"subject") {
-        return Ok(Said::Subject(subject_in(alloc, members)?));
+        return Ok(FieldValue::Subject(subject_in(alloc, members)?));
     }
     if let Some(members) = field.headed(b"version") {
         check_version(members)?;
-        return Ok(Said::Nothing);
+        return Ok(FieldValue::Nothing);
     }
     if is_unread(field) {
-        return Ok(Said::Nothing);
+        return Ok(FieldValue::Nothing);
     }
     read_common_field(alloc, field)
 }
@@ -216,8 +219,12 @@ fn is_unread(field: &Node) -> bool
 }
 
 /// Reads a field of an entry or of a certificate, as `place` says. Err is its fault.
-fn said_by<'a>(alloc: Global, place: Place, field: &Node<'_, 'a>) -> Result<Said<'a>, CertFaultKind>
-    ensures says { IfOk result (λ said. Says field.now said) }
+fn field_value<'a>(
+    alloc: Global,
+    place: Place,
+    field: &Node<'_, 'a>,
+) -> Result<FieldValue<'a>, CertFaultKind>
+    ensures says { IfOk result (λ said. FieldValueOf field.now said) }
     ensures faultless { IfOk result (λ _. fault_in place field.now ≡ None) }
     ensures named { IfErr result (λ kind. kind ≢ CertFaultKind.Memory → fault_in place field.now ≡ Some kind) }
 {
@@ -227,12 +234,12 @@ fn said_by<'a>(alloc: Global, place: Place, field: &Node<'_, 'a>) -> Result<Said
     }
 }
 
-impl<'a> Known<'a> {
+impl<'a> FieldValues<'a> {
     /// What is known of no fields.
-    fn none() -> Known<'a>
-        ensures { KnownOf [] result }
+    fn none() -> FieldValues<'a>
+        ensures { FieldValuesOf [] result }
     {
-        Known {
+        FieldValues {
             issuer: None,
             subject: None,
             tag: None,
@@ -245,17 +252,17 @@ impl<'a> Known<'a> {
     }
 
     /// Notes the content of one more field, in the place of an earlier content of this kind.
-    fn add(&mut self, said: Said<'a>)
+    fn add(&mut self, said: FieldValue<'a>)
         ensures { self.new ≡ gather self.old said.entry }
     {
         match said {
-            Said::Nothing => {}
-            Said::Issuer(issuer) => self.issuer = Some(issuer),
-            Said::Subject(who) => self.subject = Some(who),
-            Said::Tag(tag) => self.tag = Some(tag),
-            Said::NotBefore(date) => self.limits.not_before = Some(date),
-            Said::NotAfter(date) => self.limits.not_after = Some(date),
-            Said::Valid(window) => self.valid = Some(window),
+            FieldValue::Nothing => {}
+            FieldValue::Issuer(issuer) => self.issuer = Some(issuer),
+            FieldValue::Subject(who) => self.subject = Some(who),
+            FieldValue::Tag(tag) => self.tag = Some(tag),
+            FieldValue::NotBefore(date) => self.limits.not_before = Some(date),
+            FieldValue::NotAfter(date) => self.limits.not_after = Some(date),
+            FieldValue::Valid(window) => self.valid = Some(window),
         }
     }
 }
@@ -290,10 +297,10 @@ fn read_fields<'a>(
     alloc: Global,
     place: Place,
     members: Members<'_, 'a>,
-    known: &mut Known<'a>,
+    known: &mut FieldValues<'a>,
 ) -> Result<bool, CertFaultKind>
-    requires { KnownOf [] known.old }
-    ensures found { IfOk result (λ propagate. (propagate ≡ propagates members.entry) × KnownOf members.entry known.new) }
+    requires { FieldValuesOf [] known.old }
+    ensures found { IfOk result (λ propagate. (propagate ≡ propagates members.entry) × FieldValuesOf members.entry known.new) }
     ensures faultless { IfOk result (λ _. fields_fault (fault_in place) members.entry ≡ None) }
     ensures named { IfErr result (λ kind. kind ≢ CertFaultKind.Memory → fields_fault (fault_in place) members.entry ≡ Some kind) }
 {
@@ -303,7 +310,7 @@ fn read_fields<'a>(
         let Some(head) = new_head(&field, &heads) else {
             return Err(CertFaultKind::Shape);
         };
-        let said = said_by(alloc, place, &field)?;
+        let said = field_value(alloc, place, &field)?;
         known.add(said);
         heads.push(Octets::new(head))?;
         rest = others;
@@ -318,12 +325,12 @@ pub(crate) fn fields_of<'a>(
     place: Place,
     members: Members<'_, 'a>,
 ) -> Result<Fields<'a>, CertFaultKind>
-    ensures found { IfOk result (λ fields. (fields.propagate ≡ propagates members.entry) × KnownOf members.entry fields.known) }
+    ensures found { IfOk result (λ fields. (fields.propagate ≡ propagates members.entry) × FieldValuesOf members.entry fields.known) }
     ensures are_fields { IfOk result (λ _. AreFields (IsFieldOf place) members.entry) }
     ensures faultless { IfOk result (λ _. fields_fault (fault_in place) members.entry ≡ None) }
     ensures named { IfErr result (λ kind. kind ≢ CertFaultKind.Memory → fields_fault (fault_in place) members.entry ≡ Some kind) }
 {
-    let mut known = Known::none();
+    let mut known = FieldValues::none();
     match read_fields(alloc, place, members, &mut known) {
         Ok(propagate) => Ok(Fields { propagate, known }),
         Err(kind) => {

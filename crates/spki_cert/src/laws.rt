@@ -16,7 +16,7 @@ ghost use Rattle.spki_cert.specs.declared.certificate.NameCert.{NameCert};
 ghost use Rattle.spki_cert.specs.declared.certificate.SeqItem.{SeqItem};
 ghost use Rattle.spki_cert.specs.declared.certificate.Signature.{Signature};
 ghost use Rattle.spki_cert.specs.Readings.{KeyOf, HashOf, DateOf};
-ghost use Rattle.spki_cert.specs.Fields.{PrincipalOf, WhoOf, SubjectOf, IssuerOf, AreFields, IsLimitField, IsField, IsCertField};
+ghost use Rattle.spki_cert.specs.Fields.{PrincipalOf, WrittenSubjectOf, SubjectOf, IssuerOf, AreFields, IsLimitField, IsField, IsCertField};
 ghost use Rattle.spki_cert.specs.FieldFaults.{key_fault, hash_fault, date_fault, principal_fault, subject_fault, entry_subject_fault, issuer_fault, fields_fault, limit_fault, entry_field_fault, cert_field_fault};
 ghost use Rattle.spki_cert.specs.StructureFaults.{entry_fault, entries_fault, acl_fault, IsRefusedAt, signature_fault, do_fault, cert_fault, item_fault, sequence_fault};
 ghost use Rattle.spki_cert.specs.Cost.{entry_weight, items_weight};
@@ -63,7 +63,7 @@ pub fn no_fault()
 /// A value has no fault as a principal, a subject or an issuer exactly if it is one.
 pub fn no_subject_fault()
     ensures principal { (v : Value) → (principal_fault v ≡ None) ↔ ((p : Principal) × PrincipalOf v p) }
-    ensures subject { (v : Value) → (subject_fault v ≡ None) ↔ ((p : Option Principal) × (names : List (List ℕ)) × WhoOf v p names) }
+    ensures subject { (v : Value) → (subject_fault v ≡ None) ↔ ((p : Option Principal) × (names : List (List ℕ)) × WrittenSubjectOf v p names) }
     ensures of_entry { (v : Value) → (entry_subject_fault v ≡ None) ↔ ((s : Subject) × SubjectOf v s) }
     ensures issuer { (v : Value) → (issuer_fault v ≡ None) ↔ ((p : Principal) × (name : Option (List ℕ)) × IssuerOf v p name) }
 {}

@@ -25,7 +25,7 @@ mod value_readers;
 mod version;
 mod window;
 
-pub use acl::{acl_of, entry_of, read_acl};
+pub use acl::{acl_of, acl_principals, entry_of, read_acl};
 pub use algorithms::Algorithms;
 pub use certificate::{AuthCert, NameCert, SeqItem, Signature};
 pub use date::Date;

@@ -3,11 +3,11 @@
 ghost use Rattle.std.specs.Prelude.{◌≡◌, ◌≢◌, false, ◌∷◌, ◌++◌, [], ℕ, List, Option, Some, None, codes, IfOk, IfErr};
 ghost use Rattle.sexpr_core.specs.Value.{Value, plain, group};
 ghost use Rattle.spki_cert.specs.declared.principal.Principal.{Principal};
-ghost use Rattle.spki_cert.specs.Fields.{PrincipalOf, IsWho, WhoOf, IssuerOf, plains};
+ghost use Rattle.spki_cert.specs.Fields.{PrincipalOf, IsNamedSubject, WrittenSubjectOf, IssuerOf, plains};
 ghost use Rattle.std.specs.List.{list_all};
 ghost use Rattle.spki_tag.specs.Faults.{unless};
 ghost use Rattle.spki_cert.specs.FieldFaults.{principal_fault, is_name, names_fault, subject_fault, issuer_fault};
-ghost use Rattle.spki_cert.specs.Inner.Gathering.{NamesWho};
+ghost use Rattle.spki_cert.specs.Inner.Gathering.{NamesWrittenSubject};
 
 use crate::fault::CertFaultKind;
 use crate::octets::Octets;
@@ -18,7 +18,7 @@ use std::alloc::Global;
 
 /// A subject as it is written. Without a principal the name is relative to one that is not written.
 #[derive(Drop)]
-pub(crate) struct Who<'a> {
+pub(crate) struct WrittenSubject<'a> {
     pub principal: Option<Principal<'a>>,
     pub names: Vec<Octets<'a>>,
 }
@@ -81,8 +81,11 @@ fn names_behind<'a>(
 /// Reads the members after the head `name`: a principal and its names, or names alone, which are relative. Err says why
 /// they are none: `Shape` if there is no name.
 #[tactic(auto, using(crate::proofs::Heads::heads), unfolding(crate::specs::FieldFaults::names_fault))]
-fn read_name_members<'a>(alloc: Global, members: Members<'_, 'a>) -> Result<Who<'a>, CertFaultKind>
-    ensures found { IfOk result (λ who. NamesWho members.entry who.principal who.names.items) }
+fn read_name_members<'a>(
+    alloc: Global,
+    members: Members<'_, 'a>,
+) -> Result<WrittenSubject<'a>, CertFaultKind>
+    ensures found { IfOk result (λ who. NamesWrittenSubject members.entry who.principal who.names.items) }
     ensures named { IfErr result (λ kind. kind ≢ CertFaultKind.Memory → names_fault members.entry ≡ Some kind) }
 {
     let Some((first, others)) = members.split_first() else {
@@ -92,7 +95,7 @@ fn read_name_members<'a>(alloc: Global, members: Members<'_, 'a>) -> Result<Who<
         let mut names = Vec::new(alloc);
         names.push(Octets::new(octets))?;
         let names = names_behind(names, others)?;
-        return Ok(Who {
+        return Ok(WrittenSubject {
             principal: None,
             names,
         });
@@ -102,7 +105,7 @@ fn read_name_members<'a>(alloc: Global, members: Members<'_, 'a>) -> Result<Who<
         return Err(CertFaultKind::Shape);
     }
     let names = names_behind(Vec::new(alloc), others)?;
-    Ok(Who {
+    Ok(WrittenSubject {
         principal: Some(principal),
         names,
     })
@@ -114,8 +117,8 @@ fn read_name_members<'a>(alloc: Global, members: Members<'_, 'a>) -> Result<Who<
 pub(crate) fn written_subject_of<'a>(
     alloc: Global,
     node: &Node<'_, 'a>,
-) -> Result<Who<'a>, CertFaultKind>
-    ensures found { IfOk result (λ who. WhoOf node.now who.principal who.names.items) }
+) -> Result<WrittenSubject<'a>, CertFaultKind>
+    ensures found { IfOk result (λ who. WrittenSubjectOf node.now who.principal who.names.items) }
     ensures named { IfErr result (λ kind. kind ≢ CertFaultKind.Memory → subject_fault node.now ≡ Some kind) }
 {
     if let Some(_) = node.headed(b"k-of-n") {
@@ -126,7 +129,7 @@ pub(crate) fn written_subject_of<'a>(
     }
     let Some(members) = node.headed(b"name") else {
         let principal = principal_of(node)?;
-        return Ok(Who {
+        return Ok(WrittenSubject {
             principal: Some(principal),
             names: Vec::new(alloc),
         });

@@ -20,11 +20,11 @@ use Rattle.spki_case.specs.Case.{Case, Verified, Certificate, auth, name, Shown,
 use Rattle.spki_cert.specs.declared.entry.Entry.{Entry}
 use Rattle.spki_reduce.specs.Reduction.{Tuple, five, four, key, FiveTuple, entry_tuple, tags_of, windows_of, Joins}
 use Rattle.spki_decision.specs.Requirements.{Leads}
-use Rattle.spki_decision.specs.Standing.{AreShown, tuple_of, issuer_key, Stands, StandsAs, Signed, asked_in}
+use Rattle.spki_decision.specs.CertificateTests.{AreShown, tuple_of, issuer_key, PassesTests, PassesTestsAs, Signed, asked_in}
 use Rattle.spki_decision.specs.Granted.{Granted, Supported}
 use Rattle.spki_decision.specs.Audited.{item_of, IsSignedByIssuer, IsHeldThroughout, IsHeldByAll, HaveIssuers, for_key}
-use Rattle.spki_decision.proofs.Asked.{stands_asked}
-use Rattle.spki_decision.proofs.Memberships.{leads_alone, leads_first, passes, supports}
+use Rattle.spki_decision.proofs.ListedSignatures.{stands_asked}
+use Rattle.spki_decision.proofs.ChainRequirements.{leads_alone, leads_first, passes, supports}
 
 -- ---- lists
 
@@ -74,7 +74,7 @@ stood_more n item sequence place x p stands =
     let moved : suc n + place ≡ n + suc place = omega arith in
     behind_first n item sequence p ∙ stands ∙ ap (λ (m : ℕ). Some (shown_at m x (drop (suc place) sequence))) moved
 
--- an item that is a certificate stands among the certificates
+-- an item that is a certificate is among the certificates
 pub stood : (n : ℕ) (sequence : List SeqItem) (place : ℕ) (x : Certificate) → slice_get sequence place ≡ Some (item_of x)
     → (p : ℕ) × StandsAt n sequence place x p
 stood n [] place x stands = absurd (none-some (item_of x) stands)
@@ -131,18 +131,18 @@ issuer_named : (policy : Policy) (keys : List (List ℕ)) (issuer : Principal) (
 issuer_named policy keys (principal.Key octets) holder e = search (rules, same_Some, bytes_eq-Decides)
 issuer_named policy keys (principal.Hash alg digest) holder e = found_passes (λ octets. names policy (principal.Hash alg digest) octets) keys holder e
 
--- the signature of a certificate that stands is among those that are asked about
+-- the signature of a certificate that passes its tests is among those that are asked about
 module _ (policy : Policy) (keys : List (List ℕ)) (verified : Verified) where
-  abbrev signed_by : (s : Shown) (holder : List ℕ) → Stands policy keys verified s holder → Signed
+  abbrev signed_by : (s : Shown) (holder : List ℕ) → PassesTests policy keys verified s holder → Signed
   signed_by s holder a = record { item = s.item; key = holder; message = octets_of s.certificate; value = a.signature.value }
 
-  listed : (shown : List Shown) (ts : List Tuple) (p : ℕ) (s : Shown) → AllZip (StandsAs policy keys verified) shown ts
+  listed : (shown : List Shown) (ts : List Tuple) (p : ℕ) (s : Shown) → AllZip (PassesTestsAs policy keys verified) shown ts
       → slice_get shown p ≡ Some s
-      → (holder : List ℕ) × (a : Stands policy keys verified s holder) × (slice_get (asked_in policy keys shown) p ≡ Some (signed_by s holder a))
+      → (holder : List ℕ) × (a : PassesTests policy keys verified s holder) × (slice_get (asked_in policy keys shown) p ≡ Some (signed_by s holder a))
   listed [] ts p s zip stands = absurd (none-some s stands)
   listed (x ∷ shown) [] p s zip stands = absurd zip
   listed (x ∷ shown) (t ∷ ts) zero s zip stands =
-      let a = subst (λ (y : Shown). Stands policy keys verified y zip.0.holder) (same_Some x s stands) zip.0.stands in
+      let a = subst (λ (y : Shown). PassesTests policy keys verified y zip.0.holder) (same_Some x s stands) zip.0.stands in
       (zip.0.holder, a, rw (same_Some x s stands, stands_asked policy keys verified s zip.0.holder a) refl)
   listed (x ∷ shown) (t ∷ ts) (suc p) s zip stands =
       let later = listed shown ts p s zip.1 stands in
@@ -272,7 +272,7 @@ module _ (c : Case) (verified : Verified) (tuples : List Tuple) (shown : AreShow
   tuple_at : (p number : ℕ) (x : Certificate) (behind : List SeqItem) → slice_get (certificates c.items) p ≡ Some (shown_at number x behind)
       → (holder : List ℕ) × (slice_get tuples p ≡ Some (tuple_of holder x))
   tuple_at p number x behind stands =
-      let at = zipped_at (StandsAs c.policy (keys_of c.items) verified) (certificates c.items) tuples p (shown_at number x behind) shown stands in
+      let at = zipped_at (PassesTestsAs c.policy (keys_of c.items) verified) (certificates c.items) tuples p (shown_at number x behind) shown stands in
       (at.2.holder, at.1 ∙ ap Some at.2.tuple_is)
 
   -- that of an item

@@ -10,9 +10,9 @@ use Rattle.spki_reduce.specs.Reduction.{Tuple, five, four, step_tuple}
 use Rattle.spki_reduce.specs.Chain.{tuples_of}
 use Rattle.spki_reduce.specs.declared.tuple.Step.{Step}
 use Rattle.spki_case.specs.Case.{Case, Verified, Shown, certificates_from, certificates, keys_of}
-use Rattle.spki_decision.specs.Standing.{StandsAs, AreShown, Signed, asked_of, asked_in, asked, before_all, every}
+use Rattle.spki_decision.specs.CertificateTests.{PassesTestsAs, AreShown, Signed, asked_of, asked_in, asked, before_all, every}
 use Rattle.spki_decision.specs.Cost.{content_weight, path_weight, contents_weight, paths_weight, tuples_weight}
-use Rattle.spki_decision.proofs.Memberships.{last_of}
+use Rattle.spki_decision.proofs.ChainRequirements.{last_of}
 
 -- ---- names
 
@@ -55,7 +55,7 @@ contents_first steps i step below here = simp unary_clauses (contents_from steps
 
 -- each certificate and its tuple are counted once
 module _ (policy : Policy) (keys : List (List ℕ)) (verified : Verified) where
-  shown_ge : (items : List SeqItem) (n : ℕ) (ts : List Tuple) → AllZip (StandsAs policy keys verified) (certificates_from n items) ts
+  shown_ge : (items : List SeqItem) (n : ℕ) (ts : List Tuple) → AllZip (PassesTestsAs policy keys verified) (certificates_from n items) ts
       → tuples_weight ts + length (certificates_from n items) ≤ items_weight items
   shown_ge [] n [] are = omega arith
   shown_ge [] n (t ∷ ts) are = absurd are

@@ -1,26 +1,27 @@
 -- The chains of a case's entries with all certificates: when no step is too large, where they stop, what the entries
 -- become, and their work.
-use Rattle.std.proofs.Common.{◌≡◌, ℕ, ◌*◌, ◌<◌, ◌≤◌, List, ◌∷◌, Some, length, take, slice_get, subst, arith, rules, inl, ◌+◌, false, [], ◌++◌, fold, drop, refl, sym, ap, ◌∙◌, le_trans, ◌⊎◌, inr, zero, suc, Option, None, add-one, ◌-◌, map, get_or, ◌||◌, Vec, mul-le-mul_left, mul-le-mul_right, Global}
-use Rattle.std.proofs.lemmas.Option.{slice_get_within, get_or_from_slice_get, slice_get-get_or}
+use Rattle.std.proofs.Common.{◌≡◌, ℕ, ◌*◌, ◌<◌, ◌≤◌, List, ◌∷◌, Some, length, take, slice_get, subst, arith, rules, inl, ◌+◌, false, [], ◌++◌, fold, drop, refl, sym, ap, ◌∙◌, le_trans, ◌⊎◌, inr, zero, suc, Option, None, add-one, ◌-◌, map, get_or, ◌||◌, Vec, mul-le-mul_left, mul-le-mul_right, Global, true, leb-true, Bool}
+use Rattle.std.proofs.lemmas.Option.{slice_get_within, get_or_from_slice_get, slice_get-get_or, none-some, same_Some}
 use Rattle.spki_cert.specs.declared.entry.Entry.{Entry}
 use Rattle.spki_cert.specs.declared.principal.Policy.{Policy}
 use Rattle.spki_tag.specs.Tag.{Tag, nodes, tags, nodes_all, nests_set, some_nests_set}
 use Rattle.spki_reduce.specs.Reduction.{FiveTuple, Tuple, five, four, tags_of, entry_tuple, met, nodes_product}
 use Rattle.spki_reduce.specs.Joining.{TooLargeFor}
-use Rattle.spki_reduce.specs.Chain.{all_tags, TooLargeAt, IsWork, Takes, IsOver, IsOverworked, tuples_of, StopsAt, Excludes}
+use Rattle.spki_reduce.specs.Chain.{all_tags, TooLargeAt, Takes, tuples_of, StopsAt, Excludes}
 use Rattle.spki_reduce.proofs.Chains.{too_large as large, too_large}
-use Rattle.spki_decision.specs.Requirements.{IsSmallFor, IsSmallWith, ArePlain}
+use Rattle.spki_decision.specs.Requirements.{IsSmallFor, IsSmallWith}
+use Rattle.spki_decision.specs.Spared.{nodes_together, most_of_one, has_small_product, is_plain, is_spared}
 use Rattle.std.proofs.Math.Bool.{or_assoc}
 use Rattle.std.proofs.lemmas.List.{take-append-drop, length-map, length-append, take_more}
 use Rattle.std.proofs.lemmas.Grind.{flat_map-append}
 use Rattle.spki_tag.specs.Meet.{meet}
-use Rattle.spki_tag.proofs.MeetSizes.{append-nodes}
+use Rattle.spki_tag.proofs.MeetSizes.{append-nodes, nodes-some}
 use Rattle.spki_tag.proofs.Closure.{IsPlain, IsPlainWithin, neither, plain_meet}
-use Rattle.spki_decision.specs.declared.sizes.PlainNodes.{PlainNodes}
-use Rattle.std.proofs.lemmas.Bool.{cases_lt}
-use Rattle.spki_reduce.proofs.Working.{one_work, grows, over, none_taken, taken, within}
+use Rattle.std.proofs.lemmas.Bool.{and_parts, not-true, lt-leb}
+use Rattle.std.specs.Prelude.{nat_le, not, ◌&&◌}
+use Rattle.spki_decision.proofs.Charges.{Spent, none_spent, all_spent, one_spent, overspent}
 use Rattle.spki_case.specs.Case.{Case, Verified, certificates}
-use Rattle.spki_decision.specs.Granted.{IsEntryWork, IsWithinWork, HasMuchWork, IsFailure, StopsAtItem, HasLargeTags, IsEntryFold, IsDated, EndsAtDate, AreFoldsOf, AreFolds, SmallBefore}
+use Rattle.spki_decision.specs.Granted.{IsCharge, IsOvercharged, IsOverspent, IsWithinWork, HasMuchWork, IsFailure, StopsAtItem, HasLargeTags, IsEntryFold, IsDated, EndsAtDate, AreFoldsOf, AreFolds, SmallBefore}
 use Rattle.std.specs.List.{AllZip, AllByRecursion}
 use Rattle.std.proofs.Math.Seq.{take-length}
 use Rattle.std.proofs.lemmas.Slice.Zip.{AllZip-long, all_zipped_more}
@@ -32,9 +33,9 @@ use Rattle.spki_decision.specs.declared.evidence.Evidence.{Evidence}
 use Rattle.spki_decision.specs.declared.evidence.Evidence.TheVariants as evidence
 use Rattle.spki_decision.specs.declared.evidence.Stop.{Stop}
 use Rattle.spki_decision.specs.Judged.{IsEvidence}
-use Rattle.spki_decision.specs.Standing.{AreShown, FailsAt, shown_of}
+use Rattle.spki_decision.specs.CertificateTests.{AreShown, FailsAt, shown_of}
 use Rattle.spki_decision.specs.declared.reduction.EntryFold.{EntryFold}
-use Rattle.spki_decision.proofs.Standing.{stands_here, small_yet, none_shown}
+use Rattle.spki_decision.proofs.CertificateTests.{stands_here, small_yet, none_shown, is_large}
 
 -- ---- if each step is small with what is left before it, no step of a chain is too large
 
@@ -90,56 +91,104 @@ small_with most left m n (five t) h k few =
     le_trans (le_trans (mul-le-mul_right (nodes_product t.tags) h) (mul-le-mul_left m k)) few
 small_with most left m n (four t) h k few = tt
 
-module _ (most : ℕ) (tag : Tag) (tuples : List Tuple) (plain : PlainNodes) (given : ArePlain tuples plain) (no_set : nests_set tag ≡ false) where
-  left_few : (place : ℕ) → nodes (met (tag ∷ all_tags (take place tuples))) ≤ nodes tag + plain.all
+-- the nodes of all tags are at most those of all tuples, and those of one tuple at most those of the largest
+all_together : (ts : List Tuple) → nodes_all (tags (all_tags ts)) ≤ nodes_together ts
+all_together [] = omega arith
+all_together (five t ∷ ts) = omega (arith, all_together ts, append-nodes t.tags (all_tags ts))
+all_together (four t ∷ ts) = omega (arith, all_together ts)
+
+at_most : (ts : List Tuple) (place : ℕ) (t : Tuple) → slice_get ts place ≡ Some t → nodes_product (tags_of t) ≤ most_of_one ts
+at_most [] place t stands = absurd (none-some t stands)
+at_most (u ∷ ts) zero t stands =
+    let same : u ≡ t = same_Some u t stands in
+    subst (λ (v : Tuple). nodes_product (tags_of v) ≤ most_of_one (u ∷ ts)) same (omega arith)
+at_most (u ∷ ts) (suc place) t stands = omega (arith, at_most ts place t stands)
+
+module _ (most : ℕ) (tag : Tag) (tuples : List Tuple) (no_set : nests_set tag ≡ false)
+    (none_there : some_nests_set (tags (all_tags tuples)) ≡ false) where
+  left_few : (place : ℕ) → nodes (met (tag ∷ all_tags (take place tuples))) ≤ nodes tag + nodes_together tuples
   left_few place =
       let front = all_tags (take place tuples) in
       let back = all_tags (drop place tuples) in
       let parted : all_tags tuples ≡ front ++ back =
       ap all_tags (sym (take-append-drop place tuples)) ∙ flat_map-append tags_of (take place tuples) (drop place tuples) in
-      let none_there = rw (parted, append-sets front back) at given.no_set in
-      let few = rw (parted, append-nodes front back) at given.all_nodes in
-      let left = left_within tag front (inl no_set) (neither (some_nests_set (tags front)) (some_nests_set (tags back)) none_there).0 in
+      let none_parted = rw (parted, append-sets front back) at none_there in
+      let few = rw (parted, append-nodes front back) at (all_together tuples) in
+      let left = left_within tag front (inl no_set) (neither (some_nests_set (tags front)) (some_nests_set (tags back)) none_parted).0 in
       omega (arith, left.few, few)
 
-  pub small_plain : (nodes tag + plain.all) * plain.most ≤ most → IsSmallFor most tuples tag
+  small_plain : (nodes tag + nodes_together tuples) * most_of_one tuples ≤ most → IsSmallFor most tuples tag
   small_plain few =
       all_small most tag tuples (length tuples) (omega arith) (λ place tuple below there.
-      small_with most (met (tag ∷ all_tags (take place tuples))) (nodes tag + plain.all) plain.most tuple (left_few place)
-      (subst (λ t. nodes_product (tags_of t) ≤ plain.most) (get_or_from_slice_get tuples place tuple tuple there)
-      (given.each_nodes place tuple below)) few)
+      small_with most (met (tag ∷ all_tags (take place tuples))) (nodes tag + nodes_together tuples) (most_of_one tuples) tuple (left_few place)
+      (at_most tuples place tuple there) few)
 
--- ---- the work of the entries of a case, one after another
+one_at_least : (ts : List Tuple) → 1 ≤ most_of_one ts
+one_at_least [] = omega arith
+one_at_least (t ∷ ts) = omega (arith, one_at_least ts)
 
-module _ (c : Case) (tuples : List Tuple) where
-  -- ---- one work
+and_false : (x : Bool) → (x && false) ≡ false
+and_false true = refl
+and_false false = refl
 
-  one_here : (places n m : ℕ) → IsEntryWork c tuples places n → IsEntryWork c tuples places m → n ≡ m
-  one_here zero n m h k = h ∙ sym k
-  one_here (suc places) n m h k = search (rules, one_work, one_here places h.0 k.0 h.3 k.3)
+-- a product over 1,000,000 is over each limit
+pub large_product : (most : ℕ) (tag : Tag) (tuples : List Tuple) → most ≤ 1000000 → 1000000 < nodes_product (all_tags tuples)
+    → has_small_product most tuples tag ≡ false
+large_product most tag tuples few large =
+    let some : 1 * nodes_product (all_tags tuples) ≤ nodes tag * nodes_product (all_tags tuples) =
+    mul-le-mul_right (nodes_product (all_tags tuples)) (nodes-some tag) in
+    lt-leb (nodes tag * nodes_product (all_tags tuples)) most (omega (arith, few, large, some))
 
-  over_more : (limit : Option ℕ) (n m : ℕ) → n ≤ m → IsOver limit n → IsOver limit m
-  over_more None n m less h = h
-  over_more (Some limit) n m less h = omega (arith, less, h)
+-- nor are tags plain, if one has a set, or if they have so many nodes together
+pub not_plain : (most : ℕ) (tag : Tag) (tuples : List Tuple) → most ≤ 1000000
+    → (some_nests_set (tags (all_tags tuples)) ≡ true) ⊎ (1000000 < nodes_together tuples) → is_plain most tuples tag ≡ false
+not_plain most tag tuples few (inl set) =
+    rw set (ap (λ (b : Bool). b && nat_le ((nodes tag + nodes_together tuples) * most_of_one tuples) most) (and_false (not (nests_set tag))))
+not_plain most tag tuples few (inr large) =
+    let all = nodes tag + nodes_together tuples in
+    let some : all * 1 ≤ all * most_of_one tuples = mul-le-mul_left all (one_at_least tuples) in
+    let over : nat_le (all * most_of_one tuples) most ≡ false = lt-leb (all * most_of_one tuples) most (omega (arith, few, large, some)) in
+    let sets = not (nests_set tag) && not (some_nests_set (tags (all_tags tuples))) in
+    ap (λ (b : Bool). sets && b) over ∙ and_false sets
 
-  -- the work of some entries and of some steps of the next is part of that of all
-  part : (h : HasMuchWork c tuples) (more : ℕ) → IsEntryWork c tuples (suc h.place) more → h.before + h.here ≤ more
-  part h more next = search (rules, grows, one_here)
+or_either : (x y : Bool) → (x || y) ≡ true → (x ≡ true) ⊎ (y ≡ true)
+or_either true y h = inl refl
+or_either false y h = inr h
 
-  -- if all entries have a work, so many of them have, and it is at most that of all
-  front : (few many m : ℕ) → few ≤ many → IsEntryWork c tuples many m → (n : ℕ) × IsEntryWork c tuples few n × (n ≤ m)
-  front few zero m fewer k =
-      let same : few ≡ 0 = omega arith in (m, subst (λ s. IsEntryWork c tuples s m) (sym same) k, omega arith)
-  front few (suc many) m fewer k = elim (cases_lt many few) [
-    | inl at ↦ let same : few ≡ suc many = omega arith in (m, subst (λ s. IsEntryWork c tuples s m) (sym same) k, omega arith)
-    | inr before ↦ let less = front few many k.0 before k.3 in (less.0, less.1, omega (arith, less.2, k.6))
-  ]
+-- an entry that is spared has no chain that is too large
+pub spared_small : (most : ℕ) (tuples : List Tuple) (tag : Tag) → is_spared most tuples tag ≡ true → IsSmallFor most tuples tag
+unfolding is_spared
+spared_small most tuples tag spared = elim (or_either (has_small_product most tuples tag) (is_plain most tuples tag) spared) [
+  | inl h ↦ small_product most tag tuples (nodes_product (all_tags tuples)) refl (leb-true _ _ h)
+  | inr h ↦
+      let parts = and_parts _ (nat_le ((nodes tag + nodes_together tuples) * most_of_one tuples) most) h in
+      let sets = and_parts (not (nests_set tag)) _ parts.0 in
+      small_plain most tag tuples (not-true _ sets.0) (not-true _ sets.1) (leb-true _ _ parts.1)
+]
 
-  pub much : IsWithinWork c tuples → HasMuchWork c tuples → ⊥
-  much all h =
-      let below = slice_get_within c.entries h.place h.entry h.stands in
-      let next = front (suc h.place) (length c.entries) all.work (omega arith) all.is in
-      all.within (over_more c.most_work (h.before + h.here) all.work (omega (arith, part h next.0 next.1, next.2)) h.over)
+-- what is too large for a limit is too large for each lower one
+lower : (most other : ℕ) (policy : Policy) (root : FiveTuple) (tuple : Tuple) → other ≤ most → TooLargeFor most policy root tuple
+    → TooLargeFor other policy root tuple
+lower most other policy root (five t) few h = (h.0, omega (arith, few, h.1))
+lower most other policy root (four t) few h = h
+
+too_large_lower : (most other : ℕ) (policy : Policy) (first : Tuple) (others : List Tuple) → other ≤ most
+    → TooLargeAt most policy first others → TooLargeAt other policy first others
+too_large_lower most other policy first others few h = record {
+  place = h.place;
+  tuple = h.tuple;
+  stands = h.stands;
+  root = h.root;
+  before = h.before;
+  too_large = lower most other policy h.root h.tuple few h.too_large;
+  met_too_large = omega (arith, few, h.met_too_large);
+}
+
+pub spared : (most uncounted : ℕ) (tuples : List Tuple) (e : Entry) (policy : Policy) → uncounted ≤ most
+    → is_spared uncounted tuples e.tag ≡ true → ¬ TooLargeAt most policy (five (entry_tuple e)) tuples
+spared most uncounted tuples e policy few is large =
+    (spared_small uncounted tuples e.tag is).none_large e refl policy
+    (too_large_lower most uncounted policy (five (entry_tuple e)) tuples few large)
 
 -- ---- where chains stop, what fails, and the answers of one entry more
 
@@ -163,6 +212,14 @@ module _ (c : Case) (e : Entry) (steps : List Step) (kept : List ShownCert) (sam
         item_is = ap (λ s. s.item) (sym here);
       }
 
+-- an entry is refused: its chain is too large, or the work with it is
+pub refused_here : (c : Case) (tuples : List Tuple) (place : ℕ) (e : Entry) (here : slice_get c.entries place ≡ Some e) (left : Option ℕ)
+    → Spent c tuples place left
+    → TooLargeAt c.most_nodes c.policy (five (entry_tuple e)) tuples ⊎ IsOvercharged c.policy c.uncounted tuples e left
+    → TooLargeAt c.most_nodes c.policy (five (entry_tuple e)) tuples ⊎ IsOverspent c tuples place e
+refused_here c tuples place e here left before (inl h) = inl h
+refused_here c tuples place e here left before (inr h) = inr (overspent c tuples place e here left before h)
+
 -- ---- evidence
 
 -- what the evidence of items says, where it is that of items that are the same
@@ -174,7 +231,7 @@ module _ (policy : Policy) (verified : Verified) (items read : List SeqItem) (e 
   pub one_fails : (item : ℕ) (stop : Stop) → e ≡ evidence.Fails item stop → FailsAt policy verified items item stop
   one_fails item stop is = rw same at (rw is at judged)
 
--- where every certificate stands there are as many steps as certificates
+-- where every certificate passes its tests there are as many steps as certificates
 pub as_many : (policy : Policy) (verified : Verified) (items : List SeqItem) (steps : List Step)
     → AreShown policy verified items (tuples_of steps) → length steps ≡ length (certificates items)
 as_many policy verified items steps shown = search (rules, AllZip-long, length-map)
@@ -223,49 +280,36 @@ module _ (c : Case) (tuples : List Tuple) where
   pub record FoldedTo (place : ℕ) (left : Option ℕ) (folds : List EntryFold) : Type 0 where
     pub each : AllZip (IsEntryFold c tuples) (take place c.entries) folds
     pub within_limit : SmallBefore c tuples place
-    pub work : ℕ
-    pub worked : IsEntryWork c tuples place work
-    pub takes : Takes c.most_work left work
+    pub spent : Spent c tuples place left
 
-  pub none_folded : (left : Option ℕ) → left ≡ c.most_work → FoldedTo 0 left []
-  none_folded left same = record {
-    each = tt;
-    within_limit = λ k e below. absurd (omega (arith, below));
-    work = 0;
-    worked = refl;
-    takes = none_taken c.most_work left same;
-  }
+  pub none_folded : (left : Option ℕ) → left ≡ Some c.most_work → FoldedTo 0 left []
+  none_folded left same =
+      record { each = tt; within_limit = λ k e below. absurd (omega (arith, below)); spent = none_spent c tuples left same }
 
   pub all_folded : (place : ℕ) (left : Option ℕ) (folds : List EntryFold) → place ≡ length c.entries → FoldedTo place left folds
       → AreFoldsOf c tuples folds
   all_folded place left folds whole h = record {
     each = subst (λ xs. AllZip (IsEntryFold c tuples) xs folds) (ap (λ n. take n c.entries) whole ∙ take-length c.entries) h.each;
     within_limit = λ k e below there. h.within_limit k e (omega (arith, whole, below)) there;
-    worked = record {
-      work = h.work;
-      is = subst (λ n. IsEntryWork c tuples n h.work) whole h.worked;
-      within = within c.most_work left h.work h.takes;
-    };
+    worked = subst (λ (n : ℕ). IsWithinWork c tuples n) whole (all_spent c tuples place left h.spent);
   }
 
   module _ (place : ℕ) (e : Entry) (here : slice_get c.entries place ≡ Some e) (old : Option ℕ) (folds : List EntryFold)
       (before : FoldedTo place old folds) where
-    pub too_large_here : TooLargeAt c.most_nodes c.policy (five (entry_tuple e)) tuples ⊎ IsOverworked old c.policy (five (entry_tuple e)) tuples
+    pub too_large_here : TooLargeAt c.most_nodes c.policy (five (entry_tuple e)) tuples ⊎ IsOvercharged c.policy c.uncounted tuples e old
         → HasLargeTags c tuples ⊎ HasMuchWork c tuples
-    too_large_here (inl h) = inl (search (rules, too_large))
-    too_large_here (inr h) = inr (search (rules, over))
+    too_large_here (inl h) = inl (record { place = place; entry = e; stands = here; is = is_large c tuples e h })
+    too_large_here (inr h) = inr (record { place = place; entry = e; stands = here; spent = overspent c tuples place e here old before.spent h })
 
     pub one_folded : (fold : EntryFold) (new : Option ℕ) (n : ℕ) → IsEntryFold c tuples e fold
-        → ¬ TooLargeAt c.most_nodes c.policy (five (entry_tuple e)) tuples → IsWork c.policy (five (entry_tuple e)) tuples n → Takes old new n
+        → ¬ TooLargeAt c.most_nodes c.policy (five (entry_tuple e)) tuples → IsCharge c.policy c.uncounted tuples e n → Takes old new n
         → FoldedTo (place + 1) new (folds ++ fold ∷ [])
-    one_folded fold new n exact small work takes =
+    one_folded fold new n exact small charge takes =
         let below = slice_get_within c.entries place e here in
         let read : get_or c.entries place e ≡ e = get_or_from_slice_get c.entries place e e here in
         record {
           each = rw (take_more c.entries place e below ∙ ap (λ x. take place c.entries ++ x ∷ []) read)
               (all_zipped_more (IsEntryFold c tuples) (take place c.entries) folds e fold before.each exact);
           within_limit = small_yet c tuples place e here small before.within_limit;
-          work = before.work + n;
-          worked = search (rules, add-one);
-          takes = taken c.most_work old new before.work n before.takes takes;
+          spent = one_spent c tuples place e here old before.spent new n charge takes;
         }

@@ -15,7 +15,7 @@ use Rattle.spki_cert.specs.declared.certificate.SeqItem.TheVariants.{Auth, DoHas
 use Rattle.spki_cert.specs.Naming.{digest_of, is_digest, names}
 use Rattle.spki_reduce.specs.Reduction.{FiveTuple, Tuple, five, entry_tuple, auth_tuple, Joins, delegated as delegated_to}
 use Rattle.spki_case.specs.Case.{Case, Verified, auth, certificates}
-use Rattle.spki_decision.specs.Standing.{AreShown, issuer_key}
+use Rattle.spki_decision.specs.CertificateTests.{AreShown, issuer_key}
 use Rattle.spki_decision.specs.Granted.{Granted}
 use Rattle.spki_decision.specs.Audited.{IsSignedByIssuer, IsHeldByAll, IsNarrowerEntry}
 use Rattle.spki_decision.proofs.Audited.{signed_by_issuer}
@@ -80,7 +80,8 @@ module _ (verified : Verified) where
     moment = codes "2024-01-01_00:00:00";
     policy = Open;
     most_nodes = 1000000;
-    most_work = None;
+    most_work = 3000000000;
+    uncounted = 1000000;
   }
 
   -- ---- second-entry, without certificates
@@ -161,7 +162,7 @@ module _ (verified : Verified) where
         ≡ record { item = 1; certificate = auth certificate; signature = Some signed } ∷ []
     passed = refl
 
-    -- a certificate whose signature has another digest doesn't stand, whatever the verifier says
+    -- a certificate whose signature has another digest fails a test, whatever the verifier says
     abbrev misdigested : List ℕ → signature.Signature
     misdigested other = record { alg = Sha256; digest = other; signer = principal.Key ka; value = value }
 

@@ -5,10 +5,10 @@ use Rattle.std.proofs.lemmas.Slice.Zip.{AllZip-left, AllZip-right}
 use Rattle.spki_tag.specs.Request.{IsRequest}
 use Rattle.spki_cert.specs.declared.entry.Entry.{Entry}
 use Rattle.spki_reduce.specs.declared.fold.Cause.{Cause}
-use Rattle.spki_reduce.specs.declared.last_tests.Denial.{Denial}
-use Rattle.spki_reduce.specs.declared.last_tests.Denial.TheVariants as denial
+use Rattle.spki_reduce.specs.declared.last_tests.MissingGrant.{MissingGrant}
+use Rattle.spki_reduce.specs.declared.last_tests.MissingGrant.TheVariants as missing
 use Rattle.spki_reduce.specs.declared.tuple.Five.{Five}
-use Rattle.spki_reduce.specs.Reduction.{FiveTuple, Tuple, five, four, own, entry_tuple, issuer_of, Tree, leaf, join, Derives, extended, Joins, Grants as Allows, in_each, within_each, IsFirstDenial}
+use Rattle.spki_reduce.specs.Reduction.{FiveTuple, Tuple, five, four, own, entry_tuple, issuer_of, Tree, leaf, join, Derives, extended, Joins, Grants as Allows, in_each, within_each, IsMissingGrant}
 use Rattle.spki_cert.specs.declared.principal.Policy.{Policy}
 use Rattle.spki_reduce.specs.Chain.{FoldsTo, HasMet, GoesThrough}
 use Rattle.spki_reduce.proofs.Derivations.{from_left-leaves, one_root}
@@ -22,11 +22,11 @@ use Rattle.spki_decision.specs.declared.explanation.Explanation.TheVariants.{Evi
 use Rattle.spki_decision.specs.declared.explanation.Reason.{Reason}
 use Rattle.spki_decision.specs.declared.explanation.Reason.TheVariants.{Grants, NotTheKey, TagLacks, WindowLacks, Stopped}
 use Rattle.spki_decision.specs.declared.evidence.Stop.{Stop}
-use Rattle.spki_decision.specs.Standing.{AreShown, with_entries, tuple_of, StandsAs, FailsAt}
+use Rattle.spki_decision.specs.CertificateTests.{AreShown, with_entries, tuple_of, PassesTestsAs, FailsAt}
 use Rattle.spki_decision.specs.Granted.{Supported, AllSmall, IsWithinWork, IsFailure, StopsAtItem, IsEntryFold, AreFolds, Granted, IsDecision}
 use Rattle.spki_decision.specs.declared.reduction.EntryFold.{EntryFold}
 use Rattle.spki_decision.specs.Explained.{IsReasonFor, LacksFirst, IsReason, reason_of, AreReasons, IsExplanation, IsFirstGrant, Agrees, IsSameExplanation}
-use Rattle.spki_decision.proofs.Standing.{granted, supported, one_list, one_test, never_both}
+use Rattle.spki_decision.proofs.CertificateTests.{granted, supported, one_list, one_test, never_both}
 use Rattle.std.proofs.lemmas.Option.{slice_get_within, same_Some}
 use Rattle.spki_cert.specs.declared.certificate.SeqItem.{SeqItem}
 use Rattle.spki_reduce.proofs.Through.{HasTag, AreTagged, unstopped, one_stop}
@@ -34,38 +34,38 @@ use Rattle.spki_reduce.proofs.Through.{HasTag, AreTagged, unstopped, one_stop}
 -- ---- one entry
 
 module _ (c : Case) (tuples : List Tuple) (e : Entry) where
-  first_denial : (f : Five) (denial : Denial) (folds : FoldsTo c.policy (five (entry_tuple e)) tuples f)
-      → HasMet (five (entry_tuple e)) tuples f → IsFirstDenial c.policy folds.root c.key c.request c.moment (Some denial) → LacksFirst c tuples e denial
-  first_denial f denial folds met h = search rules
+  missing_grant : (f : Five) (missing : MissingGrant) (folds : FoldsTo c.policy (five (entry_tuple e)) tuples f)
+      → HasMet (five (entry_tuple e)) tuples f → IsMissingGrant c.policy folds.root c.key c.request c.moment (Some missing) → LacksFirst c tuples e missing
+  missing_grant f missing folds met h = search rules
 
   -- how the last tests end is the reason
-  pub reasoned : (f : Five) (denial : Option Denial) (folds : FoldsTo c.policy (five (entry_tuple e)) tuples f)
-      → HasMet (five (entry_tuple e)) tuples f → IsFirstDenial c.policy folds.root c.key c.request c.moment denial → (IsNone denial ↔ Supported c tuples e)
-      → IsReason c tuples e (reason_of denial)
+  pub reasoned : (f : Five) (missing : Option MissingGrant) (folds : FoldsTo c.policy (five (entry_tuple e)) tuples f)
+      → HasMet (five (entry_tuple e)) tuples f → IsMissingGrant c.policy folds.root c.key c.request c.moment missing → (IsNone missing ↔ Supported c tuples e)
+      → IsReason c tuples e (reason_of missing)
   reasoned f None folds met h s = s.0 refl
-  reasoned f (Some denial.NotTheKey) folds met h s = first_denial f denial.NotTheKey folds met h
-  reasoned f (Some d) folds met h s = first_denial f d folds met h
+  reasoned f (Some missing.NotTheKey) folds met h s = missing_grant f missing.NotTheKey folds met h
+  reasoned f (Some d) folds met h s = missing_grant f d folds met h
 
-  lacking : (root : FiveTuple) (denial : Denial) → IsFirstDenial c.policy root c.key c.request c.moment (Some denial)
+  lacking : (root : FiveTuple) (missing : MissingGrant) → IsMissingGrant c.policy root c.key c.request c.moment (Some missing)
       → Allows c.policy root c.key c.request c.moment → ⊥
-  lacking root denial.NotTheKey h g = h (record { whole = g.whole; named = g.named })
-  lacking root denial.TagLacks h g = never (in_each c.request root.tags) h.1 g.asked
-  lacking root denial.WindowLacks h g = never (within_each c.moment root.windows) h.2 g.timely
+  lacking root missing.NotTheKey h g = h (record { whole = g.whole; named = g.named })
+  lacking root missing.TagLacks h g = never (in_each c.request root.tags) h.1 g.asked
+  lacking root missing.WindowLacks h g = never (within_each c.moment root.windows) h.2 g.timely
 
   -- what lacks something isn't supported: every derivation has the root that lacks it
-  unsupported_by : (denial : Denial) → LacksFirst c tuples e denial → Supported c tuples e → ⊥
-  unsupported_by denial h s = grind (arith, one_root, from_left-leaves, lacking)
+  unsupported_by : (missing : MissingGrant) → LacksFirst c tuples e missing → Supported c tuples e → ⊥
+  unsupported_by missing h s = grind (arith, one_root, from_left-leaves, lacking)
 
   -- a reason is Grants, or a test that the root doesn't pass, or a stop
   abbrev pub IsParted : Reason → Type 0
-  IsParted r = (r ≡ Grants) ⊎ ((l : Denial) × (r ≡ reason_of (Some l)) × LacksFirst c tuples e l)
+  IsParted r = (r ≡ Grants) ⊎ ((l : MissingGrant) × (r ≡ reason_of (Some l)) × LacksFirst c tuples e l)
       ⊎ ((item : ℕ) × (cause : Cause) × (r ≡ Stopped item cause) × StopsAtItem c tuples e item cause)
 
   pub parted : (r : Reason) → IsReason c tuples e r → IsParted r
   parted Grants h = inl refl
-  parted NotTheKey h = inr (inl (denial.NotTheKey, refl, h))
-  parted TagLacks h = inr (inl (denial.TagLacks, refl, h))
-  parted WindowLacks h = inr (inl (denial.WindowLacks, refl, h))
+  parted NotTheKey h = inr (inl (missing.NotTheKey, refl, h))
+  parted TagLacks h = inr (inl (missing.TagLacks, refl, h))
+  parted WindowLacks h = inr (inl (missing.WindowLacks, refl, h))
   parted (Stopped item cause) h = inr (inr (item, cause, refl, h))
 
   only_grants : (r : Reason) → IsRequest c.request → IsParted r → Supported c tuples e → r ≡ Grants
@@ -120,7 +120,7 @@ module _ (c : Case) (verified : Verified) (tuples : List Tuple) (shown : AreShow
 
 are_reasons : (c : Case) (verified : Verified) (tuples : List Tuple) (reasons : List Reason) → IsRequest c.request
     → AreShown c.policy verified c.items tuples → AllZip (IsReason c tuples) c.entries reasons → AllSmall c tuples
-    → IsWithinWork c tuples → AreReasons c verified reasons
+    → IsWithinWork c tuples (length c.entries) → AreReasons c verified reasons
 are_reasons c verified tuples reasons is shown each small worked = search (rules, has_granted, grants_it)
 
 each_reason : (c : Case) (es : List Entry) (tuples : List Tuple) (entries : List Entry) (folds : List EntryFold) (reasons : List Reason)
@@ -192,7 +192,7 @@ has_tag holder (auth certificate) = λ none_left. absurd cc
 has_tag holder (name certificate) = tt
 
 module _ (policy : Policy) (keys : List (List ℕ)) (verified : Verified) where
-  pub are_tagged : (shown : List Shown) (tuples : List Tuple) → AllZip (StandsAs policy keys verified) shown tuples → AreTagged tuples
+  pub are_tagged : (shown : List Shown) (tuples : List Tuple) → AllZip (PassesTestsAs policy keys verified) shown tuples → AreTagged tuples
   are_tagged shown [] h place tuple there = absurd cc
   are_tagged [] (t ∷ ts) h place tuple there = absurd h
   are_tagged (s ∷ shown) (t ∷ ts) h zero tuple there =
@@ -203,18 +203,18 @@ module _ (c : Case) (tuples : List Tuple) (tagged : AreTagged tuples) (e : Entry
   abbrev first : Tuple
   first = five (entry_tuple e)
 
-  lacks : (root : FiveTuple) (a b : Denial) → IsFirstDenial c.policy root c.key c.request c.moment (Some a)
-      → IsFirstDenial c.policy root c.key c.request c.moment (Some b) → a ≡ b
-  lacks root denial.NotTheKey denial.NotTheKey h k = refl
-  lacks root denial.TagLacks denial.TagLacks h k = refl
-  lacks root denial.WindowLacks denial.WindowLacks h k = refl
+  lacks : (root : FiveTuple) (a b : MissingGrant) → IsMissingGrant c.policy root c.key c.request c.moment (Some a)
+      → IsMissingGrant c.policy root c.key c.request c.moment (Some b) → a ≡ b
+  lacks root missing.NotTheKey missing.NotTheKey h k = refl
+  lacks root missing.TagLacks missing.TagLacks h k = refl
+  lacks root missing.WindowLacks missing.WindowLacks h k = refl
   lacks root a b h k = search (rules, never)
 
-  one_denial : (a b : Denial) → LacksFirst c tuples e a → LacksFirst c tuples e b → a ≡ b
-  one_denial a b h k = grind (arith, one_root, lacks)
+  one_missing : (a b : MissingGrant) → LacksFirst c tuples e a → LacksFirst c tuples e b → a ≡ b
+  one_missing a b h k = grind (arith, one_root, lacks)
 
   -- a chain that goes through doesn't stop
-  not_stopped : (a : Denial) (item : ℕ) (cause : Cause) → LacksFirst c tuples e a → StopsAtItem c tuples e item cause → ⊥
+  not_stopped : (a : MissingGrant) (item : ℕ) (cause : Cause) → LacksFirst c tuples e a → StopsAtItem c tuples e item cause → ⊥
   not_stopped a item cause h k =
       let below = slice_get_within tuples k.stops.place k.stops.tuple k.stops.stands in
       let all = take_all (length tuples) tuples (omega arith) in
@@ -239,7 +239,7 @@ module _ (c : Case) (tuples : List Tuple) (tagged : AreTagged tuples) (e : Entry
   one_reason : (a b : Reason) → IsParted c tuples e a → IsParted c tuples e b → (a ≡ Grants → b ≡ Grants) → (b ≡ Grants → a ≡ Grants) → a ≡ b
   one_reason a b (inl h) k there back = h ∙ sym (there h)
   one_reason a b (inr h) (inl k) there back = back k ∙ sym k
-  one_reason a b (inr (inl h)) (inr (inl k)) there back = h.1 ∙ ap (λ l. reason_of (Some l)) (one_denial h.0 k.0 h.2 k.2) ∙ sym k.1
+  one_reason a b (inr (inl h)) (inr (inl k)) there back = h.1 ∙ ap (λ l. reason_of (Some l)) (one_missing h.0 k.0 h.2 k.2) ∙ sym k.1
   one_reason a b (inr (inl h)) (inr (inr k)) there back = absurd (not_stopped h.0 k.0 k.1 h.2 k.3)
   one_reason a b (inr (inr h)) (inr (inl k)) there back = absurd (not_stopped k.0 h.0 h.1 k.2 h.3)
   one_reason a b (inr (inr h)) (inr (inr k)) there back =

@@ -1,17 +1,20 @@
 -- What a grant is in the bracketing from the left, and in a part of an access list from which only entries are
 -- missing that are left out.
-use Rattle.std.proofs.Common.{◌≡◌, ℕ, suc, List, [], Result, Ok, Err, take, Some, slice_get, refl, rules, ◌∷◌, sym, subst, zero, ◌+◌, ◌<◌, ◌≤◌, map, ap, ◌∙◌, arith, inl, inr}
+use Rattle.std.proofs.Common.{◌≡◌, ℕ, suc, List, [], Result, Ok, Err, take, Some, slice_get, refl, rules, ◌∷◌, sym, subst, zero, ◌+◌, ◌<◌, ◌≤◌, map, ap, ◌∙◌, arith, inl, inr, ◌⊎◌, length}
 use Rattle.spki_cert.specs.declared.entry.Entry.{Entry}
 use Rattle.spki_reduce.specs.Reduction.{Tuple, five, entry_tuple, from_left, Grants, Supports, Issuer, Issues, FiveTuple, four, Joins, Derives}
 use Rattle.spki_reduce.specs.Joining.{TooLargeFor}
-use Rattle.spki_reduce.specs.Chain.{TooLargeAt}
+use Rattle.spki_reduce.specs.Chain.{TooLargeAt, Reaches, ReachedAt, ResolvesTimely}
+use Rattle.spki_decision.proofs.Charges.{no_charge, sum_whole}
+use Rattle.std.proofs.Math.Seq.{take-length}
+use Rattle.std.proofs.lemmas.List.{take-map}
 use Rattle.spki_reduce.proofs.Derivations.{supported, from_left-leaves}
 use Rattle.spki_case.specs.Case.{Case, Verified}
-use Rattle.spki_decision.specs.Standing.{AreShown}
-use Rattle.spki_decision.specs.Granted.{Granted, Supported, IsDecision, IsTooLarge, SmallUpTo}
+use Rattle.spki_decision.specs.CertificateTests.{AreShown}
+use Rattle.spki_decision.specs.Granted.{Granted, Supported, IsDecision, IsTooLarge, SmallUpTo, IsCharge, IsSumOf, IsEntryWork, IsWithinWork, IsLarge, IsOverspent}
 use Rattle.spki_decision.specs.Answered.{IsDecided}
-use Rattle.spki_decision.proofs.Standing.{one_list, granted}
-use Rattle.spki_decision.proofs.Memberships.{five_same, first_step}
+use Rattle.spki_decision.proofs.CertificateTests.{one_list, granted}
+use Rattle.spki_decision.proofs.ChainRequirements.{five_same, first_step}
 use Rattle.spki_cert.specs.declared.principal.Policy.{Policy}
 use Rattle.spki_decision.specs.Requirements.{key_of, first_key, IsOf, IsLeftOut, IsKept, AreKept, second, kept_case, IsRenumbered, IsSameAnswer}
 use Rattle.std.proofs.lemmas.Option.{none-some, same_Some, slice_get-map, slice_get_within}
@@ -87,9 +90,32 @@ module _ (most : ℕ) (policy : Policy) (asker : List ℕ) (e : Entry) where
       let begun = first_step policy (entry_tuple e) t (take place others) (five root) derived in
       joined policy asker e t others begun.0 begun.1
 
+  reached_first : (t : Tuple) (others : List Tuple) (root : FiveTuple) → root ≡ entry_tuple e → Reaches policy root t
+      → IsOf policy e (first_key asker (t ∷ others))
+  reached_first (five right) others root is at = issuing root right others at.issues is
+  reached_first (four right) others root is at =
+      let own = subst (λ (u : FiveTuple). ResolvesTimely policy u right) is at in own.begins.named
+
+  reached_from : (t tuple : Tuple) (others : List Tuple) (place : ℕ) (root : FiveTuple) → slice_get (t ∷ others) place ≡ Some tuple
+      → Derives policy (from_left (five (entry_tuple e)) (take place (t ∷ others))) (five root) → Reaches policy root tuple
+      → IsOf policy e (first_key asker (t ∷ others))
+  reached_from t tuple others zero root stands derived at =
+      reached_first t others root (five_same root (entry_tuple e) derived)
+      (subst (λ (u : Tuple). Reaches policy root u) (sym (same_Some t tuple stands)) at)
+  reached_from t tuple others (suc place) root stands derived at =
+      let begun = first_step policy (entry_tuple e) t (take place others) (five root) derived in
+      joined policy asker e t others begun.0 begun.1
+
   pub large_named : (tuples : List Tuple) → TooLargeAt most policy (five (entry_tuple e)) tuples → IsOf policy e (first_key asker tuples)
   large_named [] large = absurd (none-some large.tuple large.stands)
   large_named (t ∷ others) large = large_from t large.tuple others large.place large.root large.stands large.before.derived large.too_large
+
+-- nor one that reaches a step
+pub reached_named : (policy : Policy) (asker : List ℕ) (e : Entry) (tuples : List Tuple) (place : ℕ)
+    → ReachedAt policy (five (entry_tuple e)) tuples place → IsOf policy e (first_key asker tuples)
+reached_named policy asker e [] place at = absurd (none-some at.tuple at.stands)
+reached_named policy asker e (t ∷ others) place at =
+    reached_from 0 policy asker e t at.tuple others place at.root at.stands at.before.derived at.joins
 
 -- ---- the decision of a part of an access list is that of the list, if only entries are missing that are left out
 
@@ -98,10 +124,20 @@ module _ (most : ℕ) (policy : Policy) (asker : List ℕ) (e : Entry) where
 second_at : (ks : List (ℕ × Entry)) (p n : ℕ) (e : Entry) → slice_get ks p ≡ Some (n, e) → slice_get (map second ks) p ≡ Some e
 second_at ks p n e stands = rw (slice_get-map, stands)
 
-from_second : (ks : List (ℕ × Entry)) (p : ℕ) (e : Entry) → slice_get (map second ks) p ≡ Some e → (n : ℕ) × (slice_get ks p ≡ Some (n, e))
+pub from_second : (ks : List (ℕ × Entry)) (p : ℕ) (e : Entry) → slice_get (map second ks) p ≡ Some e → (n : ℕ) × (slice_get ks p ≡ Some (n, e))
 from_second [] p e stands = absurd (none-some e stands)
 from_second (k ∷ ks) zero e stands = (k.0, ap (λ (f : Entry). Some (k.0, f)) (same_Some k.1 e stands))
 from_second (k ∷ ks) (suc p) e stands = from_second ks p e stands
+
+-- a place behind the next
+abbrev numbered : ℕ → Entry → ℕ × Entry
+numbered n e = (n, e)
+
+next : (n place : ℕ) (e : Entry) → Some (numbered (n + suc place) e) ≡ Some (numbered (suc n + place) e)
+next n place e = let moved : n + suc place ≡ suc n + place = omega arith in ap (λ (m : ℕ). Some (numbered m e)) moved
+
+first_number : (n : ℕ) (f e : Entry) (k : ℕ × Entry) → k ≡ (n, f) → (more : ℕ) → Some k ≡ Some (n + more, e) → n ≡ n + more
+first_number n f e k is more stands = ap (λ (j : ℕ × Entry). j.0) (sym is ∙ same_Some k (n + more, e) stands)
 
 module _ (Out : Entry → Type 0) where
   -- the number of what is kept is that of its place in the list
@@ -149,6 +185,40 @@ module _ (Out : Entry → Type 0) where
   growing n (g ∷ es) (k ∷ ks) (suc p) (suc q) i j e f (inr here) less at_p at_q =
       growing (suc n) es ks p q i j e f here.1 (omega (arith, less)) at_p at_q
 
+  -- the part of the front of a list, up to a place
+  pub kept_front : (n : ℕ) (es : List Entry) (ks : List (ℕ × Entry)) (p place : ℕ) (e : Entry) → AreKept Out n es ks
+      → slice_get ks p ≡ Some (n + place, e) → AreKept Out n (take place es) (take p ks)
+  kept_front n es [] p place e kept stands = absurd (none-some (n + place, e) stands)
+  kept_front n [] (k ∷ ks) p place e kept stands = absurd kept
+  kept_front n (f ∷ es) (k ∷ ks) p zero e (inl out) stands =
+      let low = from_first (suc n) es (k ∷ ks) p (n + 0) e out.1 stands in absurd (omega (arith, low))
+  kept_front n (f ∷ es) (k ∷ ks) zero (suc place) e (inl out) stands =
+      (out.0, kept_front (suc n) es (k ∷ ks) 0 place e out.1 (stands ∙ next n place e))
+  kept_front n (f ∷ es) (k ∷ ks) (suc p) (suc place) e (inl out) stands =
+      inl (out.0, kept_front (suc n) es (k ∷ ks) (suc p) place e out.1 (stands ∙ next n place e))
+  kept_front n (f ∷ es) (k ∷ ks) zero zero e (inr here) stands = tt
+  kept_front n (f ∷ es) (k ∷ ks) zero (suc place) e (inr here) stands = absurd (omega (arith, first_number n f e k here.0 (suc place) stands))
+  kept_front n (f ∷ es) (k ∷ ks) (suc p) zero e (inr here) stands =
+      let low = from_first (suc n) es ks p (n + 0) e here.1 stands in absurd (omega (arith, low))
+  kept_front n (f ∷ es) (k ∷ ks) (suc p) (suc place) e (inr here) stands =
+      inr (here.0, kept_front (suc n) es ks p place e here.1 (stands ∙ next n place e))
+
+  -- and with the entry there
+  pub kept_through : (n : ℕ) (es : List Entry) (ks : List (ℕ × Entry)) (p place : ℕ) (e : Entry) → AreKept Out n es ks
+      → slice_get ks p ≡ Some (n + place, e) → AreKept Out n (take (suc place) es) (take (suc p) ks)
+  kept_through n es [] p place e kept stands = absurd (none-some (n + place, e) stands)
+  kept_through n [] (k ∷ ks) p place e kept stands = absurd kept
+  kept_through n (f ∷ es) (k ∷ ks) p zero e (inl out) stands =
+      let low = from_first (suc n) es (k ∷ ks) p (n + 0) e out.1 stands in absurd (omega (arith, low))
+  kept_through n (f ∷ es) (k ∷ ks) p (suc place) e (inl out) stands =
+      inl (out.0, kept_through (suc n) es (k ∷ ks) p place e out.1 (stands ∙ next n place e))
+  kept_through n (f ∷ es) (k ∷ ks) zero zero e (inr here) stands = inr (here.0, tt)
+  kept_through n (f ∷ es) (k ∷ ks) zero (suc place) e (inr here) stands = absurd (omega (arith, first_number n f e k here.0 (suc place) stands))
+  kept_through n (f ∷ es) (k ∷ ks) (suc p) zero e (inr here) stands =
+      let low = from_first (suc n) es ks p (n + 0) e here.1 stands in absurd (omega (arith, low))
+  kept_through n (f ∷ es) (k ∷ ks) (suc p) (suc place) e (inr here) stands =
+      inr (here.0, kept_through (suc n) es ks p place e here.1 (stands ∙ next n place e))
+
 -- ---- decisions
 
 module _ (c : Case) (verified : Verified) (kept : List (ℕ × Entry)) (are_kept : IsKept c verified kept) where
@@ -191,28 +261,90 @@ module _ (c : Case) (verified : Verified) (kept : List (ℕ × Entry)) (are_kept
 
   -- ---- refusals
 
-  abbrev IsLarge : List Tuple → Entry → Type 0
-  IsLarge tuples e = TooLargeAt c.most_nodes c.policy (five (entry_tuple e)) tuples
+  abbrev HasLargeChain : List Tuple → Entry → Type 0
+  HasLargeChain tuples e = TooLargeAt c.most_nodes c.policy (five (entry_tuple e)) tuples
 
   -- an entry whose chain is too large is kept
   large_kept : (tuples : List Tuple) → AreShown c.policy verified c.items tuples → (place : ℕ) (e : Entry) → slice_get c.entries place ≡ Some e
-      → IsLarge tuples e → (p : ℕ) × (slice_get kept p ≡ Some (1 + place, e))
+      → HasLargeChain tuples e → (p : ℕ) × (slice_get kept p ≡ Some (1 + place, e))
   large_kept tuples shown place e stands large =
       found (IsLeftOut c tuples) 1 c.entries kept place e (are_kept tuples shown) stands
       (λ out. out (large_named c.most_nodes c.policy c.key e tuples large))
 
+  -- an entry that is left out takes nothing
+  nothing_out : (tuples : List Tuple) (e : Entry) → IsLeftOut c tuples e → IsCharge c.policy c.uncounted tuples e 0
+  nothing_out tuples e out =
+      no_charge c.policy c.uncounted tuples e (λ place at. out (reached_named c.policy c.key e tuples place at))
+
+  -- the work of the front of the part is that of the front of the list
+  work_front : (tuples : List Tuple) (fs : List Entry) (ks : List (ℕ × Entry)) (count work : ℕ)
+      → AreKept (IsLeftOut c tuples) 1 fs (take count ks) → IsSumOf (IsCharge c.policy c.uncounted tuples) (take count (map second ks)) work
+      → IsSumOf (IsCharge c.policy c.uncounted tuples) fs work
+  work_front tuples fs ks count work are h =
+      sum_whole (IsCharge c.policy c.uncounted tuples) (IsLeftOut c tuples) (nothing_out tuples) 1 fs (take count ks) work are
+      (subst (λ (xs : List Entry). IsSumOf (IsCharge c.policy c.uncounted tuples) xs work) (take-map second count ks) h)
+
+  worked_up_to : (tuples : List Tuple) → AreShown c.policy verified c.items tuples → (p n : ℕ) (e : Entry)
+      → slice_get kept p ≡ Some (n, e) → IsWithinWork (kept_case c kept) tuples (suc p) → IsWithinWork c tuples n
+  worked_up_to tuples shown p n e there within =
+      let are = are_kept tuples shown in
+      let at = listed (IsLeftOut c tuples) 1 c.entries kept p n e are there in
+      let number : suc at.0 ≡ n = omega (arith, at.1) in
+      let standing : slice_get kept p ≡ Some (1 + at.0, e) = there ∙ ap (λ (m : ℕ). Some (m, e)) at.1 in
+      record {
+        work = within.work;
+        is = subst (λ (m : ℕ). IsEntryWork c tuples m within.work) number
+            (work_front tuples (take (suc at.0) c.entries) kept (suc p) within.work
+            (kept_through (IsLeftOut c tuples) 1 c.entries kept p at.0 e are standing) within.is);
+        within = within.within;
+      }
+
+  worked_whole : (tuples : List Tuple) → AreShown c.policy verified c.items tuples
+      → IsWithinWork (kept_case c kept) tuples (length (map second kept)) → IsWithinWork c tuples (length c.entries)
+  worked_whole tuples shown within = record {
+    work = within.work;
+    is = subst (λ (xs : List Entry). IsSumOf (IsCharge c.policy c.uncounted tuples) xs within.work) (sym (take-length c.entries))
+        (sum_whole (IsCharge c.policy c.uncounted tuples) (IsLeftOut c tuples) (nothing_out tuples) 1 c.entries kept within.work
+        (are_kept tuples shown)
+        (subst (λ (xs : List Entry). IsSumOf (IsCharge c.policy c.uncounted tuples) xs within.work) (take-length (map second kept)) within.is));
+    within = within.within;
+  }
+
   small : (x y : Decision) (tuples : List Tuple) → AreShown c.policy verified c.items tuples → IsRenumbered kept x y
       → SmallUpTo (kept_case c kept) tuples x → SmallUpTo c tuples y
-  small (Yes m) (Yes n) tuples shown r few = λ k e below stands large.
-      let p = large_kept tuples shown k e stands large in
-      let before = earlier tuples shown r.0 p.0 n (1 + k) r.1 e r.3 p.1 (omega (arith, below)) in
-      few p.0 e (omega (arith, before, r.2)) (second_at kept p.0 (1 + k) e p.1) large
+  small (Yes m) (Yes n) tuples shown r few = (
+    λ k e below stands large.
+        let p = large_kept tuples shown k e stands large in
+        let before = earlier tuples shown r.0 p.0 n (1 + k) r.1 e r.3 p.1 (omega (arith, below)) in
+        few.0 p.0 e (omega (arith, before, r.2)) (second_at kept p.0 (1 + k) e p.1) large,
+    worked_up_to tuples shown r.0 n r.1 r.3 (subst (λ (j : ℕ). IsWithinWork (kept_case c kept) tuples j) r.2 few.1),
+  )
   small (Yes m) No tuples shown r few = absurd r
   small No (Yes n) tuples shown r few = absurd r
-  small No No tuples shown r few = λ k e below stands large.
-      let p = large_kept tuples shown k e stands large in
-      let there = second_at kept p.0 (1 + k) e p.1 in
-      few p.0 e (slice_get_within (map second kept) p.0 e there) there large
+  small No No tuples shown r few = (
+    λ k e below stands large.
+        let p = large_kept tuples shown k e stands large in
+        let there = second_at kept p.0 (1 + k) e p.1 in
+        few.0 p.0 e (slice_get_within (map second kept) p.0 e there) there large,
+    worked_whole tuples shown few.1,
+  )
+
+  -- the chain that is too large, or whose work is, is that of the entry in the list
+  large_there : (tuples : List Tuple) → AreShown c.policy verified c.items tuples → (p place : ℕ) (e : Entry)
+      → slice_get kept p ≡ Some (1 + place, e) → IsLarge (kept_case c kept) tuples e ⊎ IsOverspent (kept_case c kept) tuples p e
+      → IsLarge c tuples e ⊎ IsOverspent c tuples place e
+  large_there tuples shown p place e there (inl h) = inl (record { at = h.at; large = h.large })
+  large_there tuples shown p place e there (inr h) = inr (record {
+    counted = h.counted;
+    before = h.before;
+    before_is = work_front tuples (take place c.entries) kept p h.before
+        (kept_front (IsLeftOut c tuples) 1 c.entries kept p place e (are_kept tuples shown) there) h.before_is;
+    steps = h.steps;
+    within = h.within;
+    here = h.here;
+    here_is = h.here_is;
+    over = h.over;
+  })
 
   too_large : IsTooLarge (kept_case c kept) verified → IsTooLarge c verified
   too_large h =
@@ -231,8 +363,7 @@ module _ (c : Case) (verified : Verified) (kept : List (ℕ × Entry)) (are_kept
             h.none_granted (suc p.0) (omega (arith, before, other)) p.2;
         tuples = h.tuples;
         shown = h.shown;
-        at = h.at;
-        large = h.large;
+        at = large_there h.tuples h.shown h.place at.0 h.entry (here.1 ∙ ap (λ (m : ℕ). Some (m, h.entry)) at.1) h.at;
       }
 
   pub answered : (x y : Result Decision GuardFault) → IsDecided (kept_case c kept) verified x → IsSameAnswer kept x y → IsDecided c verified y

@@ -1,11 +1,14 @@
-pub mod Standing
-pub mod Asked
+pub mod CertificateTests
+pub mod ListedSignatures
+pub mod Charges
 pub mod EntryChains
 pub mod KeptEntries
 pub mod Explanations
 pub mod OneDecision
 pub mod Examples
-pub mod Memberships
+pub mod ChainRequirements
+pub mod StepNodes
 pub mod Audited
 pub mod Monotony
 pub mod Costs
+pub mod Until

@@ -1,5 +1,5 @@
 -- What more or fewer entries, narrower tuples and another moment change of what is granted.
-use Rattle.std.proofs.Common.{◌≡◌, ◌≢◌, inl, inr, ℕ, zero, suc, ◌<◌, ◌≤◌, Bool, true, List, [], ◌∷◌, ◌++◌, length, Some, Result, Ok, Err, slice_get, flat_map, refl, sym, ◌∙◌, ap, subst, arith}
+use Rattle.std.proofs.Common.{◌≡◌, ◌≢◌, inl, inr, ℕ, zero, suc, ◌<◌, ◌≤◌, Bool, true, List, [], ◌∷◌, ◌++◌, length, Some, Result, Ok, Err, slice_get, flat_map, refl, sym, ◌∙◌, ap, subst, arith, ◌⊎◌, take, map}
 use Rattle.std.specs.List.{AllZip, list_all}
 use Rattle.std.proofs.lemmas.Bool.{and_parts, and_from, cases_lt}
 use Rattle.std.proofs.lemmas.List.Folds.{list_all-append}
@@ -20,12 +20,16 @@ use Rattle.spki_decision.specs.declared.decision.Decision.{Decision}
 use Rattle.spki_decision.specs.declared.decision.Decision.TheVariants.{Yes, No}
 use Rattle.spki_decision.specs.declared.fault.GuardFault.{GuardFault}
 use Rattle.spki_decision.specs.declared.fault.GuardFault.TheVariants.{TooLarge, Memory}
-use Rattle.spki_decision.specs.Standing.{StandsAs, with_entries}
-use Rattle.spki_decision.specs.Granted.{Granted, Supported, IsDecision}
+use Rattle.spki_decision.specs.CertificateTests.{PassesTestsAs, with_entries}
+use Rattle.spki_decision.specs.Granted.{Granted, Supported, IsDecision, IsCharge, IsSumOf, IsEntryWork, IsLarge, IsOverspent}
 use Rattle.spki_decision.specs.Answered.{IsDecided}
-use Rattle.spki_decision.specs.Requirements.{Leads}
+use Rattle.spki_decision.specs.Requirements.{Leads, AreKept, second, kept_case}
+use Rattle.spki_decision.proofs.Charges.{front_of, sum_kept}
+use Rattle.spki_decision.proofs.OneDecision.{unlike}
+use Rattle.spki_decision.proofs.KeptEntries.{from_second, listed}
+use Rattle.std.proofs.Math.Seq.{take-length}
 use Rattle.spki_decision.specs.Audited.{AreAmong, IsNarrower, IsNarrowerFive, IsNarrowerEntry, IsNarrowerCase, at_moment, AreTimely}
-use Rattle.spki_decision.proofs.Memberships.{leads_alone, leads_first, passes, supports}
+use Rattle.spki_decision.proofs.ChainRequirements.{leads_alone, leads_first, passes, supports}
 
 -- ---- places in lists
 
@@ -83,11 +87,36 @@ module _ (c : Case) (verified : Verified) (more : List Entry) where
     | inr few ↦ absurd (none n (granted_already n few d.granted))
   ]
 
+  -- the first entries have the same work
+  same_work : (tuples : List Tuple) (count work : ℕ) → count ≤ length c.entries → IsEntryWork c tuples count work → IsEntryWork longer tuples count work
+  same_work tuples count work few is =
+      subst (λ (xs : List Entry). IsSumOf (IsCharge c.policy c.uncounted tuples) xs work) (sym (front_of c.entries more count few)) is
+
+  same_large : (tuples : List Tuple) (place : ℕ) (e : Entry) → slice_get c.entries place ≡ Some e
+      → IsLarge c tuples e ⊎ IsOverspent c tuples place e → IsLarge longer tuples e ⊎ IsOverspent longer tuples place e
+  same_large tuples place e stands (inl h) = inl (record { at = h.at; large = h.large })
+  same_large tuples place e stands (inr h) =
+      let below = slice_get_within c.entries place e stands in
+      inr (record {
+        counted = h.counted;
+        before = h.before;
+        before_is = same_work tuples place h.before (omega (arith, below)) h.before_is;
+        steps = h.steps;
+        within = h.within;
+        here = h.here;
+        here_is = h.here_is;
+        over = h.over;
+      })
+
   pub decided_longer : (x : Result Decision GuardFault) → IsDecided c verified x → x ≢ Ok No → IsDecided longer verified x
   decided_longer (Ok (Yes n)) d other = (
     yes_longer n d.0,
-    λ ts shown k e below stands.
-        d.1 ts shown k e below (from_front c.entries more k e (let few = among n d.0.granted in omega arith) stands),
+    λ ts shown.
+        let few = among n d.0.granted in
+        let small = d.1 ts shown in (
+          λ k e below stands. small.0 k e below (from_front c.entries more k e (omega (arith, few, below)) stands),
+          record { work = small.1.work; is = same_work ts n small.1.work few small.1.is; within = small.1.within },
+        ),
   )
   decided_longer (Ok No) d other = absurd (other refl)
   decided_longer (Err TooLarge) d other =
@@ -99,8 +128,7 @@ module _ (c : Case) (verified : Verified) (more : List Entry) where
         none_granted = λ n below g. d.none_granted n below (granted_already n (omega (arith, here, below)) g);
         tuples = d.tuples;
         shown = d.shown;
-        at = d.at;
-        large = d.large;
+        at = same_large d.tuples d.place d.entry d.stands d.at;
       }
   decided_longer (Err Memory) d other = absurd d
 
@@ -120,12 +148,31 @@ module _ (c : Case) (verified : Verified) (some : List Entry) (are : AreAmong so
         supported = g.supported;
       })
 
-  pub decided_shorter : IsDecided c verified (Ok No) → IsDecided (with_entries c some) verified (Ok No)
+-- a part of the list, in its order
+module _ (c : Case) (verified : Verified) (kept : List (ℕ × Entry)) (are : AreKept (λ _. Unit {0}) 1 c.entries kept) where
+  among_all : AreAmong (map second kept) c.entries
+  among_all k e stands =
+      let here = from_second kept k e stands in
+      let at = listed (λ _. Unit {0}) 1 c.entries kept k here.0 e are here.1 in (at.0, at.2)
+
+  pub decided_shorter : IsDecided c verified (Ok No) → IsDecided (kept_case c kept) verified (Ok No)
   decided_shorter d = (
-    no_shorter d.0,
-    λ ts shown k e below stands.
-        let at = are k e stands in
-        d.1 ts shown at.0 e (slice_get_within c.entries at.0 e at.1) at.1,
+    no_shorter c verified (map second kept) among_all d.0,
+    λ ts shown.
+        let all = d.1 ts shown in
+        let charge = IsCharge c.policy c.uncounted ts in
+        let whole : IsSumOf charge c.entries all.1.work =
+        subst (λ (xs : List Entry). IsSumOf charge xs all.1.work) (take-length c.entries) all.1.is in
+        let (work, sum, few) = sum_kept charge (λ _. Unit {0}) 1 c.entries kept all.1.work are whole in (
+          λ k e below stands.
+              let at = among_all k e stands in
+              all.0 at.0 e (slice_get_within c.entries at.0 e at.1) at.1,
+          record {
+            work = work;
+            is = subst (λ (xs : List Entry). IsSumOf charge xs work) (sym (take-length (map second kept))) sum;
+            within = omega (arith, few, all.1.within);
+          },
+        ),
   )
 
 -- ---- narrower tuples
@@ -249,6 +296,15 @@ supported_wider c narrow wide e f is date n zip s =
 
 -- ---- another moment
 
+-- if an entry is granted, the decision is a yes with its number or an earlier one
+pub yes_by : (c : Case) (verified : Verified) (n : ℕ) → Granted n c verified → (d : Decision) → IsDecision c verified d
+    → (m : ℕ) × (d ≡ Yes m) × (m ≤ n)
+yes_by c verified n g (Yes m) d = elim (cases_lt n m) [
+  | inl less ↦ absurd (d.none_before n less g)
+  | inr few ↦ (m, refl, few)
+]
+yes_by c verified n g No d = absurd (d n g)
+
 module _ (c : Case) (moment : List ℕ) where
   pub supported_then : (tuples : List Tuple) (e : Entry) → Supported c tuples e → within moment e.window ≡ true
       → within_each moment (all_windows tuples) ≡ true → Supported (at_moment c moment) tuples e
@@ -264,7 +320,7 @@ module _ (c : Case) (moment : List ℕ) where
   }
 
   module _ (policy : Policy) (keys : List (List ℕ)) (verified : Verified) where
-    windows_then : (n : ℕ) (sequence : List SeqItem) (ts : List Tuple) → AllZip (StandsAs policy keys verified) (certificates_from n sequence) ts
+    windows_then : (n : ℕ) (sequence : List SeqItem) (ts : List Tuple) → AllZip (PassesTestsAs policy keys verified) (certificates_from n sequence) ts
         → AreTimely moment sequence → within_each moment (all_windows ts) ≡ true
     windows_then n [] [] zip a = refl
     windows_then n [] (t ∷ ts) zip a = absurd zip
@@ -305,11 +361,22 @@ module _ (c : Case) (moment : List ℕ) where
 
     -- the decision is still a yes, with this number or an earlier one
     pub yes_then : Granted n c verified → (d : Decision) → IsDecision (at_moment c moment) verified d → (m : ℕ) × (d ≡ Yes m) × (m ≤ n)
-    yes_then g (Yes m) d = elim (cases_lt n m) [
-      | inl less ↦ absurd (d.none_before n less (granted_then g))
-      | inr few ↦ (m, refl, few)
-    ]
-    yes_then g No d = absurd (d n (granted_then g))
+    yes_then g d decided = yes_by (at_moment c moment) verified n (granted_then g) d decided
+
+    -- what is too large, or over the work, does not depend on the moment
+    large_then : (tuples : List Tuple) (p : ℕ) (f : Entry) → IsLarge (at_moment c moment) tuples f ⊎ IsOverspent (at_moment c moment) tuples p f
+        → IsLarge c tuples f ⊎ IsOverspent c tuples p f
+    large_then tuples p f (inl h) = inl (record { at = h.at; large = h.large })
+    large_then tuples p f (inr h) = inr (record {
+      counted = h.counted;
+      before = h.before;
+      before_is = h.before_is;
+      steps = h.steps;
+      within = h.within;
+      here = h.here;
+      here_is = h.here_is;
+      over = h.over;
+    })
 
     -- nor is it refused, if it was not
     pub answer_then : IsDecided c verified (Ok (Yes n)) → (x : Result Decision GuardFault) → IsDecided (at_moment c moment) verified x
@@ -317,7 +384,9 @@ module _ (c : Case) (moment : List ℕ) where
     answer_then d (Ok other) k = let yes = yes_then d.0.granted other k.0 in (yes.0, ap Ok yes.1, yes.2)
     answer_then d (Err TooLarge) k = elim (cases_lt n (suc k.place)) [
       | inl behind ↦ absurd (k.none_granted n behind (granted_then d.0.granted))
-      | inr before ↦ absurd (d.1 k.tuples k.shown k.place k.entry (omega (arith, before)) k.stands k.at)
+      | inr before ↦
+          let small = d.1 k.tuples k.shown in
+          absurd (unlike c k.tuples n small.0 small.1 k.place k.entry (omega (arith, before)) k.stands (large_then k.tuples k.place k.entry k.at))
     ]
     answer_then d (Err Memory) k = absurd k
 

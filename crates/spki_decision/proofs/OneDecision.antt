@@ -1,10 +1,10 @@
 -- A case has one reduction. A text has one decision, one explanation and one reduction, or is refused as too large.
-use Rattle.std.proofs.Common.{◌<◌, arith, suc, ◌≡◌, List, [], ◌∷◌, refl, sym, ap, ◌∙◌, rules, ◌⊎◌, inl, inr, ℕ, Result, Ok, Err, subst}
+use Rattle.std.proofs.Common.{Some, length, slice_get, ◌<◌, arith, suc, ◌≡◌, List, [], ◌∷◌, refl, sym, ap, ◌∙◌, rules, ◌⊎◌, inl, inr, ℕ, Result, Ok, Err, subst}
 use Rattle.std.proofs.lemmas.Option.{slice_get_within}
 use Rattle.spki_case.specs.Case.{Case, Verified, accepted_by, IsCaseText, keys_of, certificates}
 use Rattle.spki_decision.specs.declared.decision.Decision.{Decision}
 use Rattle.spki_decision.specs.declared.decision.Decision.TheVariants.{Yes, No}
-use Rattle.spki_decision.specs.Granted.{IsDecision, IsUnrefused, IsTooLarge, IsEntryFold, AreFolds, IsReduction, IsSameReduction, IsDated, AreDated, AllSmall, IsFirstGranted, IsWithinWork, HasLargeTags, HasMuchWork, SomeTooLarge}
+use Rattle.spki_decision.specs.Granted.{IsDecision, IsUnrefused, IsTooLarge, IsEntryFold, AreFolds, IsReduction, IsSameReduction, IsDated, AreDated, AllSmall, SmallBefore, IsFirstGranted, IsWithinWork, IsLarge, IsOverspent, HasLargeTags, HasMuchWork, SomeTooLarge}
 use Rattle.std.specs.List.{AllZip, AllByRecursion}
 use Rattle.spki_cert.specs.declared.entry.Entry.{Entry}
 use Rattle.spki_cert.specs.Time.{IsLimit}
@@ -16,7 +16,7 @@ use Rattle.spki_decision.specs.declared.reduction.EntryFold.{EntryFold}
 use Rattle.spki_decision.specs.declared.reduction.EntryFold.TheVariants.{Done, Stopped}
 use Rattle.spki_decision.specs.declared.reduction.Reduction.{Reduction}
 use Rattle.spki_decision.specs.declared.reduction.Reduction.TheVariants.{Evidence, Entries}
-use Rattle.spki_decision.proofs.Standing.{one_list}
+use Rattle.spki_decision.proofs.CertificateTests.{one_list}
 use Rattle.spki_decision.proofs.Explanations.{one_failure, are_tagged, one_item, one_explanation}
 use Rattle.spki_case.proofs.OneCase.{text-one}
 use Rattle.spki_decision.specs.declared.fault.GuardFault.{GuardFault}
@@ -24,20 +24,29 @@ use Rattle.spki_decision.specs.declared.fault.GuardFault.TheVariants.{TooLarge, 
 use Rattle.spki_decision.specs.declared.explanation.Explanation.{Explanation}
 use Rattle.spki_decision.specs.declared.explanation.Explanation.TheVariants as explanation
 use Rattle.spki_decision.specs.declared.reduction.Reduction.TheVariants as reduction
-use Rattle.spki_decision.specs.Standing.{AreShown}
+use Rattle.spki_decision.specs.CertificateTests.{AreShown}
 use Rattle.spki_decision.specs.Explained.{IsExplanation, IsSameExplanation}
 use Rattle.spki_decision.specs.Answered.{IsDecided, IsExplained, IsReduced, AreSame}
-use Rattle.spki_decision.proofs.EntryChains.{much}
+use Rattle.spki_decision.proofs.Charges.{not_overspent}
 
 -- ---- a decision that passes no refusal over, and a refusal: a case has at most one of them
+
+-- where so many entries are small and within their work, none of them is too large or over it
+pub unlike : (c : Case) (tuples : List Tuple) (count : ℕ) → SmallBefore c tuples count → IsWithinWork c tuples count → (place : ℕ) (e : Entry)
+    → place < count → slice_get c.entries place ≡ Some e → IsLarge c tuples e ⊎ IsOverspent c tuples place e → ⊥
+unlike c tuples count small worked place e below stands (inl h) = small place e below stands h.at
+unlike c tuples count small worked place e below stands (inr h) = not_overspent c tuples place count e below stands worked h
 
 pub not_both : (c : Case) (verified : Verified) (d : Decision) → IsDecision c verified d → IsUnrefused c verified d
     → ¬ IsTooLarge c verified
 not_both c verified (Yes n) decision small large =
     let behind : ¬ (n < suc large.place) = λ less. large.none_granted n less decision.granted in
-    small large.tuples large.shown large.place large.entry (omega (arith, behind)) large.stands large.at
+    let up_to = small large.tuples large.shown in
+    unlike c large.tuples n up_to.0 up_to.1 large.place large.entry (omega (arith, behind)) large.stands large.at
 not_both c verified No decision small large =
-    small large.tuples large.shown large.place large.entry (slice_get_within c.entries large.place large.entry large.stands) large.stands large.at
+    let all = small large.tuples large.shown in
+    unlike c large.tuples (length c.entries) all.0 all.1 large.place large.entry
+    (slice_get_within c.entries large.place large.entry large.stands) large.stands large.at
 
 -- ---- a case has one reduction
 
@@ -106,17 +115,18 @@ module _ (c : Case) (verified : Verified) where
   decided_or_large (Err TooLarge) d a b = inr refl
   decided_or_large (Err Memory) d a b = absurd a
 
-  apart : (tuples : List Tuple) → AllSmall c tuples → IsWithinWork c tuples → HasLargeTags c tuples ⊎ HasMuchWork c tuples → ⊥
-  apart tuples small worked (inl large) =
-      small large.place large.entry (slice_get_within c.entries large.place large.entry large.stands) large.stands large.at
-  apart tuples small worked (inr h) = much c tuples worked h
+  apart : (tuples : List Tuple) → AllSmall c tuples → IsWithinWork c tuples (length c.entries) → HasLargeTags c tuples ⊎ HasMuchWork c tuples → ⊥
+  apart tuples small worked (inl h) =
+      unlike c tuples (length c.entries) small worked h.place h.entry (slice_get_within c.entries h.place h.entry h.stands) h.stands (inl h.is)
+  apart tuples small worked (inr h) =
+      unlike c tuples (length c.entries) small worked h.place h.entry (slice_get_within c.entries h.place h.entry h.stands) h.stands (inr h.spent)
 
   -- where no chain is too large, and the work is within its limit, none is refused
-  all_small : (tuples : List Tuple) → AreShown c.policy verified c.items tuples → AllSmall c tuples → IsWithinWork c tuples
+  all_small : (tuples : List Tuple) → AreShown c.policy verified c.items tuples → AllSmall c tuples → IsWithinWork c tuples (length c.entries)
       → SomeTooLarge c verified → ⊥
   all_small tuples shown small worked some =
       let same : some.tuples ≡ tuples = one_list c.policy (keys_of c.items) verified (certificates c.items) some.tuples tuples some.shown shown in
-      apart some.tuples (subst (AllSmall c) (sym same) small) (subst (IsWithinWork c) (sym same) worked) some.large
+      apart some.tuples (subst (AllSmall c) (sym same) small) (subst (λ (ts : List Tuple). IsWithinWork c ts (length c.entries)) (sym same) worked) some.large
 
   pub explained_small : (x : Explanation) → IsExplanation c verified x → SomeTooLarge c verified → ⊥
   explained_small (explanation.Evidence item stop) a some = a.none_shown some.tuples some.shown

@@ -14,7 +14,7 @@ use Rattle.spki_cert.specs.declared.certificate.SeqItem.TheVariants as items
 use Rattle.spki_cert.specs.declared.entry.Entry.{Entry}
 use Rattle.spki_reduce.specs.Reduction.{Tuple, five, four, key, FiveTuple, FourTuple, entry_tuple, in_each, within_each, windows_of}
 use Rattle.spki_case.specs.Case.{Case, Verified, Certificate, auth, name, issuer_of, octets_of, keys_of, certificates, signature_in}
-use Rattle.spki_decision.specs.Standing.{asked, issuer_key, AreShown}
+use Rattle.spki_decision.specs.CertificateTests.{asked, issuer_key, AreShown}
 use Rattle.spki_decision.specs.Granted.{Supported}
 
 -- ---- own signatures
@@ -116,7 +116,7 @@ IsNarrower _ _ = ⊥
 abbrev pub IsNarrowerEntry : Entry → Entry → Type 0
 IsNarrowerEntry narrow wide = IsNarrowerFive (entry_tuple narrow) (entry_tuple wide)
 
--- A case asks what another asks, under its policy. Its entries are no wider, one by one. If each of its certificates stands, each of the
+-- A case asks what another asks, under its policy. Its entries are no wider, one by one. If each of its certificates passes its tests, each of the
 -- other's does, and the tuples are no wider, one by one.
 pub record IsNarrowerCase (verified : Verified) (narrow wide : Case) : Type 0 where
   pub key : narrow.key ≡ wide.key

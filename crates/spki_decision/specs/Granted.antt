@@ -1,14 +1,16 @@
 -- The entries of a case, each with all certificates: which are granted, what each becomes, and what a decision and a
 -- reduction mean (RFC 2693, section 6.3).
-use Rattle.std.specs.Prelude.{◌≡◌, ℕ, suc, ◌<◌, List, Some, length, slice_get, ◌∷◌, ◌⊎◌, zero, ◌+◌, ◌≤◌, []}
+use Rattle.std.specs.Prelude.{◌≡◌, ℕ, suc, ◌<◌, List, Some, length, slice_get, ◌∷◌, ◌⊎◌, ◌+◌, ◌≤◌, [], take, true, false, Option}
 use Rattle.spki_cert.specs.declared.entry.Entry.{Entry}
 use Rattle.spki_reduce.specs.Reduction.{Tuple, five, entry_tuple, IsSupported, nodes_product, own, five_tuple, issuer_of}
-use Rattle.spki_reduce.specs.Chain.{TooLargeAt, all_tags, FoldsTo, HasMet, StopsAt, Excludes, IsWork, IsWorkOf, IsOver}
+use Rattle.spki_reduce.specs.Chain.{TooLargeAt, all_tags, FoldsTo, HasMet, StopsAt, Excludes, IsWork, IsWorkOf, IsOverworked}
+use Rattle.spki_cert.specs.declared.principal.Policy.{Policy}
 use Rattle.spki_case.specs.Case.{Case, Verified, Shown, certificates}
+use Rattle.spki_decision.specs.Spared.{is_spared}
 use Rattle.spki_decision.specs.declared.decision.Decision.{Decision}
 use Rattle.spki_decision.specs.declared.decision.Decision.TheVariants.{Yes, No}
 use Rattle.spki_cert.specs.declared.principal.Policy.TheVariants.{Open, Strict}
-use Rattle.spki_decision.specs.Standing.{AreShown, FailsAt}
+use Rattle.spki_decision.specs.CertificateTests.{AreShown, FailsAt}
 use Rattle.std.specs.List.{AllZip, AllByRecursion}
 use Rattle.spki_cert.specs.Time.{IsLimit}
 use Rattle.spki_reduce.specs.declared.fold.Cause.{Cause}
@@ -42,6 +44,47 @@ abbrev pub Names : Case → List Tuple → Decision → Type 0
 Names c tuples (Yes n) = IsFirstSupported c tuples n
 Names c tuples No = (k : ℕ) (e : Entry) → slice_get c.entries k ≡ Some e → ¬ Supported c tuples e
 
+-- ---- work
+
+-- What an entry, with all certificates, takes of the work that may be done: nothing, if it is spared; otherwise what its steps cost.
+abbrev pub IsCharge : Policy → ℕ → List Tuple → Entry → ℕ → Type 0
+IsCharge policy uncounted tuples e n =
+    ((is_spared uncounted tuples e.tag ≡ true) × (n ≡ 0))
+    ⊎ ((is_spared uncounted tuples e.tag ≡ false) × IsWork policy (five (entry_tuple e)) tuples n)
+
+-- What it takes is more than may still be done.
+abbrev pub IsOvercharged : Policy → ℕ → List Tuple → Entry → Option ℕ → Type 0
+IsOvercharged policy uncounted tuples e left =
+    (is_spared uncounted tuples e.tag ≡ false) × IsOverworked left policy (five (entry_tuple e)) tuples
+
+-- the sum of what is said of each entry
+abbrev pub IsSumOf : (Entry → ℕ → Type 0) → List Entry → ℕ → Type 0
+IsSumOf Is [] n = n ≡ 0
+IsSumOf Is (e ∷ es) n = (here : ℕ) × (behind : ℕ) × Is e here × IsSumOf Is es behind × (n ≡ here + behind)
+
+-- the work of so many entries, each with all certificates
+abbrev pub IsEntryWork : Case → List Tuple → ℕ → ℕ → Type 0
+IsEntryWork c tuples count n = IsSumOf (IsCharge c.policy c.uncounted tuples) (take count c.entries) n
+
+-- The work of so many entries is within the case's limit.
+pub record IsWithinWork (c : Case) (tuples : List Tuple) (count : ℕ) : Type 0 where
+  pub work : ℕ
+  pub is : IsEntryWork c tuples count work
+  pub within : work ≤ c.most_work
+
+-- The work of the entries before a place, and of some steps of the chain of the entry there, is over the case's limit.
+pub record IsOverspent (c : Case) (tuples : List Tuple) (place : ℕ) (entry : Entry) : Type 0 where
+  pub counted : is_spared c.uncounted tuples entry.tag ≡ false
+  pub before : ℕ
+  pub before_is : IsEntryWork c tuples place before
+  pub steps : ℕ
+  pub within : steps ≤ length tuples
+  pub here : ℕ
+  pub here_is : IsWorkOf c.policy (five (entry_tuple entry)) tuples steps here
+  pub over : c.most_work < before + here
+
+-- ---- sizes
+
 -- no entry before a place has a chain that is too large at a step
 abbrev pub SmallBefore : Case → List Tuple → ℕ → Type 0
 SmallBefore c tuples place =
@@ -51,22 +94,23 @@ SmallBefore c tuples place =
 abbrev pub AllSmall : Case → List Tuple → Type 0
 AllSmall c tuples = SmallBefore c tuples (length c.entries)
 
--- no entry up to the one that a decision names has one, or no entry at all
+-- No entry up to the one that a decision names has one, or no entry at all. Their work is within the limit.
 abbrev pub SmallUpTo : Case → List Tuple → Decision → Type 0
-SmallUpTo c tuples (Yes n) = SmallBefore c tuples n
-SmallUpTo c tuples No = AllSmall c tuples
+SmallUpTo c tuples (Yes n) = SmallBefore c tuples n × IsWithinWork c tuples n
+SmallUpTo c tuples No = AllSmall c tuples × IsWithinWork c tuples (length c.entries)
 
--- the chain of an entry is too large at a step, and no entry before it supports the request
+-- The chain of an entry is too large at a step, or the work up to some step of it is over the limit. No entry before it supports the
+-- request.
 pub record HasLarge (c : Case) (tuples : List Tuple) : Type 0 where
   pub place : ℕ
   pub entry : Entry
   pub stands : slice_get c.entries place ≡ Some entry
   pub none_before : NoneBefore c tuples place
-  pub at : TooLargeAt c.most_nodes c.policy (five (entry_tuple entry)) tuples
+  pub at : TooLargeAt c.most_nodes c.policy (five (entry_tuple entry)) tuples ⊎ IsOverspent c tuples place entry
 
 -- ---- what a case grants, in the model
 
--- Entry number n, from 1, is granted (RFC 2693, section 6.3). Every certificate stands. Some derivation from the entry and
+-- Entry number n, from 1, is granted (RFC 2693, section 6.3). Every certificate passes its tests. Some derivation from the entry and
 -- all certificates in their order, in any bracketing, supports the key, the request and the moment.
 pub record Granted (n : ℕ) (c : Case) (verified : Verified) : Type 0 where
   pub place : ℕ
@@ -88,9 +132,14 @@ IsNoneGranted c verified = (n : ℕ) → ¬ Granted n c verified
 
 -- ---- limits
 
--- Every certificate stands, and there is an entry, with no granted entry before it, whose chain is too large at a step. No
--- certificate before that step stops the chain, and the step's certificate joins it except for the tags. So the product of
--- the nodes of the entry's tag and of the tags of all certificates is over the case's limit.
+-- The chain of an entry is too large at a step. No certificate before that step stops the chain, and the step's certificate joins it
+-- except for the tags. So the product of the nodes of the entry's tag and of the tags of all certificates is over the case's limit.
+pub record IsLarge (c : Case) (tuples : List Tuple) (entry : Entry) : Type 0 where
+  pub at : TooLargeAt c.most_nodes c.policy (five (entry_tuple entry)) tuples
+  pub large : c.most_nodes < nodes_product (all_tags (five (entry_tuple entry) ∷ tuples))
+
+-- Every certificate passes its tests, and there is an entry, with no granted entry before it, whose chain is too large at a step, or with which
+-- the work is over its limit.
 pub record IsTooLarge (c : Case) (verified : Verified) : Type 0 where
   pub place : ℕ
   pub entry : Entry
@@ -98,8 +147,7 @@ pub record IsTooLarge (c : Case) (verified : Verified) : Type 0 where
   pub none_granted : (n : ℕ) → n < suc place → ¬ Granted n c verified
   pub tuples : List Tuple
   pub shown : AreShown c.policy verified c.items tuples
-  pub at : TooLargeAt c.most_nodes c.policy (five (entry_tuple entry)) tuples
-  pub large : c.most_nodes < nodes_product (all_tags (five (entry_tuple entry) ∷ tuples))
+  pub at : IsLarge c tuples entry ⊎ IsOverspent c tuples place entry
 
 -- ---- policies
 
@@ -122,14 +170,14 @@ abbrev pub IsYes : Decision → Type 0
 IsYes (Yes n) = Unit {0}
 IsYes No = ⊥
 
--- No refusal was skipped. If every certificate stands, no entry up to the one that is named has a chain that is too large
--- at a step. If every certificate stands and none is named, no entry at all has one.
+-- No refusal was skipped. If every certificate passes its tests, no entry up to the one that is named has a chain that is too large
+-- at a step, and their work is within its limit. If every certificate passes its tests and none is named, this holds of all entries.
 abbrev pub IsUnrefused : Case → Verified → Decision → Type 0
 IsUnrefused c verified d = (tuples : List Tuple) → AreShown c.policy verified c.items tuples → SmallUpTo c tuples d
 
 -- ---- what the entries of a case become, each with all certificates (RFC 2693, section 6.3)
 
--- Not all certificates stand. This item is the first certificate that does not, and this is the first of the four tests that
+-- Not all certificates pass their tests. This item is the first certificate that does not, and this is the first of the four tests that
 -- it does not pass.
 pub record IsFailure (c : Case) (verified : Verified) (item : ℕ) (stop : Stop) : Type 0 where
   pub fails : FailsAt c.policy verified c.items item stop
@@ -158,33 +206,12 @@ abbrev pub IsOwn : EntryFold → Type 0
 IsOwn (Done f) = issuer_of f.issuer ≡ own
 IsOwn (Stopped item cause) = Unit {0}
 
--- ---- work
-
--- the work of so many entries, each with all certificates: the sum of the products of nodes of all tags that are intersected
-abbrev pub IsEntryWork : Case → List Tuple → ℕ → ℕ → Type 0
-IsEntryWork c tuples zero n = n ≡ 0
-IsEntryWork c tuples (suc place) n =
-    (before : ℕ) × (here : ℕ) × (e : Entry) × IsEntryWork c tuples place before × (slice_get c.entries place ≡ Some e)
-    × IsWork c.policy (five (entry_tuple e)) tuples here × (n ≡ before + here)
-
--- The work of all entries is within the case's limit.
-pub record IsWithinWork (c : Case) (tuples : List Tuple) : Type 0 where
-  pub work : ℕ
-  pub is : IsEntryWork c tuples (length c.entries) work
-  pub within : ¬ IsOver c.most_work work
-
 -- The work of some entries, and of some steps of the chain of the next entry, is over the case's limit.
 pub record HasMuchWork (c : Case) (tuples : List Tuple) : Type 0 where
   pub place : ℕ
   pub entry : Entry
   pub stands : slice_get c.entries place ≡ Some entry
-  pub before : ℕ
-  pub before_is : IsEntryWork c tuples place before
-  pub steps : ℕ
-  pub within : steps ≤ length tuples
-  pub here : ℕ
-  pub here_is : IsWorkOf c.policy (five (entry_tuple entry)) tuples steps here
-  pub over : IsOver c.most_work (before + here)
+  pub spent : IsOverspent c tuples place entry
 
 -- ---- reductions
 
@@ -193,18 +220,18 @@ pub record HasMuchWork (c : Case) (tuples : List Tuple) : Type 0 where
 pub record AreFoldsOf (c : Case) (tuples : List Tuple) (folds : List EntryFold) : Type 0 where
   pub each : AllZip (IsEntryFold c tuples) c.entries folds
   pub within_limit : AllSmall c tuples
-  pub worked : IsWithinWork c tuples
+  pub worked : IsWithinWork c tuples (length c.entries)
 
--- Every certificate stands, and for each entry, in order, this is what it becomes with them. No chain is too large at a
+-- Every certificate passes its tests, and for each entry, in order, this is what it becomes with them. No chain is too large at a
 -- step, and the work of all is within the limit.
 pub record AreFolds (c : Case) (verified : Verified) (folds : List EntryFold) : Type 0 where
   pub tuples : List Tuple
   pub shown : AreShown c.policy verified c.items tuples
   pub each : AllZip (IsEntryFold c tuples) c.entries folds
   pub within_limit : AllSmall c tuples
-  pub worked : IsWithinWork c tuples
+  pub worked : IsWithinWork c tuples (length c.entries)
 
--- the first certificate that does not stand, or what the entries become
+-- the first certificate that fails a test, or what the entries become
 abbrev pub IsReduction : Case → Verified → Reduction → Type 0
 IsReduction c verified (Evidence item stop) = IsFailure c verified item stop
 IsReduction c verified (Entries folds) = AreFolds c verified folds.items
@@ -243,10 +270,9 @@ pub record HasLargeTags (c : Case) (tuples : List Tuple) : Type 0 where
   pub place : ℕ
   pub entry : Entry
   pub stands : slice_get c.entries place ≡ Some entry
-  pub at : TooLargeAt c.most_nodes c.policy (five (entry_tuple entry)) tuples
-  pub large : c.most_nodes < nodes_product (all_tags (five (entry_tuple entry) ∷ tuples))
+  pub is : IsLarge c tuples entry
 
--- Every certificate stands. Either the chain of some entry is too large at a step, so the product of the nodes of its tag and of the
+-- Every certificate passes its tests. Either the chain of some entry is too large at a step, so the product of the nodes of its tag and of the
 -- tags of all certificates is over the case's limit. Or the work of the entries is over its limit.
 pub record SomeTooLarge (c : Case) (verified : Verified) : Type 0 where
   pub tuples : List Tuple

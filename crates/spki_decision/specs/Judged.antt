@@ -9,7 +9,7 @@ use Rattle.spki_decision.specs.declared.evidence.Evidence.TheVariants as evidenc
 use Rattle.spki_decision.specs.declared.examination.Unverified.{Unverified}
 use Rattle.spki_decision.specs.declared.examination.Unverified.TheVariants as unverified
 use Rattle.spki_case.specs.Case.{Verified, Certificate, auth, name, Shown, octets_of, signature_in}
-use Rattle.spki_decision.specs.Standing.{AreShown, FailsAt, signed_of, Signed, every, Stands, FailsBy}
+use Rattle.spki_decision.specs.CertificateTests.{AreShown, FailsAt, signed_of, Signed, every, PassesTests, FailsBy}
 use Rattle.spki_cert.specs.declared.certificate.SeqItem.TheVariants.{DoHash, Auth, Name, Signature}
 use Rattle.spki_decision.specs.declared.examination.Tested.{Tested}
 use Rattle.spki_decision.specs.declared.examination.Tested.TheVariants.{Passes, Fails}
@@ -25,7 +25,7 @@ use Rattle.spki_case.specs.Lookups.{at_digest}
 
 -- ---- the evidence of a sequence
 
--- Either each certificate stands, and these are their tuples, in order. Or this is the first that does not stand, with the
+-- Either each certificate passes its tests, and these are their tuples, in order. Or this is the first that fails a test, with the
 -- first test that it does not pass.
 abbrev pub IsEvidence : Policy → Verified → List SeqItem → Evidence → Type 0
 IsEvidence policy verified items (evidence.Verified steps) = AreShown policy verified items (map step_tuple steps.items)
@@ -67,7 +67,7 @@ certificate_at n _ behind = []
 
 -- The certificate passes the first three tests, and this is what a verifier is asked about it.
 pub record PassesAs (policy : Policy) (keys : List (List ℕ)) (shown : Shown) (signed : Signed) : Type 0 where
-  pub stands : Stands policy keys every shown signed.key
+  pub stands : PassesTests policy keys every shown signed.key
   pub signed_is : signed
       ≡ record { item = shown.item; key = signed.key; message = octets_of shown.certificate; value = stands.signature.value }
 

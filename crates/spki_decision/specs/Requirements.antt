@@ -1,22 +1,24 @@
 -- What the certificates of a case require of an entry: the key that its principal names, its subject, tag and window,
 -- and the numbers of nodes for which no step is too large (RFC 2693, sections 6.3 and 6.4).
-use Rattle.std.specs.Prelude.{◌≡◌, ℕ, suc, ◌⊎◌, List, [], ◌∷◌, Option, Some, None, IsTrue, slice_get, map, ◌↔◌, true, Bool, ◌≤◌, false, IfSome, All, Result, Ok, Err}
+use Rattle.std.specs.Prelude.{◌≡◌, ℕ, suc, ◌⊎◌, List, [], ◌∷◌, Option, Some, None, IsTrue, slice_get, map, ◌↔◌, true, Bool, ◌≤◌, ◌<◌, false, MatchOption, Result, Ok, Err}
 use Rattle.spki_cert.specs.declared.principal.Policy.{Policy}
 use Rattle.spki_cert.specs.declared.entry.Entry.{Entry}
 use Rattle.spki_cert.specs.Naming.{names}
 use Rattle.spki_reduce.specs.Reduction.{Issuer, own, key, Tuple, five, four, FiveTuple, IsFor, Joins, Derives, from_left, entry_tuple, tags_of, nodes_product}
 use Rattle.spki_case.specs.Case.{Case, Verified}
-use Rattle.spki_decision.specs.Standing.{AreShown, with_entries}
+use Rattle.spki_decision.specs.CertificateTests.{AreShown, with_entries}
 use Rattle.spki_decision.specs.declared.decision.Decision.{Decision}
 use Rattle.spki_decision.specs.declared.fault.GuardFault.{GuardFault}
 use Rattle.spki_decision.specs.declared.decision.Decision.TheVariants.{Yes, No}
 use Rattle.spki_cert.specs.declared.principal.Principal.{Principal}
 use Rattle.spki_cert.specs.Time.{within}
-use Rattle.spki_tag.specs.Tag.{contains, Tag, tags, nodes_all, some_nests_set}
-use Rattle.spki_decision.specs.declared.membership.Membership.{Membership}
+use Rattle.spki_tag.specs.Tag.{contains, Tag, tags, some_nests_set}
+use Rattle.spki_decision.specs.declared.chain_requirement.ChainRequirement.{ChainRequirement}
 use Rattle.spki_decision.specs.declared.required_subject.RequiredSubject.{RequiredSubject}
 use Rattle.spki_decision.specs.Granted.{Supported}
-use Rattle.spki_reduce.specs.Chain.{all_tags, TooLargeAt}
+use Rattle.spki_reduce.specs.Chain.{all_tags, TooLargeAt, left_of}
+use Rattle.spki_decision.specs.Spared.{nodes_together, most_of_one}
+use Rattle.spki_decision.specs.declared.budget.Budget.{Budget}
 use Rattle.spki_decision.specs.declared.sizes.Sizes.{Sizes}
 use Rattle.spki_decision.specs.declared.sizes.PlainNodes.{PlainNodes}
 
@@ -55,7 +57,7 @@ AreKept Out n (e ∷ es) [] = Out e × AreKept Out (suc n) es []
 AreKept Out n (e ∷ es) (k ∷ ks) =
     (Out e × AreKept Out (suc n) es (k ∷ ks)) ⊎ ((k ≡ (n, e)) × AreKept Out (suc n) es ks)
 
--- If every certificate stands, only entries that may be left out are missing.
+-- If every certificate passes its tests, only entries that may be left out are missing.
 abbrev pub IsKept : Case → Verified → List (ℕ × Entry) → Type 0
 IsKept c verified kept =
     (tuples : List Tuple) → AreShown c.policy verified c.items tuples → AreKept (IsLeftOut c tuples) 1 c.entries kept
@@ -121,27 +123,36 @@ IsRequiredBefore policy tuple required earlier = (t : FiveTuple) → Becomes pol
 
 -- The entries that grant what a case asks, with these tuples after each. Their subject is as required, and the entry's own tag and window
 -- contain the request and the moment. Nothing is required if some tuple does not contain them, and then no entry grants it.
-abbrev pub IsMembership : Case → List Tuple → Membership → Type 0
-IsMembership c tuples membership = (e : Entry) → Supported c tuples e
-    ↔ (IsMetBy c.policy membership.required (entry_tuple e) × (contains e.tag c.request ≡ true) × (within c.moment e.window ≡ true))
+abbrev pub IsChainRequirement : Case → List Tuple → ChainRequirement → Type 0
+IsChainRequirement c tuples requirement = (e : Entry) → Supported c tuples e
+    ↔ (IsMetBy c.policy requirement.required (entry_tuple e) × (contains e.tag c.request ≡ true) × (within c.moment e.window ≡ true))
 
 -- ---- when no step is too large
 
 -- When the numbers of nodes of the certificates' tags show that no step is too large for an entry (RFC 2693, section
 -- 6.3.1).
 
--- No tag of the tuples has a set. They have at most so many nodes together, and those of one tuple have at most so many.
+-- No tag of the tuples has a set. They have so many nodes together, and the largest of them so many.
 pub record ArePlain (tuples : List Tuple) (plain : PlainNodes) : Type 0 where
   pub no_set : some_nests_set (tags (all_tags tuples)) ≡ false
-  pub all_nodes : nodes_all (tags (all_tags tuples)) ≤ plain.all
-  pub each_nodes : All (λ tuple. nodes_product (tags_of tuple) ≤ plain.most) tuples
+  pub all_nodes : plain.all ≡ nodes_together tuples
+  pub most_nodes : plain.most ≡ most_of_one tuples
   pub few : (plain.all ≤ 1000000) × (plain.most ≤ 1000000)
 
--- `product`, if there is one, is the product of the nodes of the tuples' tags, and at most 1,000,000. `plain`, if there is one, is what
--- their nodes are without sets.
+-- `product`, if there is one, is the product of the nodes of the tuples' tags; it is over 1,000,000 if there is none. `plain`, if there is
+-- one, is what their nodes are without sets; there is none if some tag has a set, or all have over 1,000,000 nodes together.
 pub record AreSizes (tuples : List Tuple) (sizes : Sizes) : Type 0 where
-  pub counted : IfSome sizes.product (λ n. (n ≡ nodes_product (all_tags tuples)) × (n ≤ 1000000))
-  pub plain : IfSome sizes.plain (ArePlain tuples)
+  pub counted : MatchOption sizes.product (1000000 < nodes_product (all_tags tuples))
+      (λ n. (n ≡ nodes_product (all_tags tuples)) × (n ≤ 1000000))
+  pub plain : MatchOption sizes.plain ((some_nests_set (tags (all_tags tuples)) ≡ true) ⊎ (1000000 < nodes_together tuples)) (ArePlain tuples)
+
+-- how much work may still be done
+abbrev pub work_left : Budget → Option ℕ
+work_left budget = left_of budget.work
+
+-- the numbers of nodes in a budget are those of the tuples
+abbrev pub IsBudgetFor : List Tuple → Budget → Type 0
+IsBudgetFor tuples budget = AreSizes tuples budget.sizes
 
 -- For each entry with this tag, under each policy, no intersection of its chain is too large.
 pub record IsSmallFor (most : ℕ) (tuples : List Tuple) (tag : Tag) : Type 0 where

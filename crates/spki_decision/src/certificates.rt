@@ -3,7 +3,7 @@
 ghost use Rattle.std.specs.Prelude.{◌≡◌, ◌++◌, map, IfOk, OnOk, MatchOption, option_copied};
 ghost use Rattle.spki_reduce.specs.Reduction.{step_tuple, five_tuple, four_tuple, auth_tuple, name_tuple};
 ghost use Rattle.spki_case.specs.Case.{certificates, signature_in, issuer_of, octets_of};
-ghost use Rattle.spki_decision.specs.Standing.{tuple_of, certificate_of, shown_of};
+ghost use Rattle.spki_decision.specs.CertificateTests.{tuple_of, certificate_of, shown_of};
 ghost use Rattle.spki_decision.specs.Judged.{IsItem, IsOther, is_operation, as_signature, certificate_at};
 
 use spki_cert::{AuthCert, Key, NameCert, Principal, SeqItem, Signature};

@@ -1,20 +1,20 @@
 //! Deciding a case (RFC 2693, section 6).
 
-ghost use Rattle.std.specs.Prelude.{◌↔◌, IfOk, IsErrOf, IsTrue};
+ghost use Rattle.std.specs.Prelude.{◌↔◌, ◌⊎◌, ℕ, IfOk, OnOk, IsErrOf, IsTrue};
 ghost use Rattle.spki_case.specs.View.{model};
 ghost use Rattle.spki_reduce.specs.Reduction.{five, entry_tuple};
-ghost use Rattle.spki_reduce.specs.Chain.{tuples_of, TooLargeAt};
-ghost use Rattle.spki_decision.specs.Granted.{IsYes, Names, HasLarge, SmallUpTo, IsTooLarge, IsDecision, IsUnrefused};
-ghost use Rattle.spki_decision.specs.Requirements.{AreSizes};
+ghost use Rattle.spki_reduce.specs.Chain.{tuples_of, TooLargeAt, Takes};
+ghost use Rattle.spki_decision.specs.Granted.{IsYes, Names, HasLarge, SmallUpTo, IsTooLarge, IsDecision, IsUnrefused, IsCharge, IsOvercharged};
+ghost use Rattle.spki_decision.specs.Requirements.{work_left, IsBudgetFor};
 
+use crate::budget::Budget;
+use crate::chain_requirement::ChainRequirement;
 use crate::entry_chain::fold_entry;
 use crate::evidence::{Evidence, judge};
 use crate::fault::GuardFault;
-use crate::membership::Membership;
-use crate::sizes::Sizes;
 use spki_case::{Case, Verifier};
 use spki_cert::Entry;
-use spki_reduce::{ReduceFault, Step, Work};
+use spki_reduce::{ReduceFault, Step};
 use std::alloc::Global;
 
 /// The answer of a case's access list.
@@ -38,17 +38,17 @@ impl Decision {
     }
 }
 
-/// Decides a case (RFC 2693, section 6). The answer is yes exactly if every certificate of its sequence stands, and an
-/// entry and all certificates, in their order, reduce to an authorization that grants the request. A certificate stands
-/// if it passes the four tests of `Stop`; the last is that the verifier accepts its signature. The case's accepted list
+/// Decides a case (RFC 2693, section 6). The answer is yes exactly if every certificate of its sequence passes its tests, and an
+/// entry and all certificates, in their order, reduce to an authorization that grants the request. The four tests
+/// are those of `Stop`; the last is that the verifier accepts its signature. The case's accepted list
 /// counts only if it is given as the verifier.
 ///
 /// # Errors
 ///
-/// `TooLarge` only if the certificates stand, and for an entry with no granted entry before it the tag of a certificate is
-/// too large for what the entry and the certificates before it became: the product of their nodes is over `most_nodes`.
-/// `Memory` if memory ran out, here or in the verifier.
-#[tactic(auto, using(crate::proofs::EntryChains::one_fails, crate::proofs::Standing::none_shown))]
+/// `TooLarge` only if the certificates pass their tests, and for an entry with no granted entry before it the tag of a certificate is
+/// too large for what the entry and the certificates before it became: the product of their nodes is over `most_nodes`. Or
+/// with this entry the work is over `most_work`. `Memory` if memory ran out, here or in the verifier.
+#[tactic(auto, using(crate::proofs::EntryChains::one_fails, crate::proofs::CertificateTests::none_shown))]
 pub fn decide<V: Verifier>(alloc: Global, case: &Case, verifier: &V) -> Result<Decision, GuardFault>
     ensures exact { IfOk result (IsDecision (model case.now) (V.accepted verifier.now)) }
     ensures too_large { IsErrOf result GuardFault.TooLarge → IsTooLarge (model case.now) (V.accepted verifier.now) }
@@ -76,41 +76,38 @@ fn first_within_limit<'a>(
     ensures too_large { IsErrOf result GuardFault.TooLarge → HasLarge (model case.now) (tuples_of steps.now) }
     ensures within_limit { IfOk result (SmallUpTo (model case.now) (tuples_of steps.now)) }
 {
-    let membership = Membership::of(alloc, case, steps)?;
-    let sizes = Sizes::of(steps);
+    let requirement = ChainRequirement::of(alloc, case, steps)?;
+    let mut budget = Budget::of(case, steps);
     for (index, entry) in case.acl.iter().enumerate() {
-        require_small(alloc, entry, steps, case, &sizes)?;
-        if membership.grants(entry, case) {
+        require_small(alloc, entry, steps, case, &mut budget)?;
+        if requirement.grants(entry, case) {
             return Ok(Decision::Yes(index + 1));
         }
     }
     Ok(Decision::No)
 }
 
-/// Tests that no step's tag is too large to be intersected after this entry. If `sizes`, those of the steps, do not show
-/// it, the entry and the steps are folded. Err is `TooLarge` if a tag is too large, or `Memory`.
+/// Tests that no step's tag is too large to be intersected after this entry, and that the work is within the budget. An entry
+/// that is spared passes. Any other is folded, which takes its work from the budget. Err is `TooLarge`, or `Memory`.
 fn require_small<'a>(
     alloc: Global,
     entry: &Entry<'a>,
     steps: &[Step<'a>],
     case: &Case<'a>,
-    sizes: &Sizes,
+    budget: &mut Budget,
 ) -> Result<(), ReduceFault>
-    requires { AreSizes (tuples_of steps.now) sizes.now }
+    requires { IsBudgetFor (tuples_of steps.now) budget.old }
     ensures too_large { IsErrOf result ReduceFault.TooLarge →
-        TooLargeAt case.now.most_nodes case.now.policy (five (entry_tuple entry.now)) (tuples_of steps.now) }
+        TooLargeAt case.now.most_nodes case.now.policy (five (entry_tuple entry.now)) (tuples_of steps.now)
+        ⊎ IsOvercharged case.now.policy case.now.uncounted (tuples_of steps.now) entry.now (work_left budget.old) }
     ensures within_limit { IfOk result (λ _. ¬ TooLargeAt case.now.most_nodes case.now.policy (five (entry_tuple entry.now)) (tuples_of steps.now)) }
+    ensures charged { OnOk result ((n : ℕ) × IsCharge case.now.policy case.now.uncounted (tuples_of steps.now) entry.now n
+        × Takes (work_left budget.old) (work_left budget.new) n) }
+    ensures sizes { IsBudgetFor (tuples_of steps.now) budget.new }
 {
-    if sizes.are_small(&entry.tag, steps, case.most_nodes) {
+    if budget.sizes.are_small(&entry.tag, steps, case.uncounted) {
         return Ok(());
     }
-    fold_entry(
-        alloc,
-        entry,
-        steps,
-        case.policy,
-        case.most_nodes,
-        &mut Work::new(None),
-    )?;
+    fold_entry(alloc, entry, steps, case, budget)?;
     Ok(())
 }

@@ -2,7 +2,7 @@
 
 ghost use Rattle.std.specs.Prelude.{◌↔◌, map, IfOk, IsTrue};
 ghost use Rattle.spki_case.specs.Case.{AreSigned};
-ghost use Rattle.spki_decision.specs.Standing.{signed_of, IsAccepted, IsFirstRefused};
+ghost use Rattle.spki_decision.specs.CertificateTests.{signed_of, IsAccepted, IsFirstRefused};
 ghost use Rattle.spki_decision.specs.Judged.{IsEvidence};
 
 use crate::examination::examine;
@@ -12,7 +12,7 @@ use spki_cert::{HashAlg, Policy, SeqItem};
 use spki_reduce::Step;
 use std::alloc::{AllocError, Global};
 
-/// Why a certificate does not stand: the first of four tests that it does not pass.
+/// Why a certificate fails verification: the first of four tests that it does not pass (RFC 2693, section 6).
 #[derive(Clone, Copy, Debug, PartialEq, Eq)]
 pub enum Stop {
     /// The issuer is a hash that names no key of the sequence.
@@ -30,7 +30,7 @@ pub enum Stop {
 pub enum Evidence<'a> {
     /// Each of them is verified. These are their tuples, in order.
     Verified(Vec<Step<'a>>),
-    /// The first that does not stand.
+    /// The first that fails a test.
     Fails {
         /// The number of its item, from 1.
         item: usize,
@@ -45,7 +45,7 @@ pub enum Evidence<'a> {
 /// # Errors
 ///
 /// `AllocError` if memory ran out, here or in the verifier.
-#[tactic(auto, using(crate::proofs::Asked::all_accepted, crate::proofs::Asked::refused_within))]
+#[tactic(auto, using(crate::proofs::ListedSignatures::all_accepted, crate::proofs::ListedSignatures::refused_within))]
 pub fn judge<'a, V: Verifier>(
     alloc: Global,
     sequence: &[SeqItem<'a>],
@@ -71,7 +71,7 @@ pub fn judge<'a, V: Verifier>(
 /// # Errors
 ///
 /// `AllocError` if memory ran out in the verifier.
-#[tactic(auto, using(crate::proofs::Asked::refused_here, crate::proofs::Asked::one_more))]
+#[tactic(auto, using(crate::proofs::ListedSignatures::refused_here, crate::proofs::ListedSignatures::one_more))]
 pub fn first_refused<V: Verifier>(
     alloc: Global,
     signed: &[Signed],

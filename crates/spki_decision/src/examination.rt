@@ -7,7 +7,7 @@ ghost use Rattle.spki_cert.specs.declared.certificate.SeqItem.{SeqItem};
 ghost use Rattle.spki_reduce.specs.declared.tuple.Step.{Step};
 ghost use Rattle.spki_reduce.specs.Reduction.{step_tuple};
 ghost use Rattle.spki_case.specs.Case.{AreSigned, certificates, keys_of};
-ghost use Rattle.spki_decision.specs.Standing.{shown_of, signed_of, asked_in, every, tuple_of, certificate_of};
+ghost use Rattle.spki_decision.specs.CertificateTests.{shown_of, signed_of, asked_in, every, tuple_of, certificate_of};
 ghost use Rattle.spki_decision.specs.Judged.{IsEvidence, IsUnverified, IsTested};
 
 use crate::certificates::{Certificate, ShownCert, certificates_of};
@@ -21,7 +21,7 @@ use std::alloc::{AllocError, Global};
 
 /// A sequence whose certificates passed the tests that need no verifier, up to the first that fails one.
 #[derive(Drop)]
-pub struct Examined<'a> {
+pub struct ExaminedSequence<'a> {
     /// The signatures of those that pass, in order: what a verifier is asked about.
     pub signed: Vec<Signed<'a>>,
     /// What the certificates say if all these signatures are valid.
@@ -43,7 +43,7 @@ pub enum Unverified<'a> {
 }
 
 impl<'a> Unverified<'a> {
-    /// The evidence, once every signature of `Examined::signed` is found to be valid.
+    /// The evidence, once every signature of `ExaminedSequence::signed` is found to be valid.
     pub(crate) fn verified(self) -> Evidence<'a>
         ensures { (policy : Policy) (items : List SeqItem) → IsUnverified policy items self.entry
             → IsEvidence policy every items result }
@@ -75,7 +75,7 @@ pub fn examine<'a>(
     alloc: Global,
     sequence: &[SeqItem<'a>],
     policy: Policy,
-) -> Result<Examined<'a>, AllocError>
+) -> Result<ExaminedSequence<'a>, AllocError>
     requires { AreSigned sequence.now }
     ensures asked { IfOk result (λ e.
         map signed_of e.signed.items ≡ asked_in policy (keys_of sequence.now) (certificates sequence.now)) }
@@ -93,7 +93,7 @@ fn examine_by<'a>(
     sequence: &[SeqItem<'a>],
     policy: Policy,
     keys: &mut ShownKeys<'a>,
-) -> Result<Examined<'a>, AllocError>
+) -> Result<ExaminedSequence<'a>, AllocError>
     requires signed { AreSigned sequence.now }
     requires keys { keys.old ≡ keys_of sequence.now }
     ensures asked { IfOk result (λ e.
@@ -110,12 +110,12 @@ fn examine_by<'a>(
                 drop(steps);
                 let item = shown.item;
                 let unverified = Unverified::Fails { item, stop };
-                return Ok(Examined { signed, unverified });
+                return Ok(ExaminedSequence { signed, unverified });
             }
         }
     }
     let unverified = Unverified::Passes(steps);
-    Ok(Examined { signed, unverified })
+    Ok(ExaminedSequence { signed, unverified })
 }
 
 /// Adds the tuple of a certificate whose signature is `one`, and this signature. Err if memory ran out.

@@ -10,7 +10,7 @@ use crate::fault::GuardFault;
 use crate::fold_sink::FoldSink;
 use crate::reduction::{EntryFold, put_folds};
 use spki_case::{Case, Verifier};
-use spki_reduce::{Cause, Denial};
+use spki_reduce::{Cause, MissingGrant};
 use std::alloc::{AllocError, Global};
 
 /// Why an entry and all certificates grant the request or do not.
@@ -36,27 +36,27 @@ pub enum Reason {
 /// Why the entries of a case grant the request or do not.
 #[derive(Drop)]
 pub enum Explanation {
-    /// The first certificate that does not stand. So no entry grants anything.
+    /// The first certificate that fails a test. So no entry grants anything.
     Evidence {
         /// The number of its item, from 1.
         item: usize,
         /// The first test that it does not pass.
         stop: Stop,
     },
-    /// All certificates stand, and these are the entries' reasons, in their order.
+    /// All certificates pass their tests, and these are the entries' reasons, in their order.
     Entries(Vec<Reason>),
 }
 
-/// Explains a case (RFC 2693, section 6). If every certificate of its sequence stands, the answer is for each entry why
+/// Explains a case (RFC 2693, section 6). If every certificate of its sequence passes its tests, the answer is for each entry why
 /// it and all certificates, in their order, grant the request or do not. Otherwise it is the first certificate that
-/// does not stand: it fails a test of `Stop`, of which the last is that the verifier accepts its signature.
+/// fails a test of `Stop`, of which the last is that the verifier accepts its signature.
 ///
 /// The reason is `Grants` for exactly the entries that are granted. `decide` names the first of them.
 ///
 /// # Errors
 ///
-/// `TooLarge` only if the certificates stand, and for some entry the tag of a certificate is too large for what the entry
-/// and the certificates before it became: the product of their nodes is over `most_nodes`. Or these products are together over
+/// `TooLarge` only if the certificates pass their tests, and for some entry the tag of a certificate is too large for what the entry
+/// and the certificates before it became: the product of their nodes is over `most_nodes`. Or the work of the entries is over
 /// `most_work`. `Memory` if memory ran out, here or in the verifier.
 #[tactic(auto, using(crate::proofs::EntryChains::as_many, crate::proofs::EntryChains::all_stand))]
 pub fn explain<V: Verifier>(
@@ -112,20 +112,20 @@ fn fold_reason(case: &Case, fold: EntryFold) -> Reason
     match fold {
         EntryFold::Stopped { item, cause } => Reason::Stopped { item, cause },
         EntryFold::Done(five) => {
-            let denial = five.first_denial(&case.key, &case.request, &case.moment, case.policy);
-            reason_of(denial)
+            let missing = five.missing_grant(&case.key, &case.request, &case.moment, case.policy);
+            reason_of(missing)
         }
     }
 }
 
-/// The reason for the result of the last three tests: `Grants` if there is no denial, otherwise that of the same name.
-fn reason_of(denial: Option<Denial>) -> Reason
-    ensures { result ≡ reason_of denial }
+/// The reason for the result of the last three tests: `Grants` if nothing is missing, otherwise that of the same name.
+fn reason_of(missing: Option<MissingGrant>) -> Reason
+    ensures { result ≡ reason_of missing }
 {
-    match denial {
+    match missing {
         None => Reason::Grants,
-        Some(Denial::NotTheKey) => Reason::NotTheKey,
-        Some(Denial::TagLacks) => Reason::TagLacks,
-        Some(Denial::WindowLacks) => Reason::WindowLacks,
+        Some(MissingGrant::NotTheKey) => Reason::NotTheKey,
+        Some(MissingGrant::TagLacks) => Reason::TagLacks,
+        Some(MissingGrant::WindowLacks) => Reason::WindowLacks,
     }
 }

@@ -6,11 +6,11 @@ use spki_reduce::ReduceFault;
 use std::alloc::{AllocError, AllocFailed};
 use thiserror::Error;
 
-/// Why a case was not decided.
+/// The error of a decision, an explanation or a reduction: why a case has no answer.
 #[derive(Clone, Copy, Debug, PartialEq, Eq, Error)]
 pub enum GuardFault {
     /// The product of the nodes of a certificate's tag and of what the entry and the certificates before it became is over
-    /// the case's `most_nodes`. Or these products are together over its `most_work`.
+    /// the case's `most_nodes`. Or the work of the entries is over its `most_work`.
     #[error("the tags are too large")]
     TooLarge,
     /// Memory ran out, in the guard or in the verifier.

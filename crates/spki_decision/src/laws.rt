@@ -1,7 +1,7 @@
 //! Laws of grants, decisions and explanations.
 //! Each function is a law: it does nothing, and its contract is the fact.
 
-ghost use Rattle.std.specs.Prelude.{◌≡◌, ◌≢◌, ◌⊎◌, ℕ, suc, ◌<◌, ◌≤◌, ◌++◌, length, true, List, Result, Ok, Err, Some, slice_get, drop};
+ghost use Rattle.std.specs.Prelude.{◌≡◌, ◌≢◌, ◌⊎◌, ℕ, suc, ◌<◌, ◌≤◌, ◌++◌, length, true, false, List, Result, Ok, Err, Some, slice_get, drop};
 ghost use Rattle.spki_case.specs.Case.{Case, Certificate, accepted_by, IsCaseText};
 ghost use Rattle.spki_decision.specs.declared.decision.Decision.{Decision};
 ghost use Rattle.spki_decision.specs.declared.decision.Decision.TheVariants.{Yes, No};
@@ -12,21 +12,23 @@ ghost use Rattle.spki_decision.specs.Granted.{Granted, IsTooLarge, strict, opene
 ghost use Rattle.spki_decision.specs.Explained.{IsExplanation, IsSameExplanation, Agrees};
 ghost use Rattle.spki_decision.specs.Answered.{IsDecided, IsExplained, IsReduced, AreSame};
 ghost use Rattle.spki_cert.specs.declared.entry.Entry.{Entry};
-ghost use Rattle.spki_cert.specs.Time.{within};
+ghost use Rattle.spki_cert.specs.Time.{upto, is_until, within};
 ghost use Rattle.spki_tag.specs.Tag.{is_date};
 ghost use Rattle.spki_tag.specs.Request.{IsRequest};
 ghost use Rattle.spki_reduce.specs.Chain.{all_windows, TooLargeAt};
 ghost use Rattle.spki_reduce.specs.Reduction.{Tuple, five, entry_tuple, within_each};
 ghost use Rattle.std.specs.List.{AllZip};
-ghost use Rattle.spki_decision.specs.Standing.{Signed, asked, IsAccepted, AgreeOn, with_entries};
+ghost use Rattle.spki_decision.specs.CertificateTests.{Signed, asked, IsAccepted, AgreeOn, with_entries};
 ghost use Rattle.spki_decision.specs.Audited.{item_of, IsSignedByIssuer, IsHeldThroughout, IsHeldByAll, HaveIssuers, AreAmong, IsNarrower, IsNarrowerEntry, IsNarrowerCase, at_moment, AreTimely};
-ghost use Rattle.spki_decision.specs.Requirements.{IsLeftOut, IsKept, kept_case, IsRenumbered, IsSameAnswer};
+ghost use Rattle.spki_decision.specs.declared.grant.Grant.{Grant};
+ghost use Rattle.spki_decision.specs.Until.{HoldsUntil};
+ghost use Rattle.spki_decision.specs.Requirements.{IsLeftOut, IsKept, AreKept, kept_case, IsRenumbered, IsSameAnswer};
 
 use spki_case::Verifier;
 
 /// For every verifier: what a case grants under the strict policy it grants under the open one. An entry that is granted if
 /// a hash by SHA-1 names no key is also granted if it names keys.
-#[tactic(auto, using(crate::proofs::Standing::granted_openly))]
+#[tactic(auto, using(crate::proofs::CertificateTests::granted_openly))]
 pub fn strict_implies_open<V: Verifier>()
     ensures { (verifier : V) (c : Case) (n : ℕ) → Granted n (strict c) (V.accepted verifier)
         → Granted n (opened c) (V.accepted verifier) }
@@ -115,7 +117,7 @@ pub fn decided_by_kept<V: Verifier>()
 
 /// Two verifiers that agree on the signatures that they are asked about give the same answers, whatever else they accept.
 /// The decision is no if one of these signatures is not accepted.
-#[tactic(auto, using(crate::proofs::Asked::decided_by, crate::proofs::Asked::decision_by, crate::proofs::Asked::explained_by, crate::proofs::Asked::reduced_by, crate::proofs::Asked::no_by, crate::proofs::Asked::none_by))]
+#[tactic(auto, using(crate::proofs::ListedSignatures::decided_by, crate::proofs::ListedSignatures::decision_by, crate::proofs::ListedSignatures::explained_by, crate::proofs::ListedSignatures::reduced_by, crate::proofs::ListedSignatures::no_by, crate::proofs::ListedSignatures::none_by))]
 pub fn asks_whole<V: Verifier>()
     ensures refused { (verifier : V) (c : Case) (place : ℕ) (s : Signed) (x : Result Decision GuardFault)
         → slice_get (asked c) place ≡ Some s → ¬ IsAccepted (V.accepted verifier) s → IsDecided c (V.accepted verifier) x
@@ -163,17 +165,17 @@ pub fn more_entries<V: Verifier>()
         → IsDecision (with_entries c (c.entries ++ more)) (V.accepted verifier) (Yes n) → length c.entries < n }
 {}
 
-/// If no entry of an access list is granted, none is granted of a list that has only entries of it, such as the list with an entry
-/// removed. No chain of these is too large if none is of the whole list.
+/// If no entry of an access list is granted, none is granted of a list that has only entries of it. If the whole list is not refused
+/// as `TooLarge`, the list with some entries removed is not either.
 pub fn fewer_entries<V: Verifier>()
     ensures no { (verifier : V) (c : Case) (some : List Entry) → AreAmong some c.entries → IsDecision c (V.accepted verifier) No
         → IsDecision (with_entries c some) (V.accepted verifier) No }
-    ensures answer { (verifier : V) (c : Case) (some : List Entry) → AreAmong some c.entries → IsDecided c (V.accepted verifier) (Ok No)
-        → IsDecided (with_entries c some) (V.accepted verifier) (Ok No) }
+    ensures answer { (verifier : V) (c : Case) (kept : List (ℕ × Entry)) → AreKept (λ _. Unit {0}) 1 c.entries kept
+        → IsDecided c (V.accepted verifier) (Ok No) → IsDecided (kept_case c kept) (V.accepted verifier) (Ok No) }
 {}
 
 /// What narrower tuples support, wider ones support. In a case a smaller tag or a shorter window, of an entry or of a certificate that
-/// stands, grants no other entry, and turns no no into a yes. So does an entry or a certificate that may no longer be delegated. A case
+/// passes its tests, grants no other entry, and turns no no into a yes. So does an entry or a certificate that may no longer be delegated. A case
 /// with narrower entries is a narrower case.
 pub fn narrower<V: Verifier>()
     ensures chain { (c : Case) (narrow wide : List Tuple) (e f : Entry) → IsRequest c.request → is_date c.moment ≡ true
@@ -204,4 +206,14 @@ pub fn other_moment<V: Verifier>()
         → n ≡ suc place → slice_get c.entries place ≡ Some e → within moment e.window ≡ true → AreTimely moment c.items
         → IsDecided c (V.accepted verifier) (Ok (Yes n)) → IsDecided (at_moment c moment) (V.accepted verifier) x
         → (m : ℕ) × (x ≡ Ok (Yes m)) × (m ≤ n) }
+{}
+
+/// A yes holds until the least not-after of the window of its entry and of those of all certificates, definitions of names too. At each moment
+/// from that of the case till then the decision is a yes, with this number or an earlier one. After it this entry is not granted.
+pub fn holds_until<V: Verifier>()
+    ensures yes { (verifier : V) (c : Case) (moment : List ℕ) (grant : Grant) (d : Decision) → HoldsUntil c (Some grant)
+        → upto c.moment moment ≡ true → is_until grant.until moment ≡ true → IsDecision c (V.accepted verifier) (Yes grant.entry)
+        → IsDecision (at_moment c moment) (V.accepted verifier) d → (m : ℕ) × (d ≡ Yes m) × (m ≤ grant.entry) }
+    ensures after { (verifier : V) (c : Case) (moment : List ℕ) (grant : Grant) → HoldsUntil c (Some grant)
+        → is_until grant.until moment ≡ false → ¬ Granted grant.entry (at_moment c moment) (V.accepted verifier) }
 {}

@@ -3,14 +3,16 @@
 ghost use Rattle.std.specs.Prelude.{◌≡◌, List, map, length, IfOk, OnOk, IsErrOf, ◌⊎◌, ℕ};
 ghost use Rattle.std.specs.List.{AllByRecursion};
 ghost use Rattle.spki_case.specs.View.{model};
-ghost use Rattle.spki_decision.specs.Standing.{shown_of, with_entries};
+ghost use Rattle.spki_decision.specs.CertificateTests.{shown_of, with_entries};
 ghost use Rattle.spki_case.specs.Case.{certificates};
 ghost use Rattle.spki_cert.specs.declared.entry.Entry.{Entry};
 ghost use Rattle.spki_reduce.specs.Reduction.{five, entry_tuple};
-ghost use Rattle.spki_reduce.specs.Chain.{tuples_of, TooLargeAt, left_of, Takes, IsWork, IsOverworked};
+ghost use Rattle.spki_reduce.specs.Chain.{tuples_of, TooLargeAt, Takes};
 ghost use Rattle.spki_decision.specs.declared.reduction.EntryFold.{EntryFold};
-ghost use Rattle.spki_decision.specs.Granted.{IsEntryFold, IsOwn, IsReduction, IsDated, EndsAtDate, AreDated, EndAtDates, AreFoldsOf, HasLargeTags, HasMuchWork, SomeTooLarge};
+ghost use Rattle.spki_decision.specs.Granted.{IsEntryFold, IsOwn, IsReduction, IsDated, EndsAtDate, AreDated, EndAtDates, AreFoldsOf, HasLargeTags, HasMuchWork, SomeTooLarge, IsCharge, IsOvercharged};
+ghost use Rattle.spki_decision.specs.Requirements.{work_left, IsBudgetFor};
 
+use crate::budget::Budget;
 use crate::certificates::{ShownCert, certificates_of};
 use crate::entry_chain::fold_entry;
 use crate::evidence::{Evidence, Stop, judge};
@@ -18,7 +20,7 @@ use crate::fault::GuardFault;
 use crate::fold_sink::FoldSink;
 use spki_case::{Case, Verifier};
 use spki_cert::Entry;
-use spki_reduce::{Cause, Five, Fold, Step, Work};
+use spki_reduce::{Cause, Five, Fold, Step};
 use std::alloc::Global;
 
 /// What an entry and all certificates become when they are joined, one after another.
@@ -38,25 +40,25 @@ pub enum EntryFold<'a> {
 /// What a case's entries become.
 #[derive(Drop)]
 pub enum Reduction<'a> {
-    /// The first certificate that does not stand.
+    /// The first certificate that fails a test.
     Evidence {
         /// The number of its item, from 1.
         item: usize,
         /// The first test that it does not pass.
         stop: Stop,
     },
-    /// All certificates stand, and this is what the entries become, in their order.
+    /// All certificates pass their tests, and this is what the entries become, in their order.
     Entries(Vec<EntryFold<'a>>),
 }
 
-/// Reduces a case (RFC 2693, section 6.3). If every certificate of its sequence stands, the answer is for each entry
-/// what it and all certificates, in their order, become. Otherwise it is the first certificate that does not stand. A
-/// certificate stands if it passes the four tests of `Stop`; the last is that the verifier accepts its signature.
+/// Reduces a case (RFC 2693, section 6.3). If every certificate of its sequence passes its tests, the answer is for each entry
+/// what it and all certificates, in their order, become. Otherwise it is the first certificate that fails a test. The
+/// four tests are those of `Stop`; the last is that the verifier accepts its signature.
 ///
 /// # Errors
 ///
-/// `TooLarge` only if the certificates stand, and for some entry the tag of a certificate is too large for what the entry
-/// and the certificates before it became: the product of their nodes is over `most_nodes`. Or these products are together over
+/// `TooLarge` only if the certificates pass their tests, and for some entry the tag of a certificate is too large for what the entry
+/// and the certificates before it became: the product of their nodes is over `most_nodes`. Or the work of the entries is over
 /// `most_work`. `Memory` if memory ran out, here or in the verifier.
 #[tactic(auto, using(crate::proofs::EntryChains::as_many, crate::proofs::EntryChains::all_stand))]
 pub fn reduce_case<'a, V: Verifier>(
@@ -98,31 +100,32 @@ pub(crate) fn put_folds<'a, S: FoldSink<'a>>(
         ⊎ HasMuchWork (with_entries (model case.now) acl.now) (tuples_of steps.now) }
 {
     let shown = certificates_of(alloc, &case.sequence)?;
-    let mut work = Work::new(case.most_work);
+    let mut budget = Budget::of(case, steps);
     for (place, entry) in acl.iter().enumerate() {
-        let fold = entry_fold(alloc, case, entry, &shown, steps, &mut work)?;
+        let fold = entry_fold(alloc, case, entry, &shown, steps, &mut budget)?;
         sink.put(alloc, place + 1, fold)?;
     }
     Ok(())
 }
 
 /// Returns what an entry and the certificates of the case become. `shown` are all of these, in order, and `steps` their
-/// tuples. The products of intersected nodes are taken from `work`.
+/// tuples. The work of an entry that is not spared is taken from the budget.
 ///
 /// # Errors
 ///
-/// `TooLarge` if such a product is over the case's `most_nodes`, or all together are more than `work` allows. `Memory` if memory ran
-/// out.
+/// `TooLarge` if the product of the nodes of two tags is over the case's `most_nodes`, or the work is more than the budget has.
+/// `Memory` if memory ran out.
 pub fn entry_fold<'a>(
     alloc: Global,
     case: &Case<'a>,
     entry: &Entry<'a>,
     shown: &[ShownCert<'_, 'a>],
     steps: &[Step<'a>],
-    work: &mut Work,
+    budget: &mut Budget,
 ) -> Result<EntryFold<'a>, GuardFault>
     requires whole { map shown_of shown.now ≡ certificates case.now.sequence.items }
     requires as_many { length steps.now ≡ length (certificates case.now.sequence.items) }
+    requires sizes { IsBudgetFor (tuples_of steps.now) budget.old }
     ensures exact { (es : List Entry) →
         IfOk result (IsEntryFold (with_entries (model case.now) es) (tuples_of steps.now) entry.now) }
     ensures issuer { IfOk result IsOwn }
@@ -130,12 +133,13 @@ pub fn entry_fold<'a>(
     ensures end { IfOk result EndsAtDate }
     ensures too_large { IsErrOf result GuardFault.TooLarge →
         TooLargeAt case.now.most_nodes case.now.policy (five (entry_tuple entry.now)) (tuples_of steps.now)
-        ⊎ IsOverworked (left_of work.old) case.now.policy (five (entry_tuple entry.now)) (tuples_of steps.now) }
-    ensures worked { OnOk result ((n : ℕ) × IsWork case.now.policy (five (entry_tuple entry.now)) (tuples_of steps.now) n
-        × Takes (left_of work.old) (left_of work.new) n) }
+        ⊎ IsOvercharged case.now.policy case.now.uncounted (tuples_of steps.now) entry.now (work_left budget.old) }
+    ensures charged { OnOk result ((n : ℕ) × IsCharge case.now.policy case.now.uncounted (tuples_of steps.now) entry.now n
+        × Takes (work_left budget.old) (work_left budget.new) n) }
+    ensures same_sizes { IsBudgetFor (tuples_of steps.now) budget.new }
     ensures within_limit { IfOk result (λ fold. ¬ TooLargeAt case.now.most_nodes case.now.policy (five (entry_tuple entry.now)) (tuples_of steps.now)) }
 {
-    match fold_entry(alloc, entry, steps, case.policy, case.most_nodes, work)? {
+    match fold_entry(alloc, entry, steps, case, budget)? {
         Fold::Done(five) => {
             five.window.prove_limits();
             Ok(EntryFold::Done(five))

@@ -156,7 +156,7 @@ impl<'a> RequiredSubject<'a> {
 }
 
 /// The names that remain if those of `front` are removed from the beginning. None if `names` do not begin with them.
-#[tactic(auto, using(crate::proofs::Memberships::begins_more, crate::proofs::Memberships::begins_not, crate::proofs::Costs::names_step))]
+#[tactic(auto, using(crate::proofs::ChainRequirements::begins_more, crate::proofs::ChainRequirements::begins_not, crate::proofs::Costs::names_step))]
 fn names_after<'a, L: Ledger>(
     names: Names<'a>,
     front: &Names,
@@ -189,7 +189,7 @@ fn has_first(names: &Names, name: &Octets) -> bool
 }
 
 /// Whether both have the same names in the same order. Each name of the first and each of its octets is a tick.
-#[tactic(auto, using(crate::proofs::Memberships::same_more, crate::proofs::Costs::names_step))]
+#[tactic(auto, using(crate::proofs::ChainRequirements::same_more, crate::proofs::Costs::names_step))]
 fn are_same_names<L: Ledger>(one: &Names, other: &Names, ticks: &mut Ticks<L>) -> bool
     ensures answer { IsTrue result ↔ (one.now ≡ other.now) }
     ensures cost { ticks.new ≤ ticks.old + names_weight one.now }

@@ -4,7 +4,7 @@ ghost use Rattle.std.specs.Prelude.{◌≡◌, ◌∷◌, [], ℕ, List, IfOk, O
 ghost use Rattle.std.specs.Option.{option_or};
 ghost use Rattle.spki_cert.specs.declared.hash.HashAlg.{HashAlg};
 ghost use Rattle.spki_cert.specs.Naming.{digest_of, is_digest};
-ghost use Rattle.spki_decision.specs.Standing.{issuer_key};
+ghost use Rattle.spki_decision.specs.CertificateTests.{issuer_key};
 ghost use Rattle.spki_case.specs.Lookups.{at_digest};
 ghost use Rattle.spki_decision.specs.Judged.{HasFirstKeys};
 
@@ -52,7 +52,7 @@ impl<'a> ShownKeys<'a> {
 
     /// The key of an issuer: the issuer itself if it is a key, or the first key of the sequence that it names under the
     /// policy. None if there is none. The keys stay the same; an index may be added. Err if memory ran out.
-    #[tactic(auto, using(crate::proofs::Standing::found_none))]
+    #[tactic(auto, using(crate::proofs::CertificateTests::found_none))]
     pub(crate) fn holder(
         &mut self,
         alloc: Global,

@@ -1,10 +1,11 @@
 //! Whether the intersections of a chain are small, by the numbers of nodes of its tags alone.
 
-ghost use Rattle.std.specs.Prelude.{◌≡◌, ◌≤◌, false, List, IsTrue, IfSome};
-ghost use Rattle.spki_tag.specs.Tag.{tags, nodes_all, some_nests_set};
-ghost use Rattle.spki_reduce.specs.Reduction.{Tuple, tags_of, step_tuple, nodes_product};
+ghost use Rattle.std.specs.Prelude.{◌≡◌, ◌≤◌, ◌<◌, ◌⊎◌, false, true, MatchOption};
+ghost use Rattle.spki_tag.specs.Tag.{tags, some_nests_set};
+ghost use Rattle.spki_reduce.specs.Reduction.{tags_of, step_tuple, nodes_product};
 ghost use Rattle.spki_reduce.specs.Chain.{tuples_of, all_tags};
-ghost use Rattle.spki_decision.specs.Requirements.{AreSizes, ArePlain, IsSmallFor};
+ghost use Rattle.spki_decision.specs.Requirements.{AreSizes, ArePlain};
+ghost use Rattle.spki_decision.specs.Spared.{nodes_in, nodes_together, has_small_product, is_plain, is_spared};
 
 use spki_reduce::Step;
 use spki_tag::Tag;
@@ -41,19 +42,36 @@ impl Sizes {
         }
     }
 
-    /// Returns true only if a chain from an entry with this tag intersects no two tags whose product of nodes is over
-    /// `most`; false leaves it open. It tests whether the product of the nodes of all tags is at most `most`. If no tag
-    /// has a set, it is enough that the nodes of all tags together, times those of the largest tag of a certificate,
-    /// are at most `most`. The steps must be those of `of`.
+    /// Whether the numbers of nodes show that a chain from an entry with this tag intersects no two tags whose product of
+    /// nodes is over `most`, which must be at most 1,000,000: whether the product of the nodes of all tags is at most `most`;
+    /// or no tag has a set, and the nodes of all tags together, times those of the largest tag of a certificate, are. The
+    /// steps must be those of `of`.
     pub(crate) fn are_small<'a>(&self, tag: &Tag, steps: &[Step<'a>], most: usize) -> bool
-        requires { AreSizes (tuples_of steps.now) self.now }
-        ensures { IsTrue result → IsSmallFor most (tuples_of steps.now) tag.now }
+        requires sizes { AreSizes (tuples_of steps.now) self.now }
+        requires most { most ≤ 1000000 }
+        ensures { result ≡ is_spared most (tuples_of steps.now) tag.now }
     {
-        if let Some(nodes) = self.product {
-            if tag.nodes() * nodes <= most {
-                return true;
-            }
-        }
+        self.have_small_product(tag, steps, most) || self.are_plain(tag, steps, most)
+    }
+
+    /// Whether the product of the nodes of all tags is at most `most`.
+    fn have_small_product<'a>(&self, tag: &Tag, _steps: &[Step<'a>], most: usize) -> bool
+        requires sizes { AreSizes (tuples_of _steps.now) self.now }
+        requires most { most ≤ 1000000 }
+        ensures { result ≡ has_small_product most (tuples_of _steps.now) tag.now }
+    {
+        let Some(nodes) = self.product else {
+            return false;
+        };
+        tag.nodes() * nodes <= most
+    }
+
+    /// Whether no tag has a set, and the nodes of all tags together, times those of the largest one, are at most `most`.
+    fn are_plain<'a>(&self, tag: &Tag, _steps: &[Step<'a>], most: usize) -> bool
+        requires sizes { AreSizes (tuples_of _steps.now) self.now }
+        requires most { most ≤ 1000000 }
+        ensures { result ≡ is_plain most (tuples_of _steps.now) tag.now }
+    {
         match self.plain {
             None => false,
             Some(plain) => !tag.nests_set() && (tag.nodes() + plain.all) * plain.most <= most,
@@ -63,7 +81,8 @@ impl Sizes {
 
 /// The product of the numbers of nodes of the steps' tags. A definition counts as one node. None if it is over 1,000,000.
 fn product_of(steps: &[Step]) -> Option<usize>
-    ensures { IfSome result (λ n. (n ≡ nodes_product (all_tags (tuples_of steps.now))) × (n ≤ 1000000)) }
+    ensures { MatchOption result (1000000 < nodes_product (all_tags (tuples_of steps.now)))
+        (λ n. (n ≡ nodes_product (all_tags (tuples_of steps.now))) × (n ≤ 1000000)) }
 {
     let mut product = 1;
     for step in steps {
@@ -78,7 +97,8 @@ fn product_of(steps: &[Step]) -> Option<usize>
 /// How many nodes the steps' tags have together, and the largest, at least 1. A name's definition counts as one node.
 /// None if a tag has a set, or they have over 1,000,000.
 fn plain_of(steps: &[Step]) -> Option<PlainNodes>
-    ensures { IfSome result (ArePlain (tuples_of steps.now)) }
+    ensures { MatchOption result ((some_nests_set (tags (all_tags (tuples_of steps.now))) ≡ true) ⊎ (1000000 < nodes_together (tuples_of steps.now)))
+        (ArePlain (tuples_of steps.now)) }
 {
     let mut plain = PlainNodes { all: 0, most: 1 };
     for step in steps {
@@ -99,7 +119,7 @@ fn plain_of(steps: &[Step]) -> Option<PlainNodes>
 
 /// Whether the tag of a step has a set somewhere in it. A name's definition has no tag, so false.
 fn nests_set(step: &Step) -> bool
-    ensures { result ≡ false → some_nests_set (tags (tags_of (step_tuple step.now))) ≡ false }
+    ensures { result ≡ some_nests_set (tags (tags_of (step_tuple step.now))) }
 {
     match step {
         Step::Auth(five) => five.tag.nests_set(),
@@ -110,7 +130,8 @@ fn nests_set(step: &Step) -> bool
 /// How many nodes the tag of a step has. A name's definition has no tag, and counts as one node, like `(*)`.
 fn nodes_in(step: &Step) -> usize
     ensures counted { result ≡ nodes_product (tags_of (step_tuple step.now)) }
-    ensures together { nodes_all (tags (tags_of (step_tuple step.now))) ≤ result }
+    ensures together { result ≡ nodes_in (step_tuple step.now) }
+    ensures some { 0 < result }
     ensures few { result ≤ 1000000 }
 {
     match step {

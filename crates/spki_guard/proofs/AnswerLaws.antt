@@ -105,17 +105,17 @@ err_by command text v (Ok a) t h = tt
 err_by command text v (Err refusal) t h = refused_by command text v refusal t h
 
 -- what is answered to the value is answered to the canonical text
-pub standing_answered : (command : Command) (text : List ℕ) (c : Case) (r : Result Reply Refusal) → IsCaseText text c
+pub canonical_answered : (command : Command) (text : List ℕ) (c : Case) (r : Result Reply Refusal) → IsCaseText text c
     → ((v : Value) → IsCaseText (canon v) c → IfOk r (PrintsAs (AnswersValue command v)))
     → IfOk r (PrintsAs (AnswersRead command text))
-standing_answered command text c r t f =
+canonical_answered command text c r t f =
     answered_by command text t.value r (canonical_text text t.value t.within t.written)
     (f t.value (subst (λ s. IsCaseText s c) t.written t))
 
-pub standing_refused : (command : Command) (text : List ℕ) (c : Case) (r : Result Reply Refusal) → IsCaseText text c
+pub canonical_refused : (command : Command) (text : List ℕ) (c : Case) (r : Result Reply Refusal) → IsCaseText text c
     → ((v : Value) → IsCaseText (canon v) c → IfErr r (λ refusal. RefusesValue command v refusal))
     → IfErr r (λ refusal. RefusesAnswer command text refusal)
-standing_refused command text c r t f =
+canonical_refused command text c r t f =
     err_by command text t.value r (canonical_text text t.value t.within t.written)
     (f t.value (subst (λ s. IsCaseText s c) t.written t))
 

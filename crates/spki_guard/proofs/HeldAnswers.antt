@@ -1,25 +1,27 @@
 -- Answers to a question that is asked of a guard: those of its case. There is one, unless memory ran out.
-use Rattle.std.proofs.Common.{◌≡◌, ◌≢◌, ◌⊎◌, ◌↔◌, ◌<◌, ◌≤◌, ℕ, List, [], Bool, IsTrue, Option, Some, None, length, inl, inr, refl, ap, ◌∙◌, subst, arith, rules, Ok, Err, sym}
+use Rattle.std.proofs.Common.{◌≡◌, ◌≢◌, ◌⊎◌, ◌↔◌, ◌<◌, ◌≤◌, ℕ, List, [], Bool, IsTrue, Option, Some, None, IsSome, length, inl, inr, refl, ap, ◌∙◌, subst, arith, rules, Ok, Err, sym}
 use Rattle.spki_case.specs.Case.{Case}
 use Rattle.spki_decision.specs.declared.decision.Decision.{Decision}
-use Rattle.spki_decision.specs.Standing.{every, with_entries}
+use Rattle.spki_decision.specs.CertificateTests.{every, with_entries}
+use Rattle.spki_decision.specs.declared.grant.Grant.{Grant}
+use Rattle.spki_decision.specs.Until.{decision_of}
 use Rattle.spki_decision.specs.declared.explanation.Explanation.{Explanation}
 use Rattle.spki_decision.specs.Explained.{IsSameExplanation}
 use Rattle.spki_decision.specs.declared.fault.GuardFault.TheVariants.{TooLarge}
-use Rattle.spki_service.specs.AccessLists.{Held, AreEntries}
-use Rattle.spki_service.specs.GuardQuestions.{AskedOf, Decides, DecidesMarked, ExplainsMarked, ReducesMarked, AreReducedMarked, IsReadFrom, IsOpened, AreReduced}
+use Rattle.spki_service.specs.AccessLists.{GuardModel, AreEntries}
+use Rattle.spki_service.specs.GuardQuestions.{PreparedModel, Decides, DecidesMarked, GrantsMarked, ExplainsMarked, ReducesMarked, AreReducedMarked, IsReadFrom, IsOpened, AreReduced}
 use Rattle.spki_service.specs.Questions.{certificates_in, HasFewStrings, IsRefused, IsAskedCase, asked_octets}
-use Rattle.spki_service.specs.declared.opened.Opened.{Opened}
+use Rattle.spki_service.specs.declared.owned_question.OwnedQuestion.{OwnedQuestion}
 use Rattle.spki_service.specs.declared.question.Question.{Question}
 use Rattle.spki_service.specs.declared.question.AskFault.{AskFault}
 use Rattle.spki_service.specs.declared.question.AskFault.TheVariants as faults
 use Rattle.spki_guard.specs.declared.answers.Answer.{Answer}
 use Rattle.spki_guard.specs.declared.answers.Verdict.{Verdict}
-use Rattle.spki_guard.specs.declared.answers.Verdict.TheVariants.{Refused}
+use Rattle.spki_guard.specs.declared.answers.Verdict.TheVariants.{Done, No, Refused}
 use Rattle.spki_guard.specs.declared.question_answers.Query.{Query}
 use Rattle.spki_guard.specs.declared.question_answers.Query.TheVariants.{Decide, Explain, Reduce}
 use Rattle.spki_guard.specs.TextAnswers.{written_by, IsLineOf, RefusesForMemory}
-use Rattle.spki_guard.specs.HeldQuestions.{ReadsQuestion, AnswersAsked, IsUnreadQuestion, IsAnswerHeld, GrantsHeld, MayGrant, refused_question, IsUnreadFor, WritesAsked, IsTooLargeFor, AnswersHeld, beside}
+use Rattle.spki_guard.specs.HeldQuestions.{ReadsQuestion, AnswersAsked, IsUnreadQuestion, IsAnswerHeld, HasGrant, GrantsHeld, MayGrant, refused_question, IsUnreadFor, WritesAsked, IsTooLargeFor, AnswersHeld, beside}
 use Rattle.spki_guard.specs.Lines.{refused_memory, ReportsReduced, IsExplanationReport}
 use Rattle.spki_cert.specs.declared.entry.Entry.{Entry}
 use Rattle.spki_decision.specs.declared.reduction.EntryFold.{EntryFold}
@@ -35,18 +37,18 @@ use Rattle.spki_guard.proofs.OneLine.{decision_line, explanation_line, reported_
 -- ---- answers to questions that are asked of a guard, from those of the questions' cases
 
 -- a question whose parts are within the limit, and are read
-pub reads : (held : Held) (q : Question) (c : Case) → ¬ (held.octets < asked_octets q) → IsAskedCase q c → c.policy ≡ held.policy
-    → c.most_nodes ≡ held.nodes → c.most_work ≡ Some held.work → certificates_in c.items ≤ held.certificates → HasFewStrings held.words q
+pub reads : (held : GuardModel) (q : Question) (c : Case) → ¬ (held.octets < asked_octets q) → IsAskedCase q c → c.policy ≡ held.policy
+    → c.most_nodes ≡ held.nodes → c.most_work ≡ held.work → c.uncounted ≡ 0 → certificates_in c.items ≤ held.certificates → HasFewStrings held.words q
     → ReadsQuestion held q c
-reads held q c within is policy nodes work few few_strings =
-    record { short = omega (arith, within); is = is; policy = policy; nodes = nodes; work = work; few = few; few_strings = few_strings }
+reads held q c within is policy nodes work counted few few_strings =
+    record { short = omega (arith, within); is = is; policy = policy; nodes = nodes; work = work; counted = counted; few = few; few_strings = few_strings }
 
 -- the same for one that was opened
-pub opened_reads : (held : Held) (q : Question) (o : Opened) (a : AskedOf) → IsOpened held q o → IsReadFrom held o.texts a
+pub opened_reads : (held : GuardModel) (q : Question) (o : OwnedQuestion) (a : PreparedModel) → IsOpened held q o → IsReadFrom held o.texts a
     → ReadsQuestion held q a.case
 opened_reads held q o a opened read = search (rules, reads)
 
-pub answered : (query : Query) (held : Held) (q : Question) (marks : List Bool) (a : AskedOf) (x : Answer) → ReadsQuestion held q a.case
+pub answered : (query : Query) (held : GuardModel) (q : Question) (marks : List Bool) (a : PreparedModel) (x : Answer) → ReadsQuestion held q a.case
     → a.texts ≡ held.texts → a.answer ≡ held.answer → a.marks ≡ marks
     → AnswersAsked query a x.verdict (written_by x) ⊎ RefusesForMemory x.verdict (written_by x)
     → IsAnswerHeld query held q marks x.verdict (written_by x)
@@ -55,12 +57,12 @@ answered query held q marks a x read texts most same (inl h) =
     inl (record {
       case_read = a.case;
       read = read;
-      answer = subst (λ (b : AskedOf). AnswersAsked query b x.verdict (written_by x)) beside_is h;
+      answer = subst (λ (b : PreparedModel). AnswersAsked query b x.verdict (written_by x)) beside_is h;
     })
 answered query held q marks a x read texts most same (inr h) = inr (inr h)
 
 -- a question that isn't read, and the line that says why
-pub unread : (held : Held) (q : Question) (fault : AskFault) (verdict : Verdict) (output : List ℕ) → ¬ (held.octets < asked_octets q)
+pub unread : (held : GuardModel) (q : Question) (fault : AskFault) (verdict : Verdict) (output : List ℕ) → ¬ (held.octets < asked_octets q)
     → (fault ≢ faults.Memory → fault ≢ faults.TooLong → IsRefused held.certificates held.words q fault) → fault ≢ faults.TooLong → verdict ≡ Refused
     → (output ≡ refused_question fault) ⊎ (output ≡ refused_memory) → IsUnreadQuestion held q verdict output
 unread held q fault verdict output within is other refused (inr line) = inr (record { verdict_is = refused; line = line })
@@ -83,13 +85,17 @@ unread held q (faults.Moment kind) verdict output within is other refused (inl l
 
 -- ---- a question that was opened
 
-module _ (q : Question) (o : Opened) (opened : IsOpened o.guard q o) (a : AskedOf) (read : IsReadFrom o.guard o.texts a) where
+some_if : (grant : Option Grant) (verdict : Verdict) (output : List ℕ) → IsLineOf (decision_of grant) verdict output → verdict ≡ Done → IsSome grant
+some_if None verdict output line done = absurd (let clash : No ≡ Done = sym line.0 ∙ done in cc)
+some_if (Some grant) verdict output line done = refl
+
+module _ (q : Question) (o : OwnedQuestion) (opened : IsOpened o.guard q o) (a : PreparedModel) (read : IsReadFrom o.guard o.texts a) where
   is_beside : (marks : List Bool) → a.marks ≡ marks → a ≡ beside o.guard a.case marks
   is_beside marks same = λ i. record { texts = read.entries i; case = a.case; answer = read.answer i; marks = same i }
 
   module _ (same : a.marks ≡ o.marks.items) (d : Decision) (decides : DecidesMarked a d) where
     there : DecidesMarked (beside o.guard a.case o.marks.items) d
-    there = subst (λ (b : AskedOf). DecidesMarked b d) (is_beside o.marks.items same) decides
+    there = subst (λ (b : PreparedModel). DecidesMarked b d) (is_beside o.marks.items same) decides
 
     pub opened_decided : (verdict : Verdict) (output : List ℕ) → IsLineOf d verdict output → IsAnswerHeld Decide o.guard q o.marks.items verdict output
     opened_decided verdict output line =
@@ -101,6 +107,18 @@ module _ (q : Question) (o : Opened) (opened : IsOpened o.guard q o) (a : AskedO
       read = opened_reads o.guard q o a opened read;
       granted = record { decision = d; decides = there; answer = is };
     }
+
+  module _ (same : a.marks ≡ o.marks.items) (grant : Option Grant) (grants : GrantsMarked a grant) (verdict : Verdict) where
+    grants_there : GrantsMarked (beside o.guard a.case o.marks.items) grant
+    grants_there = subst (λ (b : PreparedModel). GrantsMarked b grant) (is_beside o.marks.items same) grants
+
+    pub opened_grants : (verdict ≡ Done → IsSome grant) → HasGrant o.guard q o.marks.items verdict grant
+    opened_grants some =
+        record { case_read = a.case; read = opened_reads o.guard q o a opened read; granted = grants_there; some = some }
+
+    -- a line that says yes is that of a grant
+    pub opened_yes : (output : List ℕ) → IsLineOf (decision_of grant) verdict output → HasGrant o.guard q o.marks.items verdict grant
+    opened_yes output line = opened_grants (some_if grant verdict output line)
 
   pub opened_possible : (d : Decision) (said : Bool) → Decides every a d → IsTrue said ↔ IsYes d → MayGrant o.guard q said
   opened_possible d said decides is = record {
@@ -121,9 +139,9 @@ Same x y output line = (x ≡ y) × (output ≡ line)
 
 -- ---- what is read
 
-module _ (held : Held) (q : Question) where
+module _ (held : GuardModel) (q : Question) where
   case_one : (c d : Case) → ReadsQuestion held q c → ReadsQuestion held q d → c ≡ d
-  case_one c d m n = case-one q c d m.is n.is (m.policy ∙ sym n.policy) (m.nodes ∙ sym n.nodes) (m.work ∙ sym n.work)
+  case_one c d m n = case-one q c d m.is n.is (m.policy ∙ sym n.policy) (m.nodes ∙ sym n.nodes) (m.work ∙ sym n.work) (m.counted ∙ sym n.counted)
 
   read_or_not : (c : Case) (fault : AskFault) → ReadsQuestion held q c → ¬ IsUnreadFor held q fault
   read_or_not c fault m (inl (is, long)) = omega (arith, m.short, long)
@@ -144,7 +162,7 @@ module _ (held : Held) (q : Question) where
 
 -- ---- what is answered
 
-module _ (a : AskedOf) (es : List Entry) (are : AreEntries a.texts es) where
+module _ (a : PreparedModel) (es : List Entry) (are : AreEntries a.texts es) where
   abbrev whole : Case
   whole = with_entries a.case es
 
@@ -208,7 +226,7 @@ module _ (a : AskedOf) (es : List Entry) (are : AreEntries a.texts es) where
   answers_one query x y output line (inr m) (inl n) = absurd (writes_or_not query y line n m.large)
   answers_one query x y output line (inr m) (inr n) = (m.verdict_is ∙ sym n.verdict_is, m.line ∙ sym n.line)
 
-module _ (query : Query) (held : Held) (q : Question) (marks : List Bool) (es : List Entry) where
+module _ (query : Query) (held : GuardModel) (q : Question) (marks : List Bool) (es : List Entry) where
   held_one : (x y : Verdict) (output line : List ℕ) → AreEntries held.texts es → AnswersHeld query held q marks x output
       → AnswersHeld query held q marks y line → Same x y output line
   held_one x y output line are m n =

@@ -1,6 +1,6 @@
 -- Questions that are asked of a guard: their answers, where a service marks the signatures that it has verified, and
 -- the lines of their refusals (RFC 2693, section 6).
-use Rattle.std.specs.Prelude.{ℕ, List, [], codes, ◌≡◌, ◌⊎◌, ◌<◌, ◌≤◌, length, Bool, Option, Some, Ok, Err}
+use Rattle.std.specs.Prelude.{ℕ, List, [], codes, ◌≡◌, ◌⊎◌, ◌<◌, ◌≤◌, length, Bool, Option, Some, None, IsSome, Ok, Err}
 use Rattle.spki_service.specs.declared.list_fault.AclFault.{AclFault}
 use Rattle.spki_service.specs.declared.list_fault.AclFault.TheVariants as lists
 use Rattle.spki_service.specs.declared.question.Part.{Part}
@@ -10,16 +10,17 @@ use Rattle.spki_service.specs.declared.question.AskFault.TheVariants as faults
 use Rattle.spki_guard.specs.Lines.{refused_part, refused_text, refused_form, refused_in, refused_memory, tag_kind, kind_name, refused_large, IsExplanationReport, ReportsReduced}
 use Rattle.spki_case.specs.Case.{Case}
 use Rattle.spki_decision.specs.declared.decision.Decision.{Decision}
+use Rattle.spki_decision.specs.declared.grant.Grant.{Grant}
 use Rattle.spki_decision.specs.declared.explanation.Explanation.{Explanation}
 use Rattle.spki_decision.specs.declared.reduction.EntryFold.{EntryFold}
 use Rattle.spki_decision.specs.declared.fault.GuardFault.TheVariants.{TooLarge}
 use Rattle.spki_service.specs.declared.failure.Failure.{Failure}
-use Rattle.spki_service.specs.GuardQuestions.{AskedOf, DecidesMarked, ExplainsMarked, ReducesMarked, AreReducedMarked, IsGranted, IsPossible}
-use Rattle.spki_service.specs.AccessLists.{Held}
+use Rattle.spki_service.specs.GuardQuestions.{PreparedModel, DecidesMarked, ExplainsMarked, ReducesMarked, AreReducedMarked, GrantsMarked, IsGranted, IsPossible}
+use Rattle.spki_service.specs.AccessLists.{GuardModel}
 use Rattle.spki_service.specs.Questions.{certificates_in, HasFewStrings, IsRefused, IsAskedCase, asked_octets}
 use Rattle.spki_service.specs.declared.question.Question.{Question}
 use Rattle.spki_guard.specs.declared.answers.Verdict.{Verdict}
-use Rattle.spki_guard.specs.declared.answers.Verdict.TheVariants.{Refused}
+use Rattle.spki_guard.specs.declared.answers.Verdict.TheVariants.{Done, Refused}
 use Rattle.spki_guard.specs.declared.question_answers.Query.{Query}
 use Rattle.spki_guard.specs.declared.question_answers.Query.TheVariants.{Decide, Explain, Reduce}
 use Rattle.spki_guard.specs.TextAnswers.{IsLineOf, RefusesForMemory}
@@ -61,25 +62,26 @@ refused_question faults.Memory = refused_memory
 -- ---- what is read
 
 -- The question's parts together have no more octets than the guard's limit, and the case is theirs, under the guard's policy and
--- limits of nodes and work. It has no entries of its own, and no more certificates and strings of the request than the guard's limits.
-pub record ReadsQuestion (held : Held) (q : Question) (c : Case) : Type 0 where
+-- limits of nodes and work, which all entries count for. It has no entries of its own, and no more certificates and strings of the request than the guard's limits.
+pub record ReadsQuestion (held : GuardModel) (q : Question) (c : Case) : Type 0 where
   pub short : asked_octets q ≤ held.octets
   pub is : IsAskedCase q c
   pub policy : c.policy ≡ held.policy
   pub nodes : c.most_nodes ≡ held.nodes
-  pub work : c.most_work ≡ Some held.work
+  pub work : c.most_work ≡ held.work
+  pub counted : c.uncounted ≡ 0
   pub few : certificates_in c.items ≤ held.certificates
   pub few_strings : HasFewStrings held.words q
 
 -- the case beside the guard's entries and its limit of the octets of an answer, with these marks
-abbrev pub beside : Held → Case → List Bool → AskedOf
+abbrev pub beside : GuardModel → Case → List Bool → PreparedModel
 beside held c marks = record { texts = held.texts; case = c; answer = held.answer; marks = marks }
 
 -- ---- what is written of it
 
 -- These are the line or lines of what is answered of the case with the guard's entries, by the marks. Those of an explanation or a
 -- reduction are within the guard's limit. The windows that a reduction writes begin and end at dates.
-abbrev pub WritesAsked : Query → AskedOf → Verdict → List ℕ → Type 0
+abbrev pub WritesAsked : Query → PreparedModel → Verdict → List ℕ → Type 0
 WritesAsked Decide a verdict output = (d : Decision) × DecidesMarked a d × IsLineOf d verdict output
 WritesAsked Explain a verdict output =
     (e : Explanation) × ExplainsMarked a (Ok e) × IsExplanationReport e verdict output × (length output ≤ a.answer)
@@ -88,7 +90,7 @@ WritesAsked Reduce a verdict output =
     × ReportsReduced failure folds verdict output × (length output ≤ a.answer)
 
 -- The lines of what is answered have more octets than the guard's limit.
-pub record ExplainsLong (a : AskedOf) : Type 0 where
+pub record ExplainsLong (a : PreparedModel) : Type 0 where
   pub explanation : Explanation
   pub is : ExplainsMarked a (Ok explanation)
   pub verdict : Verdict
@@ -96,7 +98,7 @@ pub record ExplainsLong (a : AskedOf) : Type 0 where
   pub report : IsExplanationReport explanation verdict lines
   pub long : a.answer < length lines
 
-pub record ReducesLong (a : AskedOf) : Type 0 where
+pub record ReducesLong (a : PreparedModel) : Type 0 where
   pub failure : Option Failure
   pub folds : List EntryFold
   pub are : AreReducedMarked a failure folds
@@ -106,7 +108,7 @@ pub record ReducesLong (a : AskedOf) : Type 0 where
   pub long : a.answer < length lines
 
 -- Tags are too large for an answer, or its lines are; for a decision none are.
-abbrev pub IsTooLargeFor : Query → AskedOf → Type 0
+abbrev pub IsTooLargeFor : Query → PreparedModel → Type 0
 IsTooLargeFor Decide a = ⊥
 IsTooLargeFor Explain a = ExplainsMarked a (Err TooLarge) ⊎ ExplainsLong a
 IsTooLargeFor Reduce a = ReducesMarked a (Err TooLarge) ⊎ ReducesLong a
@@ -114,51 +116,64 @@ IsTooLargeFor Reduce a = ReducesMarked a (Err TooLarge) ⊎ ReducesLong a
 -- ---- answers
 
 -- Tags or lines are too large for an answer, and the line says so.
-pub record SaysTooLarge (query : Query) (a : AskedOf) (verdict : Verdict) (output : List ℕ) : Type 0 where
+pub record SaysTooLarge (query : Query) (a : PreparedModel) (verdict : Verdict) (output : List ℕ) : Type 0 where
   pub large : IsTooLargeFor query a
   pub verdict_is : verdict ≡ Refused
   pub line : output ≡ refused_large
 
-abbrev pub AnswersAsked : Query → AskedOf → Verdict → List ℕ → Type 0
+abbrev pub AnswersAsked : Query → PreparedModel → Verdict → List ℕ → Type 0
 AnswersAsked query a verdict output = WritesAsked query a verdict output ⊎ SaysTooLarge query a verdict output
 
 -- The question is read, and this is the answer of its case by the marks.
-pub record AnswersHeld (query : Query) (held : Held) (q : Question) (marks : List Bool) (verdict : Verdict) (output : List ℕ) : Type 0 where
+pub record AnswersHeld (query : Query) (held : GuardModel) (q : Question) (marks : List Bool) (verdict : Verdict) (output : List ℕ) : Type 0 where
   pub case_read : Case
   pub read : ReadsQuestion held q case_read
   pub answer : AnswersAsked query (beside held case_read marks) verdict output
 
 -- why a question is refused: its parts together have too many octets; or they do not, and a part has no reading, or there are too many
 -- certificates or strings
-abbrev pub IsUnreadFor : Held → Question → AskFault → Type 0
+abbrev pub IsUnreadFor : GuardModel → Question → AskFault → Type 0
 IsUnreadFor held q fault =
     ((fault ≡ faults.TooLong) × (held.octets < asked_octets q)) ⊎ ((asked_octets q ≤ held.octets) × IsRefused held.certificates held.words q fault)
 
 -- The question is refused, and the line says why.
-pub record RefusesQuestion (held : Held) (q : Question) (verdict : Verdict) (output : List ℕ) : Type 0 where
+pub record RefusesQuestion (held : GuardModel) (q : Question) (verdict : Verdict) (output : List ℕ) : Type 0 where
   pub fault : AskFault
   pub refused : IsUnreadFor held q fault
   pub verdict_is : verdict ≡ Refused
   pub line : output ≡ refused_question fault
 
 -- The question is refused, or memory ran out.
-abbrev pub IsUnreadQuestion : Held → Question → Verdict → List ℕ → Type 0
+abbrev pub IsUnreadQuestion : GuardModel → Question → Verdict → List ℕ → Type 0
 IsUnreadQuestion held q verdict output = RefusesQuestion held q verdict output ⊎ RefusesForMemory verdict output
 
-abbrev pub IsAnswerHeld : Query → Held → Question → List Bool → Verdict → List ℕ → Type 0
+abbrev pub IsAnswerHeld : Query → GuardModel → Question → List Bool → Verdict → List ℕ → Type 0
 IsAnswerHeld query held q marks verdict output =
     AnswersHeld query held q marks verdict output ⊎ IsUnreadQuestion held q verdict output
 
 -- ---- whether a question is granted
 
 -- The question is read, and this is whether it is granted by the marks.
-pub record GrantsHeld (held : Held) (q : Question) (marks : List Bool) (yes : Bool) : Type 0 where
+pub record GrantsHeld (held : GuardModel) (q : Question) (marks : List Bool) (yes : Bool) : Type 0 where
   pub case_read : Case
   pub read : ReadsQuestion held q case_read
   pub granted : IsGranted (beside held case_read marks) yes
 
+-- The question is read, and this is what is granted by the marks. A verdict that is a yes is a grant.
+pub record HasGrant (held : GuardModel) (q : Question) (marks : List Bool) (verdict : Verdict) (grant : Option Grant) : Type 0 where
+  pub case_read : Case
+  pub read : ReadsQuestion held q case_read
+  pub granted : GrantsMarked (beside held case_read marks) grant
+  pub some : verdict ≡ Done → IsSome grant
+
+-- what is granted, for a decision; an explanation and a reduction grant nothing
+abbrev pub IsGrantFor : Query → GuardModel → Question → List Bool → Verdict → Option Grant → Type 0
+IsGrantFor Decide held q marks verdict grant = HasGrant held q marks verdict grant
+IsGrantFor Explain held q marks verdict grant = grant ≡ None
+IsGrantFor Reduce held q marks verdict grant = grant ≡ None
+
 -- The question is read, and this is whether it is granted if all listed signatures are valid.
-pub record MayGrant (held : Held) (q : Question) (yes : Bool) : Type 0 where
+pub record MayGrant (held : GuardModel) (q : Question) (yes : Bool) : Type 0 where
   pub case_read : Case
   pub read : ReadsQuestion held q case_read
   pub possible : IsPossible (beside held case_read []) yes

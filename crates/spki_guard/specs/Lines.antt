@@ -71,7 +71,7 @@ stop_name stop.DigestDiffers = codes "DigestDiffers"
 stop_name stop.SignerDiffers = codes "SignerDiffers"
 stop_name stop.NotAccepted = codes "NotAccepted"
 
--- the certificate of this item does not stand
+-- the certificate of this item fails a test
 abbrev pub item_line : ℕ → Stop → List ℕ
 item_line item stop = line (codes "item" ∷ decimal item ∷ stop_name stop ∷ [])
 
@@ -255,7 +255,7 @@ abbrev pub IsReductionReport : Reduction → Verdict → List ℕ → Type 0
 IsReductionReport (reduction.Evidence item stop) verdict output = (verdict ≡ No) × (output ≡ item_line item stop)
 IsReductionReport (reduction.Entries folds) verdict output = ReportsFolds folds.items verdict output
 
--- the line of the certificate that does not stand, or those of what the entries become
+-- the line of the certificate that fails a test, or those of what the entries become
 abbrev pub ReportsReduced : Option Failure → List EntryFold → Verdict → List ℕ → Type 0
 ReportsReduced (Some failure) folds verdict output = (verdict ≡ No) × (output ≡ item_line failure.item failure.stop)
 ReportsReduced None folds verdict output = ReportsFolds folds verdict output

@@ -230,7 +230,7 @@ pub(crate) fn reply_to<'o>(
         → IfErr result (λ refusal. RefusesAnswer command text refusal) }
 {
     match source {
-        Source::Standing(own, case) => reply_to_case(alloc, *own, case),
+        Source::CanonicalCase(own, case) => reply_to_case(alloc, *own, case),
         Source::Converted(octets) => reply_to_octets(alloc, command, octets),
     }
 }

@@ -25,7 +25,7 @@ mod tag_printer;
 pub use answers::{Answer, Verdict, answer_text};
 pub use intersection::{IntersectFault, intersect};
 pub use metered_io::Metered;
-pub use opened_answers::{answer_opened, is_granted, is_possible, open_question};
+pub use opened_answers::{OpenedAnswer, answer_opened, is_granted, is_possible, open_question};
 pub use program::run_words;
 pub use question_answers::{Query, refused_list, refused_question};
 pub use runs::run;
@@ -36,8 +36,9 @@ pub use spki_decision::{
     first_named, laws, reduce_case,
 };
 pub use spki_service::{
-    AclFault, AskFault, Asked, Failure, FoldSink, Guard, Limits, Moment, Opened, OwnedSigned, Part,
-    Question, RequestInput, SharedGuard, Signed, Texts,
+    AclFault, AskFault, Failure, FoldSink, Grant, Guard, Limits, Moment, OwnedQuestion,
+    OwnedSigned, Part, PreparedQuestion, Question, RequestInput, SharedGuard, Signed, Texts,
+    last_second,
 };
 pub use spki_words::{Command, WordsFault, command_of};
 pub use statuses::Status;

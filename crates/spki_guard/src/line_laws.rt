@@ -4,7 +4,7 @@
 ghost use Rattle.std.specs.Prelude.{◌≡◌, ◌≢◌, ℕ, List, Bool};
 ghost use Rattle.spki_cert.specs.declared.entry.Entry.{Entry};
 ghost use Rattle.spki_decision.specs.declared.fault.GuardFault.TheVariants as guard;
-ghost use Rattle.spki_service.specs.AccessLists.{Held, AreEntries};
+ghost use Rattle.spki_service.specs.AccessLists.{GuardModel, AreEntries};
 ghost use Rattle.spki_service.specs.declared.question.Question.{Question};
 ghost use Rattle.spki_guard.specs.declared.answers.Refusal.{Refusal};
 ghost use Rattle.spki_guard.specs.declared.answers.Refusal.TheVariants as refusals;
@@ -40,14 +40,14 @@ pub fn one_too_large()
 /// A question that is asked of a guard has one answer by the same marks, unless memory ran out: one output and verdict. So
 /// `answer_opened` returns one answer. It is required that the guard's texts are those of entries, which holds for every guard.
 pub fn one_answer_held()
-    ensures { (query : Query) (held : Held) (q : Question) (marks : List Bool) (es : List Entry) (x y : Verdict) (output line : List ℕ)
+    ensures { (query : Query) (held : GuardModel) (q : Question) (marks : List Bool) (es : List Entry) (x y : Verdict) (output line : List ℕ)
         → AreEntries held.texts es → IsAnswerHeld query held q marks x output → IsAnswerHeld query held q marks y line
         → ¬ RefusesForMemory x output → ¬ RefusesForMemory y line → (x ≡ y) × (output ≡ line) }
 {}
 
 /// A question that is refused has one refusal, unless memory ran out. So `open_question` refuses it in one line.
 pub fn one_refused_question()
-    ensures { (held : Held) (q : Question) (x y : Verdict) (output line : List ℕ)
+    ensures { (held : GuardModel) (q : Question) (x y : Verdict) (output line : List ℕ)
         → IsUnreadQuestion held q x output → IsUnreadQuestion held q y line
         → ¬ RefusesForMemory x output → ¬ RefusesForMemory y line → (x ≡ y) × (output ≡ line) }
 {}

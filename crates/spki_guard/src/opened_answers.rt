@@ -1,14 +1,24 @@
 //! The answers to questions that were opened for a guard, as lines.
-ghost use Rattle.std.specs.Prelude.{IfOk, IfErr};
+ghost use Rattle.std.specs.Prelude.{◌≡◌, None, IfOk, IfErr};
 ghost use Rattle.spki_service.specs.GuardQuestions.{IsOpened, NoneMarked};
 ghost use Rattle.spki_service.specs.declared.question.Question.{Question};
-ghost use Rattle.spki_guard.specs.TextAnswers.{written_by};
-ghost use Rattle.spki_guard.specs.HeldQuestions.{IsAnswerHeld, GrantsHeld, MayGrant, IsUnreadQuestion};
+ghost use Rattle.spki_decision.specs.Until.{decision_of};
+ghost use Rattle.spki_guard.specs.TextAnswers.{IsLineOf, written_by};
+ghost use Rattle.spki_guard.specs.HeldQuestions.{IsAnswerHeld, IsGrantFor, GrantsHeld, MayGrant, IsUnreadQuestion};
 
 use crate::answers::{Answer, decision_line, out_of_memory};
 use crate::question_answers::{Query, answer_asked, refused_question};
-use spki_service::{Opened, Question, SharedGuard};
-use std::alloc::Global;
+use spki_service::{Grant, OwnedQuestion, Question, SharedGuard};
+use std::alloc::{AllocError, Global};
+
+/// The answer to a question that was opened.
+#[derive(Drop)]
+pub struct OpenedAnswer {
+    /// The line or lines, with their verdict.
+    pub answer: Answer,
+    /// What is granted, and until when, for a decision that is a yes. None for each other one, and for an explanation or a reduction.
+    pub grant: Option<Grant>,
+}
 
 /// Reads a question for a guard, into a value that owns all that its answers need. No signature is marked.
 ///
@@ -22,12 +32,12 @@ pub fn open_question(
     alloc: Global,
     guard: &SharedGuard,
     question: &Question,
-) -> Result<Opened, Answer>
+) -> Result<OwnedQuestion, Answer>
     ensures opened { IfOk result (IsOpened guard.now question.now) }
     ensures unmarked { IfOk result (λ o. NoneMarked o.marks.items) }
     ensures refused { IfErr result (λ a. IsUnreadQuestion guard.now question.now a.verdict (written_by a)) }
 {
-    match Opened::open(alloc, guard, question) {
+    match OwnedQuestion::open(alloc, guard, question) {
         Ok(opened) => Ok(opened),
         Err(fault) => Err(refused_question(alloc, fault)),
     }
@@ -39,19 +49,21 @@ pub fn open_question(
 ///
 /// `refused TooLarge` is an answer of `Explain` and `Reduce` alone: an intersection exceeds the guard's limit of nodes, all intersections
 /// together its limit of work, or the lines its limit of octets. If memory ran out, the line is `refused Memory`.
-pub fn answer_opened(alloc: Global, query: Query, opened: &Opened) -> Answer
+pub fn answer_opened(alloc: Global, query: Query, opened: &OwnedQuestion) -> OpenedAnswer
     ensures answer { (q : Question) → IsOpened opened.now.guard q opened.now
-        → IsAnswerHeld query opened.now.guard q opened.now.marks.items result.verdict (written_by result) }
+        → IsAnswerHeld query opened.now.guard q opened.now.marks.items result.answer.verdict (written_by result.answer) }
+    ensures grant { (q : Question) → IsOpened opened.now.guard q opened.now
+        → IsGrantFor query opened.now.guard q opened.now.marks.items result.answer.verdict result.grant }
 {
     match query {
         Query::Decide => decide_opened(alloc, opened),
-        Query::Explain => answer_again(alloc, query, opened),
-        Query::Reduce => answer_again(alloc, query, opened),
+        Query::Explain => undecided(answer_again(alloc, query, opened)),
+        Query::Reduce => undecided(answer_again(alloc, query, opened)),
     }
 }
 
 /// Whether a question that was opened is granted by its marks. Nothing is allocated.
-pub fn is_granted(opened: &Opened) -> bool
+pub fn is_granted(opened: &OwnedQuestion) -> bool
     ensures { (q : Question) → IsOpened opened.now.guard q opened.now → GrantsHeld opened.now.guard q opened.now.marks.items result }
 {
     opened.decide_by().is_yes()
@@ -59,26 +71,39 @@ pub fn is_granted(opened: &Opened) -> bool
 
 /// Whether a question that was opened is granted if all listed signatures are valid. If it is not, no signature has to be verified. True
 /// grants nothing.
-pub fn is_possible(opened: &Opened) -> bool
+pub fn is_possible(opened: &OwnedQuestion) -> bool
     ensures { (q : Question) → IsOpened opened.now.guard q opened.now → MayGrant opened.now.guard q result }
 {
     opened.is_possible()
 }
 
-/// The line of the decision of a question that was opened, or `refused Memory`.
-fn decide_opened(alloc: Global, opened: &Opened) -> Answer
-    ensures { (q : Question) → IsOpened opened.now.guard q opened.now
-        → IsAnswerHeld Query.Decide opened.now.guard q opened.now.marks.items result.verdict (written_by result) }
+/// The line of the decision of a question that was opened, or `refused Memory`, and what is granted.
+fn decide_opened(alloc: Global, opened: &OwnedQuestion) -> OpenedAnswer
+    ensures answer { (q : Question) → IsOpened opened.now.guard q opened.now
+        → IsAnswerHeld Query.Decide opened.now.guard q opened.now.marks.items result.answer.verdict (written_by result.answer) }
+    ensures grant { (q : Question) → IsOpened opened.now.guard q opened.now
+        → IsGrantFor Query.Decide opened.now.guard q opened.now.marks.items result.answer.verdict result.grant }
 {
-    match decision_line(alloc, opened.decide_by()) {
-        Ok(answer) => answer,
-        Err(_) => out_of_memory(),
+    let grant = opened.grant_by();
+    match granted_line(alloc, &grant) {
+        Ok(answer) => OpenedAnswer { answer, grant },
+        Err(_) => OpenedAnswer {
+            answer: out_of_memory(),
+            grant,
+        },
     }
+}
+
+/// The line of the decision with this grant. Err if memory ran out.
+fn granted_line(alloc: Global, grant: &Option<Grant>) -> Result<Answer, AllocError>
+    ensures { IfOk result (λ a. IsLineOf (decision_of grant.now) a.verdict (written_by a)) }
+{
+    decision_line(alloc, Grant::decision(*grant))
 }
 
 /// Reads a question again that was opened, and answers it as `answer_asked` does. If memory runs out, the answer is
 /// `refused Memory`.
-fn answer_again(alloc: Global, query: Query, opened: &Opened) -> Answer
+fn answer_again(alloc: Global, query: Query, opened: &OwnedQuestion) -> Answer
     ensures { (q : Question) → IsOpened opened.now.guard q opened.now
         → IsAnswerHeld query opened.now.guard q opened.now.marks.items result.verdict (written_by result) }
 {
@@ -89,5 +114,15 @@ fn answer_again(alloc: Global, query: Query, opened: &Opened) -> Answer
             answer
         }
         Err(fault) => refused_question(alloc, fault),
+    }
+}
+
+/// An answer that is no decision.
+fn undecided(answer: Answer) -> OpenedAnswer
+    ensures { (result.answer ≡ answer) × (result.grant ≡ None) }
+{
+    OpenedAnswer {
+        answer,
+        grant: None,
     }
 }

@@ -9,7 +9,7 @@ use crate::fold_printer::FoldPrinter;
 use crate::guard_refusals::{push_refused_list, push_refused_question};
 use crate::replies::{Reply, reply_of_explanation, whole_within};
 use spki_decision::GuardFault;
-use spki_service::{AclFault, AskFault, Asked, Failure};
+use spki_service::{AclFault, AskFault, Failure, PreparedQuestion};
 use std::alloc::{AllocError, Global};
 
 /// What a question is asked for.
@@ -37,7 +37,7 @@ pub fn refused_list(alloc: Global, fault: AclFault) -> Answer
 
 /// The answer to a question that was read: the lines of `query`, `refused TooLarge` or `refused Memory`. Exactly the marked signatures are
 /// valid.
-pub(crate) fn answer_asked(alloc: Global, query: Query, read: &Asked) -> Answer
+pub(crate) fn answer_asked(alloc: Global, query: Query, read: &PreparedQuestion) -> Answer
     ensures { AnswersAsked query read.now result.verdict (written_by result) ⊎ RefusesForMemory result.verdict (written_by result) }
 {
     match answer_query(alloc, query, read) {
@@ -48,7 +48,7 @@ pub(crate) fn answer_asked(alloc: Global, query: Query, read: &Asked) -> Answer
 
 /// The lines of `query` for a question that was read. Err is `TooLarge` if an intersection, all of them or the lines exceed the guard's
 /// limits, which a decision never does, or `Memory`.
-fn answer_query(alloc: Global, query: Query, read: &Asked) -> Result<Answer, GuardFault>
+fn answer_query(alloc: Global, query: Query, read: &PreparedQuestion) -> Result<Answer, GuardFault>
     ensures written { IfOk result (λ a. WritesAsked query read.now a.verdict (written_by a)) }
     ensures large { IsErrOf result GuardFault.TooLarge → IsTooLargeFor query read.now }
 {
@@ -60,7 +60,7 @@ fn answer_query(alloc: Global, query: Query, read: &Asked) -> Result<Answer, Gua
 }
 
 /// The line of the decision: `yes entry N` or `no`. Err if memory ran out.
-fn decided(alloc: Global, read: &Asked) -> Result<Answer, AllocError>
+fn decided(alloc: Global, read: &PreparedQuestion) -> Result<Answer, AllocError>
     ensures { IfOk result (λ a. WritesAsked Query.Decide read.now a.verdict (written_by a)) }
 {
     let decision = read.decide_by(alloc)?;
@@ -69,7 +69,7 @@ fn decided(alloc: Global, read: &Asked) -> Result<Answer, AllocError>
 
 /// The lines of the explanation. Err is `TooLarge` if they, an intersection or all of them together exceed the guard's
 /// limits, or `Memory`.
-fn explained(alloc: Global, read: &Asked) -> Result<Answer, GuardFault>
+fn explained(alloc: Global, read: &PreparedQuestion) -> Result<Answer, GuardFault>
     ensures written { IfOk result (λ a. WritesAsked Query.Explain read.now a.verdict (written_by a)) }
     ensures large { IsErrOf result GuardFault.TooLarge → IsTooLargeFor Query.Explain read.now }
 {
@@ -83,7 +83,7 @@ fn explained(alloc: Global, read: &Asked) -> Result<Answer, GuardFault>
 
 /// The lines of the reduction. Err is `TooLarge` if they, an intersection or all of them together exceed the guard's
 /// limits, or `Memory`.
-fn reduced(alloc: Global, read: &Asked) -> Result<Answer, GuardFault>
+fn reduced(alloc: Global, read: &PreparedQuestion) -> Result<Answer, GuardFault>
     ensures written { IfOk result (λ a. WritesAsked Query.Reduce read.now a.verdict (written_by a)) }
     ensures large { IsErrOf result GuardFault.TooLarge → IsTooLargeFor Query.Reduce read.now }
 {

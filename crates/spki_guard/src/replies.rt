@@ -27,7 +27,7 @@ pub(crate) enum Reply<'o> {
     Line(&'o [u8]),
     /// A tag in advanced form and a line feed.
     Tag(Tag),
-    /// The line for a certificate that does not stand.
+    /// The line for a certificate that fails a test.
     Item {
         /// The number of its item, from 1.
         item: usize,

@@ -30,7 +30,7 @@ pub(crate) enum CaseCommand {
 #[derive(Drop)]
 pub(crate) enum Source<'a> {
     /// The case of a text that is canonical, and the command for it.
-    Standing(CaseCommand, Case<'a>),
+    CanonicalCase(CaseCommand, Case<'a>),
     /// The value of the text in the form that the command needs.
     Converted(Vec<u8>),
 }
@@ -49,7 +49,7 @@ pub(crate) fn read_source<'a>(
 {
     if let Some(own) = case_command(command) {
         if let Some(case) = canonical_case(alloc, text)? {
-            return Ok(Source::Standing(own, case));
+            return Ok(Source::CanonicalCase(own, case));
         }
     }
     Ok(Source::Converted(converted(alloc, command, text)?))
@@ -104,7 +104,7 @@ pub(crate) fn canonical_case<'a>(
     alloc: Global,
     text: &'a [u8],
 ) -> Result<Option<Case<'a>>, CaseFault>
-    ensures read { IfOk result (λ standing. IfSome standing (λ case. IsCaseText text.entry.now (model case))) }
+    ensures read { IfOk result (λ found. IfSome found (λ case. IsCaseText text.entry.now (model case))) }
     ensures refused { IfErr result (λ fault. fault ≢ CaseFault.Memory → IsTextOf (λ v. ValueRefused v fault) text.entry.now) }
     ensures long { 1048576 < length text.entry.now → IsOkAnd result IsNone }
 {

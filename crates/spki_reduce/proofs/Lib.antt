@@ -4,5 +4,6 @@ pub mod ReducedForms
 pub mod Chains
 pub mod Through
 pub mod Working
+pub mod Costs
 pub mod Uniqueness
 pub mod WrittenNames

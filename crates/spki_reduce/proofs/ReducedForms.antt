@@ -16,7 +16,7 @@ use Rattle.spki_reduce.specs.declared.fold.Joined.{Joined}
 use Rattle.spki_reduce.specs.declared.fold.Joined.TheVariants.{Done, Stopped}
 use Rattle.spki_reduce.specs.declared.tuple.Five.{Five}
 use Rattle.spki_reduce.specs.declared.tuple.Four.{Four}
-use Rattle.spki_reduce.specs.Reduction.{five, four, SomeMoment, Issues, resolved, linked, five_tuple, four_tuple, FiveTuple, FourTuple, Tuple, tags_of, IsFor, Begins, Joins, Delegate, Resolve, in_each, within_each, NoMoment, met, nodes_product, deepest, issuer_of, own, Grants, IsFirstDenial, IsSupported}
+use Rattle.spki_reduce.specs.Reduction.{five, four, SomeMoment, Issues, resolved, linked, five_tuple, four_tuple, FiveTuple, FourTuple, Tuple, tags_of, IsFor, Begins, Joins, Delegate, Resolve, in_each, within_each, NoMoment, met, nodes_product, deepest, issuer_of, own, Grants, IsMissingGrant, IsSupported}
 use Rattle.spki_reduce.specs.Joining.{JoinButForTags, Stops, IsHandedOn, BecomesFive, BecomesFour, MatchJoined, TooLargeFor, ReducesToFive}
 use Rattle.std.proofs.Math.Nat.{mul-le-mul_right}
 use Rattle.std.proofs.lemmas.List.Folds.{list_all-append}
@@ -25,8 +25,8 @@ use Rattle.std.proofs.lemmas.Grind.{flat_map-append}
 use Rattle.spki_tag.specs.Meet.{meet}
 use Rattle.spki_reduce.specs.Chain.{Reaches, FoldsTo}
 use Rattle.spki_reduce.proofs.Derivations.{from_left-more, from_left-leaves, one_root}
-use Rattle.spki_reduce.specs.declared.last_tests.Denial.{Denial}
-use Rattle.spki_reduce.specs.declared.last_tests.Denial.TheVariants.{NotTheKey, TagLacks, WindowLacks}
+use Rattle.spki_reduce.specs.declared.last_tests.MissingGrant.{MissingGrant}
+use Rattle.spki_reduce.specs.declared.last_tests.MissingGrant.TheVariants.{NotTheKey, TagLacks, WindowLacks}
 
 -- ---- what joins of the code are in the model
 
@@ -271,12 +271,12 @@ never b e f = both_ways b e f
 module _ (policy : Policy) (holder : List ℕ) (request : Request) (moment : List ℕ) where
   -- ---- a root
 
-  granted : (root : FiveTuple) → root.issuer ≡ own → IsFirstDenial policy root holder request moment None
+  granted : (root : FiveTuple) → root.issuer ≡ own → IsMissingGrant policy root holder request moment None
       → Grants policy root holder request moment
   granted root is h = record { issuer = is; whole = h.0.whole; named = h.0.named; asked = h.1; timely = h.2 }
 
-  passed : (root : FiveTuple) (denial : Option Denial) → IsFirstDenial policy root holder request moment denial
-      → Grants policy root holder request moment → IsNone denial
+  passed : (root : FiveTuple) (missing : Option MissingGrant) → IsMissingGrant policy root holder request moment missing
+      → Grants policy root holder request moment → IsNone missing
   passed root (Some NotTheKey) h g = absurd (h (record { whole = g.whole; named = g.named }))
   passed root (Some TagLacks) h g = absurd (both_ways (in_each request root.tags) h.1 g.asked)
   passed root (Some WindowLacks) h g = absurd (both_ways (within_each moment root.windows) h.2 g.timely)
@@ -285,14 +285,14 @@ module _ (policy : Policy) (holder : List ℕ) (request : Request) (moment : Lis
   -- ---- a chain
 
   module _ (f : Five) (first : Tuple) (others : List Tuple) (folds : FoldsTo policy first others f) where
-    supporting : issuer_of f.issuer ≡ own → IsFirstDenial policy folds.root holder request moment None
+    supporting : issuer_of f.issuer ≡ own → IsMissingGrant policy folds.root holder request moment None
         → IsSupported policy first others holder request moment
     supporting is h = search (rules, from_left-leaves, granted)
 
     root_is : IsSupported policy first others holder request moment → Grants policy folds.root holder request moment
     root_is s = search (rules, one_root, from_left-leaves)
 
-    pub supported : (denial : Option Denial) → issuer_of f.issuer ≡ own → IsFirstDenial policy folds.root holder request moment denial
-        → IsNone denial ↔ IsSupported policy first others holder request moment
+    pub supported : (missing : Option MissingGrant) → issuer_of f.issuer ≡ own → IsMissingGrant policy folds.root holder request moment missing
+        → IsNone missing ↔ IsSupported policy first others holder request moment
     supported None is h = (λ _. supporting is h, λ _. refl)
-    supported (Some denial) is h = search (rules, passed, root_is)
+    supported (Some missing) is h = search (rules, passed, root_is)

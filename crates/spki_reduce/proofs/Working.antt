@@ -1,16 +1,23 @@
 -- The work of folding a chain: what a step adds to it, and that a chain has one.
 use Rattle.std.proofs.Common.{◌≡◌, ◌⊎◌, inl, inr, ℕ, zero, suc, ◌+◌, ◌≤◌, ◌<◌, List, ◌∷◌, Option, Some, None, refl, sym, ◌∙◌, ap, subst, arith, add-one, length, take, slice_get, get_or, rules}
 use Rattle.std.proofs.lemmas.Bool.{cases_lt}
+use Rattle.std.proofs.lemmas.Option.{same_Some}
 use Rattle.spki_cert.specs.declared.principal.Policy.{Policy}
 use Rattle.spki_reduce.specs.declared.fold.Cause.{Cause}
 use Rattle.spki_reduce.specs.declared.tuple.Five.{Five}
 use Rattle.spki_reduce.specs.declared.tuple.Step.{Step}
-use Rattle.spki_reduce.specs.Reduction.{Tuple, tags_of, five_tuple, step_tuple, nodes_product}
-use Rattle.spki_reduce.specs.Chain.{tuples_of, FoldsTo, HasMet, StopsAt, Reaches, ReachedAt, IsCost, IsWorkOf, IsCostOf, Takes, IsOver, IsOverworked}
+use Rattle.spki_reduce.specs.Reduction.{Tuple, five, five_tuple, step_tuple, from_left, met}
+use Rattle.spki_tag.specs.Tag.{Tag}
+use Rattle.spki_reduce.specs.Chain.{tuples_of, all_tags, FoldsTo, HasMet, StopsAt, Reaches, ReachedAt, step_cost, IsCost, IsWorkOf, IsCostOf, Takes, IsOver, IsOverworked}
 use Rattle.spki_reduce.proofs.Derivations.{one_root}
 use Rattle.spki_reduce.proofs.ReducedForms.{reaches, reaches_back}
 use Rattle.spki_reduce.proofs.Chains.{step_stands, through}
 use Rattle.spki_reduce.proofs.Through.{AreTagged, unstopped}
+
+-- the same tag and names cost the same
+cost_as : (one other : Tag) (left right : List (List ℕ)) (tuple : Tuple) → one ≡ other → left ≡ right
+    → step_cost one left tuple ≡ step_cost other right tuple
+cost_as one other left right tuple e h = λ i. step_cost (e i) (h i) tuple
 
 -- ---- the code's steps
 
@@ -33,7 +40,7 @@ module _
         before = through steps place within read folds has_met;
         joins = reaches policy folds.root f folds.reduced (step_tuple step) h.0;
       } in
-      inl (at, h.1 ∙ ap (λ t. nodes_product (t ∷ tags_of (step_tuple step))) has_met)
+      inl (at, h.1 ∙ cost_as f.tag _ _ _ (step_tuple step) has_met folds.reduced.names)
   cost_here n (inr h) = inr (λ at. h.0 (back at), h.1)
 
   pub work_here : (so_far n : ℕ) → IsWorkOf policy first (tuples_of steps) place so_far
@@ -76,14 +83,21 @@ module _ (policy : Policy) (first : Tuple) (others : List Tuple) where
   -- ---- one work
 
   one_cost : (place n m : ℕ) → IsCost policy first others place n → IsCost policy first others place m → n ≡ m
-  one_cost place n m (inl h) (inl k) = search rules
+  one_cost place n m (inl h) (inl k) =
+      let same : h.0.tuple ≡ k.0.tuple = same_Some h.0.tuple k.0.tuple (sym h.0.stands ∙ k.0.stands) in
+      let tree = from_left first (take place others) in
+      let fives : five h.0.root ≡ five k.0.root =
+      one_root policy tree tree (five h.0.root) (five k.0.root) refl h.0.before.derived k.0.before.derived in
+      let roots : h.0.root ≡ k.0.root = cc in
+      h.1 ∙ (λ i. step_cost (met (all_tags (first ∷ take place others))) (roots i).names (same i)) ∙ sym k.1
   one_cost place n m (inl h) (inr k) = absurd (k.0 h.0)
   one_cost place n m (inr h) (inl k) = absurd (h.0 k.0)
   one_cost place n m (inr h) (inr k) = h.1 ∙ sym k.1
 
   pub one_work : (steps n m : ℕ) → IsWorkOf policy first others steps n → IsWorkOf policy first others steps m → n ≡ m
   one_work zero n m h k = h ∙ sym k
-  one_work (suc steps) n m h k = search (rules, one_work steps h.0 k.0 h.2 k.2, one_cost)
+  one_work (suc steps) n m h k =
+      omega (arith, one_work steps h.0 k.0 h.2 k.2, one_cost steps h.1 k.1 h.3 k.3, h.4, k.4)
 
   -- the work of fewer steps is at most that of more
   pub grows : (few many n m : ℕ) → few ≤ many → IsWorkOf policy first others few n → IsWorkOf policy first others many m → n ≤ m

@@ -1,9 +1,10 @@
 -- Chains of tuples that are joined from the left (RFC 2693, section 6.3): what a chain becomes, where and why it
 -- stops, and the work of folding it.
-use Rattle.std.specs.Prelude.{◌≡◌, ◌≢◌, ℕ, ◌<◌, suc, List, [], ◌∷◌, Some, map, take, flat_map, slice_get, ◌⊎◌, zero, ◌+◌, ◌≤◌, ◌++◌, length, Option, None}
+use Rattle.std.specs.Prelude.{◌≡◌, ◌≢◌, ℕ, ◌<◌, suc, List, [], ◌∷◌, Some, map, take, flat_map, slice_get, ◌⊎◌, zero, ◌+◌, ◌≤◌, ◌++◌, length, Option, None, ◌*◌, ◌^◌}
 use Rattle.spki_cert.specs.declared.principal.Policy.{Policy}
 use Rattle.spki_tag.specs.Request.{Request, IsRequest}
-use Rattle.spki_tag.specs.Tag.{Tag, set, none}
+use Rattle.spki_tag.specs.Tag.{Tag, nodes, set, none}
+use Rattle.spki_tag.specs.Cost.{weight}
 use Rattle.spki_cert.specs.declared.window.Window.{Window}
 use Rattle.spki_reduce.specs.declared.fold.Cause.{Cause}
 use Rattle.spki_reduce.specs.declared.fold.Cause.TheVariants.{NotIssuer, NotTheName, NoDelegation, NoValidity, NoTag}
@@ -101,9 +102,20 @@ MatchFold (Stopped step cause) P Q = Q step cause
 
 -- ---- the work of a chain
 
--- The work of folding a chain: for each step that is reached, the product of the nodes of the intersection so far and
--- of the step's tag (RFC 2693, section 6.3.1). A definition has no tag, and counts with the nodes of the intersection
--- so far.
+-- The work of folding a chain: for each step that is reached, its cost. It covers what the step compares and copies: nodes and
+-- octets of tags, and names of subjects (RFC 2693, sections 6.3.1 and 6.4).
+
+-- Each node that is intersected with a tag costs 15 for each node of the tag, one for each of its tags, and one for each octet of
+-- their strings.
+unfoldable pub node_cost : List Tag → ℕ
+node_cost [] = 0
+node_cost (tag ∷ tags) = 15 * nodes tag + weight tag + node_cost tags
+
+-- The cost of a step: of joining an authorization with this tag, and with these names in its subject, with a tuple. The names of the
+-- next subject are copied. A definition has no tag; it puts its subject's names before those that are left.
+unfoldable pub step_cost : Tag → List (List ℕ) → Tuple → ℕ
+step_cost tag path (five right) = nodes tag * node_cost right.tags + length right.names
+step_cost tag path (four right) = 1 + length path + length right.names
 
 -- A definition resolves the first name of an authorization's subject, and some moment is within all their windows.
 pub record ResolvesTimely (policy : Policy) (left : FiveTuple) (right : FourTuple) : Type 0 where
@@ -123,11 +135,12 @@ pub record ReachedAt (policy : Policy) (first : Tuple) (others : List Tuple) (pl
   pub before : GoesThrough policy first (take place others) root
   pub joins : Reaches policy root tuple
 
--- The cost of a place: the product of the nodes of its tag and of the intersection of the tags before it; nothing if it is not reached.
+-- The cost of a place: that of joining its tuple with the intersection of the tags before it and the names of the root; nothing if it is
+-- not reached.
 abbrev pub IsCost : Policy → Tuple → List Tuple → ℕ → ℕ → Type 0
 IsCost policy first others place n =
     ((at : ReachedAt policy first others place)
-    × (n ≡ nodes_product (met (all_tags (first ∷ take place others)) ∷ tags_of at.tuple)))
+    × (n ≡ step_cost (met (all_tags (first ∷ take place others))) at.root.names at.tuple))
     ⊎ ((ReachedAt policy first others place → ⊥) × (n ≡ 0))
 
 -- the work of so many steps of a chain: the sum of their costs
@@ -153,6 +166,11 @@ Takes None (Some new) n = ⊥
 Takes (Some old) None n = ⊥
 Takes (Some old) (Some new) n = new + n ≡ old
 
+-- a number as it is counted: None if it is 2^64 or more
+abbrev pub IsNumber : Option ℕ → ℕ → Type 0
+IsNumber None n = 2 ^ 64 ≤ n
+IsNumber (Some counted) n = counted ≡ n
+
 -- it is more than may still be done
 abbrev pub IsOver : Option ℕ → ℕ → Type 0
 IsOver None n = ⊥
@@ -168,8 +186,8 @@ pub record IsOverworked (left : Option ℕ) (policy : Policy) (first : Tuple) (o
 
 -- ---- one step
 
--- the cost of joining an authorization that has this tag with a tuple
+-- the cost of joining an authorization that has this tag with a tuple; 0 if they do not join
 abbrev pub IsCostOf : Policy → FiveTuple → Tag → Tuple → ℕ → Type 0
 IsCostOf policy left tag right n =
-    (Reaches policy left right × (n ≡ nodes_product (tag ∷ tags_of right)))
+    (Reaches policy left right × (n ≡ step_cost tag left.names right))
     ⊎ ((Reaches policy left right → ⊥) × (n ≡ 0))

@@ -11,8 +11,8 @@ use Rattle.std.specs.List.{list_all}
 use Rattle.spki_tag.specs.Request.{Request, IsRequest}
 use Rattle.spki_tag.specs.Meet.{meet}
 use Rattle.spki_cert.specs.Time.{within}
-use Rattle.spki_reduce.specs.declared.last_tests.Denial.{Denial}
-use Rattle.spki_reduce.specs.declared.last_tests.Denial.TheVariants.{NotTheKey, TagLacks, WindowLacks}
+use Rattle.spki_reduce.specs.declared.last_tests.MissingGrant.{MissingGrant}
+use Rattle.spki_reduce.specs.declared.last_tests.MissingGrant.TheVariants.{NotTheKey, TagLacks, WindowLacks}
 use Rattle.spki_cert.specs.declared.entry.Subject.{Subject}
 use Rattle.spki_cert.specs.declared.entry.Entry.{Entry}
 use Rattle.spki_cert.specs.declared.certificate.AuthCert.{AuthCert}
@@ -219,13 +219,13 @@ pub record Supports (policy : Policy) (tree : Tree) (holder : List ℕ) (request
 
 -- The first of three tests that fails. None if all three pass. NotTheKey: the subject has names left or does not name the
 -- key. TagLacks: some tag does not contain the request. WindowLacks: the moment is not within some window.
-abbrev pub IsFirstDenial : Policy → FiveTuple → List ℕ → Request → List ℕ → Option Denial → Type 0
-IsFirstDenial policy root holder request moment (Some NotTheKey) = ¬ IsFor policy root holder
-IsFirstDenial policy root holder request moment (Some TagLacks) =
+abbrev pub IsMissingGrant : Policy → FiveTuple → List ℕ → Request → List ℕ → Option MissingGrant → Type 0
+IsMissingGrant policy root holder request moment (Some NotTheKey) = ¬ IsFor policy root holder
+IsMissingGrant policy root holder request moment (Some TagLacks) =
     IsFor policy root holder × (in_each request root.tags ≡ false)
-IsFirstDenial policy root holder request moment (Some WindowLacks) =
+IsMissingGrant policy root holder request moment (Some WindowLacks) =
     IsFor policy root holder × (in_each request root.tags ≡ true) × (within_each moment root.windows ≡ false)
-IsFirstDenial policy root holder request moment None =
+IsMissingGrant policy root holder request moment None =
     IsFor policy root holder × (in_each request root.tags ≡ true) × (within_each moment root.windows ≡ true)
 
 -- some derivation with these leaves, in any bracketing, supports the key, the request and the moment

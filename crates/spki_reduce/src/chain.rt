@@ -5,13 +5,13 @@ ghost use Rattle.spki_tag.specs.Tag.{set, none};
 ghost use Rattle.spki_reduce.specs.declared.fold.Cause.{Cause};
 ghost use Rattle.spki_reduce.specs.Reduction.{five, tags_of, issuer_of, five_tuple, step_tuple, nodes_product, met};
 ghost use Rattle.spki_reduce.specs.Joining.{Stops, TooLargeFor, BecomesFive, MatchJoined};
-ghost use Rattle.spki_reduce.specs.Chain.{tuples_of, all_tags, FoldsTo, StopsAt, HasMet, TooLargeAt, Excludes, SupportsNothing, MatchFold, left_of, Takes, IsWork, IsOverworked, IsCostOf};
+ghost use Rattle.spki_reduce.specs.Chain.{tuples_of, all_tags, FoldsTo, StopsAt, HasMet, TooLargeAt, Excludes, SupportsNothing, MatchFold, left_of, Takes, IsWork, IsOverworked, IsCostOf, IsNumber};
 
 use crate::fault::ReduceFault;
 use crate::fold::{Fold, Joined};
 use crate::joins::MOST_NODES;
 use crate::tuple::{Five, Step};
-use crate::work::Work;
+use crate::work::{Work, intersection_cost, resolution_cost};
 use spki_cert::Policy;
 use std::alloc::{AllocError, Global};
 
@@ -62,8 +62,7 @@ pub fn fold_chain<'a>(
 }
 
 /// Like `fold_chain`, but consumes `first`, and with `most`, which must be at most 1,000,000, as the limit instead.
-/// Each authorization that joins, whatever the tags are, takes from `work` the product of the numbers of nodes of both
-/// tags. A definition that joins takes the number of nodes of the tag before it.
+/// Each step that joins, whatever the tags are, takes from `work` what `Work` says.
 ///
 /// # Errors
 ///
@@ -135,31 +134,30 @@ impl<'a> Five<'a> {
         })
     }
 
-    /// The cost of joining this authorization with a step, if they join whatever their tags are: the product of the
-    /// numbers of nodes of both tags. A definition has no tag, so it costs the number of nodes of this authorization's
-    /// tag. The cost is 0 if they do not join.
-    fn cost_with(&self, step: &Step<'a>, policy: Policy) -> usize
-        ensures { IsCostOf policy (five_tuple self.now) self.now.tag (step_tuple step.now) result }
+    /// The cost of joining this authorization with a step. None if it is 2^64 or more. 0 if they do not join, whatever their
+    /// tags are.
+    fn cost_with(&self, step: &Step<'a>, policy: Policy) -> Option<usize>
+        ensures { (n : ℕ) × IsNumber result n × IsCostOf policy (five_tuple self.now) self.now.tag (step_tuple step.now) n }
     {
         match step {
             Step::Auth(next) => {
                 if self.window_with(next, policy).is_ok() {
-                    self.tag.nodes() * next.tag.nodes()
+                    intersection_cost(&self.tag, next)
                 } else {
-                    0
+                    Some(0)
                 }
             }
             Step::Name(definition) => {
                 if self.is_resolved_by(definition, policy) {
-                    self.tag.nodes()
+                    resolution_cost(&self.subject, definition)
                 } else {
-                    0
+                    Some(0)
                 }
             }
         }
     }
 
-    /// Joins this authorization with a step: an authorization by `then_within`, a definition by `into_resolve`. `most`,
+    /// Joins this authorization with a step: an authorization by `into_then`, a definition by `into_resolve`. `most`,
     /// which is at most 1,000,000, is the greatest product of the numbers of nodes of two tags that are intersected.
     /// Err is `TooLarge`, only for an authorization, or `Memory`.
     #[tactic(auto, using(crate::proofs::ReducedForms::unrefused))]
@@ -183,11 +181,7 @@ impl<'a> Five<'a> {
         ensures within_limit { IfOk result (λ joined. ¬ TooLargeFor most policy (five_tuple self.entry) (step_tuple step.now)) }
     {
         match step {
-            Step::Auth(next) => {
-                let joined = self.then_within(alloc, next, policy, most);
-                drop(self);
-                joined
-            }
+            Step::Auth(next) => self.into_then(alloc, next, policy, most),
             Step::Name(definition) => self.into_resolve(definition, policy),
         }
     }

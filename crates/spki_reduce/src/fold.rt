@@ -2,7 +2,7 @@
 
 use crate::tuple::Five;
 
-/// Why two tuples do not join. If there are several reasons, the first of them.
+/// Why two tuples do not reduce to one (RFC 2693, section 6.3). If there are several reasons, the first of them.
 #[derive(Clone, Copy, Debug, PartialEq, Eq)]
 pub enum Cause {
     /// The left subject is not the issuer of the right authorization.
@@ -17,7 +17,7 @@ pub enum Cause {
     NoTag,
 }
 
-/// The result of a rule for two tuples.
+/// The reduction of two tuples: the tuple that they become, or why they do not reduce (RFC 2693, section 6.3).
 #[derive(Drop)]
 pub enum Joined<T> {
     /// The tuple that they become.

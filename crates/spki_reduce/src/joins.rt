@@ -49,13 +49,19 @@ impl<'a> Five<'a> {
             (JoinButForTags policy (five_tuple self.now) (five_tuple next.now)
             × (1000000 < nodes self.now.tag * nodes next.now.tag)) }
     {
-        self.then_within(alloc, next, policy, MOST_NODES)
+        match self.window_with(next, policy) {
+            Err(cause) => Ok(Joined::Stopped(cause)),
+            Ok(window) => {
+                let tag = self.tag.meet_within(alloc, &next.tag, MOST_NODES)?;
+                Ok(narrowed(self.issuer.share(), tag, next, window)?)
+            }
+        }
     }
 
-    /// Like `then`, with `most`, which must be at most 1,000,000, as the greatest product of the nodes of both tags. So
-    /// `TooLarge` is for a product over `most`.
-    pub(crate) fn then_within(
-        &self,
+    /// Like `then`, but consumes `self`, so its tag is not copied if that of `next` is `(*)`. And with `most`, which must be
+    /// at most 1,000,000, as the greatest product of the nodes of both tags.
+    pub(crate) fn into_then(
+        self,
         alloc: Global,
         next: &Five<'a>,
         policy: Policy,
@@ -63,22 +69,25 @@ impl<'a> Five<'a> {
     ) -> Result<Joined<Five<'a>>, ReduceFault>
         requires { most ≤ 1000000 }
         ensures joined { IfOk result (λ joined. MatchJoined joined
-            (λ f. BecomesFive policy (five (five_tuple self.now)) (five (five_tuple next.now)) f × (f.tag ≢ set none))
-            (λ cause. Stops policy (five (five_tuple self.now)) (five (five_tuple next.now)) cause)) }
+            (λ f. BecomesFive policy (five (five_tuple self.entry)) (five (five_tuple next.now)) f × (f.tag ≢ set none))
+            (λ cause. Stops policy (five (five_tuple self.entry)) (five (five_tuple next.now)) cause)) }
         ensures value { IfOk result (λ joined. MatchJoined joined
-            (λ f. f.tag ≡ meet self.now.tag next.now.tag)
-            (λ cause. cause ≡ Cause.NoTag → meet self.now.tag next.now.tag ≡ set none)) }
+            (λ f. f.tag ≡ meet self.entry.tag next.now.tag)
+            (λ cause. cause ≡ Cause.NoTag → meet self.entry.tag next.now.tag ≡ set none)) }
         ensures too_large { IsErrOf result ReduceFault.TooLarge ↔
-            (JoinButForTags policy (five_tuple self.now) (five_tuple next.now)
-            × (most < nodes self.now.tag * nodes next.now.tag)) }
+            (JoinButForTags policy (five_tuple self.entry) (five_tuple next.now)
+            × (most < nodes self.entry.tag * nodes next.now.tag)) }
     {
-        match self.window_with(next, policy) {
-            Err(cause) => Ok(Joined::Stopped(cause)),
-            Ok(window) => {
-                let tag = self.tag.meet_within(alloc, &next.tag, most)?;
-                Ok(narrowed(self.issuer.share(), tag, next, window)?)
+        let window = match self.window_with(next, policy) {
+            Ok(window) => window,
+            Err(cause) => {
+                drop(self);
+                return Ok(Joined::Stopped(cause));
             }
-        }
+        };
+        let Five { issuer, tag, .. } = self;
+        let tag = tag.into_meet(alloc, &next.tag, most)?;
+        Ok(narrowed(issuer, tag, next, window)?)
     }
 
     /// Resolves the first name of this authorization's subject by a name's definition (RFC 2693, section 6.4). The result

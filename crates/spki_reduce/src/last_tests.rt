@@ -1,7 +1,7 @@
 //! What an authorization lacks to grant a request (RFC 2693, section 6.3).
 
 ghost use Rattle.std.specs.Prelude.{◌≡◌, ◌↔◌, List, IsNone};
-ghost use Rattle.spki_reduce.specs.Reduction.{FiveTuple, Tuple, own, issuer_of, Grants, IsFirstDenial, IsSupported};
+ghost use Rattle.spki_reduce.specs.Reduction.{FiveTuple, Tuple, own, issuer_of, Grants, IsMissingGrant, IsSupported};
 ghost use Rattle.spki_reduce.specs.Joining.{ReducesToFive};
 ghost use Rattle.spki_reduce.specs.Chain.{FoldsTo};
 
@@ -11,7 +11,7 @@ use spki_tag::Ground;
 
 /// What an authorization lacks to grant a key a request at a moment: the first of three tests that it does not pass.
 #[derive(Clone, Copy, Debug, PartialEq, Eq)]
-pub enum Denial {
+pub enum MissingGrant {
     /// Its subject has names left, or does not name the key.
     NotTheKey,
     /// Its tag does not contain the request.
@@ -21,18 +21,18 @@ pub enum Denial {
 }
 
 impl<'a> Five<'a> {
-    /// What the authorization lacks to grant the key the request at the moment. It is the first, in the order of `Denial`,
+    /// What the authorization lacks to grant the key the request at the moment. It is the first, in the order of `MissingGrant`,
     /// of the tests that it does not pass. None if it passes all three. Its issuer is not tested. Allocates nothing.
-    pub fn first_denial(
+    pub fn missing_grant(
         &self,
         key: &Key,
         request: &Ground,
         moment: &Date,
         policy: Policy,
-    ) -> Option<Denial>
+    ) -> Option<MissingGrant>
         // For every root that it is the reduced form of.
-        ensures denial { (root : FiveTuple) → ReducesToFive root self.now →
-            IsFirstDenial policy root key.now request.now moment.now result }
+        ensures missing { (root : FiveTuple) → ReducesToFive root self.now →
+            IsMissingGrant policy root key.now request.now moment.now result }
         ensures grants { (root : FiveTuple) → ReducesToFive root self.now → root.issuer ≡ own →
             (IsNone result ↔ Grants policy root key.now request.now moment.now) }
         // For every chain that folds to it, in any bracketing.
@@ -42,11 +42,11 @@ impl<'a> Five<'a> {
     {
         request.prove_well_formed();
         if !self.is_for(key, policy) {
-            Some(Denial::NotTheKey)
+            Some(MissingGrant::NotTheKey)
         } else if !self.tag.holds(request) {
-            Some(Denial::TagLacks)
+            Some(MissingGrant::TagLacks)
         } else if !self.window.holds(moment) {
-            Some(Denial::WindowLacks)
+            Some(MissingGrant::WindowLacks)
         } else {
             None
         }

@@ -14,6 +14,6 @@ mod writer;
 pub use chain::{fold_chain, fold_owned};
 pub use fault::ReduceFault;
 pub use fold::{Cause, Fold, Joined};
-pub use last_tests::Denial;
+pub use last_tests::MissingGrant;
 pub use tuple::{Five, Four, Issuer, Step};
 pub use work::Work;

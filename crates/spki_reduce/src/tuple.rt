@@ -14,7 +14,7 @@ pub enum Issuer<'a> {
     Key(Key<'a>),
 }
 
-/// An authorization, from its issuer to its subject: a 5-tuple (section 6.1).
+/// A 5-tuple (RFC 2693, section 6.1): an authorization, from its issuer to its subject.
 #[derive(Drop)]
 pub struct Five<'a> {
     /// The issuer.
@@ -29,7 +29,7 @@ pub struct Five<'a> {
     pub window: Window,
 }
 
-/// A definition of a name, in the name space of a key: a 4-tuple (section 6.2).
+/// A 4-tuple (RFC 2693, section 6.2): a definition of a name, in the name space of a key.
 #[derive(Drop)]
 pub struct Four<'a> {
     /// The key in whose name space the name is defined.
@@ -42,7 +42,7 @@ pub struct Four<'a> {
     pub window: Window,
 }
 
-/// What a certificate adds to a chain.
+/// A 5-tuple or a 4-tuple: what a certificate adds to a chain.
 #[derive(Drop)]
 pub enum Step<'a> {
     /// An authorization certificate's 5-tuple.

@@ -1,13 +1,18 @@
-//! Bounds on the work of folding chains: for each intersection of two tags, the product of their numbers of nodes, and for
-//! each definition of a name that is applied, the number of nodes of the tag before it.
+//! Bounds on the work of folding chains: on the sum of what the steps cost.
 
-ghost use Rattle.std.specs.Prelude.{◌≡◌, OnOk, IfErr, OnErr};
-ghost use Rattle.spki_reduce.specs.Chain.{left_of, Takes, IsOver};
+ghost use Rattle.std.specs.Prelude.{◌≡◌, ◌+◌, ◌<◌, OnOk, IfErr, OnErr, MatchOption, ℕ, List};
+ghost use Rattle.spki_tag.specs.Tag.{Tag as Written};
+ghost use Rattle.spki_reduce.specs.Reduction.{five, four, five_tuple, four_tuple};
+ghost use Rattle.spki_reduce.specs.Chain.{left_of, Takes, IsNumber, IsOver, step_cost};
 
 use crate::fault::ReduceFault;
+use crate::tuple::{Five, Four};
+use spki_cert::Subject;
+use spki_tag::Tag;
 
-/// How much work may still be done. Forming an intersection takes the product of the numbers of nodes of both tags.
-/// Applying a definition takes the number of nodes of the tag before it.
+/// How much work may still be done. A step that joins two authorizations takes, for each node of the tag before it, 15 for
+/// each node of its own tag, one for each of that tag's tags, and one for each octet of their strings; and one for each name of
+/// its subject. A step that applies a definition takes one, and one for each name of both subjects.
 #[derive(Clone, Copy, Debug, PartialEq, Eq)]
 pub struct Work {
     left: Option<usize>,
@@ -21,23 +26,60 @@ impl Work {
         Work { left: bound }
     }
 
-    /// Subtracts `work` from what may still be done. Does nothing if there is no bound.
+    /// Subtracts `work` from what may still be done. If it is None, it is 2^64 or more. Does nothing if there is no bound.
     ///
     /// # Errors
     ///
     /// `TooLarge` if it is more than may still be done. Then nothing is subtracted.
-    pub(crate) fn take(&mut self, work: usize) -> Result<(), ReduceFault>
-        ensures taken { OnOk result (Takes (left_of self.old) (left_of self.new) work) }
-        ensures over { OnErr result (IsOver (left_of self.old) work) }
+    pub(crate) fn take(&mut self, work: Option<usize>) -> Result<(), ReduceFault>
+        ensures taken { OnOk result ((n : ℕ) → IsNumber work n → Takes (left_of self.old) (left_of self.new) n) }
+        ensures over { OnErr result ((n : ℕ) → IsNumber work n → IsOver (left_of self.old) n) }
         ensures only { IfErr result (λ fault. fault ≡ ReduceFault.TooLarge) }
     {
         let Some(left) = self.left else {
             return Ok(());
         };
-        let Some(rest) = left.checked_sub(work) else {
+        let Some(rest) = rest_of(left, work) else {
             return Err(ReduceFault::TooLarge);
         };
         self.left = Some(rest);
         Ok(())
     }
+}
+
+/// What is left if `work` is subtracted, which is 2^64 or more if it is None. None if it is more than there is.
+fn rest_of(left: usize, work: Option<usize>) -> Option<usize>
+    ensures { (n : ℕ) → IsNumber work n → MatchOption result (left < n) (λ rest. rest + n ≡ left) }
+{
+    let Some(work) = work else {
+        return None;
+    };
+    left.checked_sub(work)
+}
+
+/// What it costs to join an authorization that has this tag with the next one. None if it is 2^64 or more.
+pub(crate) fn intersection_cost(tag: &Tag, next: &Five) -> Option<usize>
+    ensures { (path : List (List ℕ)) → IsNumber result (step_cost tag.now path (five (five_tuple next.now))) }
+{
+    let Some(weight) = next.tag.weight() else {
+        return None;
+    };
+    let Some(each) = weight.checked_add(15 * next.tag.nodes()) else {
+        return None;
+    };
+    let Some(product) = each.checked_mul(tag.nodes()) else {
+        return None;
+    };
+    product.checked_add(next.subject.names.len())
+}
+
+/// What it costs to resolve the first name of this subject, of an authorization, by a definition. None if it is 2^64 or
+/// more.
+pub(crate) fn resolution_cost(subject: &Subject, definition: &Four) -> Option<usize>
+    ensures { (tag : Written) → IsNumber result (step_cost tag subject.now.names (four (four_tuple definition.now))) }
+{
+    let Some(names) = subject.names.len().checked_add(1) else {
+        return None;
+    };
+    names.checked_add(definition.subject.names.len())
 }

@@ -1,13 +1,13 @@
 -- The answers to a question that was read: by a verifier, by its marks, and from the texts of the guard's entries.
-use Rattle.std.proofs.Common.{◌≡◌, ℕ, ◌<◌, List, Some, map, length, get_or, slice_get, sym, ap, ◌∙◌, [], ◌∷◌, refl, ◌≢◌, Result, Err, Option, None, subst, Ok, IfOk, ◌⊎◌, inl, inr, ◌+◌, ◌++◌}
+use Rattle.std.proofs.Common.{◌≡◌, ◌↔◌, IsTrue, is_some, Bool, ℕ, false, true, ◌<◌, ◌≤◌, List, Some, map, length, get_or, slice_get, sym, ap, ◌∙◌, [], ◌∷◌, refl, ◌≢◌, Result, Err, Option, None, subst, Ok, IfOk, IfSome, ℤ, ◌≤ℤ◌, ◌⊎◌, inl, inr, ◌+◌, ◌++◌}
 use Rattle.spki_decision.specs.declared.signed.Signed as examined
-use Rattle.spki_decision.specs.Standing.{signed_of, Signed, IsAccepted, asked, AgreeOn, with_entries, FailsAt, AreShown, every, RefusedAt}
-use Rattle.spki_decision.proofs.Standing.{decided, none_shown, one_list}
+use Rattle.spki_decision.specs.CertificateTests.{signed_of, Signed, IsAccepted, asked, AgreeOn, with_entries, FailsAt, AreShown, every, RefusedAt}
+use Rattle.spki_decision.proofs.CertificateTests.{decided, none_shown, one_list}
 use Rattle.spki_decision.proofs.OneDecision.{decision_one}
-use Rattle.spki_service.specs.GuardQuestions.{AskedOf, Decides, AllMarked, DecidesMarked, AnswersMarked, AreReducedMarked, MarksTell, Answers, OfCase, AreReduced}
+use Rattle.spki_service.specs.GuardQuestions.{PreparedModel, asked_at, Decides, Grants, AllMarked, DecidesMarked, GrantsMarked, AnswersMarked, AreReducedMarked, MarksTell, Answers, OfCase, AreReduced}
 use Rattle.spki_case.specs.Case.{Verified, Case}
 use Rattle.spki_decision.specs.declared.decision.Decision.{Decision}
-use Rattle.spki_decision.proofs.Asked.{decision_by, not_accepted, agrees, refused_item, explained_by, reduced_by, failure_by, folds_by, some_large_by}
+use Rattle.spki_decision.proofs.ListedSignatures.{decision_by, not_accepted, agrees, refused_item, explained_by, reduced_by, failure_by, folds_by, some_large_by}
 use Rattle.spki_cert.specs.declared.entry.Entry.{Entry}
 use Rattle.spki_decision.specs.declared.fault.GuardFault.{GuardFault}
 use Rattle.spki_decision.specs.declared.fault.GuardFault.TheVariants.{TooLarge, Memory}
@@ -18,32 +18,39 @@ use Rattle.std.specs.List.{AllByRecursion}
 use Rattle.spki_reduce.specs.Reduction.{Tuple, five, entry_tuple}
 use Rattle.spki_decision.specs.declared.evidence.Stop.{Stop}
 use Rattle.spki_decision.specs.declared.evidence.Stop.TheVariants.{NotAccepted}
-use Rattle.spki_decision.specs.declared.decision.Decision.TheVariants.{No}
+use Rattle.spki_decision.specs.declared.decision.Decision.TheVariants.{Yes, No}
 use Rattle.spki_decision.specs.declared.explanation.Explanation.{Explanation}
 use Rattle.spki_decision.specs.declared.explanation.Explanation.TheVariants as explanation
 use Rattle.spki_decision.specs.declared.reduction.EntryFold.{EntryFold}
 use Rattle.spki_decision.specs.declared.reduction.Reduction.{Reduction}
 use Rattle.spki_decision.specs.declared.reduction.Reduction.TheVariants as reduction
 use Rattle.spki_decision.specs.Requirements.{AreKept, IsKept, IsLeftOut, kept_case}
-use Rattle.spki_decision.specs.Granted.{IsFailure, SomeTooLarge, AreFoldsOf, IsEntryFold, HasLargeTags, HasMuchWork}
+use Rattle.spki_decision.specs.Granted.{IsYes, IsFailure, SomeTooLarge, AreFoldsOf, IsEntryFold, HasLargeTags, HasMuchWork, IsCharge, IsOvercharged}
 use Rattle.spki_decision.specs.Answered.{IsExplained, IsReduced}
 use Rattle.spki_decision.proofs.KeptEntries.{renumbered}
+use Rattle.spki_cert.specs.declared.window.Window.{Window}
+use Rattle.spki_decision.specs.declared.grant.Grant.{Grant}
+use Rattle.spki_decision.specs.Until.{decision_of, EndsWith, HoldsUntil}
+use Rattle.spki_decision.proofs.Until.{windows_are, yes_till}
+use Rattle.spki_cert.specs.Time.{upto, is_until, IsLimit}
+use Rattle.spki_service.specs.Questions.{IsDateAt, last_second}
+use Rattle.spki_service.proofs.SecondOrder.{upto_seconds, until_second}
 use Rattle.spki_decision.proofs.EntryChains.{failure, FoldedTo, one_folded, too_large_here, all_folded}
 use Rattle.spki_service.specs.declared.failure.Failure.{Failure}
-use Rattle.spki_reduce.specs.Chain.{TooLargeAt, IsWork, Takes, IsOverworked}
+use Rattle.spki_reduce.specs.Chain.{TooLargeAt, Takes, all_windows}
 use Rattle.spki_service.proofs.SelectedEntries.{entry_there, as_many}
 use Rattle.spki_service.proofs.MarkedPlaces.{all_at, refused_place, by_both}
 
 -- ---- the decision by marks
 
-pub decided_marked_one : (a : AskedOf) (es : List Entry) (x y : Decision) → AreEntries a.texts es → DecidesMarked a x → DecidesMarked a y → x ≡ y
+pub decided_marked_one : (a : PreparedModel) (es : List Entry) (x y : Decision) → AreEntries a.texts es → DecidesMarked a x → DecidesMarked a y → x ≡ y
 decided_marked_one a es x y are =
     by_both a _ _ _ _ (λ h k. decision_one (with_entries a.case es) every x y (h es are) (k es are)) (λ one e f. e ∙ sym f)
 
 -- ---- a question that was read has one answer
 
 -- an answer of a verifier that accepts all is that by the marks, if each place has one
-pub marked_whole : {A : Type 0} (Answered : Case → Verified → Result A GuardFault → Type 0) (stopped : Signed → A) (a : AskedOf)
+pub marked_whole : {A : Type 0} (Answered : Case → Verified → Result A GuardFault → Type 0) (stopped : Signed → A) (a : PreparedModel)
     (x : Result A GuardFault) → AllMarked (asked a.case) a.marks → Answers (λ c answer. Answered c every answer) a x
     → AnswersMarked Answered stopped a x
 marked_whole Answered stopped a (Ok x) all h = inl (all, h)
@@ -54,18 +61,18 @@ marked_whole Answered stopped a (Err Memory) all h = tt
 module _ {A : Type 0} (Answered : Case → Verified → Result A GuardFault → Type 0)
     (IsSame : Result A GuardFault → Result A GuardFault → Type 0)
     (one : (c : Case) (verified : Verified) (x y : Result A GuardFault) → Answered c verified x → Answered c verified y → IsSame x y) where
-  of_case : (verified : Verified) (a : AskedOf) (es : List Entry) (x : Result A GuardFault) → AreEntries a.texts es → x ≢ Err Memory
+  of_case : (verified : Verified) (a : PreparedModel) (es : List Entry) (x : Result A GuardFault) → AreEntries a.texts es → x ≢ Err Memory
       → Answers (λ c answer. Answered c verified answer) a x → Answered (with_entries a.case es) verified x
   of_case verified a es (Err Memory) are found h = absurd (found refl)
   of_case verified a es _ are found h = h es are
 
-  pub answer_one : (verified : Verified) (a : AskedOf) (es : List Entry) (x y : Result A GuardFault) → AreEntries a.texts es
+  pub answer_one : (verified : Verified) (a : PreparedModel) (es : List Entry) (x y : Result A GuardFault) → AreEntries a.texts es
       → x ≢ Err Memory → y ≢ Err Memory → Answers (λ c answer. Answered c verified answer) a x
       → Answers (λ c answer. Answered c verified answer) a y → IsSame x y
   answer_one verified a es x y are found known h k =
       one (with_entries a.case es) verified x y (of_case verified a es x are found h) (of_case verified a es y are known k)
 
-  module _ (stopped : Signed → A) (same : (s : Signed) → IsSame (Ok (stopped s)) (Ok (stopped s))) (a : AskedOf) (es : List Entry)
+  module _ (stopped : Signed → A) (same : (s : Signed) → IsSame (Ok (stopped s)) (Ok (stopped s))) (a : PreparedModel) (es : List Entry)
       (are : AreEntries a.texts es) where
     pub marked_one : (x y : Result A GuardFault) → x ≢ Err Memory → y ≢ Err Memory → AnswersMarked Answered stopped a x
         → AnswersMarked Answered stopped a y → IsSame x y
@@ -84,15 +91,16 @@ module _ {A : Type 0} (Answered : Case → Verified → Result A GuardFault → 
 
 -- ---- what a verifier's answers make of a question that was examined
 
-module _ (a : AskedOf) (verified : Verified) where
+module _ (a : PreparedModel) (verified : Verified) where
   -- ---- each signature is accepted
 
   module _ (accepted : AllByRecursion (IsAccepted verified) (asked a.case)) where
     agree : AgreeOn every verified (asked a.case)
     agree = agrees verified (asked a.case) accepted
 
-    pub decided_all : (r : Result Decision AllocError) → IfOk r (Decides every a) → IfOk r (Decides verified a)
-    decided_all r = IfOk-weaker r _ _ (λ d h es are. decision_by (with_entries a.case es) every verified agree d (h es are))
+    pub granted_all : (r : Result (Option Grant) AllocError) → IfOk r (Grants every a) → IfOk r (Grants verified a)
+    granted_all r =
+        IfOk-weaker r _ _ (λ g h. ((λ es are. decision_by (with_entries a.case es) every verified agree (decision_of g) (h.0 es are)), h.1))
 
     pub explained_all : (r : Result Explanation GuardFault) → Answers (λ c x. IsExplained c every x) a r
         → Answers (λ c x. IsExplained c verified x) a r
@@ -149,7 +157,7 @@ module _ (a : AskedOf) (verified : Verified) where
 
 -- ---- marks that tell what a verifier accepts
 
-module _ (verified : Verified) (a : AskedOf) (tell : MarksTell verified (asked a.case) a.marks) where
+module _ (verified : Verified) (a : PreparedModel) (tell : MarksTell verified (asked a.case) a.marks) where
   pub decided_told : (d : Decision) → DecidesMarked a d → Decides verified a d
   decided_told d (inl (all, h)) =
       let accepted = all_at (IsAccepted verified) (asked a.case) (λ place s stands. (tell place s stands).0 (all place s stands)) in
@@ -161,7 +169,7 @@ module _ (verified : Verified) (a : AskedOf) (tell : MarksTell verified (asked a
 
 -- ---- what entries become, by marks
 
-pub folded_marked : (a : AskedOf) → AllMarked (asked a.case) a.marks → (takes : List EntryFold → Type 0) (r : Result (Option Failure) GuardFault)
+pub folded_marked : (a : PreparedModel) → AllMarked (asked a.case) a.marks → (takes : List EntryFold → Type 0) (r : Result (Option Failure) GuardFault)
     → IfOk r (λ failure. (folds : List EntryFold) × takes folds × AreReduced a every failure folds)
     → IfOk r (λ failure. (folds : List EntryFold) × takes folds × AreReducedMarked a failure folds)
 folded_marked a all takes (Ok failure) (folds, taken, h) = (folds, taken, inl (all, h))
@@ -180,20 +188,27 @@ refused_there V kept items all place one r same are here =
 
 -- ---- every signature is accepted
 
-module _ (a : AskedOf) (tuples : List Tuple) (shown : AreShown a.case.policy every a.case.items tuples) where
+module _ (a : PreparedModel) (tuples : List Tuple) (shown : AreShown a.case.policy every a.case.items tuples) where
   is_kept : (es : List Entry) (kept : List (ℕ × Entry)) → AreKept (IsLeftOut (with_entries a.case es) tuples) 1 es kept
       → IsKept (with_entries a.case es) every kept
   is_kept es kept are others also =
       subst (λ (ts : List Tuple). AreKept (IsLeftOut (with_entries a.case es) ts) 1 es kept)
       (one_list _ _ _ _ tuples others shown also) are
 
-  pub decided_partly : (r : Result Decision AllocError)
-      → ((es : List Entry) → AreEntries a.texts es → IfOk r (DecidesPartly (with_entries a.case es) tuples)) → IfOk r (Decides every a)
-  decided_partly (Ok d) partly = λ es are.
+  decided_partly : (d : Decision) → ((es : List Entry) → AreEntries a.texts es → DecidesPartly (with_entries a.case es) tuples d) → Decides every a d
+  decided_partly d partly = λ es are.
       let h = partly es are in
       let c = with_entries a.case es in
       renumbered c every h.0 (is_kept es h.0 h.1) h.2.0 d (decided (kept_case c h.0) every tuples shown h.2.0 h.2.1) h.2.2
-  decided_partly (Err fault) partly = tt
+
+  pub granted_partly : (r : Result (Option Grant) AllocError)
+      → ((es : List Entry) → AreEntries a.texts es → IfOk r (λ g. DecidesPartly (with_entries a.case es) tuples (decision_of g)))
+      → ((es : List Entry) → AreEntries a.texts es → IfOk r (EndsWith es (all_windows tuples))) → IfOk r (Grants every a)
+  granted_partly (Ok g) partly end = (
+    decided_partly (decision_of g) partly,
+    λ es are. subst (λ (ws : List Window). EndsWith es ws g) (windows_are a.case.policy every a.case.items tuples shown) (end es are),
+  )
+  granted_partly (Err fault) partly end = tt
 
 -- ---- what the entries of texts become, one text after another
 
@@ -210,16 +225,46 @@ module _ (texts : List (List ℕ)) (c : Case) (tuples : List Tuple) where
     stands es are = let there = entry_there texts es place are below in there.1 ∙ ap Some (sym (found there.0 there.2))
 
     pub too_large : (es : List Entry) → AreEntries texts es
-        → TooLargeAt c.most_nodes c.policy (five (entry_tuple e)) tuples ⊎ IsOverworked old c.policy (five (entry_tuple e)) tuples
+        → TooLargeAt c.most_nodes c.policy (five (entry_tuple e)) tuples ⊎ IsOvercharged c.policy c.uncounted tuples e old
         → HasLargeTags (with_entries c es) tuples ⊎ HasMuchWork (with_entries c es) tuples
     too_large es are h = too_large_here (with_entries c es) tuples place e (stands es are) old folds (before es are) h
 
     pub one_more : (fold : EntryFold) (new : Option ℕ) (n : ℕ) → ((es : List Entry) → IsEntryFold (with_entries c es) tuples e fold)
-        → ¬ TooLargeAt c.most_nodes c.policy (five (entry_tuple e)) tuples → IsWork c.policy (five (entry_tuple e)) tuples n → Takes old new n
+        → ¬ TooLargeAt c.most_nodes c.policy (five (entry_tuple e)) tuples → IsCharge c.policy c.uncounted tuples e n → Takes old new n
         → TextsTo (place + 1) new (folds ++ fold ∷ [])
-    one_more fold new n exact small work takes = λ es are.
-        one_folded (with_entries c es) tuples place e (stands es are) old folds (before es are) fold new n (exact es) small work takes
+    one_more fold new n exact small charge takes = λ es are.
+        one_folded (with_entries c es) tuples place e (stands es are) old folds (before es are) fold new n (exact es) small charge takes
 
   pub all_texts : (place : ℕ) (left : Option ℕ) (folds : List EntryFold) → place ≡ length texts → TextsTo place left folds
       → (es : List Entry) → AreEntries texts es → AreFoldsOf (with_entries c es) tuples folds
   all_texts place left folds whole h es are = all_folded (with_entries c es) tuples place left folds (whole ∙ as_many texts es are) (h es are)
+
+-- ---- a grant is a yes
+
+pub some_yes : (grant : Option Grant) (said : Bool) → said ≡ is_some grant → IsTrue said ↔ IsYes (decision_of grant)
+some_yes None said e = (λ h. let clash : false ≡ true = sym e ∙ h in cc, λ yes. absurd yes)
+some_yes (Some grant) said e = (λ h. tt, λ yes. e)
+
+-- ---- till when a yes by marks holds
+
+module _ (a : PreparedModel) (es : List Entry) (moment : List ℕ) (grant : Grant) (d : Decision) (are : AreEntries a.texts es) where
+  held_marked_by : DecidesMarked a (Yes grant.entry) → OfCase a (λ c. HoldsUntil c (Some grant)) → upto a.case.moment moment ≡ true
+      → is_until grant.until moment ≡ true → DecidesMarked (asked_at a moment) d → (m : ℕ) × (d ≡ Yes m) × (m ≤ grant.entry)
+  held_marked_by (inr (one, u, none)) holds later before decides = absurd (let clash : Yes grant.entry ≡ No = none in cc)
+  held_marked_by (inl (all, h)) holds later before (inr (one, u, none)) = absurd (u.not_marked (all u.place one u.stands))
+  held_marked_by (inl (all, h)) holds later before (inl (also, k)) =
+      yes_till (with_entries a.case es) every moment grant (holds es are) later before (h es are) d (k es are)
+
+pub held_marked : (a : PreparedModel) (es : List Entry) (moment : List ℕ) (grant : Grant) (d : Decision) → AreEntries a.texts es
+    → GrantsMarked a (Some grant) → upto a.case.moment moment ≡ true → is_until grant.until moment ≡ true
+    → DecidesMarked (asked_at a moment) d → (m : ℕ) × (d ≡ Yes m) × (m ≤ grant.entry)
+held_marked a es moment grant d are grants = held_marked_by a es moment grant d are grants.0 grants.1
+
+-- the same in seconds
+pub held_marked_seconds : (a : PreparedModel) (es : List Entry) (now later : ℤ) (moment : List ℕ) (grant : Grant) (d : Decision)
+    → AreEntries a.texts es → GrantsMarked a (Some grant) → IsLimit grant.until → IsDateAt now a.case.moment → IsDateAt later moment
+    → now ≤ℤ later → IfSome grant.until (λ (end : List ℕ). later ≤ℤ last_second end) → DecidesMarked (asked_at a moment) d
+    → (m : ℕ) × (d ≡ Yes m) × (m ≤ grant.entry)
+held_marked_seconds a es now later moment grant d are grants limit is at from till =
+    held_marked a es moment grant d are grants (upto_seconds now later a.case.moment moment is at from)
+    (until_second grant.until later moment limit at till)

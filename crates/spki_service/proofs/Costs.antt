@@ -6,10 +6,10 @@ use Rattle.spki_cert.specs.Cost.{entry_weight}
 use Rattle.spki_cert.proofs.Costs.{entry_ge, sequence_ge}
 use Rattle.spki_service.specs.AccessLists.{IsEntryText, AreEntries, AreNumbers, kept_from, first, numbers_from}
 use Rattle.spki_service.specs.Cost.{octets_at, octets_of, found_octets, HasOctets}
-use Rattle.spki_service.specs.GuardQuestions.{AskedOf}
+use Rattle.spki_service.specs.GuardQuestions.{PreparedModel}
 use Rattle.spki_reduce.specs.Reduction.{Tuple}
 use Rattle.spki_decision.specs.Cost.{tuples_weight}
-use Rattle.spki_decision.specs.Standing.{AreShown, asked, every}
+use Rattle.spki_decision.specs.CertificateTests.{AreShown, asked, every}
 use Rattle.spki_decision.proofs.Costs.{asked_ge, shown_and_asked_ge}
 use Rattle.spki_service.proofs.SelectedEntries.{entry_there, number_at, as_many}
 
@@ -81,7 +81,7 @@ octets_found test texts es are = by_test test texts 0 texts es refl (as_many tex
 
 -- ---- the octets of a question
 
-module _ (a : AskedOf) (shown found : ℕ) (has : HasOctets a shown found) where
+module _ (a : PreparedModel) (shown found : ℕ) (has : HasOctets a shown found) where
   -- the signatures that a verifier is asked about
   pub asked_octets : length (asked a.case) ≤ 4 * shown
   asked_octets = omega (arith, asked_ge a.case, sequence_ge has.value a.case.items has.sequence, has.long)

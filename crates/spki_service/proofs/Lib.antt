@@ -10,3 +10,6 @@ pub mod OneAsking
 pub mod MarkedPlaces
 pub mod ReplayedCases
 pub mod Costs
+pub mod DateSeconds
+pub mod DateOrder
+pub mod SecondOrder

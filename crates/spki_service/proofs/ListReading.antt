@@ -11,10 +11,10 @@ use Rattle.spki_cert.specs.Structures.{EntryOf, AclOf}
 use Rattle.spki_case.specs.Case.{IsOuter}
 use Rattle.spki_service.specs.declared.list_fault.AclFault.{AclFault}
 use Rattle.spki_service.specs.declared.list_fault.AclFault.TheVariants as faults
-use Rattle.spki_service.specs.AccessLists.{Held, AreEntries, HoldsValue, HoldsList, IsNoAcl, IsNoAccessList, ListRefused}
+use Rattle.spki_service.specs.AccessLists.{GuardModel, AreEntries, HoldsValue, HoldsList, IsNoAcl, IsNoAccessList, ListRefused}
 use Rattle.spki_service.proofs.SelectedEntries.{held}
 use Rattle.spki_cert.specs.StructureFaults.{behind_version}
-use Rattle.spki_cert.proofs.Looking.{same_others}
+use Rattle.spki_cert.proofs.HeadedLists.{same_others}
 use Rattle.spki_cert.proofs.EntryFaultLaws.{entries-behind}
 use Rattle.spki_service.specs.Questions.{Reads}
 use Rattle.spki_service.proofs.OneAsking.{text_one, of_text, both, form_unread, form_one, some-one}
@@ -46,7 +46,7 @@ pub list_refused : {A : Type 0} (v w : Value) (r : Result A AclFault) → w ≡ 
     → IfErr r (λ fault. fault ≢ faults.Memory → ListRefused v fault)
 list_refused v w r same short = IfErr-weaker r _ _ (λ fault h found. search rules)
 
-pub value_there : (v w : Value) (r : Result Held AclFault) → w ≡ v → length (canon v) ≤ 1048576 → IfOk r (λ g. HoldsValue w g.texts)
+pub value_there : (v w : Value) (r : Result GuardModel AclFault) → w ≡ v → length (canon v) ≤ 1048576 → IfOk r (λ g. HoldsValue w g.texts)
     → IfOk r (λ g. (length (canon v) ≤ 1048576) × HoldsValue v g.texts)
 value_there v w r same short = IfOk-weaker r _ _ (λ g h. (short, subst (λ u. HoldsValue u g.texts) same h))
 
@@ -57,16 +57,16 @@ pub holds_list : (text : List ℕ) (v : Value) (texts : List (List ℕ)) → IsT
 holds_list text v texts meant short h =
     record { value = v; spelled = meant; short = short; holds = h }
 
-pub converted_held : (text : List ℕ) (v : Value) → IsTextWithin text v → (r : Result Held AclFault)
+pub converted_held : (text : List ℕ) (v : Value) → IsTextWithin text v → (r : Result GuardModel AclFault)
     → IfOk r (λ g. (length (canon v) ≤ 1048576) × HoldsValue v g.texts) → IfOk r (λ g. HoldsList text g.texts)
 converted_held text v meant r = IfOk-weaker r _ _ (λ g h. holds_list text v g.texts meant h.0 h.1)
 
 module _ (text : List ℕ) (v w : Value) (same : w ≡ v) (meant : IsTextWithin text v) where
-  pub list_held : (r : Result Held AclFault) → length (canon v) ≤ 1048576 → IfOk r (λ g. HoldsValue w g.texts)
+  pub list_held : (r : Result GuardModel AclFault) → length (canon v) ≤ 1048576 → IfOk r (λ g. HoldsValue w g.texts)
       → IfOk r (λ g. HoldsList text g.texts)
   list_held r short = IfOk-weaker r _ _ (λ g h. holds_list text v g.texts meant short (subst (λ u. HoldsValue u g.texts) same h))
 
-  pub list_refused_text : (r : Result Held AclFault) → length (canon v) ≤ 1048576
+  pub list_refused_text : (r : Result GuardModel AclFault) → length (canon v) ≤ 1048576
       → IfErr r (λ fault. fault ≢ faults.Memory → (inner : CertFault) × (fault ≡ faults.Acl inner) × IsNoAcl inner w)
       → IfErr r (λ fault. fault ≢ faults.Memory → IsNoAccessList text fault)
   list_refused_text r short = IfErr-weaker r _ _ (λ fault h found. search rules)

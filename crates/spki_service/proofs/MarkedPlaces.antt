@@ -3,11 +3,11 @@ use Rattle.std.proofs.Common.{◌≡◌, ℕ, ◌<◌, List, Bool, Some, None, l
 use Rattle.std.proofs.lemmas.Option.{slice_get_within, slice_get-get_or, slice_get-map}
 use Rattle.std.specs.List.{AllByRecursion}
 use Rattle.spki_case.specs.Case.{Verified}
-use Rattle.spki_decision.specs.Standing.{Signed, IsAccepted, asked, RefusedAt, signed_of}
+use Rattle.spki_decision.specs.CertificateTests.{Signed, IsAccepted, asked, RefusedAt, signed_of}
 use Rattle.spki_decision.specs.declared.signed.Signed as examined
-use Rattle.spki_service.specs.AccessLists.{Held}
+use Rattle.spki_service.specs.AccessLists.{GuardModel}
 use Rattle.spki_service.specs.declared.texts.Texts.{Texts}
-use Rattle.spki_service.specs.GuardQuestions.{AskedOf, IsFirstUnmarked, AllMarked, IsUnmarked, ByMarks, IsReadFrom}
+use Rattle.spki_service.specs.GuardQuestions.{PreparedModel, IsFirstUnmarked, AllMarked, IsUnmarked, ByMarks, IsReadFrom}
 
 -- ---- signatures and their places
 
@@ -60,7 +60,7 @@ module _ (signed : List Signed) (marks : List Bool) where
       let there : Some one ≡ Some other = sym u.stands ∙ ap (slice_get signed) same ∙ v.stands in cc
 
 -- two statements by the same marks are of the same kind
-pub by_both : {R : Type 0} (a : AskedOf) (W V : Type 0) (S T : Signed → Type 0) → (W → V → R) → ((one : Signed) → S one → T one → R)
+pub by_both : {R : Type 0} (a : PreparedModel) (W V : Type 0) (S T : Signed → Type 0) → (W → V → R) → ((one : Signed) → S one → T one → R)
     → ByMarks a W S → ByMarks a V T → R
 by_both a W V S T whole stopped (inl (all, w)) (inl (also, v)) = whole w v
 by_both a W V S T whole stopped (inl (all, w)) (inr (one, u, t)) = absurd (never_both (asked a.case) a.marks one all u)
@@ -94,7 +94,7 @@ listed_at kept place one stands = slice_get-map signed_of kept place ∙ ap (opt
 
 -- ---- a question with other marks
 
-pub read_marked : (held : Held) (texts : Texts) (a : AskedOf) (marks : List Bool) → IsReadFrom held texts a
+pub read_marked : (held : GuardModel) (texts : Texts) (a : PreparedModel) (marks : List Bool) → IsReadFrom held texts a
     → IsReadFrom held texts (record a { marks = marks })
 read_marked held texts a marks r = record {
   entries = r.entries;
@@ -102,6 +102,7 @@ read_marked held texts a marks r = record {
   policy = r.policy;
   nodes = r.nodes;
   work = r.work;
+  counted = r.counted;
   answer = r.answer;
   few = r.few;
   short = r.short;

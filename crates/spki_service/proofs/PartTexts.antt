@@ -20,15 +20,15 @@ use Rattle.spki_service.specs.declared.question.Part.TheVariants as parts
 use Rattle.spki_service.specs.declared.question.AskFault.{AskFault}
 use Rattle.spki_service.specs.declared.question.AskFault.TheVariants as faults
 use Rattle.spki_service.specs.declared.texts.PartText.{PartText}
-use Rattle.spki_service.specs.declared.texts.PartText.TheVariants.{Standing, Made, Malformed}
+use Rattle.spki_service.specs.declared.texts.PartText.TheVariants.{Canonical, Made, Malformed}
 use Rattle.spki_service.specs.declared.texts.MomentText.{MomentText}
 use Rattle.spki_service.specs.declared.texts.MomentText.TheVariants as of_moment
 use Rattle.spki_service.specs.declared.texts.Texts.{Texts}
 use Rattle.spki_service.specs.Questions.{RefusesForm, Reads, LacksForm, RefusesWanted, IsAskedAt, IsAskedCase, ReadsSequence, ReadsKey, ReadsRequest, IsNotAsked, IsWanted, strings_in, TellsStrings, TellsStringsOf, HasFewStrings, words_value}
-use Rattle.spki_service.specs.GuardQuestions.{IsReadAs, IsMomentText, IsTextsOf, OfText, HasDate, NamesForm, NamesPart, NamesSequence, NamesKey, NamesRequest, NamesDate, IsKeptOf, IsCopyOf, IsMomentCopy, AreCopies}
-use Rattle.spki_decision.specs.declared.decision.Decision.{Decision}
-use Rattle.spki_decision.specs.Standing.{Signed}
-use Rattle.spki_service.specs.AccessLists.{Held}
+use Rattle.spki_service.specs.GuardQuestions.{IsReadAs, IsMomentText, IsTextsOf, OfText, HasDate, NamesForm, NamesPart, NamesSequence, NamesKey, NamesRequest, NamesDate, IsConditionalGrant, IsCopyOf, IsMomentCopy, AreCopies}
+use Rattle.spki_decision.specs.declared.grant.Grant.{Grant}
+use Rattle.spki_decision.specs.CertificateTests.{Signed}
+use Rattle.spki_service.specs.AccessLists.{GuardModel}
 use Rattle.spki_tag.proofs.TagReading.{weight, weights}
 use Rattle.spki_service.proofs.OneAsking.{form_unread, of_wanted, MomentLacks}
 use Rattle.std.proofs.lemmas.List.{map-append, take_all, take-append-drop, length-map}
@@ -46,7 +46,7 @@ canonical_text text v within e = search (rules, canonical_spelled)
 -- a text that has the value, for whatever means it
 pub read_as : (means : Value → Type 0) (refuses : FormFault → Type 0) (v : Value) (text : PartText) → means v
     → IsReadAs (λ w. w ≡ v) (λ fault. ⊥) text → IsReadAs means refuses text
-read_as means refuses v (Standing document) m r = (subst means (sym r.0) m, r.1)
+read_as means refuses v (Canonical document) m r = (subst means (sym r.0) m, r.1)
 read_as means refuses v (Made octets) m (w, e, within, written) = (w, subst means (sym e) m, within, written)
 read_as means refuses v (Malformed fault) m (inl h) = absurd h
 read_as means refuses v (Malformed fault) m (inr h) =
@@ -73,7 +73,7 @@ module _ (octets : Vec ℕ Global) (made : List ℕ) (document d : Value) (value
 
 said_read : (means : Value → Type 0) (refuses : FormFault → Type 0) (said : Value → Type 0) (text : PartText)
     → IsReadAs means refuses text → OfText text said → Reads means said
-said_read means refuses said (Standing document) r h = record { value = document; meant = r.0; short = r.1.short; is = h }
+said_read means refuses said (Canonical document) r h = record { value = document; meant = r.0; short = r.1.short; is = h }
 said_read means refuses said (Made octets) (v, meant, within, written) h =
     record { value = v; meant = meant; short = within.short; is = h v within written }
 said_read means refuses said (Malformed fault) r h = absurd h
@@ -81,7 +81,7 @@ said_read means refuses said (Malformed fault) r h = absurd h
 form_named : (means : Value → Type 0) (refuses : FormFault → Type 0) (part : Part) (text : PartText) (fault : AskFault)
     → IsReadAs means refuses text → NamesForm part text fault
     → (form : FormFault) × (fault ≡ faults.Form part form) × LacksForm means refuses form
-form_named means refuses part (Standing document) fault r n = absurd n.none
+form_named means refuses part (Canonical document) fault r n = absurd n.none
 form_named means refuses part (Made octets) fault (v, meant, within, written) n = absurd (n.none v within written)
 form_named means refuses part (Malformed form) fault r n =
     (n.form, n.named, subst (LacksForm means refuses) (sym n.none) r)
@@ -146,15 +146,15 @@ lifted q inner (Err fault) is f = λ found. subst (IsNotAsked q) (sym is) (f (su
 
 module _ (means : Value → Type 0) (refuses : FormFault → Type 0) where
   copied : (text copy : PartText) → IsCopyOf text copy → IsReadAs means refuses text → IsReadAs means refuses copy
-  copied (Standing document) (Made octets) is r = (document, r.0, r.1, is)
-  copied (Standing document) copy is r = search
+  copied (Canonical document) (Made octets) is r = (document, r.0, r.1, is)
+  copied (Canonical document) copy is r = search
   copied text copy is r = rw is r
 
   of_copy : (text copy : PartText) → IsCopyOf text copy → IsReadAs means refuses copy → IsReadAs means refuses text
-  of_copy (Standing document) (Made octets) is (v, meant, within, written) =
+  of_copy (Canonical document) (Made octets) is (v, meant, within, written) =
       let same : v ≡ document = sym (one_text octets.items document v is written) in
       (subst means same meant, subst (λ (w : Value). IsWithinLimits w) same within)
-  of_copy (Standing document) copy is r = search
+  of_copy (Canonical document) copy is r = search
   of_copy text copy is r = subst (IsReadAs means refuses) is r
 
 moment_copied : (i : of_question.Moment) (text copy : MomentText) → IsMomentCopy text copy → IsMomentText i text → IsMomentText i copy
@@ -177,8 +177,9 @@ module _ (texts copies : Texts) (are : AreCopies texts copies) where
   of_copies : (q : Question) → IsTextsOf q copies → IsTextsOf q texts
   of_copies q of = search (rules, of_copy, of_moment_copy)
 
-  pub kept_of_copies : (held : Held) (signed : List Signed) (d : Decision) → IsKeptOf held texts signed d → IsKeptOf held copies signed d
-  kept_of_copies held signed d kept = search (rules, of_copies)
+  pub conditional_of_copies : (held : GuardModel) (signed : List Signed) (grant : Option Grant) → IsConditionalGrant held texts signed grant
+      → IsConditionalGrant held copies signed grant
+  conditional_of_copies held signed grant kept = search (rules, of_copies)
 
 -- ---- how many strings a question has
 

@@ -6,12 +6,12 @@ use Rattle.spki_cert.specs.declared.entry.Entry.{Entry}
 use Rattle.spki_case.specs.Case.{Case, Row, Verified, accepted_by, is_row_of}
 use Rattle.spki_decision.specs.declared.decision.Decision.{Decision}
 use Rattle.spki_decision.specs.declared.decision.Decision.TheVariants.{Yes, No}
-use Rattle.spki_decision.specs.Standing.{asked, with_entries}
+use Rattle.spki_decision.specs.CertificateTests.{asked, with_entries}
 use Rattle.spki_decision.specs.Granted.{Granted, IsDecision}
 use Rattle.spki_decision.specs.Answered.{IsDecided}
 use Rattle.spki_decision.proofs.OneDecision.{decision_one}
 use Rattle.spki_service.specs.AccessLists.{AreEntries}
-use Rattle.spki_service.specs.GuardQuestions.{AskedOf, DecidesMarked, MarksTell}
+use Rattle.spki_service.specs.GuardQuestions.{PreparedModel, DecidesMarked, MarksTell}
 use Rattle.spki_service.specs.Replayed.{IsCaseOfParts, AreRowsOf, AreMarkedAlike}
 use Rattle.spki_service.proofs.AnswerLaws.{decided_told}
 
@@ -29,7 +29,7 @@ row_there : (test : Row → Bool) (rows : List Row) → list_any test rows ≡ t
 row_there test [] h = absurd cc
 row_there test (r ∷ rows) h = row_here test r rows (row_there test rows) (test r) refl h
 
-module _ (a : AskedOf) (rows : List Row) (are : AreRowsOf rows (asked a.case) a.marks) (alike : AreMarkedAlike (asked a.case) a.marks) where
+module _ (a : PreparedModel) (rows : List Row) (are : AreRowsOf rows (asked a.case) a.marks) (alike : AreMarkedAlike (asked a.case) a.marks) where
   abbrev pub accepts_row : Verified
   accepts_row key message value = list_any (is_row_of key message value) rows ≡ true
 
@@ -47,7 +47,7 @@ module _ (a : AskedOf) (rows : List Row) (are : AreRowsOf rows (asked a.case) a.
 
 -- ---- the composed case
 
-module _ (a : AskedOf) (es : List Entry) (c : Case) (of : IsCaseOfParts a es c) (verified : Verified) where
+module _ (a : PreparedModel) (es : List Entry) (c : Case) (of : IsCaseOfParts a es c) (verified : Verified) where
   abbrev whole : Case
   whole = with_entries a.case es
 
@@ -77,7 +77,7 @@ module _ (a : AskedOf) (es : List Entry) (c : Case) (of : IsCaseOfParts a es c) 
   decided_whole (Yes n) h = record { granted = to_whole n h.granted; none_before = λ m below g. h.none_before m below (from_whole m g) }
   decided_whole No h = λ n g. h n (from_whole n g)
 
-pub as_check : (a : AskedOf) (es : List Entry) (c : Case) (x y : Decision) → AreEntries a.texts es → IsCaseOfParts a es c
+pub as_check : (a : PreparedModel) (es : List Entry) (c : Case) (x y : Decision) → AreEntries a.texts es → IsCaseOfParts a es c
     → AreRowsOf c.rows (asked a.case) a.marks → AreMarkedAlike (asked a.case) a.marks → DecidesMarked a x
     → IsDecided c (accepted_by c) (Ok y) → x ≡ y
 as_check a es c x y are of rows alike decides checked =

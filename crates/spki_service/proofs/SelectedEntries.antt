@@ -18,7 +18,9 @@ use Rattle.spki_case.specs.Case.{Case}
 use Rattle.spki_decision.specs.declared.decision.Decision.{Decision}
 use Rattle.spki_decision.specs.declared.decision.Decision.TheVariants.{Yes, No}
 use Rattle.spki_decision.specs.Granted.{Names}
-use Rattle.spki_decision.specs.Standing.{with_entries}
+use Rattle.spki_decision.specs.CertificateTests.{with_entries}
+use Rattle.spki_decision.specs.declared.grant.Grant.{Grant}
+use Rattle.spki_decision.specs.Until.{decision_of}
 use Rattle.std.proofs.lemmas.List.{length-map}
 
 -- ---- entries that pass a test, as they are found by their numbers and read from their texts
@@ -149,9 +151,9 @@ module _ (c : Case) (es : List Entry) (tuples : List Tuple) where
     named_partly No (Yes d) named at = absurd at
     named_partly No No named at = partly No (No, subst (λ (xs : List Entry). Names (with_entries c xs) tuples No) picked_are named, tt)
 
-    pub partly_by : (r : Result Decision AllocError) → IfOk r (NamesPicked (with_entries c picked) tuples numbers)
-        → IfOk r (DecidesPartly (with_entries c es) tuples)
-    partly_by (Ok d) (part, named, at) = named_partly part d named at
+    pub partly_by : (r : Result (Option Grant) AllocError) → IfOk r (λ g. NamesPicked (with_entries c picked) tuples numbers (decision_of g))
+        → IfOk r (λ g. DecidesPartly (with_entries c es) tuples (decision_of g))
+    partly_by (Ok g) (part, named, at) = named_partly part (decision_of g) named at
     partly_by (Err fault) h = tt
 
 -- ---- what is found
@@ -215,6 +217,17 @@ picked_there texts es picked numbers i e are within picks below found =
     let (f, here, is) = entry_there texts es (get_or numbers i 0 - 1) are (omega (arith, low, high)) in
     let same : place ≡ get_or numbers i 0 - 1 = omega (arith, numbered) in
     there ∙ sym stands ∙ ap (slice_get es) same ∙ here ∙ ap Some (sym (found f is))
+
+-- and the one with this number
+pub read_there : (texts : List (List ℕ)) (es : List Entry) (numbers : List ℕ) (i place : ℕ) (e read : Entry) → AreEntries texts es
+    → AreNumbers (length texts) numbers → i < length numbers
+    → ((f : Entry) → IsEntryText (get_or texts (get_or numbers i 0 - 1) []) f → read ≡ f) → get_or numbers i 0 ≡ suc place
+    → slice_get es place ≡ Some e → read ≡ e
+read_there texts es numbers i place e read are within below found numbered stands =
+    let (low, high) = number_at (length texts) numbers i 0 within below in
+    let (f, here, is) = entry_there texts es (get_or numbers i 0 - 1) are (omega (arith, low, high)) in
+    let same : get_or numbers i 0 - 1 ≡ place = omega (arith, numbered) in
+    found f is ∙ some-one here (ap (slice_get es) same ∙ stands)
 
 entry_at : (es : List Entry) (i : ℕ) → i < length es → (e : Entry) × (slice_get es i ≡ Some e)
 entry_at [] i below = absurd (omega (arith, below))

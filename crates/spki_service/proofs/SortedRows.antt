@@ -11,7 +11,8 @@ use Rattle.std.specs.Cmp.{IsTotalOrder, IsStrictWeakOrder}
 use Rattle.std.specs.Cmp.Lexicographic.{slice_cmp}
 use Rattle.spki_cert.specs.declared.entry.Entry.{Entry}
 use Rattle.spki_service.specs.declared.index.Row.{Row}
-use Rattle.spki_service.specs.AccessLists.{first, numbers_from, octets_of, Kind, is_by, is_principal, row_octets, tail_of, row_key, key_order, IsInOrder, row_number, rows_from, numbers_with}
+use Rattle.spki_cert.specs.declared.principal.Principal.{Principal}
+use Rattle.spki_service.specs.AccessLists.{first, numbers_from, octets_of, Kind, is_by, is_principal, row_octets, tail_of, row_key, key_order, IsInOrder, row_number, rows_from, numbers_with, owners_of}
 use Rattle.std.specs.Cmp.{tied_then, tied_itself, nat_cmp_total}
 use Rattle.std.specs.List.Sorted.{IsNonDecreasingBy, IsPartitionPoint}
 use Rattle.std.proofs.lemmas.Bool.{cases_Bool}
@@ -227,10 +228,10 @@ module _ (principals : List (List ℕ)) (kind : Kind) where
   add_tail true row rows tail tails = (tail, tails)
   add_tail false row rows tail tails = tails
 
-  tailed : (n : ℕ) (es : List Entry) → AreAt principals n es → AllByRecursion (IsTailed principals) (rows_from n kind es)
+  tailed : (n : ℕ) (es : List Entry) → AreAt principals n es → AllByRecursion (IsTailed principals) (rows_from n kind (owners_of es))
   tailed n [] are = tt
   tailed n (e ∷ es) are =
-      add_tail (is_by kind e.subject.principal) _ (rows_from (suc n) kind es) (ap tail_of (sym (are 0 e refl n (omega arith))))
+      add_tail (is_by kind e.subject.principal) _ (rows_from (suc n) kind (owners_of es)) (ap tail_of (sym (are 0 e refl n (omega arith))))
       (tailed (suc n) es (one_further principals n e es are))
 
   add_number : (test : Row → Bool) (row : Row) (rows : List Row) (e : Entry) (ks : List (ℕ × Entry)) (b c : Bool) → test row ≡ c
@@ -241,10 +242,10 @@ module _ (principals : List (List ℕ)) (kind : Kind) where
   add_number test row rows e ks true false same rest = rw same rest
 
   numbered : (octets : List ℕ) (n : ℕ) (es : List Entry) → AreAt principals n es
-      → numbers_with principals octets (rows_from n kind es) ≡ numbers_from n (λ e. is_principal kind octets e.subject.principal) es
+      → numbers_with principals octets (rows_from n kind (owners_of es)) ≡ numbers_from n (λ e. is_principal kind octets e.subject.principal) es
   numbered octets n [] are = refl
   numbered octets n (e ∷ es) are =
-      add_number (has principals octets) _ (rows_from (suc n) kind es) e _ (is_by kind e.subject.principal)
+      add_number (has principals octets) _ (rows_from (suc n) kind (owners_of es)) e _ (is_by kind e.subject.principal)
       (bytes_eq octets (octets_of e.subject.principal)) (ap (bytes_eq octets) (are 0 e refl n (omega arith)))
       (numbered octets (suc n) es (one_further principals n e es are))
 
@@ -259,6 +260,11 @@ mapped_at (f ∷ es) (suc k) e there = mapped_at es k e there
 are_all : (es : List Entry) → AreAt (all_octets es) 1 es
 are_all es = λ k e there number same. let here : number - 1 ≡ k = omega (arith, same) in rw here (mapped_at es k e there)
 
+-- the octets of the principals of entries
+pub all_octets-owners : (es : List Entry) → map octets_of (owners_of es) ≡ all_octets es
+all_octets-owners [] = refl
+all_octets-owners (e ∷ es) = ap (λ (l : List (List ℕ)). octets_of e.subject.principal ∷ l) (all_octets-owners es)
+
 -- one entry more
 behind : (b c : Bool) (row more : Row) (rows longer : List Row) → longer ≡ cond c (rows ++ more ∷ []) rows
     → cond b (row ∷ longer) longer ≡ cond c (cond b (row ∷ rows) rows ++ more ∷ []) (cond b (row ∷ rows) rows)
@@ -266,18 +272,18 @@ behind true true row more rows longer e = ap (λ l. row ∷ l) e
 behind true false row more rows longer e = ap (λ l. row ∷ l) e
 behind false c row more rows longer e = e
 
-pub rows_more : (kind : Kind) (e : Entry) (n : ℕ) (es : List Entry) (row : Row) → row.tail ≡ tail_of (octets_of e.subject.principal)
-    → row.number ≡ n + length es → rows_from n kind (es ++ e ∷ []) ≡ cond (is_by kind e.subject.principal) (rows_from n kind es ++ row ∷ []) (rows_from n kind es)
-rows_more kind e n [] row tail number =
+pub rows_more : (kind : Kind) (p : Principal) (n : ℕ) (ps : List Principal) (row : Row) → row.tail ≡ tail_of (octets_of p)
+    → row.number ≡ n + length ps → rows_from n kind (ps ++ p ∷ []) ≡ cond (is_by kind p) (rows_from n kind ps ++ row ∷ []) (rows_from n kind ps)
+rows_more kind p n [] row tail number =
     let same : row.number ≡ n = omega (arith, number) in rw (← tail, ← same) refl
-rows_more kind e n (f ∷ es) row tail number =
-    behind (is_by kind f.subject.principal) (is_by kind e.subject.principal) _ row (rows_from (suc n) kind es) (rows_from (suc n) kind (es ++ e ∷ []))
-    (rows_more kind e (suc n) es row tail (omega (arith, number)))
+rows_more kind p n (q ∷ ps) row tail number =
+    behind (is_by kind q) (is_by kind p) _ row (rows_from (suc n) kind ps) (rows_from (suc n) kind (ps ++ p ∷ []))
+    (rows_more kind p (suc n) ps row tail (omega (arith, number)))
 
 -- ---- these rows, sorted
 
 module _ (principals : List (List ℕ)) (kind : Kind) (es : List Entry) (are : principals ≡ all_octets es) (xs ys : List Row)
-    (rows : xs ≡ rows_from 1 kind es) (same : IsPermutation xs ys) (stable : IsStableBy (before principals) xs ys) where
+    (rows : xs ≡ rows_from 1 kind (owners_of es)) (same : IsPermutation xs ys) (stable : IsStableBy (before principals) xs ys) where
   placed : AreAt principals 1 es
   placed = rw are (are_all es)
 

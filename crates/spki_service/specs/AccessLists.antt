@@ -52,7 +52,7 @@ AreEntries texts es = AllZip IsEntryText texts es
 
 -- What a guard is in a contract: the canonical texts of its entries, the policy, and the limits. These are on the octets, certificates
 -- and strings of a question, the nodes of an intersection, the nodes of all intersections of a question, and the octets of an answer.
-pub record Held : Type 0 where
+pub record GuardModel : Type 0 where
   pub texts : List (List ℕ)
   pub policy : Policy
   pub octets : ℕ
@@ -63,7 +63,7 @@ pub record Held : Type 0 where
   pub answer : ℕ
 
 -- the guard has these limits
-abbrev pub HasLimits : Held → Limits → Type 0
+abbrev pub HasLimits : GuardModel → Limits → Type 0
 HasLimits g limits =
     (g.octets ≡ limits.octets) × (g.certificates ≡ limits.certificates) × (g.words ≡ limits.words) × (g.nodes ≡ limits.nodes)
     × (g.work ≡ limits.work) × (g.answer ≡ limits.answer)
@@ -169,12 +169,16 @@ rows_by index (Some Sha512) = index.sha512.items
 abbrev pub row_number : Row → ℕ
 row_number row = row.number
 
+-- the principals of the subjects of entries, in order
+abbrev pub owners_of : List Entry → List Principal
+owners_of es = map (λ e. e.subject.principal) es
+
 -- the rows of the entries of a kind, in the order of the entries; the first entry has number n
-abbrev pub rows_from : ℕ → Kind → List Entry → List Row
+abbrev pub rows_from : ℕ → Kind → List Principal → List Row
 rows_from n kind [] = []
-rows_from n kind (e ∷ es) =
-    if is_by kind e.subject.principal then record { tail = tail_of (octets_of e.subject.principal); number = n } ∷ rows_from (suc n) kind es
-    else rows_from (suc n) kind es
+rows_from n kind (p ∷ ps) =
+    if is_by kind p then record { tail = tail_of (octets_of p); number = n } ∷ rows_from (suc n) kind ps
+    else rows_from (suc n) kind ps
 
 -- the numbers of the rows whose principal has these octets
 abbrev pub numbers_with : List (List ℕ) → List ℕ → List Row → List ℕ

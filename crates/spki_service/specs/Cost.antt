@@ -5,10 +5,10 @@ use Rattle.spki_cert.specs.declared.entry.Entry.{Entry}
 use Rattle.spki_cert.specs.Structures.{SeqOf}
 use Rattle.spki_reduce.specs.Reduction.{Tuple}
 use Rattle.spki_case.specs.Case.{Case}
-use Rattle.spki_decision.specs.Standing.{AreShown, every}
+use Rattle.spki_decision.specs.CertificateTests.{AreShown, every}
 use Rattle.spki_decision.specs.Requirements.{first_key}
 use Rattle.spki_service.specs.AccessLists.{AreEntries, is_of}
-use Rattle.spki_service.specs.GuardQuestions.{AskedOf}
+use Rattle.spki_service.specs.GuardQuestions.{PreparedModel}
 
 -- the octets of the texts with these numbers, counted from 1
 abbrev pub octets_at : List (List ℕ) → List ℕ → ℕ
@@ -25,9 +25,9 @@ octets_of test (text ∷ texts) (e ∷ es) = if test e then length text + octets
 abbrev pub found_octets : Case → List Tuple → List (List ℕ) → List Entry → ℕ
 found_octets c tuples texts es = octets_of (is_of c.policy (first_key c.key tuples)) texts es
 
--- The canonical text of the question's sequence has `shown` octets. If every certificate stands, the entries that the index finds have at
+-- The canonical text of the question's sequence has `shown` octets. If every certificate passes its tests, the entries that the index finds have at
 -- most `found` octets.
-pub record HasOctets (a : AskedOf) (shown found : ℕ) : Type 0 where
+pub record HasOctets (a : PreparedModel) (shown found : ℕ) : Type 0 where
   pub value : Value
   pub sequence : SeqOf value a.case.items
   pub long : shown ≡ length (canon value)

@@ -16,7 +16,7 @@ use Rattle.spki_service.specs.declared.question.AskFault.TheVariants as faults
 use Rattle.spki_service.specs.declared.question.Moment as of_question
 use Rattle.spki_service.specs.declared.question.Moment.TheVariants as moments
 use Rattle.spki_service.specs.declared.texts.PartText.{PartText}
-use Rattle.spki_service.specs.declared.texts.PartText.TheVariants.{Standing, Made, Malformed}
+use Rattle.spki_service.specs.declared.texts.PartText.TheVariants.{Canonical, Made, Malformed}
 use Rattle.spki_service.specs.declared.texts.MomentText.{MomentText}
 use Rattle.spki_service.specs.declared.texts.MomentText.TheVariants as of_moment
 use Rattle.spki_service.specs.declared.texts.Texts.{Texts}
@@ -34,9 +34,12 @@ use Rattle.spki_decision.specs.declared.reduction.Reduction.{Reduction}
 use Rattle.spki_decision.specs.declared.reduction.Reduction.TheVariants as reductions
 use Rattle.spki_decision.specs.Answered.{IsExplained, IsReduced}
 use Rattle.spki_decision.specs.Granted.{IsDecision, IsYes, AreFoldsOf, IsDated, EndsAtDate, IsFailure, AreFolds}
-use Rattle.spki_decision.specs.Standing.{with_entries, Signed, IsAccepted, asked, every}
-use Rattle.spki_service.specs.AccessLists.{AreEntries, Held}
-use Rattle.spki_service.specs.declared.opened.Opened.{Opened}
+use Rattle.spki_decision.specs.CertificateTests.{with_entries, Signed, IsAccepted, asked, every}
+use Rattle.spki_decision.specs.declared.grant.Grant.{Grant}
+use Rattle.spki_decision.specs.Until.{decision_of, HoldsUntil}
+use Rattle.spki_decision.specs.Audited.{at_moment}
+use Rattle.spki_service.specs.AccessLists.{AreEntries, GuardModel}
+use Rattle.spki_service.specs.declared.owned_question.OwnedQuestion.{OwnedQuestion}
 use Rattle.std.proofs.Common.{◌≡◌, ℕ, List, [], Option, Some, None, ◌⊎◌, ◌↔◌, true, slice_get, Result, Ok, Err, Bool, ◌≤◌, ◌<◌, length, IsTrue}
 use Rattle.std.specs.List.{AllByRecursion}
 use Rattle.spki_reduce.specs.Reduction.{Tuple}
@@ -47,7 +50,7 @@ use Rattle.spki_service.specs.declared.failure.Failure.{Failure}
 
 -- the text is the canonical text of a value of the part; or the part has none, and this is the fault of its form
 abbrev pub IsReadAs : (means : Value → Type 0) → (refuses : FormFault → Type 0) → PartText → Type 0
-IsReadAs means refuses (Standing document) = means document × IsWithinLimits document
+IsReadAs means refuses (Canonical document) = means document × IsWithinLimits document
 IsReadAs means refuses (Made octets) = (v : Value) × means v × IsWithinLimits v × (octets.items ≡ canon v)
 IsReadAs means refuses (Malformed fault) = LacksForm means refuses fault
 
@@ -76,13 +79,13 @@ IsMade octets text = (v : Value) → octets ≡ canon v → IsShallow v → IsRe
 
 -- a statement is true of the value of the text
 abbrev pub OfText : PartText → (Value → Type 0) → Type 0
-OfText (Standing document) said = said document
+OfText (Canonical document) said = said document
 OfText (Made octets) said = (v : Value) → IsWithinLimits v → octets.items ≡ canon v → said v
 OfText (Malformed fault) said = ⊥
 
 -- the text has no value, for this fault
 abbrev pub HasNone : PartText → FormFault → Type 0
-HasNone (Standing document) fault = ⊥
+HasNone (Canonical document) fault = ⊥
 HasNone (Made octets) fault = (v : Value) → IsWithinLimits v → octets.items ≡ canon v → ⊥
 HasNone (Malformed form) fault = fault ≡ form
 
@@ -135,9 +138,9 @@ HasDate of_moment.Dateless date = ⊥
 
 -- the second text is the first, in memory of its own
 abbrev pub IsCopyOf : PartText → PartText → Type 0
-IsCopyOf (Standing document) (Standing other) = ⊥
-IsCopyOf (Standing document) (Made octets) = octets.items ≡ canon document
-IsCopyOf (Standing document) (Malformed fault) = ⊥
+IsCopyOf (Canonical document) (Canonical other) = ⊥
+IsCopyOf (Canonical document) (Made octets) = octets.items ≡ canon document
+IsCopyOf (Canonical document) (Malformed fault) = ⊥
 IsCopyOf (Made octets) text = text ≡ Made octets
 IsCopyOf (Malformed fault) text = text ≡ Malformed fault
 
@@ -164,22 +167,26 @@ pub record AreCopies (texts copies : Texts) : Type 0 where
 
 -- A question that was read. It has the canonical texts of the guard's entries, the case of the question's parts, which has no entries
 -- of its own, the guard's limit of the octets of an answer, and its marks.
-pub record AskedOf : Type 0 where
+pub record PreparedModel : Type 0 where
   pub texts : List (List ℕ)
   pub case : Case
   pub answer : ℕ
   pub marks : List Bool
 
 -- a statement is true of the question's case with the guard's entries
-abbrev pub OfCase : AskedOf → (Case → Type 0) → Type 0
+abbrev pub OfCase : PreparedModel → (Case → Type 0) → Type 0
 OfCase a said = (es : List Entry) → AreEntries a.texts es → said (with_entries a.case es)
 
 -- a decision of the case with the guard's entries: the first entry that is granted, or no if none is
-abbrev pub Decides : Verified → AskedOf → Decision → Type 0
+abbrev pub Decides : Verified → PreparedModel → Decision → Type 0
 Decides verified a d = OfCase a (λ c. IsDecision c verified d)
 
+-- what is granted: the first entry that is granted, and until when that holds, or nothing if none is
+abbrev pub Grants : Verified → PreparedModel → Option Grant → Type 0
+Grants verified a grant = Decides verified a (decision_of grant) × OfCase a (λ c. HoldsUntil c grant)
+
 -- An answer is an answer for the case with the guard's entries. Nothing is claimed if memory ran out.
-abbrev pub Answers : {A : Type 0} → (Case → Result A GuardFault → Type 0) → AskedOf → Result A GuardFault → Type 0
+abbrev pub Answers : {A : Type 0} → (Case → Result A GuardFault → Type 0) → PreparedModel → Result A GuardFault → Type 0
 Answers IsAnswer a (Ok answer) = OfCase a (λ c. IsAnswer c (Ok answer))
 Answers IsAnswer a (Err TooLarge) = OfCase a (λ c. IsAnswer c (Err TooLarge))
 Answers IsAnswer a (Err Memory) = Unit {0}
@@ -218,40 +225,48 @@ pub record IsUnmarked (signed : List Signed) (marks : List Bool) (one : Signed) 
 
 -- What a question says by its marks. If each listed signature has a mark at its place, this is what it says if all are valid. Otherwise
 -- the first one without a mark stops it.
-abbrev pub ByMarks : AskedOf → (whole : Type 0) → (stopped : Signed → Type 0) → Type 0
+abbrev pub ByMarks : PreparedModel → (whole : Type 0) → (stopped : Signed → Type 0) → Type 0
 ByMarks a whole stopped =
     (AllMarked (asked a.case) a.marks × whole)
     ⊎ ((one : Signed) × IsUnmarked (asked a.case) a.marks one × stopped one)
 
 -- the decision by the marks: no, unless each listed signature has a mark at its place
-abbrev pub DecidesMarked : AskedOf → Decision → Type 0
+abbrev pub DecidesMarked : PreparedModel → Decision → Type 0
 DecidesMarked a d = ByMarks a (Decides every a d) (λ one. d ≡ No)
 
+-- what is granted by the marks
+abbrev pub GrantsMarked : PreparedModel → Option Grant → Type 0
+GrantsMarked a grant = DecidesMarked a (decision_of grant) × OfCase a (λ c. HoldsUntil c grant)
+
+-- the same question at another moment
+abbrev pub asked_at : PreparedModel → List ℕ → PreparedModel
+asked_at a moment = record a { case = at_moment a.case moment }
+
 -- Whether the question is granted if all listed signatures are valid.
-pub record IsPossible (a : AskedOf) (yes : Bool) : Type 0 where
+pub record IsPossible (a : PreparedModel) (yes : Bool) : Type 0 where
   pub decision : Decision
   pub decides : Decides every a decision
   pub answer : IsTrue yes ↔ IsYes decision
 
 -- Whether the question is granted by the marks.
-pub record IsGranted (a : AskedOf) (yes : Bool) : Type 0 where
+pub record IsGranted (a : PreparedModel) (yes : Bool) : Type 0 where
   pub decision : Decision
   pub decides : DecidesMarked a decision
   pub answer : IsTrue yes ↔ IsYes decision
 
 -- An answer by the marks. If each listed signature has a mark, it is that of a verifier that accepts all. Otherwise it is `stopped` of the
 -- first one without a mark. Nothing is claimed if memory ran out.
-abbrev pub AnswersMarked : {A : Type 0} → (Case → Verified → Result A GuardFault → Type 0) → (Signed → A) → AskedOf → Result A GuardFault → Type 0
+abbrev pub AnswersMarked : {A : Type 0} → (Case → Verified → Result A GuardFault → Type 0) → (Signed → A) → PreparedModel → Result A GuardFault → Type 0
 AnswersMarked IsAnswer stopped a (Ok answer) = ByMarks a (OfCase a (λ c. IsAnswer c every (Ok answer))) (λ one. answer ≡ stopped one)
 AnswersMarked IsAnswer stopped a (Err TooLarge) = ByMarks a (OfCase a (λ c. IsAnswer c every (Err TooLarge))) (λ one. ⊥)
 AnswersMarked IsAnswer stopped a (Err Memory) = Unit {0}
 
 -- the explanation by the marks: the certificate of the first listed signature without a mark fails
-abbrev pub ExplainsMarked : AskedOf → Result Explanation GuardFault → Type 0
+abbrev pub ExplainsMarked : PreparedModel → Result Explanation GuardFault → Type 0
 ExplainsMarked = AnswersMarked IsExplained (λ one. explanations.Evidence one.item NotAccepted)
 
 -- the same of a reduction
-abbrev pub ReducesMarked : AskedOf → Result Reduction GuardFault → Type 0
+abbrev pub ReducesMarked : PreparedModel → Result Reduction GuardFault → Type 0
 ReducesMarked = AnswersMarked IsReduced (λ one. reductions.Evidence one.item NotAccepted)
 
 -- Marks tell what a verifier accepts: the place of a signature has a mark exactly if the verifier accepts the signature.
@@ -262,36 +277,37 @@ MarksTell verified signed marks =
 -- ---- what a question that was read keeps of its texts
 
 -- The texts are read as this question of the guard, whichever question they are the texts of.
-pub record IsReadFrom (held : Held) (texts : Texts) (a : AskedOf) : Type 0 where
+pub record IsReadFrom (held : GuardModel) (texts : Texts) (a : PreparedModel) : Type 0 where
   pub entries : a.texts ≡ held.texts
   pub is : (q : Question) → IsTextsOf q texts → IsAskedCase q a.case
   pub policy : a.case.policy ≡ held.policy
   pub nodes : a.case.most_nodes ≡ held.nodes
-  pub work : a.case.most_work ≡ Some held.work
+  pub work : a.case.most_work ≡ held.work
+  pub counted : a.case.uncounted ≡ 0
   pub answer : a.answer ≡ held.answer
   pub few : certificates_in a.case.items ≤ held.certificates
   pub short : (q : Question) → IsTextsOf q texts → HasFewStrings held.words q
 
--- These are the signatures that a verifier is asked about the texts, and the decision if it accepts all of them.
-pub record IsKeptOf (held : Held) (texts : Texts) (signed : List Signed) (d : Decision) : Type 0 where
-  pub read : AskedOf
+-- These are the signatures that a verifier is asked about the texts, and what is granted if it accepts all of them.
+pub record IsConditionalGrant (held : GuardModel) (texts : Texts) (signed : List Signed) (grant : Option Grant) : Type 0 where
+  pub read : PreparedModel
   pub is : IsReadFrom held texts read
   pub signed_are : signed ≡ asked read.case
-  pub decision_is : Decides every read d
+  pub grant_is : Grants every read grant
 
 -- ---- questions that own what they need
 
 -- The question is opened for the guard: its texts are kept, and together they have no more octets than the guard's limit. So are the
--- signatures that a verifier is asked about, each with room for its mark, and the decision if all of them are valid.
-pub record IsOpened (held : Held) (q : Question) (o : Opened) : Type 0 where
+-- signatures that a verifier is asked about, each with room for its mark, and what is granted if all of them are valid.
+pub record IsOpened (held : GuardModel) (q : Question) (o : OwnedQuestion) : Type 0 where
   pub guard_is : o.guard ≡ held
   pub texts : IsTextsOf q o.texts
   pub short : asked_octets q ≤ held.octets
-  pub kept : IsKeptOf o.guard o.texts o.signed.items o.if_valid
+  pub kept : IsConditionalGrant o.guard o.texts o.signed.items o.if_valid
   pub counted : length o.marks.items ≡ length o.signed.items
 
 -- The same question, with a mark at one more place.
-pub record HasMark (old : Opened) (place : ℕ) (new : Opened) : Type 0 where
+pub record HasMark (old : OwnedQuestion) (place : ℕ) (new : OwnedQuestion) : Type 0 where
   pub marks : IsMarkedToo old.marks.items place new.marks.items
   pub others : new ≡ record old { marks = new.marks }
 
@@ -305,14 +321,14 @@ AreTextFolds texts c tuples folds =
 
 -- ---- reductions
 
--- A certificate of the question does not stand, and nothing is put. Or all stand, and this is what the guard's entries become.
-abbrev pub AreReduced : AskedOf → Verified → Option Failure → List EntryFold → Type 0
+-- A certificate of the question fails a test, and nothing is put. Or all pass, and this is what the guard's entries become.
+abbrev pub AreReduced : PreparedModel → Verified → Option Failure → List EntryFold → Type 0
 AreReduced a verified (Some failure) folds = (folds ≡ []) × OfCase a (λ c. IsFailure c verified failure.item failure.stop)
 AreReduced a verified None folds =
     OfCase a (λ c. AreFolds c verified folds) × AllByRecursion IsDated folds × AllByRecursion EndsAtDate folds
 
 -- the same by the marks
-abbrev pub AreReducedMarked : AskedOf → Option Failure → List EntryFold → Type 0
+abbrev pub AreReducedMarked : PreparedModel → Option Failure → List EntryFold → Type 0
 AreReducedMarked a failure folds =
     ByMarks a (AreReduced a every failure folds)
     (λ one. (failure ≡ Some (record { item = one.item; stop = NotAccepted })) × (folds ≡ []))

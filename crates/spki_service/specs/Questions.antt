@@ -1,12 +1,12 @@
 -- The parts of a question in any of the three forms, the case that they are, and why a question is refused: a part
 -- cannot be read, or there are too many certificates or strings.
-use Rattle.std.specs.Prelude.{◌≡◌, ◌≢◌, ◌⊎◌, ◌↔◌, ℕ, ◌<◌, ◌≤◌, List, length, ◌+◌, ◌*◌, ◌/◌, ◌%◌, [], ◌∷◌, ◌++◌, ℤ, pos, neg_ℤ, ◌+ℤ◌, ◌*ℤ◌, ◌<ℤ◌, ◌≤ℤ◌, map, Some, Bool, IsTrue}
+use Rattle.std.specs.Prelude.{◌≡◌, ◌≢◌, ◌⊎◌, ◌↔◌, ℕ, ◌<◌, ◌≤◌, List, length, ◌+◌, ◌-◌, ◌*◌, ◌/◌, ◌%◌, min, nat_lt, if◌then◌else◌, slice_index, [], ◌∷◌, ◌++◌, ℤ, pos, neg_ℤ, ◌+ℤ◌, ◌*ℤ◌, ◌<ℤ◌, ◌≤ℤ◌, map, Some, Bool, IsTrue}
 use Rattle.sexpr_core.specs.declared.fault.FormFault.{FormFault}
 use Rattle.sexpr_core.specs.declared.fault.FormFault.TheVariants as form
 use Rattle.sexpr_core.specs.Value.{Value, canon, plain, group, Values, string, list, none, more, IsWithinLimits}
 use Rattle.sexpr_text.specs.AdvancedForm.{IsTextWithin}
 use Rattle.sexpr_text.specs.Refusal.{RefusesText}
-use Rattle.jiff_core.specs.Calendar.{IsCivilDate, days_from_civil}
+use Rattle.jiff_core.specs.Calendar.{IsCivilDate, days_in_month, days_from_civil}
 use Rattle.sexpr_core.specs.Characters.{char}
 use Rattle.spki_tag.specs.Request.{Request}
 use Rattle.spki_tag.specs.Faults.{request_fault}
@@ -32,7 +32,7 @@ use Rattle.spki_service.specs.declared.question.AskFault.{AskFault}
 use Rattle.spki_service.specs.declared.question.AskFault.TheVariants as faults
 use Rattle.spki_cert.specs.declared.certificate.SeqItem.TheVariants.{Auth, Name}
 use Rattle.spki_service.specs.declared.texts.PartText.{PartText}
-use Rattle.spki_service.specs.declared.texts.PartText.TheVariants.{Standing, Made, Malformed}
+use Rattle.spki_service.specs.declared.texts.PartText.TheVariants.{Canonical, Made, Malformed}
 
 -- ---- the value that a text in any of the three forms is read as, and why it is read as none
 
@@ -100,6 +100,30 @@ pub record IsDateAt (seconds : ℤ) (octets : List ℕ) : Type 0 where
 -- They are negative, as of a clock that failed, or after 9999-12-31 23:59:59.
 abbrev pub IsAtNoDate : ℤ → Type 0
 IsAtNoDate seconds = (seconds <ℤ pos 0) ⊎ (pos 253_402_300_799 <ℤ seconds)
+
+-- the number of the two digits at i and i + 1
+abbrev pub number_at : List ℕ → ℕ → ℕ
+number_at octets i = 10 * (slice_index octets i - char "0") + (slice_index octets (i + 1) - char "0")
+
+-- they are digits, and their number is at most a bound
+abbrev pub IsNumberUpto : List ℕ → ℕ → ℕ → Type 0
+IsNumberUpto octets i high =
+    (char "0" ≤ slice_index octets i) × (slice_index octets i ≤ char "9")
+    × (char "0" ≤ slice_index octets (i + 1)) × (slice_index octets (i + 1) ≤ char "9") × (number_at octets i ≤ high)
+
+-- the seconds of a day before HH:MM:SS, which begins at i; a second 60 counts as 59
+abbrev pub clock_at : List ℕ → ℕ → ℕ
+clock_at octets i = number_at octets i * 3600 + number_at octets (i + 3) * 60 + min (number_at octets (i + 6)) 59
+
+-- The last second that is not after a date YYYY-MM-DD_HH:MM:SS, since 1970-01-01 00:00:00 UTC, on a clock whose days have 86,400 seconds each,
+-- in the Gregorian calendar. It is that of the date. If the month does not have the day, it is the last second of the month.
+abbrev pub last_second : List ℕ → ℤ
+last_second octets =
+    let year = pos (100 * number_at octets 0 + number_at octets 2) in
+    let month = number_at octets 5 in
+    let day = number_at octets 8 in
+    let long = days_in_month year month in
+    days_from_civil year month (min day long) *ℤ pos 86400 +ℤ pos (if nat_lt long day then 86399 else clock_at octets 11)
 
 -- ---- the parts of a question, and why a question is refused
 
@@ -259,7 +283,7 @@ TellsStrings most has_more v = IsTrue has_more ↔ (most < strings_in v)
 
 -- the same for the value of a text
 abbrev pub TellsStringsOf : ℕ → Bool → PartText → Type 0
-TellsStringsOf most has_more (Standing document) = TellsStrings most has_more document
+TellsStringsOf most has_more (Canonical document) = TellsStrings most has_more document
 TellsStringsOf most has_more (Made octets) = (v : Value) → IsWithinLimits v → octets.items ≡ canon v → TellsStrings most has_more v
 TellsStringsOf most has_more (Malformed fault) = Unit {0}
 

@@ -2,11 +2,11 @@
 use Rattle.std.specs.Prelude.{◌≡◌, ℕ, List, Bool, Some, IsTrue, slice_get}
 use Rattle.spki_cert.specs.declared.entry.Entry.{Entry}
 use Rattle.spki_case.specs.Case.{Case, Row, is_row_of}
-use Rattle.spki_decision.specs.Standing.{Signed}
-use Rattle.spki_service.specs.GuardQuestions.{AskedOf, IsMarked}
+use Rattle.spki_decision.specs.CertificateTests.{Signed}
+use Rattle.spki_service.specs.GuardQuestions.{PreparedModel, IsMarked}
 
 -- The case has these entries, and the parts and the policy of the question. Its rows and its limits may be any.
-pub record IsCaseOfParts (a : AskedOf) (es : List Entry) (c : Case) : Type 0 where
+pub record IsCaseOfParts (a : PreparedModel) (es : List Entry) (c : Case) : Type 0 where
   pub entries : c.entries ≡ es
   pub items : c.items ≡ a.case.items
   pub key : c.key ≡ a.case.key

@@ -2,28 +2,28 @@
 
 ghost use Rattle.std.specs.Prelude.{◌≡◌, List, map, IfOk, IsErrOf, option_copied};
 ghost use Rattle.spki_reduce.specs.Chain.{tuples_of};
-ghost use Rattle.spki_decision.specs.Standing.{asked, every, signed_of};
+ghost use Rattle.spki_decision.specs.CertificateTests.{asked, every, signed_of};
 ghost use Rattle.spki_decision.specs.Answered.{IsExplained, IsReduced};
 ghost use Rattle.spki_decision.specs.declared.reduction.EntryFold.{EntryFold};
 ghost use Rattle.spki_decision.specs.Granted.{EndAtDates, SomeTooLarge};
 ghost use Rattle.spki_decision.specs.Requirements.{first_key};
-ghost use Rattle.spki_service.specs.GuardQuestions.{Answers, OfCase, Decides, AreReduced, ByMarks, IsPossible, DecidesMarked, ExplainsMarked, ReducesMarked, AreReducedMarked};
+ghost use Rattle.spki_service.specs.GuardQuestions.{Answers, OfCase, Decides, Grants, AreReduced, ByMarks, IsPossible, DecidesMarked, GrantsMarked, ExplainsMarked, ReducesMarked, AreReducedMarked};
 
-use crate::asked::Asked;
 use crate::failure::Failure;
+use crate::prepared_question::PreparedQuestion;
 use crate::text_folds::fold_texts;
 use spki_case::Verifier;
 use spki_cert::Key;
 use spki_decision::{
-    Decision, Explanation, FoldSink, GuardFault, ReasonSink, Reduction, Signed, Stop, Unverified,
-    first_refused,
+    Decision, Explanation, FoldSink, Grant, GuardFault, ReasonSink, Reduction, Signed, Stop,
+    Unverified, first_refused,
 };
 use spki_reduce::{Issuer, Step};
 use std::alloc::{AllocError, Global};
 use std::marker::Brand;
 use std::sync::ledger::Blank;
 
-impl<'a> Asked<'a> {
+impl<'a> PreparedQuestion<'a> {
     /// The signatures that a verifier is asked about, in order (RFC 2693, section 6). They are those of the
     /// certificates that pass the first three of the four tests of `Stop`, up to the first that does not. Nothing is
     /// copied.
@@ -33,8 +33,29 @@ impl<'a> Asked<'a> {
         &self.examined.signed
     }
 
+    /// What the question is granted, as `decide` decides it: the entry, and until when it holds. None if the decision is no.
+    ///
+    /// Until the least not-after of that entry's window and of those of all certificates, definitions of names too, the same question is
+    /// a yes, if the verifier accepts the same signatures.
+    ///
+    /// # Errors
+    ///
+    /// `AllocError` if memory ran out, here or in the verifier.
+    pub fn grant<V: Verifier>(
+        &self,
+        alloc: Global,
+        verifier: &V,
+    ) -> Result<Option<Grant>, AllocError>
+        ensures { IfOk result (Grants (V.accepted verifier.now) self.now) }
+    {
+        match first_refused(alloc, &self.examined.signed, verifier)? {
+            None => self.granted(alloc),
+            Some(_) => Ok(None),
+        }
+    }
+
     /// Decides the question (RFC 2693, section 6). The answer is yes exactly if both of these hold. Every certificate
-    /// stands: it passes the four tests of `Stop`, and the last is that the verifier accepts its signature. An entry
+    /// passes the four tests of `Stop`, of which the last is that the verifier accepts its signature. An entry
     /// and all certificates, in their order, reduce to an authorization that grants the request. The first such entry
     /// is named. Otherwise the answer is no.
     ///
@@ -48,10 +69,18 @@ impl<'a> Asked<'a> {
     pub fn decide<V: Verifier>(&self, alloc: Global, verifier: &V) -> Result<Decision, AllocError>
         ensures { IfOk result (Decides (V.accepted verifier.now) self.now) }
     {
-        match first_refused(alloc, &self.examined.signed, verifier)? {
-            None => self.decided(alloc),
-            Some(_) => Ok(Decision::No),
-        }
+        Ok(Grant::decision(self.grant(alloc, verifier)?))
+    }
+
+    /// What the question is granted, as by `grant`, if exactly the marked signatures are valid.
+    ///
+    /// # Errors
+    ///
+    /// `AllocError` if memory ran out.
+    pub fn grant_by(&self, alloc: Global) -> Result<Option<Grant>, AllocError>
+        ensures { IfOk result (GrantsMarked self.now) }
+    {
+        self.grant_by_from::<Brand>(alloc, Blank::new(1))
     }
 
     /// Decides the question, if exactly the marked signatures are valid. So the answer is no unless each signature that `signed` lists
@@ -63,7 +92,10 @@ impl<'a> Asked<'a> {
     pub fn decide_by(&self, alloc: Global) -> Result<Decision, AllocError>
         ensures { IfOk result (DecidesMarked self.now) }
     {
-        self.decide_by_from::<Brand>(alloc, Blank::new(1))
+        match self.grant_by(alloc) {
+            Ok(grant) => Ok(Grant::decision(grant)),
+            Err(fault) => Err(fault),
+        }
     }
 
     /// Whether the question is granted if all listed signatures are valid. If it is not, no marks make it a yes, and no signature has to
@@ -75,15 +107,18 @@ impl<'a> Asked<'a> {
     pub fn is_possible(&self, alloc: Global) -> Result<bool, AllocError>
         ensures { IfOk result (IsPossible self.now) }
     {
-        Ok(self.decided(alloc)?.is_yes())
+        match self.granted(alloc) {
+            Ok(grant) => Ok(grant.is_some()),
+            Err(fault) => Err(fault),
+        }
     }
 
-    /// The decision if the verifier accepts every signature. `No` if a certificate fails another test. Err if memory
+    /// What is granted if the verifier accepts every signature. None if a certificate fails another test. Err if memory
     /// ran out.
-    pub(crate) fn decided(&self, alloc: Global) -> Result<Decision, AllocError>
-        ensures { IfOk result (Decides every self.now) }
+    pub(crate) fn granted(&self, alloc: Global) -> Result<Option<Grant>, AllocError>
+        ensures { IfOk result (Grants every self.now) }
     {
-        self.decided_from::<Brand>(alloc, Blank::new(1))
+        self.granted_from::<Brand>(alloc, Blank::new(1))
     }
 
     /// Explains the question, as `spki_decision::explain` explains the case of the question's parts and the guard's
@@ -173,7 +208,7 @@ impl<'a> Asked<'a> {
 
     /// Reduces the question as `reduce_by` does, and puts what each entry becomes into `sink` as soon as it is found. So no more
     /// than one entry, and what it becomes, takes memory at a time. The result is the first certificate that fails a
-    /// test. None if all certificates stand; otherwise nothing is put.
+    /// test. None if all certificates pass their tests; otherwise nothing is put.
     ///
     /// # Errors
     ///

@@ -77,7 +77,7 @@ fn has_more_strings(alloc: Global, text: &PartText, most: usize) -> Result<bool,
     ensures only { IfErr result (λ fault. fault ≡ AskFault.Memory) }
 {
     match text {
-        PartText::Standing(document) => Ok(node_has_more_strings(&document.top(), most)),
+        PartText::Canonical(document) => Ok(node_has_more_strings(&document.top(), most)),
         PartText::Made(octets) => match Doc::open(alloc, octets) {
             Ok(document) => Ok(node_has_more_strings(&document.top(), most)),
             Err(FormFault::Memory) => Err(AskFault::Memory),

@@ -1,10 +1,66 @@
 //! Moments as seconds.
 
-ghost use Rattle.std.specs.Prelude.{◌≡◌, ◌<◌, ◌+◌, ◌/◌, ◌%◌, ◌≤ℤ◌, ◌*ℤ◌, pos, unsigned_abs, MatchOption};
-ghost use Rattle.spki_service.specs.Questions.{date_octets, IsDateAt, IsAtNoDate};
+ghost use Rattle.std.specs.Prelude.{◌≡◌, ◌<◌, ◌+◌, ◌/◌, ◌%◌, ◌≤ℤ◌, ◌+ℤ◌, ◌*ℤ◌, pos, unsigned_abs, length, MatchOption};
+ghost use Rattle.jiff_core.specs.Calendar.{IsEpochDay};
+ghost use Rattle.spki_service.specs.Questions.{date_octets, IsDateAt, IsAtNoDate, IsNumberUpto, number_at, clock_at, last_second};
 
-use jiff_core::civil::DateTime;
-use spki_cert::Date;
+use jiff_core::civil::{Date as CivilDate, DateTime};
+use spki_cert::{Date, Window};
+
+/// The last second, since 1970-01-01 00:00:00 UTC, that is not after a date. It is that of the date, and negative before 1970. If the month
+/// does not have the date's day, it is the last second of the month. If the date's second is 60, it is the second before.
+pub fn last_second(date: &Date) -> i64
+    ensures { result ≡ last_second date.now }
+{
+    let window = Window {
+        not_before: None,
+        not_after: Some(*date),
+    };
+    window.prove_limits();
+    let octets = date.as_slice();
+    let year = 100 * number_at(octets, 0) as u16 + number_at(octets, 2) as u16;
+    let (month, day) = (number_at(octets, 5), number_at(octets, 8));
+    let civil = CivilDate::constrain(year as i16, month, day);
+    let clock = if civil.day < day {
+        86_399
+    } else {
+        clock_at(octets, 11)
+    };
+    seconds_of(civil.to_unix_epoch_day(), clock)
+}
+
+/// The seconds of a day's number and of the time of day.
+fn seconds_of(day: i32, clock: u32) -> i64
+    requires day { IsEpochDay day }
+    requires clock { clock < 86400 }
+    ensures { result ≡ day *ℤ pos 86400 +ℤ pos clock }
+{
+    day as i64 * 86_400 + clock as i64
+}
+
+/// The seconds of a day before the time of day `HH:MM:SS` at this place. A second 60 counts as 59.
+fn clock_at(octets: &[u8], place: usize) -> u32
+    requires within { place + 7 < length octets.now }
+    requires hour { IsNumberUpto octets.now place 23 }
+    requires minute { IsNumberUpto octets.now (place + 3) 59 }
+    requires second { IsNumberUpto octets.now (place + 6) 60 }
+    ensures value { result ≡ clock_at octets.now place }
+    ensures below { result < 86400 }
+{
+    let (hour, minute) = (number_at(octets, place), number_at(octets, place + 3));
+    let second = number_at(octets, place + 6);
+    let whole = if second < 60 { second } else { 59 };
+    hour as u32 * 3_600 + minute as u32 * 60 + whole as u32
+}
+
+/// The number of the two digits at this place.
+fn number_at(octets: &[u8], place: usize) -> u8
+    requires within { place + 1 < length octets.now }
+    requires digits { IsNumberUpto octets.now place 99 }
+    ensures { result ≡ number_at octets.now place }
+{
+    10 * (octets[place] - b'0') + (octets[place + 1] - b'0')
+}
 
 /// The date of seconds since 1970-01-01 00:00:00 UTC. None if they are negative, or the year is after 9999. Allocates nothing.
 pub(crate) fn date_at(seconds: i64) -> Option<Date>

@@ -2,24 +2,25 @@
 
 ghost use Rattle.std.specs.Prelude.{◌≡◌, ◌≤◌, ◌<◌, ◌+◌, ◌*◌, ℕ, List, length, IfOk, MatchOption};
 ghost use Rattle.spki_cert.specs.declared.entry.Entry.{Entry};
-ghost use Rattle.spki_reduce.specs.Chain.{tuples_of};
-ghost use Rattle.spki_decision.specs.Standing.{AreShown, asked, every, signed_of, with_entries};
+ghost use Rattle.spki_reduce.specs.Chain.{tuples_of, all_windows};
+ghost use Rattle.spki_decision.specs.CertificateTests.{AreShown, asked, every, signed_of, with_entries};
+ghost use Rattle.spki_decision.specs.Until.{decision_of, EndsWith};
 ghost use Rattle.spki_service.specs.AccessLists.{AreEntries, DecidesPartly};
 ghost use Rattle.spki_service.specs.Cost.{HasOctets};
-ghost use Rattle.spki_service.specs.GuardQuestions.{Decides, DecidesMarked, AllMarked, IsUnmarked};
+ghost use Rattle.spki_service.specs.GuardQuestions.{Grants, DecidesMarked, GrantsMarked, AllMarked, IsUnmarked};
 
 use crate::answers::first_key;
-use crate::asked::Asked;
 use crate::granted_entry::first_granted;
 use crate::marks::first_unmarked_counted;
-use spki_decision::{Decision, Signed, Unverified};
+use crate::prepared_question::PreparedQuestion;
+use spki_decision::{Decision, Grant, Signed, Unverified};
 use spki_reduce::Step;
 use spki_tag::Ticks;
 use std::alloc::{AllocError, Global};
 use std::marker::Brand;
 use std::sync::ledger::{Blank, Ledger};
 
-impl<'a> Asked<'a> {
+impl<'a> PreparedQuestion<'a> {
     /// Decides the question by the marks, as `decide_by`. A tick is a signature, a certificate, an entry, a tag or a name that is looked
     /// at, or an octet that is read or compared. There are at most four times as many as the octets of the sequence's canonical text, and
     /// twice as many as those of the entries that the index finds. `docs/PERFORMANCE.md` says what is not counted.
@@ -35,67 +36,80 @@ impl<'a> Asked<'a> {
         ensures answer { IfOk result (DecidesMarked self.now) }
         ensures cost { (shown found : ℕ) → HasOctets self.now shown found → ticks.new ≤ ticks.old + 4 * shown + 2 * found }
     {
+        Ok(Grant::decision(self.grant_by_counted(alloc, ticks)?))
+    }
+
+    /// Does what `grant_by` does, in as many ticks as `decide_by_counted`.
+    fn grant_by_counted<L: Ledger>(
+        &self,
+        alloc: Global,
+        ticks: &mut Ticks<L>,
+    ) -> Result<Option<Grant>, AllocError>
+        ensures answer { IfOk result (GrantsMarked self.now) }
+        ensures cost { (shown found : ℕ) → HasOctets self.now shown found → ticks.new ≤ ticks.old + 4 * shown + 2 * found }
+    {
         match self.unmarked_counted(ticks) {
-            None => self.decided_counted(alloc, ticks),
-            Some(_) => Ok(Decision::No),
+            None => self.granted_counted(alloc, ticks),
+            Some(_) => Ok(None),
         }
     }
 
     /// The same, counted in a ledger of its own.
-    pub(crate) fn decide_by_from<L: Ledger>(
+    pub(crate) fn grant_by_from<L: Ledger>(
         &self,
         alloc: Global,
         blank: Blank,
-    ) -> Result<Decision, AllocError>
+    ) -> Result<Option<Grant>, AllocError>
         requires name { blank.name ≡ L.name }
         requires parts { blank.parts ≡ L.parts }
         requires some { 0 < blank.parts }
-        ensures { IfOk result (DecidesMarked self.now) }
+        ensures { IfOk result (GrantsMarked self.now) }
     {
-        self.decide_by_counted(alloc, &mut Ticks::<L>::new(blank))
+        self.grant_by_counted(alloc, &mut Ticks::<L>::new(blank))
     }
 
-    /// Does what `decided` does. The signatures that were looked at before are counted too.
-    fn decided_counted<L: Ledger>(
+    /// Does what `granted` does. The signatures that were looked at before are counted too.
+    fn granted_counted<L: Ledger>(
         &self,
         alloc: Global,
         ticks: &mut Ticks<L>,
-    ) -> Result<Decision, AllocError>
-        ensures answer { IfOk result (Decides every self.now) }
+    ) -> Result<Option<Grant>, AllocError>
+        ensures answer { IfOk result (Grants every self.now) }
         ensures cost { (shown found : ℕ) → HasOctets self.now shown found
             → ticks.new + length (asked self.now.case) ≤ ticks.old + 4 * shown + 2 * found }
     {
         match &self.examined.unverified {
-            Unverified::Fails { .. } => Ok(Decision::No),
-            Unverified::Passes(steps) => self.granted(alloc, steps, ticks),
+            Unverified::Fails { .. } => Ok(None),
+            Unverified::Passes(steps) => self.granted_after(alloc, steps, ticks),
         }
     }
 
-    /// Does what `decided` does, counted in a ledger of its own.
-    pub(crate) fn decided_from<L: Ledger>(
+    /// Does what `granted` does, counted in a ledger of its own.
+    pub(crate) fn granted_from<L: Ledger>(
         &self,
         alloc: Global,
         blank: Blank,
-    ) -> Result<Decision, AllocError>
+    ) -> Result<Option<Grant>, AllocError>
         requires name { blank.name ≡ L.name }
         requires parts { blank.parts ≡ L.parts }
         requires some { 0 < blank.parts }
-        ensures { IfOk result (Decides every self.now) }
+        ensures { IfOk result (Grants every self.now) }
     {
-        self.decided_counted(alloc, &mut Ticks::<L>::new(blank))
+        self.granted_counted(alloc, &mut Ticks::<L>::new(blank))
     }
 
-    /// The decision if the verifier accepts every signature, for certificates with the tuples `steps`. Only the entries
+    /// What is granted if the verifier accepts every signature, for certificates with the tuples `steps`. Only the entries
     /// that the index finds for the first step's key are read. Err if memory ran out. The signatures that were looked at before are
     /// counted too.
-    fn granted<'s, L: Ledger>(
+    fn granted_after<'s, L: Ledger>(
         &'s self,
         alloc: Global,
         steps: &'s [Step<'a>],
         ticks: &mut Ticks<L>,
-    ) -> Result<Decision, AllocError>
+    ) -> Result<Option<Grant>, AllocError>
         ensures answer { (es : List Entry) → AreEntries self.now.texts es
-            → IfOk result (DecidesPartly (with_entries self.now.case es) (tuples_of steps.now)) }
+            → IfOk result (λ grant. DecidesPartly (with_entries self.now.case es) (tuples_of steps.now) (decision_of grant)) }
+        ensures until { (es : List Entry) → AreEntries self.now.texts es → IfOk result (EndsWith es (all_windows (tuples_of steps.now))) }
         ensures cost { (shown found : ℕ) → HasOctets self.now shown found
             → AreShown self.now.case.policy every self.now.case.items (tuples_of steps.now)
             → ticks.new + length (asked self.now.case) ≤ ticks.old + 4 * shown + 2 * found }

@@ -1,8 +1,8 @@
-//! The first certificate of a question that does not stand (RFC 2693, section 6).
+//! The first certificate of a question that fails a test (RFC 2693, section 6).
 
 use spki_decision::Stop;
 
-/// The first certificate that does not stand.
+/// The first certificate that fails a test.
 #[derive(Clone, Copy, Debug, PartialEq, Eq)]
 pub struct Failure {
     /// The number of its item, from 1.

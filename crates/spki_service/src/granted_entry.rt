@@ -1,26 +1,26 @@
 //! Which entry of an access list grants a request, one after another (RFC 2693, section 6.3).
 
-ghost use Rattle.std.specs.Prelude.{◌≡◌, ◌≤◌, ◌+◌, ◌*◌, List, length, IfOk};
+ghost use Rattle.std.specs.Prelude.{◌≡◌, ◌≤◌, ◌+◌, ◌*◌, List, None, length, IfOk};
 ghost use Rattle.spki_cert.specs.declared.entry.Entry.{Entry};
-ghost use Rattle.spki_reduce.specs.Chain.{tuples_of};
+ghost use Rattle.spki_reduce.specs.Chain.{tuples_of, all_windows};
 ghost use Rattle.spki_case.specs.View.{model};
-ghost use Rattle.spki_decision.specs.Standing.{with_entries};
+ghost use Rattle.spki_decision.specs.CertificateTests.{with_entries};
 ghost use Rattle.spki_decision.specs.Cost.{tuples_weight};
-ghost use Rattle.spki_decision.specs.declared.decision.Decision.TheVariants.{No};
+ghost use Rattle.spki_decision.specs.Until.{decision_of, EndsWith};
 ghost use Rattle.spki_service.specs.Cost.{octets_at};
 ghost use Rattle.spki_service.specs.AccessLists.{AreEntries, NamesPicked, AreNumbers, ArePicked};
 
 use crate::entry_texts::entry_counted;
 use crate::text_list::TextList;
 use spki_case::Case;
-use spki_decision::{Decision, Membership};
+use spki_decision::{ChainRequirement, Grant};
 use spki_reduce::Step;
 use spki_tag::Ticks;
 use std::alloc::{AllocError, Global};
 use std::sync::ledger::Ledger;
 
 /// Returns the first of the entries with these numbers, counted from 1, that grants what the case asks together with the
-/// certificates whose tuples are `steps`, and names it by its number. `No` if there is none. `texts` are the canonical
+/// certificates whose tuples are `steps`, by its number, and until when it does. None if there is none. `texts` are the canonical
 /// texts of all entries, and has one for each number. An entry is read just before it is tested, and nothing is kept of
 /// it. No intersection is formed. An entry is a tick, and so is each octet of its text, once when it is read and at most once when it is
 /// tested.
@@ -35,22 +35,27 @@ pub(crate) fn first_granted<'a, L: Ledger>(
     case: &Case<'a>,
     steps: &[Step<'a>],
     ticks: &mut Ticks<L>,
-) -> Result<Decision, AllocError>
+) -> Result<Option<Grant>, AllocError>
     requires { AreNumbers (length texts.now) numbers.now }
     ensures answer { (es picked : List Entry) → AreEntries texts.entry.now es → ArePicked es numbers.now picked
-        → IfOk result (NamesPicked (with_entries (model case.now) picked) (tuples_of steps.now) numbers.now) }
+        → IfOk result (λ grant. NamesPicked (with_entries (model case.now) picked) (tuples_of steps.now) numbers.now (decision_of grant)) }
+    ensures until { (es : List Entry) → AreEntries texts.entry.now es → IfOk result (EndsWith es (all_windows (tuples_of steps.now))) }
     ensures cost { (es : List Entry) → AreEntries texts.entry.now es
         → ticks.new ≤ ticks.old + tuples_weight (tuples_of steps.now) + 2 * octets_at texts.entry.now numbers.now }
-    ensures each { IfOk result (λ d. d ≡ No → ticks.old + octets_at texts.entry.now numbers.now ≤ ticks.new) }
+    ensures each { IfOk result (λ grant. grant ≡ None → ticks.old + octets_at texts.entry.now numbers.now ≤ ticks.new) }
 {
-    let membership = Membership::of_counted(alloc, case, steps, ticks)?;
+    let requirement = ChainRequirement::of_counted(alloc, case, steps, ticks)?;
     for number in numbers {
         let entry = entry_counted(alloc, texts.text(*number - 1), ticks)?;
-        let grants = membership.grants_counted(&entry, case, ticks);
+        let grants = requirement.grants_counted(&entry, case, ticks);
+        let until = requirement.until(&entry);
         drop(entry);
         if grants {
-            return Ok(Decision::Yes(*number));
+            return Ok(Some(Grant {
+                entry: *number,
+                until,
+            }));
         }
     }
-    Ok(Decision::No)
+    Ok(None)
 }

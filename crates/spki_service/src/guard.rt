@@ -7,10 +7,9 @@ ghost use Rattle.spki_case.specs.Case.{IsOuter};
 ghost use Rattle.spki_service.specs.AccessLists.{AreEntries, HasLimits, HoldsList, HoldsValue, numbers_from, IsNoAccessList, IsNoAcl, ListRefused, is_of};
 ghost use Rattle.spki_service.specs.Questions.{certificates_in, HasFewStrings, IsRefused, IsAskedCase, asked_octets};
 ghost use Rattle.spki_service.specs.GuardQuestions.{IsTextsOf, NoneMarked};
-ghost use Rattle.spki_decision.specs.Standing.{asked};
+ghost use Rattle.spki_decision.specs.CertificateTests.{asked};
 ghost use Rattle.spki_service.specs.declared.question.Question.{Question};
 
-use crate::asked::Asked;
 use crate::counts::check_counts;
 use crate::entry_texts::entry_texts;
 use crate::index::EntryIndex;
@@ -18,13 +17,14 @@ use crate::limits::Limits;
 use crate::list_fault::AclFault;
 use crate::marks::no_marks;
 use crate::parts::case_of;
+use crate::prepared_question::PreparedQuestion;
 use crate::question::{AskFault, Question};
 use crate::text_list::TextList;
 use crate::texts::{Texts, texts_of};
 use sexpr_core::syntax::Node;
 use sexpr_core::{Doc, FormFault};
 use sexpr_text::{Form, convert};
-use spki_cert::{CertFault, CertFaultKind, Key, Policy, acl_of};
+use spki_cert::{CertFault, CertFaultKind, Key, Policy, acl_principals};
 use spki_decision::examine;
 use std::alloc::{AllocError, Global};
 use std::marker::Model;
@@ -44,9 +44,9 @@ pub struct Guard {
 impl Model for Guard {
     ghost use Rattle.std.specs.Prelude.{List};
     ghost use Rattle.spki_cert.specs.declared.entry.Entry.{Entry};
-    ghost use Rattle.spki_service.specs.AccessLists.{Held, AreEntries, IsIndexOf};
+    ghost use Rattle.spki_service.specs.AccessLists.{GuardModel, AreEntries, IsIndexOf};
 
-    ghost Value = { Held };
+    ghost Value = { GuardModel };
 
     ghost view = { λ g. record {
       texts = g.texts;
@@ -129,12 +129,17 @@ impl Guard {
     /// otherwise the fault of its value. If all can be read: `TooManyCertificates` or `TooManyWords`, tested in this
     /// order, if there are more certificates, or more strings of the request, than the guard's limit. Nothing of the
     /// question is judged before. `Memory` if memory ran out.
-    pub fn ask<'a>(&'a self, alloc: Global, texts: &'a Texts<'_>) -> Result<Asked<'a>, AskFault>
+    pub fn ask<'a>(
+        &'a self,
+        alloc: Global,
+        texts: &'a Texts<'_>,
+    ) -> Result<PreparedQuestion<'a>, AskFault>
         ensures asked { (q : Question) → IsTextsOf q texts.entry.now → IfOk result (λ a. IsAskedCase q a.case) }
         ensures entries { IfOk result (λ a. a.texts ≡ self.entry.now.texts) }
         ensures policy { IfOk result (λ a. a.case.policy ≡ self.entry.now.policy) }
         ensures nodes { IfOk result (λ a. a.case.most_nodes ≡ self.entry.now.nodes) }
-        ensures work { IfOk result (λ a. a.case.most_work ≡ Some self.entry.now.work) }
+        ensures work { IfOk result (λ a. a.case.most_work ≡ self.entry.now.work) }
+        ensures counted_all { IfOk result (λ a. a.case.uncounted ≡ 0) }
         ensures answer { IfOk result (λ a. a.answer ≡ self.entry.now.answer) }
         ensures too_long { (q : Question) → IsTextsOf q texts.entry.now
             → IsErrOf result AskFault.TooLong ↔ (self.entry.now.octets < asked_octets q) }
@@ -154,7 +159,7 @@ impl Guard {
         check_counts(alloc, &case, texts, self.limits)?;
         let examined = examine(alloc, &case.sequence, case.policy)?;
         let marks = no_marks(alloc, examined.signed.len())?;
-        Ok(Asked {
+        Ok(PreparedQuestion {
             guard: self,
             case,
             examined,
@@ -224,12 +229,12 @@ impl Guard {
         ensures refused { IfErr result (λ fault. fault ≢ AclFault.Memory
             → (inner : CertFault) × (fault ≡ AclFault.Acl inner) × IsNoAcl inner list.now) }
     {
-        let entries = match acl_of(alloc, list) {
-            Ok(entries) => entries,
+        let owners = match acl_principals(alloc, list) {
+            Ok(owners) => owners,
             Err(fault) => return Err(fault_of_acl(fault)),
         };
-        let index = EntryIndex::of(alloc, &entries)?;
-        let texts = entry_texts(alloc, list, entries.len())?;
+        let index = EntryIndex::of(alloc, &owners)?;
+        let texts = entry_texts(alloc, list, owners.len())?;
         Ok(Guard {
             texts,
             index,

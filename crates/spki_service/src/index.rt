@@ -5,11 +5,11 @@ ghost use Rattle.std.specs.List.{filter};
 ghost use Rattle.std.specs.Str.{bytes_eq};
 ghost use Rattle.spki_cert.specs.declared.entry.Entry.{Entry};
 ghost use Rattle.spki_cert.specs.Naming.{names, admits, digest_of};
-ghost use Rattle.spki_service.specs.AccessLists.{numbers_from, rows_from, is_by, is_principal, octets_of, row_octets, row_number, row_key, key_order, tail_of, numbers_with, rows_by, IsIndexOf, IsInOrder};
+ghost use Rattle.spki_service.specs.AccessLists.{numbers_from, rows_from, is_by, is_principal, octets_of, row_octets, row_number, row_key, key_order, tail_of, numbers_with, owners_of, rows_by, IsIndexOf, IsInOrder};
 ghost use Rattle.spki_tag.specs.Places.{merge};
 
 use crate::text_list::TextList;
-use spki_cert::{Algorithms, Entry, HashAlg, Key, Policy, Principal};
+use spki_cert::{Algorithms, HashAlg, Key, Policy, Principal};
 use spki_tag::merged;
 use std::alloc::{AllocError, Global};
 use std::cmp::Ordering;
@@ -37,19 +37,19 @@ pub(crate) struct EntryIndex {
 }
 
 impl EntryIndex {
-    /// Makes the index of these entries. For n entries this takes a number of comparisons in proportion to n log n.
+    /// Makes the index of the entries whose subjects have these principals. For n entries this takes a number of comparisons in proportion to n log n.
     ///
     /// # Errors
     ///
     /// `AllocError` if memory ran out.
-    pub(crate) fn of(alloc: Global, entries: &[Entry]) -> Result<EntryIndex, AllocError>
-        ensures { IfOk result (IsIndexOf entries.now) }
+    pub(crate) fn of(alloc: Global, owners: &[Principal]) -> Result<EntryIndex, AllocError>
+        ensures { (es : List Entry) → owners.now ≡ owners_of es → IfOk result (IsIndexOf es) }
     {
-        let principals = principals_of(alloc, entries)?;
-        let keys = sorted_rows(alloc, entries, &principals, None)?;
-        let sha1 = sorted_rows(alloc, entries, &principals, Some(HashAlg::Sha1))?;
-        let sha256 = sorted_rows(alloc, entries, &principals, Some(HashAlg::Sha256))?;
-        let sha512 = sorted_rows(alloc, entries, &principals, Some(HashAlg::Sha512))?;
+        let principals = principals_of(alloc, owners)?;
+        let keys = sorted_rows(alloc, owners, &principals, None)?;
+        let sha1 = sorted_rows(alloc, owners, &principals, Some(HashAlg::Sha1))?;
+        let sha256 = sorted_rows(alloc, owners, &principals, Some(HashAlg::Sha256))?;
+        let sha512 = sorted_rows(alloc, owners, &principals, Some(HashAlg::Sha512))?;
         Ok(EntryIndex {
             principals,
             keys,
@@ -149,13 +149,13 @@ impl EntryIndex {
     }
 }
 
-/// Returns the octets of the entries' principals, in order. Err if memory ran out.
-fn principals_of(alloc: Global, entries: &[Entry]) -> Result<TextList, AllocError>
-    ensures { IfOk result (λ principals. principals ≡ map (λ e. octets_of e.subject.principal) entries.now) }
+/// Returns the octets of the principals, in order. Err if memory ran out.
+fn principals_of(alloc: Global, owners: &[Principal]) -> Result<TextList, AllocError>
+    ensures { IfOk result (λ principals. principals ≡ map octets_of owners.now) }
 {
     let mut principals = TextList::new(alloc);
-    for entry in entries {
-        principals.push(octets_of(&entry.subject.principal))?;
+    for owner in owners {
+        principals.push(octets_of(owner))?;
     }
     Ok(principals)
 }
@@ -181,38 +181,42 @@ fn is_by(principal: &Principal, alg: Option<HashAlg>) -> bool
 }
 
 /// Returns the rows of the entries whose principal is a hash by the algorithm, or a key if there is no algorithm. They are in order.
-/// `principals` must have the octets of the principals of all entries.
+/// `owners` are the principals of all entries, and `principals` must have their octets.
 ///
 /// # Errors
 ///
 /// `AllocError` if memory ran out.
 fn sorted_rows(
     alloc: Global,
-    entries: &[Entry],
+    owners: &[Principal],
     principals: &TextList,
     alg: Option<HashAlg>,
 ) -> Result<Vec<Row>, AllocError>
-    requires { principals.now ≡ map (λ e. octets_of e.subject.principal) entries.now }
-    ensures ordered { IfOk result (λ rows. IsInOrder principals.now rows.items) }
-    ensures numbers { IfOk result (λ rows. (octets : List ℕ) → numbers_with principals.now octets rows.items
-        ≡ numbers_from 1 (λ e. is_principal alg octets e.subject.principal) entries.now) }
+    requires { principals.now ≡ map octets_of owners.now }
+    ensures ordered { (es : List Entry) → owners.now ≡ owners_of es → IfOk result (λ rows. IsInOrder principals.now rows.items) }
+    ensures numbers { (es : List Entry) → owners.now ≡ owners_of es → IfOk result (λ rows. (octets : List ℕ)
+        → numbers_with principals.now octets rows.items
+        ≡ numbers_from 1 (λ e. is_principal alg octets e.subject.principal) es) }
 {
-    let mut rows = rows_of(alloc, entries, alg)?;
+    let mut rows = rows_of(alloc, owners, alg)?;
     rows.sort_by(|one, other| compare(principals, one, other.tail, row_octets(principals, other)))?;
     Ok(rows)
 }
 
 /// Returns the rows of the entries whose principal is a hash by the algorithm, or a key if there is no algorithm, in the order of
-/// the entries. Err if memory ran out.
-fn rows_of(alloc: Global, entries: &[Entry], alg: Option<HashAlg>) -> Result<Vec<Row>, AllocError>
-    ensures { IfOk result (λ rows. rows.items ≡ rows_from 1 alg entries.now) }
+/// the entries. `owners` are the principals of all entries. Err if memory ran out.
+fn rows_of(
+    alloc: Global,
+    owners: &[Principal],
+    alg: Option<HashAlg>,
+) -> Result<Vec<Row>, AllocError>
+    ensures { IfOk result (λ rows. rows.items ≡ rows_from 1 alg owners.now) }
 {
     let mut rows = Vec::new(alloc);
-    for (place, entry) in entries.iter().enumerate() {
-        let principal = &entry.subject.principal;
-        if is_by(principal, alg) {
+    for (place, owner) in owners.iter().enumerate() {
+        if is_by(owner, alg) {
             rows.push(Row {
-                tail: tail_of(octets_of(principal)),
+                tail: tail_of(octets_of(owner)),
                 number: place + 1,
             })?;
         }

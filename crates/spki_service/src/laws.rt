@@ -1,24 +1,27 @@
 //! Laws of access lists, questions, answers and dates.
 //! Each function is a law: it does nothing, and its contract is the fact.
 
-ghost use Rattle.std.specs.Prelude.{◌≡◌, ◌≢◌, ℤ, ℕ, List, false, Result, Ok, Err};
+ghost use Rattle.std.specs.Prelude.{◌≡◌, ◌≢◌, ◌≤◌, ◌≤ℤ◌, ◌↔◌, ℤ, ℕ, List, Some, IfSome, true, false, Result, Ok, Err};
+ghost use Rattle.spki_tag.specs.Tag.{is_date};
 ghost use Rattle.spki_cert.specs.declared.entry.Entry.{Entry};
+ghost use Rattle.spki_cert.specs.Time.{upto, is_until, IsLimit};
 ghost use Rattle.spki_case.specs.Case.{Case, accepted_by};
+ghost use Rattle.spki_decision.specs.declared.grant.Grant.{Grant};
 ghost use Rattle.spki_decision.specs.declared.decision.Decision.{Decision};
 ghost use Rattle.spki_decision.specs.declared.explanation.Explanation.{Explanation};
 ghost use Rattle.spki_decision.specs.declared.reduction.Reduction.{Reduction};
 ghost use Rattle.spki_decision.specs.declared.fault.GuardFault.{GuardFault};
 ghost use Rattle.spki_decision.specs.declared.fault.GuardFault.TheVariants.{Memory};
 ghost use Rattle.spki_decision.specs.Answered.{IsDecided, IsExplained, IsReduced, AreSame};
-ghost use Rattle.spki_decision.specs.Standing.{Signed, asked};
+ghost use Rattle.spki_decision.specs.CertificateTests.{Signed, asked};
 ghost use Rattle.spki_decision.specs.Explained.{IsSameExplanation};
 ghost use Rattle.spki_decision.specs.Granted.{IsSameReduction};
-ghost use Rattle.spki_service.specs.GuardQuestions.{AskedOf, Answers, Decides, DecidesMarked, ExplainsMarked, ReducesMarked, AllMarked, IsUnmarked, IsPossible, MarksTell, HasMark, IsOpened};
+ghost use Rattle.spki_service.specs.GuardQuestions.{PreparedModel, asked_at, Answers, Decides, DecidesMarked, GrantsMarked, ExplainsMarked, ReducesMarked, AllMarked, IsUnmarked, IsPossible, MarksTell, HasMark, IsOpened};
 ghost use Rattle.spki_service.specs.Replayed.{IsCaseOfParts, AreRowsOf, AreMarkedAlike};
-ghost use Rattle.spki_service.specs.declared.opened.Opened.{Opened};
+ghost use Rattle.spki_service.specs.declared.owned_question.OwnedQuestion.{OwnedQuestion};
 ghost use Rattle.spki_decision.specs.declared.decision.Decision.TheVariants.{Yes, No};
-ghost use Rattle.spki_service.specs.AccessLists.{Held, AreEntries, HoldsList, IsNoAccessList};
-ghost use Rattle.spki_service.specs.Questions.{IsDateAt, IsAtNoDate, IsAskedCase, IsNotAsked};
+ghost use Rattle.spki_service.specs.AccessLists.{GuardModel, AreEntries, HoldsList, IsNoAccessList};
+ghost use Rattle.spki_service.specs.Questions.{IsDateAt, IsAtNoDate, last_second, IsAskedCase, IsNotAsked};
 ghost use Rattle.spki_service.specs.declared.question.Question.{Question};
 ghost use Rattle.spki_service.specs.declared.question.AskFault.{AskFault};
 ghost use Rattle.spki_service.specs.declared.list_fault.AclFault.{AclFault};
@@ -38,7 +41,7 @@ pub fn one_list()
 /// fault of a question is a function of its parts: the first part that cannot be read, with its fault.
 pub fn one_asking()
     ensures case { (q : Question) (c d : Case) → IsAskedCase q c → IsAskedCase q d → c.policy ≡ d.policy
-        → c.most_nodes ≡ d.most_nodes → c.most_work ≡ d.most_work → c ≡ d }
+        → c.most_nodes ≡ d.most_nodes → c.most_work ≡ d.most_work → c.uncounted ≡ d.uncounted → c ≡ d }
     ensures unrefused { (q : Question) (c : Case) (fault : AskFault) → IsAskedCase q c → ¬ IsNotAsked q fault }
     ensures fault { (q : Question) (f g : AskFault) → IsNotAsked q f → IsNotAsked q g → f ≡ g }
 {}
@@ -49,61 +52,84 @@ pub fn one_date()
     ensures none { (seconds : ℤ) (date : List ℕ) → IsAtNoDate seconds → ¬ IsDateAt seconds date }
 {}
 
-/// By one verifier, a question that was read has at most one answer of `Asked::decide`, of `explain` and of `reduce`, unless
+/// By one verifier, a question that was read has at most one answer of `PreparedQuestion::decide`, of `explain` and of `reduce`, unless
 /// memory ran out. The guard's texts must be those of some entries, as they are in every guard.
 pub fn one_answer<V: Verifier>()
-    ensures decision { (verifier : V) (a : AskedOf) (es : List Entry) (x y : Decision) → AreEntries a.texts es
+    ensures decision { (verifier : V) (a : PreparedModel) (es : List Entry) (x y : Decision) → AreEntries a.texts es
         → Decides (V.accepted verifier) a x → Decides (V.accepted verifier) a y → x ≡ y }
-    ensures explanation { (verifier : V) (a : AskedOf) (es : List Entry) (x y : Result Explanation GuardFault) → AreEntries a.texts es
+    ensures explanation { (verifier : V) (a : PreparedModel) (es : List Entry) (x y : Result Explanation GuardFault) → AreEntries a.texts es
         → x ≢ Err Memory → y ≢ Err Memory
         → Answers (λ c answer. IsExplained c (V.accepted verifier) answer) a x
         → Answers (λ c answer. IsExplained c (V.accepted verifier) answer) a y → AreSame IsSameExplanation x y }
-    ensures reduction { (verifier : V) (a : AskedOf) (es : List Entry) (x y : Result Reduction GuardFault) → AreEntries a.texts es
+    ensures reduction { (verifier : V) (a : PreparedModel) (es : List Entry) (x y : Result Reduction GuardFault) → AreEntries a.texts es
         → x ≢ Err Memory → y ≢ Err Memory
         → Answers (λ c answer. IsReduced c (V.accepted verifier) answer) a x
         → Answers (λ c answer. IsReduced c (V.accepted verifier) answer) a y → AreSame IsSameReduction x y }
 {}
 
-/// A question that was read has at most one answer of `Asked::decide_by`, of `explain_by` and of `reduce_by` by its marks,
+/// A question that was read has at most one answer of `PreparedQuestion::decide_by`, of `explain_by` and of `reduce_by` by its marks,
 /// unless memory ran out. The guard's texts must be those of some entries, as they are in every guard.
 pub fn one_marked_answer()
-    ensures decision { (a : AskedOf) (es : List Entry) (x y : Decision) → AreEntries a.texts es → DecidesMarked a x → DecidesMarked a y
+    ensures decision { (a : PreparedModel) (es : List Entry) (x y : Decision) → AreEntries a.texts es → DecidesMarked a x → DecidesMarked a y
         → x ≡ y }
-    ensures explanation { (a : AskedOf) (es : List Entry) (x y : Result Explanation GuardFault) → AreEntries a.texts es
+    ensures explanation { (a : PreparedModel) (es : List Entry) (x y : Result Explanation GuardFault) → AreEntries a.texts es
         → x ≢ Err Memory → y ≢ Err Memory → ExplainsMarked a x → ExplainsMarked a y → AreSame IsSameExplanation x y }
-    ensures reduction { (a : AskedOf) (es : List Entry) (x y : Result Reduction GuardFault) → AreEntries a.texts es
+    ensures reduction { (a : PreparedModel) (es : List Entry) (x y : Result Reduction GuardFault) → AreEntries a.texts es
         → x ≢ Err Memory → y ≢ Err Memory → ReducesMarked a x → ReducesMarked a y → AreSame IsSameReduction x y }
 {}
 
-/// If the places with a mark are those of the signatures that a verifier accepts, `Asked::decide_by` decides as `Asked::decide` by the
-/// verifier.
+/// If the places with a mark are those of the signatures that a verifier accepts, `PreparedQuestion::decide_by` decides as `PreparedQuestion::decide`
+/// by the verifier.
 pub fn marked_as_verified<V: Verifier>()
-    ensures { (verifier : V) (a : AskedOf) (d : Decision) → MarksTell (V.accepted verifier) (asked a.case) a.marks
+    ensures { (verifier : V) (a : PreparedModel) (d : Decision) → MarksTell (V.accepted verifier) (asked a.case) a.marks
         → DecidesMarked a d → Decides (V.accepted verifier) a d }
 {}
 
 /// A yes by marks means that the signature of each certificate that is listed has a mark at its place. So without one of them the answer is
 /// no.
 pub fn own_marks()
-    ensures yes { (a : AskedOf) (n : ℕ) → DecidesMarked a (Yes n) → AllMarked (asked a.case) a.marks }
-    ensures no { (a : AskedOf) (d : Decision) (one : Signed) → IsUnmarked (asked a.case) a.marks one → DecidesMarked a d → d ≡ No }
+    ensures yes { (a : PreparedModel) (n : ℕ) → DecidesMarked a (Yes n) → AllMarked (asked a.case) a.marks }
+    ensures no { (a : PreparedModel) (d : Decision) (one : Signed) → IsUnmarked (asked a.case) a.marks one → DecidesMarked a d → d ≡ No }
 {}
 
 /// If not even all listed signatures together make a question a yes, no marks do.
 pub fn possible()
-    ensures { (a : AskedOf) (es : List Entry) (n : ℕ) → AreEntries a.texts es → IsPossible a false → ¬ DecidesMarked a (Yes n) }
+    ensures { (a : PreparedModel) (es : List Entry) (n : ℕ) → AreEntries a.texts es → IsPossible a false → ¬ DecidesMarked a (Yes n) }
 {}
 
 /// A guard's decision by marks is that of `check`. An auditor composes the case of the guard's entries and policy and the question's parts,
 /// with rows for exactly the marked signatures. If signatures of equal key, digest and value are marked alike, and the case is not refused,
 /// `check` answers the same.
 pub fn as_check()
-    ensures { (a : AskedOf) (es : List Entry) (c : Case) (x y : Decision) → AreEntries a.texts es → IsCaseOfParts a es c
+    ensures { (a : PreparedModel) (es : List Entry) (c : Case) (x y : Decision) → AreEntries a.texts es → IsCaseOfParts a es c
         → AreRowsOf c.rows (asked a.case) a.marks → AreMarkedAlike (asked a.case) a.marks
         → DecidesMarked a x → IsDecided c (accepted_by c) (Ok y) → x ≡ y }
 {}
 
 /// What is marked stays the question that was opened.
 pub fn marked_stays()
-    ensures { (held : Held) (q : Question) (old new : Opened) (place : ℕ) → HasMark old place new → IsOpened held q old → IsOpened held q new }
+    ensures { (held : GuardModel) (q : Question) (old new : OwnedQuestion) (place : ℕ) → HasMark old place new → IsOpened held q old → IsOpened held q new }
+{}
+
+/// A yes by marks holds until the least not-after of the window of its entry and of those of all certificates. At each moment from that of
+/// the question till then, the same question with the same marks is a yes, with this number or an earlier one. The same is true of seconds,
+/// from those of the question till the last second of that date.
+pub fn held_until()
+    ensures dates { (a : PreparedModel) (es : List Entry) (moment : List ℕ) (grant : Grant) (d : Decision) → AreEntries a.texts es
+        → GrantsMarked a (Some grant) → upto a.case.moment moment ≡ true → is_until grant.until moment ≡ true
+        → DecidesMarked (asked_at a moment) d → (m : ℕ) × (d ≡ Yes m) × (m ≤ grant.entry) }
+    ensures seconds { (a : PreparedModel) (es : List Entry) (now later : ℤ) (moment : List ℕ) (grant : Grant) (d : Decision)
+        → AreEntries a.texts es → GrantsMarked a (Some grant) → IsLimit grant.until → IsDateAt now a.case.moment → IsDateAt later moment
+        → now ≤ℤ later → IfSome grant.until (λ end. later ≤ℤ last_second end) → DecidesMarked (asked_at a moment) d
+        → (m : ℕ) × (d ≡ Yes m) × (m ≤ grant.entry) }
+{}
+
+/// The last second of a date is that of the date: if the date is that of some seconds, it is these seconds.
+pub fn one_second()
+    ensures { (seconds : ℤ) (date : List ℕ) → IsDateAt seconds date → last_second date ≡ seconds }
+{}
+
+/// The order of seconds is that of dates: seconds are at most the last second of a date exactly if theirs is not after it, by octets.
+pub fn order_of_seconds()
+    ensures { (seconds : ℤ) (date end : List ℕ) → IsDateAt seconds date → is_date end ≡ true → (seconds ≤ℤ last_second end) ↔ (upto date end ≡ true) }
 {}

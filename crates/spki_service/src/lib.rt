@@ -2,7 +2,6 @@
 #![tactic(auto)]
 
 mod answers;
-mod asked;
 mod counts;
 mod date;
 mod decision_cost;
@@ -16,11 +15,12 @@ mod limits;
 mod list_fault;
 mod marks;
 mod measure;
-mod opened;
 mod openings;
+mod owned_question;
 mod owned_signed;
 mod owned_texts;
 mod parts;
+mod prepared_question;
 mod question;
 mod shared;
 mod text_folds;
@@ -28,16 +28,17 @@ mod text_list;
 mod texts;
 mod words;
 
-pub use asked::Asked;
+pub use date::last_second;
 pub use failure::Failure;
 pub use guard::Guard;
 pub use limits::Limits;
 pub use list_fault::AclFault;
-pub use opened::Opened;
+pub use owned_question::OwnedQuestion;
 pub use owned_signed::OwnedSigned;
+pub use prepared_question::PreparedQuestion;
 pub use question::{AskFault, Moment, Part, Question, RequestInput};
 pub use shared::SharedGuard;
 pub use spki_decision::{
-    Decision, EntryFold, Explanation, FoldSink, GuardFault, Reason, Reduction, Signed, Stop,
+    Decision, EntryFold, Explanation, FoldSink, Grant, GuardFault, Reason, Reduction, Signed, Stop,
 };
 pub use texts::Texts;

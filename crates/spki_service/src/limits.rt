@@ -14,16 +14,18 @@ pub struct Limits {
     /// For explanations and reductions: the most nodes of two tags whose intersection is formed, as the product of their numbers. At
     /// most 1,000,000.
     pub nodes: usize,
-    /// For explanations and reductions: the most of these products together, over all certificates and all entries.
+    /// For explanations and reductions: the most work of all certificates and all entries together, as `spki_reduce::Work` counts it. At
+    /// most 1,000,000,000.
     pub work: usize,
     /// For explanations and reductions: the most octets of their lines.
     pub answer: usize,
     ghost octets_within: { octets ≤ 1048576 },
     ghost nodes_within: { nodes ≤ 1000000 },
+    ghost work_within: { work ≤ 1000000000 },
 }
 
 impl Limits {
-    /// These limits, or `None` if `octets` is over 1,048,576 or `nodes` is over 1,000,000.
+    /// These limits, or `None` if `octets` is over 1,048,576, `nodes` over 1,000,000 or `work` over 1,000,000,000.
     pub fn new(
         octets: usize,
         certificates: usize,
@@ -32,11 +34,11 @@ impl Limits {
         work: usize,
         answer: usize,
     ) -> Option<Limits>
-        ensures within { IsSome result ↔ ((octets ≤ 1048576) × (nodes ≤ 1000000)) }
+        ensures within { IsSome result ↔ ((octets ≤ 1048576) × (nodes ≤ 1000000) × (work ≤ 1000000000)) }
         ensures same { IfSome result (λ limits. (limits.octets ≡ octets) × (limits.certificates ≡ certificates)
             × (limits.words ≡ words) × (limits.nodes ≡ nodes) × (limits.work ≡ work) × (limits.answer ≡ answer)) }
     {
-        if octets <= 1_048_576 && nodes <= 1_000_000 {
+        if octets <= 1_048_576 && nodes <= 1_000_000 && work <= 1_000_000_000 {
             Some(Limits {
                 octets,
                 certificates,
@@ -50,28 +52,28 @@ impl Limits {
         }
     }
 
-    /// The highest limits: 1,048,576 octets, 1,000,000 nodes, and 2^64 - 1 for each other. On some questions within
-    /// them an explanation takes minutes.
+    /// The highest limits: 1,048,576 octets, 1,000,000 nodes, 1,000,000,000 of work, and 2^64 - 1 for each other. On some
+    /// questions within them an explanation takes seconds.
     pub fn highest() -> Limits
         ensures { (result.octets ≡ 1048576) × (result.certificates ≡ 18446744073709551615) × (result.words ≡ 18446744073709551615)
-            × (result.nodes ≡ 1000000) × (result.work ≡ 18446744073709551615) × (result.answer ≡ 18446744073709551615) }
+            × (result.nodes ≡ 1000000) × (result.work ≡ 1000000000) × (result.answer ≡ 18446744073709551615) }
     {
         Limits {
             octets: 1_048_576,
             certificates: usize::MAX,
             words: usize::MAX,
             nodes: 1_000_000,
-            work: usize::MAX,
+            work: 1_000_000_000,
             answer: usize::MAX,
         }
     }
 }
 
-/// 65,536 octets of a question, 16 certificates, 64 strings of a request, 1,000,000 nodes of an intersection, 100,000 of all
-/// intersections of a question together, and 1,048,576 octets of an answer.
+/// 65,536 octets of a question, 16 certificates, 64 strings of a request, 1,000,000 nodes of an intersection, 2,000,000 of work,
+/// and 1,048,576 octets of an answer.
 impl Default for Limits {
     ghost is_default = { λ limits. (limits.octets ≡ 65536) × (limits.certificates ≡ 16) × (limits.words ≡ 64)
-        × (limits.nodes ≡ 1000000) × (limits.work ≡ 100000) × (limits.answer ≡ 1048576) };
+        × (limits.nodes ≡ 1000000) × (limits.work ≡ 2000000) × (limits.answer ≡ 1048576) };
 
     /// The limits that a guard has if the service sets none.
     fn default() -> Limits {
@@ -80,7 +82,7 @@ impl Default for Limits {
             certificates: 16,
             words: 64,
             nodes: 1_000_000,
-            work: 100_000,
+            work: 2_000_000,
             answer: 1_048_576,
         }
     }

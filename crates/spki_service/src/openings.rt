@@ -2,37 +2,42 @@
 
 ghost use Rattle.std.specs.Prelude.{◌≡◌, ◌≢◌, ◌↔◌, ◌<◌, List, length, false, IsTrue, IfOk, IfErr, IsErrOf};
 ghost use Rattle.spki_decision.specs.Granted.{IsYes};
-ghost use Rattle.spki_decision.specs.Standing.{asked, every};
-ghost use Rattle.spki_service.specs.GuardQuestions.{Decides, DecidesMarked, HasMark, NoneMarked, AskedOf, IsReadFrom, IsKeptOf, IsOpened, IsTextsOf};
+ghost use Rattle.spki_decision.specs.CertificateTests.{asked, every};
+ghost use Rattle.spki_decision.specs.Until.{decision_of};
+ghost use Rattle.spki_service.specs.GuardQuestions.{Grants, DecidesMarked, GrantsMarked, HasMark, NoneMarked, PreparedModel, IsReadFrom, IsConditionalGrant, IsOpened, IsTextsOf};
 ghost use Rattle.spki_service.specs.Questions.{IsRefused, asked_octets};
 ghost use Rattle.spki_service.specs.declared.question.Question.{Question};
 
-use crate::asked::Asked;
 use crate::guard::Guard;
 use crate::marks::{first_unmarked, mark_at, no_marks};
-use crate::opened::Opened;
+use crate::owned_question::OwnedQuestion;
 use crate::owned_signed::{OwnedSigned, owned_signed};
+use crate::prepared_question::PreparedQuestion;
 use crate::question::{AskFault, Question};
 use crate::shared::SharedGuard;
 use crate::texts::Texts;
-use spki_decision::Decision;
+use spki_decision::{Decision, Grant};
 use std::alloc::{AllocError, Global};
 
 /// What is kept of the case of a question.
 #[derive(Drop)]
-struct Kept {
+struct ConditionalGrant {
     signed: Vec<OwnedSigned>,
-    if_valid: Decision,
+    if_valid: Option<Grant>,
 }
 
-impl Opened {
+impl OwnedQuestion {
     /// Reads a question for a guard, as `Guard::ask`. The result owns all that it needs, so the question's texts may
     /// change. No signature is marked.
     ///
     /// # Errors
     ///
     /// Those of `Guard::texts` and `Guard::ask`.
-    pub fn open(alloc: Global, guard: &SharedGuard, question: &Question) -> Result<Opened, AskFault>
+    pub fn open(
+        alloc: Global,
+        guard: &SharedGuard,
+        question: &Question,
+    ) -> Result<OwnedQuestion, AskFault>
         ensures opened { IfOk result (IsOpened guard.now question.now) }
         ensures unmarked { IfOk result (λ o. NoneMarked o.marks.items) }
         ensures too_long { IsErrOf result AskFault.TooLong ↔ (guard.now.octets < asked_octets question.now) }
@@ -40,11 +45,15 @@ impl Opened {
             → IsRefused guard.now.certificates guard.now.words question.now fault) }
     {
         let texts = guard.guard().texts(alloc, question)?;
-        let Kept { signed, if_valid } = kept_of(alloc, guard.guard(), &texts)?;
+        let ConditionalGrant { signed, if_valid } = conditional_grant(
+            alloc,
+            guard.guard(),
+            &texts,
+        )?;
         let marks = no_marks(alloc, signed.as_slice().len())?;
         let texts = texts.into_owned(alloc)?;
         let guard = guard.share()?;
-        Ok(Opened {
+        Ok(OwnedQuestion {
             guard,
             texts,
             signed,
@@ -53,15 +62,15 @@ impl Opened {
         })
     }
 
-    /// The signatures that a verifier is asked about, in order: copies of those of `Asked::signed`.
+    /// The signatures that a verifier is asked about, in order: copies of those of `PreparedQuestion::signed`.
     pub fn signed(&self) -> &[OwnedSigned]
         ensures { result.now ≡ self.now.signed.items }
     {
         self.signed.as_slice()
     }
 
-    /// Says that the signature is valid that `signed` lists at this place, from 0, as `Asked::mark` does. Returns false, and changes nothing,
-    /// if nothing is listed there.
+    /// Says that the signature is valid that `signed` lists at this place, from 0, as `PreparedQuestion::mark` does. Returns false, and changes
+    /// nothing, if nothing is listed there.
     pub fn mark(&mut self, place: usize) -> bool
         ensures listed { IsTrue result ↔ (place < length self.old.marks.items) }
         ensures marked { IsTrue result → HasMark self.old place self.new }
@@ -73,23 +82,32 @@ impl Opened {
         mark_at(&mut self.marks, place)
     }
 
-    /// Decides the question by its marks, as `Asked::decide_by` does. Nothing is read again, and nothing allocated.
-    pub fn decide_by(&self) -> Decision
-        ensures { IsKeptOf self.now.guard self.now.texts self.now.signed.items self.now.if_valid
-            → (a : AskedOf) × IsReadFrom self.now.guard self.now.texts a × (self.now.signed.items ≡ asked a.case)
-            × (a.marks ≡ self.now.marks.items) × DecidesMarked a result }
+    /// What is granted by the marks, as by `PreparedQuestion::grant_by`. Nothing is read again, and nothing allocated.
+    pub fn grant_by(&self) -> Option<Grant>
+        ensures { IsConditionalGrant self.now.guard self.now.texts self.now.signed.items self.now.if_valid
+            → (a : PreparedModel) × IsReadFrom self.now.guard self.now.texts a × (self.now.signed.items ≡ asked a.case)
+            × (a.marks ≡ self.now.marks.items) × GrantsMarked a result }
     {
         match first_unmarked(self.signed().len(), &self.marks) {
             None => self.if_valid,
-            Some(_) => Decision::No,
+            Some(_) => None,
         }
     }
 
-    /// Whether the question is granted if all listed signatures are valid, as `Asked::is_possible` says it. True grants nothing.
-    pub fn is_possible(&self) -> bool
-        ensures { IsTrue result ↔ IsYes self.now.if_valid }
+    /// Decides the question by its marks, as `PreparedQuestion::decide_by` does. Nothing is read again, and nothing allocated.
+    pub fn decide_by(&self) -> Decision
+        ensures { IsConditionalGrant self.now.guard self.now.texts self.now.signed.items self.now.if_valid
+            → (a : PreparedModel) × IsReadFrom self.now.guard self.now.texts a × (self.now.signed.items ≡ asked a.case)
+            × (a.marks ≡ self.now.marks.items) × DecidesMarked a result }
     {
-        self.if_valid.is_yes()
+        Grant::decision(self.grant_by())
+    }
+
+    /// Whether the question is granted if all listed signatures are valid, as `PreparedQuestion::is_possible` says it. True grants nothing.
+    pub fn is_possible(&self) -> bool
+        ensures { IsTrue result ↔ IsYes (decision_of self.now.if_valid) }
+    {
+        self.if_valid.is_some()
     }
 
     /// Reads the question again, from the texts that it owns. The result has the same marks.
@@ -97,7 +115,7 @@ impl Opened {
     /// # Errors
     ///
     /// Only `Memory`, if memory ran out: `open` has read the same texts for the same guard.
-    pub fn ask(&self, alloc: Global) -> Result<Asked<'_>, AskFault>
+    pub fn ask(&self, alloc: Global) -> Result<PreparedQuestion<'_>, AskFault>
         ensures asked { IfOk result (IsReadFrom self.now.guard self.now.texts) }
         ensures marks { IfOk result (λ a. a.marks ≡ self.now.marks.items) }
         ensures too_long { (q : Question) → IsTextsOf q self.now.texts
@@ -112,10 +130,14 @@ impl Opened {
     }
 }
 
-/// Reads a question from its texts. Returns copies of its signatures, and the decision if the verifier accepts all of
+/// Reads a question from its texts. Returns copies of its signatures, and what is granted if the verifier accepts all of
 /// them. Its errors are those of `Guard::ask`.
-fn kept_of(alloc: Global, guard: &Guard, texts: &Texts) -> Result<Kept, AskFault>
-    ensures kept { IfOk result (λ kept. IsKeptOf guard.now texts.now kept.signed.items kept.if_valid) }
+fn conditional_grant(
+    alloc: Global,
+    guard: &Guard,
+    texts: &Texts,
+) -> Result<ConditionalGrant, AskFault>
+    ensures kept { IfOk result (λ kept. IsConditionalGrant guard.now texts.now kept.signed.items kept.if_valid) }
     ensures too_long { (q : Question) → IsTextsOf q texts.now
         → IsErrOf result AskFault.TooLong ↔ (guard.now.octets < asked_octets q) }
     ensures refused { (q : Question) → IsTextsOf q texts.now
@@ -123,17 +145,20 @@ fn kept_of(alloc: Global, guard: &Guard, texts: &Texts) -> Result<Kept, AskFault
         → IsRefused guard.now.certificates guard.now.words q fault) }
 {
     let read = guard.ask(alloc, texts)?;
-    let kept = kept_from(alloc, &read);
+    let kept = conditional_grant_from(alloc, &read);
     drop(read);
     Ok(kept?)
 }
 
-/// Returns copies of the signatures of a question that was read, and the decision if the verifier accepts all of them. Err if memory ran
-/// out.
-fn kept_from(alloc: Global, read: &Asked) -> Result<Kept, AllocError>
-    ensures { IfOk result (λ kept. (kept.signed.items ≡ asked read.now.case) × Decides every read.now kept.if_valid) }
+/// Returns copies of the signatures of a question that was read, and what is granted if the verifier accepts all of them. Err if memory
+/// ran out.
+fn conditional_grant_from(
+    alloc: Global,
+    read: &PreparedQuestion,
+) -> Result<ConditionalGrant, AllocError>
+    ensures { IfOk result (λ kept. (kept.signed.items ≡ asked read.now.case) × Grants every read.now kept.if_valid) }
 {
-    let if_valid = read.decided(alloc)?;
+    let if_valid = read.granted(alloc)?;
     let signed = owned_signed(alloc, read.signed())?;
-    Ok(Kept { signed, if_valid })
+    Ok(ConditionalGrant { signed, if_valid })
 }

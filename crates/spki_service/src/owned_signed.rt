@@ -1,7 +1,7 @@
 //! Signatures that a verifier is asked about, with texts of their own.
 
 ghost use Rattle.std.specs.Prelude.{◌≡◌, ◌≤◌, map, length, IfOk, IfErr};
-ghost use Rattle.spki_decision.specs.Standing.{signed_of};
+ghost use Rattle.spki_decision.specs.CertificateTests.{signed_of};
 
 use spki_cert::Key;
 use spki_decision::Signed;
@@ -24,7 +24,7 @@ pub struct OwnedSigned {
 }
 
 impl Model for OwnedSigned {
-    ghost use Rattle.spki_decision.specs.Standing.{Signed};
+    ghost use Rattle.spki_decision.specs.CertificateTests.{Signed};
 
     ghost Value = { Signed };
 

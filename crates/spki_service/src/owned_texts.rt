@@ -40,7 +40,7 @@ impl PartText<'_> {
         ensures { IfOk result (IsCopyOf self.entry) }
     {
         match self {
-            PartText::Standing(document) => {
+            PartText::Canonical(document) => {
                 let octets = Vec::from_slice(alloc, document.top().slice());
                 drop(document);
                 Ok(PartText::Made(octets?))

@@ -1,6 +1,6 @@
 //! Reads the parts of a question from their texts.
 
-ghost use Rattle.std.specs.Prelude.{◌≡◌, ◌≢◌, Some, IfOk, IfErr};
+ghost use Rattle.std.specs.Prelude.{◌≡◌, ◌≢◌, IfOk, IfErr};
 ghost use Rattle.sexpr_core.specs.Value.{Value, canon, IsWithinLimits};
 ghost use Rattle.spki_cert.specs.Readings.{KeyOf, DateOf};
 ghost use Rattle.spki_cert.specs.Structures.{SeqOf};
@@ -40,7 +40,8 @@ pub(crate) fn case_of<'a>(
     ensures asked { (q : Question) → IsTextsOf q texts.entry.now → IfOk result (λ c. IsAskedCase q (model c)) }
     ensures policy { IfOk result (λ c. c.policy ≡ policy) }
     ensures nodes { IfOk result (λ c. c.most_nodes ≡ limits.nodes) }
-    ensures work { IfOk result (λ c. c.most_work ≡ Some limits.work) }
+    ensures work { IfOk result (λ c. c.most_work ≡ limits.work) }
+    ensures counted { IfOk result (λ c. c.uncounted ≡ 0) }
     ensures refused { (q : Question) → IsTextsOf q texts.entry.now
         → IfErr result (λ fault. fault ≢ AskFault.Memory → IsNotAsked q fault) }
 {
@@ -83,7 +84,7 @@ fn sequence_in<'a>(alloc: Global, text: &'a PartText<'_>) -> Result<Vec<SeqItem<
     ensures refused { IfErr result (λ fault. fault ≢ AskFault.Memory → NamesPart Part.Sequence NamesSequence text.entry.now fault) }
 {
     match text {
-        PartText::Standing(document) => sequence_at(alloc, &document.top()),
+        PartText::Canonical(document) => sequence_at(alloc, &document.top()),
         PartText::Made(octets) => {
             let document = made_document(alloc, Part::Sequence, octets)?;
             sequence_at(alloc, &document.top())
@@ -102,7 +103,7 @@ fn key_in<'a>(alloc: Global, text: &'a PartText<'_>) -> Result<Key<'a>, AskFault
     ensures refused { IfErr result (λ fault. fault ≢ AskFault.Memory → NamesPart Part.Key NamesKey text.entry.now fault) }
 {
     match text {
-        PartText::Standing(document) => key_at(&document.top()),
+        PartText::Canonical(document) => key_at(&document.top()),
         PartText::Made(octets) => {
             let document = made_document(alloc, Part::Key, octets)?;
             key_at(&document.top())
@@ -121,7 +122,7 @@ fn request_in(alloc: Global, text: &PartText) -> Result<Ground, AskFault>
     ensures refused { IfErr result (λ fault. fault ≢ AskFault.Memory → NamesPart Part.Request NamesRequest text.now fault) }
 {
     match text {
-        PartText::Standing(document) => request_at(alloc, &document.top()),
+        PartText::Canonical(document) => request_at(alloc, &document.top()),
         PartText::Made(octets) => {
             let document = made_document(alloc, Part::Request, octets)?;
             request_at(alloc, &document.top())
@@ -140,7 +141,7 @@ fn date_in(alloc: Global, text: &PartText) -> Result<Date, AskFault>
     ensures refused { IfErr result (λ fault. fault ≢ AskFault.Memory → NamesPart Part.Moment NamesMoment text.now fault) }
 {
     match text {
-        PartText::Standing(document) => date_of_node(&document.top()),
+        PartText::Canonical(document) => date_of_node(&document.top()),
         PartText::Made(octets) => {
             let document = made_document(alloc, Part::Moment, octets)?;
             date_of_node(&document.top())

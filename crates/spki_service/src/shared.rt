@@ -16,9 +16,9 @@ pub struct SharedGuard {
 }
 
 impl Model for SharedGuard {
-    ghost use Rattle.spki_service.specs.AccessLists.{Held};
+    ghost use Rattle.spki_service.specs.AccessLists.{GuardModel};
 
-    ghost Value = { Held };
+    ghost Value = { GuardModel };
 
     ghost view = { λ s. s.guard.value };
 }

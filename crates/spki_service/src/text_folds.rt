@@ -7,15 +7,15 @@ ghost use Rattle.spki_case.specs.Case.{certificates};
 ghost use Rattle.spki_case.specs.View.{model};
 ghost use Rattle.spki_decision.specs.declared.reduction.EntryFold.{EntryFold};
 ghost use Rattle.spki_decision.specs.Granted.{HasLargeTags, HasMuchWork};
-ghost use Rattle.spki_decision.specs.Standing.{with_entries};
+ghost use Rattle.spki_decision.specs.CertificateTests.{with_entries};
 ghost use Rattle.spki_service.specs.GuardQuestions.{AreTextFolds};
 ghost use Rattle.spki_service.specs.AccessLists.{AreEntries};
 
 use crate::entry_texts::entry_in;
 use crate::text_list::TextList;
 use spki_case::Case;
-use spki_decision::{FoldSink, GuardFault, certificates_of, entry_fold};
-use spki_reduce::{Step, Work};
+use spki_decision::{Budget, FoldSink, GuardFault, certificates_of, entry_fold};
+use spki_reduce::Step;
 use std::alloc::Global;
 
 /// Puts into `sink` what each entry of an access list and the certificates of the case become. `texts` are the canonical
@@ -24,7 +24,7 @@ use std::alloc::Global;
 ///
 /// # Errors
 ///
-/// Those of `Asked::reduce`.
+/// Those of `PreparedQuestion::reduce`.
 pub(crate) fn fold_texts<'a, S: FoldSink<'a>>(
     alloc: Global,
     texts: &'a TextList,
@@ -40,10 +40,10 @@ pub(crate) fn fold_texts<'a, S: FoldSink<'a>>(
         ⊎ HasMuchWork (with_entries (model case.now) es) (tuples_of steps.now) }
 {
     let shown = certificates_of(alloc, &case.sequence)?;
-    let mut work = Work::new(case.most_work);
+    let mut budget = Budget::of(case, steps);
     for place in 0..texts.len() {
         let entry = entry_in(alloc, texts.text(place))?;
-        let folded = entry_fold(alloc, case, &entry, &shown, steps, &mut work);
+        let folded = entry_fold(alloc, case, &entry, &shown, steps, &mut budget);
         drop(entry);
         let fold = folded?;
         sink.put(alloc, place + 1, fold)?;

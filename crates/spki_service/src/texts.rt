@@ -18,7 +18,7 @@ use std::alloc::Global;
 #[derive(Drop)]
 pub(crate) enum PartText<'q> {
     /// The text is canonical itself: its document.
-    Standing(Doc<'q>),
+    Canonical(Doc<'q>),
     /// The canonical form of its value.
     Made(Vec<u8>),
     /// There is no such text, for this fault.
@@ -82,7 +82,7 @@ fn part_text<'q>(alloc: Global, text: &'q [u8]) -> Result<PartText<'q>, AskFault
     ensures only { IfErr result (λ fault. fault ≡ AskFault.Memory) }
 {
     match Doc::open(alloc, text) {
-        Ok(document) => Ok(PartText::Standing(document)),
+        Ok(document) => Ok(PartText::Canonical(document)),
         Err(FormFault::Memory) => Err(AskFault::Memory),
         Err(_) => converted_text(alloc, text),
     }

@@ -209,6 +209,19 @@ least_above_exact (c ∷ p) (d ∷ x) k =
           (cmp_greater c d h))
     ]
 
+-- a string is below the least string above all that start with it
+below_least_above : (p : List ℕ) → is_below (strict_limit (least_above p)) p ≡ true
+below_least_above [] = refl
+below_least_above (c ∷ p) = below_same c p (least_above p) ∙ below_least_above p
+
+apart : (p : List ℕ) (o : Option (List ℕ)) → is_below (strict_limit o) p ≡ true → exclude (from p) (strict_limit o) ≡ false
+apart p None h = refl
+apart p (Some q) h = ap not h
+
+-- so the limits of a prefix as a range do not exclude each other
+pub least_above_apart : (p : List ℕ) → exclude (from p) (strict_limit (least_above p)) ≡ false
+least_above_apart p = apart p (least_above p) (below_least_above p)
+
 -- ---- two prefixes
 
 -- what starts with a string that starts with another starts with that one

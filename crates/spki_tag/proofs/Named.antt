@@ -215,6 +215,10 @@ pub set-members : (used : ℕ) (vs : List Value) (fault : TagFault) → used < m
 unfolding fault_after fault_after_all
 set-members used vs fault room = search (rules, named-by, look-past)
 
+pub set-named : (used : ℕ) (v : Value) (vs : List Value) (fault : TagFault) → used < most_read → v ≡ starred (codes "set") (values vs)
+    → IsNamed fault (fault_after_all (used + 1) vs) → IsNamed fault (fault_after used v)
+set-named used v vs fault room e h = subst (λ w. IsNamed fault (fault_after used w)) (sym e) (set-members used vs fault room h)
+
 -- ---- the members, one after the other
 
 tags_in_all-append : (us : List Value) (v : Value) (vs : List Value)
@@ -259,6 +263,6 @@ pub ruleset limits_read = (named_first, out_of_memory, limits_hinted, limits_oth
 
 pub ruleset stars_read = (prefix_more, prefix_list, prefix_hinted, prefix-itself, range-itself, unknown-itself, star-itself, star-list, star-hinted)
 
-pub ruleset lists_read = (head_list, head_hinted, list-itself, no_room_for_head-named, list-members, set-members)
+pub ruleset lists_read = (head_list, head_hinted, list-itself, no_room_for_head-named, list-members, set-members, set-named)
 
 pub ruleset tags_read = (named_first, out_of_memory, passed, full, itself, stars_read, lists_read, at_first, read-faultless)

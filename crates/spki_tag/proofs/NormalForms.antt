@@ -9,7 +9,7 @@ use Rattle.spki_tag.specs.Request.{Request, IsHead}
 use Rattle.spki_tag.specs.Tag.{Tag, Tags, tags, star, list, set, none, more, IsTag, AreTags, contains, some_contains, nodes, nodes_all, ldepth, ldepth_most, is_star, is_set, is_nothing, is_set_or_star, is_normal, each_normal, most_nodes, IsNormalTag, string, prefix, range}
 use Rattle.spki_tag.specs.Meet.{items, gather, nothing, has_nothing, listed, members as in_place, string_meet, range_meet, prefix_meet, kept, row, list_meet, across, set_across, meet, each_meet, pairs}
 use Rattle.spki_tag.specs.Reading.{IsNormalOf, AreNormal, spread, set_of}
-use Rattle.spki_tag.proofs.Exact.{IsBare, string-bare, range-bare, prefix-bare, three_parts, all_three, append-exact, gather-exact, tags-items, listed-exact}
+use Rattle.spki_tag.proofs.Exact.{IsBare, string-bare, range-bare, prefix-bare, three_parts, all_three, append-exact, gather-exact, tags-items, items_tags, listed-exact}
 use Rattle.spki_tag.proofs.FaultWalk.{both}
 use Rattle.spki_tag.proofs.MeetSizes.{append-nodes, gather-le, meet_le}
 
@@ -43,7 +43,7 @@ spread-nodes [] = omega arith
 spread-nodes (t ∷ ts) = omega (arith, append-nodes (in_place t) (spread ts), in_place-nodes t, spread-nodes ts)
 
 -- a tag in normal form that is no set
-abbrev IsMember : Tag → Type 0
+abbrev pub IsMember : Tag → Type 0
 IsMember t = IsTag t × (is_set t ≡ false) × (is_normal t ≡ true)
 
 items-members : (ts : Tags) → AreTags ts → each_normal is_set_or_star ts ≡ true → AllByRecursion IsMember (items ts)
@@ -56,15 +56,19 @@ in_place-members : (t : Tag) → IsTag t → is_normal t ≡ true → AllByRecur
 in_place-members (set ts) h k = search (rules, items-members, and_parts)
 in_place-members t h k = ((h, refl, k), tt)
 
-spread-members : (ts : List Tag) → AreNormal ts → AllByRecursion IsMember (spread ts)
+pub spread-members : (ts : List Tag) → AreNormal ts → AllByRecursion IsMember (spread ts)
 spread-members [] h = tt
 spread-members (t ∷ ts) h = both IsMember (in_place t) (spread ts) (in_place-members t h.0 h.1) (spread-members ts h.2)
 
--- when none is left, all are put in their place
-pub spread_all : (front rest ts : List Tag) (n : ℕ) → front ++ spread rest ≡ spread ts → n ≡ length rest → n ≡ 0
-    → front ≡ spread ts
-spread_all front [] ts n e len h = sym (append-nil front) ∙ e
-spread_all front (t ∷ rest) ts n e len h = absurd (omega (arith, len, h))
+in_place-single : (t : Tag) → is_set t ≡ false → in_place t ≡ t ∷ []
+in_place-single (set ts) h = absurd (true≢false h)
+in_place-single t h = refl
+
+-- the members of a set of members that are no sets are these
+pub in_place-gather : (ts : List Tag) → AllByRecursion IsMember ts → in_place (gather ts) ≡ ts
+in_place-gather [] h = refl
+in_place-gather (t ∷ []) h = in_place-single t h.0.1
+in_place-gather (t ∷ u ∷ us) h = ap (λ (ts : List Tag). t ∷ u ∷ ts) (items_tags us)
 
 -- ---- sets
 

@@ -1,18 +1,21 @@
 -- Which tag is written as a value, and which is read from it: only one is written so, and the one that is read,
 -- member by member, is its normal form.
-use Rattle.std.proofs.Common.{◌≡◌, ℕ, Bool, true, false, List, ◌++◌, Option, Some, None, refl, sym, ap, rules, ◌≤◌, ◌&&◌, ◌||◌, [], ◌∷◌, ◌∙◌, arith, ◌+◌, map, append_assoc}
+use Rattle.std.proofs.Common.{◌≡◌, ℕ, Bool, true, false, List, ◌++◌, Option, Some, None, refl, sym, ap, rules, ◌≤◌, ◌&&◌, ◌||◌, [], ◌∷◌, ◌∙◌, arith, ◌+◌, map, append_assoc, append-nil, true≢false, subst}
 use Rattle.std.specs.Prelude.{codes, if◌then◌else◌}
 use Rattle.std.specs.Str.{bytes_eq}
 use Rattle.std.specs.Cmp.Lexicographic.{other_text}
 use Rattle.sexpr_core.specs.Value.{Values, values, Value, plain, group}
-use Rattle.spki_tag.specs.Tag.{Tag, Tags, Limit, Ordering, alpha, time, date, star, string, prefix, range, list, set, none, more, IsTag, AreTags, tag_value, tag_values, ordering_name, low_values, up_values, starred, tags, contains, contain_each, some_contains, nodes_all, nodes, most_nodes}
+use Rattle.spki_tag.specs.Tag.{Tag, Tags, Limit, Ordering, alpha, time, date, star, string, prefix, range, list, set, none, more, IsTag, AreTags, tag_value, tag_values, ordering_name, low_values, up_values, starred, tags, contains, contain_each, some_contains, nodes_all, nodes, most_nodes, is_star, IsNormalTag}
 use Rattle.spki_tag.specs.Request as request
 use Rattle.spki_tag.specs.Request.{Request, Requests, IsHead}
-use Rattle.spki_tag.specs.Reading.{IsNormalOf, AreNormal, normal, normals, ReadsAs, spread, set_of, most_read, IsRead, AreRead}
-use Rattle.spki_tag.proofs.NormalForms.{set_of-normal, listed-normal}
+use Rattle.spki_tag.specs.Reading.{IsNormalOf, AreNormal, normal, normals, ReadsAs, spread, set_of, most_read, IsRead, AreRead, MakeSame, IsPut, ArePut}
+use Rattle.std.specs.List.{list_any, AllByRecursion}
+use Rattle.std.proofs.lemmas.Bool.{or_parts}
+use Rattle.std.proofs.lemmas.List.Folds.{list_any-append}
+use Rattle.spki_tag.proofs.NormalForms.{set_of-normal, listed-normal, spread-members, in_place-gather, IsMember, IsNormalTag-of}
 use Rattle.sexpr_core.specs.Value as value
 use Rattle.std.proofs.lemmas.List.{map_push}
-use Rattle.spki_tag.specs.Meet.{listed}
+use Rattle.spki_tag.specs.Meet.{listed, gather, members as in_place}
 
 -- ---- one tag is written as a value
 
@@ -222,17 +225,149 @@ list_is_read used after head vs ts t h r n = record {
   few = r.few;
 }
 
--- a set of members that were read
-pub set_is_read : (used after : ℕ) (vs : List Value) (ts : List Tag) (t : Tag) → AreRead (used + 1) vs ts after
-    → t ≡ set_of (spread ts) → IsRead used (starred (codes "set") (values vs)) t after
-set_is_read used after vs ts t r n = record {
-  w = set (tags r.ws);
+-- ---- the members of a set
+
+make_same : (ts us : List Tag) → ts ≡ us → MakeSame ts us
+make_same ts us e = record { star = ap (list_any is_star) e; same = λ _. e }
+
+make_same-append : (ts us ts' us' : List Tag) → MakeSame ts us → MakeSame ts' us' → MakeSame (ts ++ ts') (us ++ us')
+make_same-append ts us ts' us' h k = record {
+  star =
+      list_any-append is_star ts ts' ∙ (λ i. h.star i || k.star i) ∙ sym (list_any-append is_star us us');
+  same = λ e.
+      let p = or_parts (list_any is_star ts) (list_any is_star ts') (sym (list_any-append is_star ts ts') ∙ e) in
+      λ i. h.same p.0 i ++ k.same p.1 i;
+}
+
+set_of-same : (ts us : List Tag) → MakeSame ts us → set_of ts ≡ set_of us
+set_of-same ts us h = by (list_any is_star ts) (list_any is_star us) h.star h.same
+  where
+    by : (a b : Bool) → a ≡ b → (a ≡ false → ts ≡ us) → (if a then star else gather ts) ≡ (if b then star else gather us)
+    by true true e s = refl
+    by false false e s = ap gather (s refl)
+    by a b e s = absurd cc
+
+-- the members of the set of some members are these
+in_place-set_of : (ts us : List Tag) → AllByRecursion IsMember us → MakeSame ts us → MakeSame ts (in_place (set_of us))
+in_place-set_of ts us all h = by (list_any is_star us) refl
+  where
+    by : (b : Bool) → list_any is_star us ≡ b → MakeSame ts (in_place (if b then star else gather us))
+    by true e = record { star = h.star ∙ e; same = λ f. absurd (true≢false (sym e ∙ sym h.star ∙ f)) }
+    by false e = subst (MakeSame ts) (sym (in_place-gather us all)) h
+
+spread-push : (ts : List Tag) (t : Tag) → spread (ts ++ t ∷ []) ≡ spread ts ++ in_place t
+spread-push [] t = append-nil (in_place t)
+spread-push (u ∷ ts) t = ap (λ (us : List Tag). in_place u ++ us) (spread-push ts t) ∙ sym (append_assoc (in_place u) (spread ts) (in_place t))
+
+-- a tag that was read was put behind others
+pub tag_is_put : (used after : ℕ) (v : Value) (t : Tag) (before members : List Tag) → IsRead used v t after
+    → members ≡ before ++ in_place t → IsPut used v before members after
+tag_is_put used after v t before members r e = record {
+  w = r.w;
+  put = in_place t;
   written = r.written;
-  spelled = ap (starred (codes "set")) (tag_values-tags r.ws ∙ ap values r.spelled);
-  value = n ∙ ap (λ us. set_of (spread us)) r.value;
+  spelled = r.spelled;
+  appended = e;
+  alike = make_same _ _ (ap in_place r.value);
+  counted = r.counted;
+  few = r.few;
+}
+
+-- the members of a set were put behind others
+pub set_is_put : (used after : ℕ) (vs : List Value) (v : Value) (before members : List Tag) → ArePut (used + 1) vs before members after
+    → v ≡ starred (codes "set") (values vs) → IsPut used v before members after
+set_is_put used after vs v before members r e = record {
+  w = set (tags r.ws);
+  put = r.put;
+  written = r.written;
+  spelled = ap (starred (codes "set")) (tag_values-tags r.ws ∙ ap values r.spelled) ∙ sym e;
+  appended = r.appended;
+  alike = in_place-set_of r.put (spread (normals (tags r.ws)))
+      (spread-members (normals (tags r.ws)) (AreNormal-of (tags r.ws) _ (normals-of (tags r.ws) r.written))) r.alike;
   counted = omega (arith, r.counted);
   few = r.few;
 }
+
+-- the members so far were read as tags and put behind others, and these are left
+pub record IsPutSoFar (used : ℕ) (vs : List Value) (before after : List Tag) (counted : ℕ) (left : List Value) : Type 0 where
+  pub ws : List Tag
+  pub put : List Tag
+  pub written : AreTags (tags ws)
+  pub spelled : map tag_value ws ++ left ≡ vs
+  pub appended : after ≡ before ++ put
+  pub alike : MakeSame put (spread (normals (tags ws)))
+  pub sum : counted ≡ used + nodes_all (tags ws)
+  pub few : counted ≤ most_read
+
+pub put_push : (used counted after : ℕ) (vs left further : List Value) (before ts us : List Tag) (v : Value)
+    → IsPutSoFar used vs before ts counted left → left ≡ v ∷ further → IsPut counted v ts us after
+    → IsPutSoFar used vs before us after further
+put_push used counted after vs left further before ts us v so_far e r = record {
+  ws = so_far.ws ++ r.w ∷ [];
+  put = so_far.put ++ r.put;
+  written = AreTags-push so_far.ws r.w so_far.written r.written;
+  spelled =
+      ap (λ (us : List Value). us ++ further) (map_push tag_value so_far.ws r.w)
+      ∙ append_assoc (map tag_value so_far.ws) (tag_value r.w ∷ []) further
+      ∙ ap (λ (x : Value). map tag_value so_far.ws ++ x ∷ further) r.spelled
+      ∙ ap (λ (us : List Value). map tag_value so_far.ws ++ us) (sym e) ∙ so_far.spelled;
+  appended = r.appended ∙ ap (λ (xs : List Tag). xs ++ r.put) so_far.appended ∙ append_assoc before so_far.put r.put;
+  alike = subst (MakeSame (so_far.put ++ r.put))
+      (sym (ap spread (normals-push so_far.ws r.w) ∙ spread-push (normals (tags so_far.ws)) (normal r.w)))
+      (make_same-append _ _ _ _ so_far.alike r.alike);
+  sum = omega (arith, r.counted, so_far.sum, nodes_all-push so_far.ws r.w);
+  few = r.few;
+}
+
+-- what was read of them, as if each had been kept as it is
+pub read_so_far : (used counted : ℕ) (vs left : List Value) (before after : List Tag)
+    → (h : IsPutSoFar used vs before after counted left) → IsReadSoFar used vs (normals (tags h.ws)) counted left
+read_so_far used counted vs left before after h =
+    record { ws = h.ws; written = h.written; spelled = h.spelled; value = refl; sum = h.sum; few = h.few }
+
+pub put_none : (used : ℕ) (vs : List Value) (before : List Tag) → used ≤ most_read → IsPutSoFar used vs before before used vs
+put_none used vs before h = record {
+  ws = [];
+  put = [];
+  written = tt;
+  spelled = refl;
+  appended = sym (append-nil before);
+  alike = make_same [] [] refl;
+  sum = omega arith;
+  few = h;
+}
+
+pub put_all : (used counted : ℕ) (vs left : List Value) (before now : List Tag) → IsPutSoFar used vs before now counted left → left ≡ []
+    → ArePut used vs before now counted
+put_all used counted vs left before now h e = record {
+  ws = h.ws;
+  put = h.put;
+  written = h.written;
+  spelled = sym (append-nil (map tag_value h.ws)) ∙ ap (λ (us : List Value). map tag_value h.ws ++ us) (sym e) ∙ h.spelled;
+  appended = h.appended;
+  alike = h.alike;
+  counted = h.sum;
+  few = h.few;
+}
+
+-- a set of members that were put behind none
+pub set_is_read : (used after : ℕ) (vs : List Value) (before ts : List Tag) (t : Tag) → ArePut (used + 1) vs before ts after → before ≡ []
+    → t ≡ set_of ts → IsRead used (starred (codes "set") (values vs)) t after
+set_is_read used after vs before ts t r empty n = record {
+  w = set (tags r.ws);
+  written = r.written;
+  spelled = ap (starred (codes "set")) (tag_values-tags r.ws ∙ ap values r.spelled);
+  value = n ∙ ap set_of (r.appended ∙ ap (λ (us : List Tag). us ++ r.put) empty) ∙ set_of-same r.put (spread (normals (tags r.ws))) r.alike;
+  counted = omega (arith, r.counted);
+  few = r.few;
+}
+
+pub set_is_normal : (used after : ℕ) (vs : List Value) (before ts : List Tag) → ArePut (used + 1) vs before ts after → before ≡ []
+    → IsNormalTag (set_of ts)
+set_is_normal used after vs before ts r empty =
+    let whole = set_is_read used after vs before ts (set_of ts) r empty refl in
+    subst IsNormalTag (sym whole.value)
+    (IsNormalTag-of whole.w (normal whole.w) (normal-of whole.w whole.written) (omega (arith, whole.counted, whole.few)))
 
 each_normal : (used after : ℕ) (vs : List Value) (ts : List Tag) (r : AreRead used vs ts after) → AreNormalOf (tags r.ws) ts
 each_normal used after vs ts r = search (rules, normals-of)
@@ -265,4 +400,4 @@ set_written ts v front out e f g = search (rules, tag_values-tags)
 
 -- ---- what the reader's proofs use
 
-pub ruleset members_read = (normal-of, so_far_push, list_is_read, set_is_read, members_fit, members_normal)
+pub ruleset members_read = (normal-of, so_far_push, list_is_read, set_is_read, set_is_normal, set_is_put, tag_is_put, put_push, put_none, put_all, members_fit, members_normal)

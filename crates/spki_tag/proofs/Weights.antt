@@ -8,7 +8,7 @@ use Rattle.spki_tag.specs.Cost.{weight, weight_all, limit_octets}
 use Rattle.std.specs.Prelude.{if◌then◌else◌}
 use Rattle.std.specs.List.{list_any}
 use Rattle.std.proofs.lemmas.Bool.{cond_both}
-use Rattle.spki_tag.specs.Meet.{items, gather, nothing, has_nothing, members as in_place}
+use Rattle.spki_tag.specs.Meet.{gather, nothing, has_nothing, members as in_place}
 use Rattle.spki_tag.specs.Reading.{spread, normal, normals}
 use Rattle.spki_tag.proofs.Exact.{tags-items}
 

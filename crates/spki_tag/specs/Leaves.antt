@@ -1,28 +1,26 @@
 -- How a tag without members is represented.
 use Rattle.std.specs.Prelude.{Option, Some, None}
-use Rattle.std.specs.Arc.{arc_slice_items}
-use Rattle.spki_tag.specs.declared.leaf.RangeOrdering.{RangeOrdering}
-use Rattle.spki_tag.specs.declared.leaf.RangeOrdering.TheVariants as orderings
-use Rattle.spki_tag.specs.declared.leaf.Limit as source
+use Rattle.std.specs.Arc.{arc_slice_items, arc_value}
+use Rattle.spki_tag.specs.declared.range.Range.{Range}
 use Rattle.spki_tag.specs.declared.leaf.Leaf.{Leaf}
 use Rattle.spki_tag.specs.declared.leaf.Leaf.TheVariants as leaves
+use Rattle.spki_tag.specs.Limits.{ordering_of, limit_of}
 use Rattle.spki_tag.specs.Meet.{nothing}
-use Rattle.spki_tag.specs.Tag.{Tag, Limit, Ordering, alpha, time, date, star, string, prefix, range}
+use Rattle.spki_tag.specs.Tag.{Tag, star, string, prefix, range}
 
-abbrev pub ordering_of : RangeOrdering → Ordering
-ordering_of orderings.Alpha = alpha
-ordering_of orderings.Time = time
-ordering_of orderings.Date = date
+abbrev pub range_tag : Range → Tag
+range_tag r = range (ordering_of r.ordering) (limit_of r.low) (limit_of r.up)
 
-abbrev pub limit_of : Option source.Limit → Option Limit
-limit_of None = None
-limit_of (Some limit) = Some (record { strict = limit.strict; octets = arc_slice_items limit.octets })
+-- a range, or (* set)
+abbrev pub range_or_nothing : Option Range → Tag
+range_or_nothing None = nothing
+range_or_nothing (Some r) = range_tag r
 
 abbrev pub leaf_tag : Leaf → Tag
 leaf_tag leaves.Star = star
 leaf_tag (leaves.String octets) = string (arc_slice_items octets)
 leaf_tag (leaves.Prefix octets) = prefix octets
-leaf_tag (leaves.Range ordering low up) = range (ordering_of ordering) (limit_of low) (limit_of up)
+leaf_tag (leaves.Range r) = range_tag (arc_value r)
 
 -- a tag without members, or (* set)
 abbrev pub leaf_or_nothing : Option Leaf → Tag

@@ -2,6 +2,7 @@ pub mod Tag
 pub mod Request
 pub mod Faults
 pub mod Reading
+pub mod Limits
 pub mod Leaves
 pub mod Nodes
 pub mod NodeFalls

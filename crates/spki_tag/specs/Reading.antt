@@ -1,6 +1,6 @@
 -- The reading of tags and of requests (RFC 2693, section 6.3.1): the normal form of a tag that is read, what reading
 -- returns, and the results of its steps.
-use Rattle.std.specs.Prelude.{◌≡◌, ◌≤◌, true, List, [], ◌∷◌, ◌++◌, if◌then◌else◌, ℕ, ◌≢◌, ◌+◌, map, Option, Some}
+use Rattle.std.specs.Prelude.{◌≡◌, ◌≤◌, true, false, List, [], ◌∷◌, ◌++◌, if◌then◌else◌, ℕ, ◌≢◌, ◌+◌, map, Option, Some}
 use Rattle.spki_tag.specs.Request.{Request, IsRequest, request_value, requests, AreRequests}
 use Rattle.spki_tag.specs.Tag.{Tag, IsTag, contains, nodes, is_normal, Tags, star, string, prefix, range, list, set, none, more, is_star, tag_value, Limit, AreTags, tags, limit_values, low_values, up_values, nodes_all}
 use Rattle.std.specs.List.{list_any}
@@ -106,6 +106,35 @@ pub record AreRead (used : ℕ) (vs : List Value) (ts : List Tag) (after : ℕ) 
   pub written : AreTags (tags ws)
   pub spelled : map tag_value ws ≡ vs
   pub value : ts ≡ normals (tags ws)
+  pub counted : after ≡ used + nodes_all (tags ws)
+  pub few : after ≤ most_read
+
+-- ---- the members of a set
+
+-- Two lists of members make the same set: both have a (*), or they are equal.
+pub record MakeSame (ts us : List Tag) : Type 0 where
+  pub star : list_any is_star ts ≡ list_any is_star us
+  pub same : list_any is_star ts ≡ false → ts ≡ us
+
+-- A value was read as a tag w, and put behind other members of a set; a set as its members.
+pub record IsPut (used : ℕ) (v : Value) (before now : List Tag) (after : ℕ) : Type 0 where
+  pub w : Tag
+  pub put : List Tag
+  pub written : IsTag w
+  pub spelled : tag_value w ≡ v
+  pub appended : now ≡ before ++ put
+  pub alike : MakeSame put (members (normal w))
+  pub counted : after ≡ used + nodes w
+  pub few : after ≤ most_read
+
+-- the same for the members of a set
+pub record ArePut (used : ℕ) (vs : List Value) (before now : List Tag) (after : ℕ) : Type 0 where
+  pub ws : List Tag
+  pub put : List Tag
+  pub written : AreTags (tags ws)
+  pub spelled : map tag_value ws ≡ vs
+  pub appended : now ≡ before ++ put
+  pub alike : MakeSame put (spread (normals (tags ws)))
   pub counted : after ≡ used + nodes_all (tags ws)
   pub few : after ≤ most_read
 

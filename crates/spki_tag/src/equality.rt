@@ -1,7 +1,8 @@
 //! Whether two tags are the same.
 
 ghost use Rattle.std.specs.Prelude.{◌≡◌, ◌↔◌, IsTrue};
-ghost use Rattle.spki_tag.specs.Leaves.{leaf_tag, limit_of, ordering_of};
+ghost use Rattle.spki_tag.specs.Leaves.{leaf_tag};
+ghost use Rattle.spki_tag.specs.Limits.{limit_of, ordering_of};
 ghost use Rattle.spki_tag.specs.Nodes.{node_tag};
 ghost use Rattle.spki_tag.specs.Tag.{tags};
 
@@ -70,26 +71,28 @@ impl Leaf {
                 Leaf::Star => true,
                 Leaf::String(_) => false,
                 Leaf::Prefix(_) => false,
-                Leaf::Range(_, _, _) => false,
+                Leaf::Range(_) => false,
             },
             Leaf::String(octets) => match other {
                 Leaf::Star => false,
                 Leaf::String(others) => octets.as_slice() == others.as_slice(),
                 Leaf::Prefix(_) => false,
-                Leaf::Range(_, _, _) => false,
+                Leaf::Range(_) => false,
             },
             Leaf::Prefix(prefix) => match other {
                 Leaf::Star => false,
                 Leaf::String(_) => false,
                 Leaf::Prefix(others) => prefix.octets() == others.octets(),
-                Leaf::Range(_, _, _) => false,
+                Leaf::Range(_) => false,
             },
-            Leaf::Range(ordering, low, up) => match other {
+            Leaf::Range(range) => match other {
                 Leaf::Star => false,
                 Leaf::String(_) => false,
                 Leaf::Prefix(_) => false,
-                Leaf::Range(second, from, to) => {
-                    same_ordering(*ordering, *second) && same_limit(low, from) && same_limit(up, to)
+                Leaf::Range(second) => {
+                    same_ordering(range.ordering, second.ordering)
+                        && same_limit(&range.low, &second.low)
+                        && same_limit(&range.up, &second.up)
                 }
             },
         }

@@ -3,7 +3,8 @@
 ghost use Rattle.std.specs.Prelude.{◌≡◌, ◌↔◌, ◌||◌, IsTrue};
 ghost use Rattle.std.specs.List.{list_any};
 ghost use Rattle.spki_tag.specs.Tag as spec;
-ghost use Rattle.spki_tag.specs.Leaves.{leaf_tag, limit_of};
+ghost use Rattle.spki_tag.specs.Leaves.{leaf_tag};
+ghost use Rattle.spki_tag.specs.Limits.{limit_of};
 ghost use Rattle.spki_tag.specs.TagForms.{IsFormOf, limit_shown};
 
 use crate::leaf::{Leaf, Limit, RangeOrdering};
@@ -71,10 +72,10 @@ fn leaf_form(leaf: &Leaf) -> TagForm<'_>
         Leaf::Star => TagForm::Everything,
         Leaf::String(octets) => TagForm::String(octets.as_slice()),
         Leaf::Prefix(prefix) => TagForm::Prefix(prefix.octets()),
-        Leaf::Range(ordering, low, up) => TagForm::Range {
-            ordering: *ordering,
-            low: limit_shown(low),
-            up: limit_shown(up),
+        Leaf::Range(range) => TagForm::Range {
+            ordering: range.ordering,
+            low: limit_shown(&range.low),
+            up: limit_shown(&range.up),
         },
     }
 }

@@ -51,7 +51,7 @@ impl<'a> Kind<'a> {
                 Leaf::Star => Kind::Any,
                 Leaf::String(octets) => Kind::One(octets.as_slice()),
                 Leaf::Prefix(_) => Kind::Strings,
-                Leaf::Range(_, _, _) => Kind::Strings,
+                Leaf::Range(_) => Kind::Strings,
             },
             Node::List(head, _, _) => Kind::Lists(head.as_slice()),
             Node::Set(_, _) => Kind::Any,

@@ -46,7 +46,7 @@ fn meet_single(alloc: Global, one: &Tag, other: &Tag) -> Result<Tag, AllocError>
 {
     match &one.node {
         Node::Leaf(leaf) => match &other.node {
-            Node::Leaf(second) => Ok(leaf_or_nothing(alloc, leaf.meet(second)?)),
+            Node::Leaf(second) => Ok(leaf_or_nothing(alloc, leaf.meet(alloc, second)?)),
             Node::List(_, _, _) => Ok(Tag::nothing(alloc)),
             Node::Set(_, _) => unreachable!(),
         },
@@ -187,5 +187,28 @@ impl Tag {
             return Err(MeetFault::TooLarge);
         }
         Ok(meet_tags(alloc, self, other)?)
+    }
+
+    /// Like `meet_within`, but consumes `self`: if `other` is `(*)`, it is returned, and nothing is copied.
+    ///
+    /// # Errors
+    ///
+    /// Those of `meet_within`.
+    #[tactic(auto, using(crate::proofs::Exact::meet_exact, crate::proofs::MeetSizes::meet_le, crate::proofs::NormalForms::meet_ldepth, crate::proofs::MeetSteps::meet_star))]
+    pub fn into_meet(self, alloc: Global, other: &Tag, most: usize) -> Result<Tag, MeetFault>
+        requires { most ≤ 1000000 }
+        ensures value { IfOk result (λ c. c ≡ meet self other.now) }
+        ensures exact { IfOk result (λ c. (g : Request) → IsRequest g
+            → contains c g ≡ (contains self g && contains other.now g)) }
+        ensures bounds { IfOk result (λ c. (nodes c ≤ nodes self * nodes other.now)
+            × (ldepth c ≤ max (ldepth self) (ldepth other.now))) }
+        ensures too_large { IsErrOf result MeetFault.TooLarge ↔ (most < nodes self * nodes other.now) }
+    {
+        if other.is_everything() && self.nodes() <= most {
+            return Ok(self);
+        }
+        let met = self.meet_within(alloc, other, most);
+        drop(self);
+        met
     }
 }

@@ -2,16 +2,18 @@
 
 ghost use Rattle.std.specs.Prelude.{◌≡◌, ◌+◌, ℕ, List, IfOk};
 ghost use Rattle.spki_tag.specs.Cost.{limit_octets, weight};
-ghost use Rattle.spki_tag.specs.Leaves.{ordering_of, limit_of, leaf_tag};
+ghost use Rattle.spki_tag.specs.Leaves.{leaf_tag};
+ghost use Rattle.spki_tag.specs.Limits.{ordering_of, limit_of};
 ghost use Rattle.spki_tag.specs.Request.{Requests, string, list};
 ghost use Rattle.spki_tag.specs.Tag.{contains, is_ordered, is_within, is_above, is_below};
 
 use crate::moment::{is_date, is_time};
 use crate::prefix::Prefix;
+use crate::range::Range;
 use crate::ticks::Ticks;
 use std::alloc::AllocError;
-use std::sync::ArcSlice;
 use std::sync::ledger::Ledger;
+use std::sync::{Arc, ArcSlice};
 
 /// Octets of a tag. An intersection shares them with the tags that it was made of.
 pub(crate) type SharedOctets = ArcSlice<u8>;
@@ -43,8 +45,8 @@ pub(crate) enum Leaf {
     String(SharedOctets),
     /// `(* prefix p)`.
     Prefix(Prefix),
-    /// `(* range ordering low? up?)`.
-    Range(RangeOrdering, Option<Limit>, Option<Limit>),
+    /// `(* range ordering low? up?)`. It is rare and large, so it lies apart.
+    Range(Arc<Range>),
 }
 
 /// Whether a range of this ordering may contain the string: any string, a time of day, or a moment.
@@ -120,8 +122,10 @@ impl Leaf {
             Leaf::Star => true,
             Leaf::String(wanted) => wanted.as_slice() == octets,
             Leaf::Prefix(prefix) => octets.starts_with(prefix.octets()),
-            Leaf::Range(ordering, low, up) => {
-                is_ordered(*ordering, octets) && is_above(low, octets) && is_below(up, octets)
+            Leaf::Range(range) => {
+                is_ordered(range.ordering, octets)
+                    && is_above(&range.low, octets)
+                    && is_below(&range.up, octets)
             }
         }
     }
@@ -135,9 +139,9 @@ impl Leaf {
             Leaf::Star => {}
             Leaf::String(wanted) => ticks.read(wanted.as_slice().len()),
             Leaf::Prefix(prefix) => ticks.read(prefix.octets().len()),
-            Leaf::Range(_, low, up) => {
-                read_limit(low, ticks);
-                read_limit(up, ticks);
+            Leaf::Range(range) => {
+                read_limit(&range.low, ticks);
+                read_limit(&range.up, ticks);
             }
         }
         self.holds(octets)
@@ -151,7 +155,7 @@ impl Leaf {
             Leaf::Star => true,
             Leaf::String(_) => false,
             Leaf::Prefix(_) => false,
-            Leaf::Range(_, _, _) => false,
+            Leaf::Range(_) => false,
         }
     }
 
@@ -163,11 +167,7 @@ impl Leaf {
             Leaf::Star => Ok(Leaf::Star),
             Leaf::String(octets) => Ok(Leaf::String(octets.clone()?)),
             Leaf::Prefix(prefix) => Ok(Leaf::Prefix(prefix.clone()?)),
-            Leaf::Range(ordering, low, up) => Ok(Leaf::Range(
-                *ordering,
-                copied_limit(low)?,
-                copied_limit(up)?,
-            )),
+            Leaf::Range(range) => Ok(Leaf::Range(range.clone()?)),
         }
     }
 }

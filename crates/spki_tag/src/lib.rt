@@ -16,12 +16,14 @@ mod moment;
 mod normal_forms;
 mod parts;
 mod prefix;
+mod range;
 mod ranges;
 mod reader;
 mod request;
 mod sets;
 mod tag;
 mod ticks;
+mod weight;
 mod writer;
 
 pub use fault::{MeetFault, TagFault};

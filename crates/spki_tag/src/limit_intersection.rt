@@ -1,46 +1,40 @@
 //! The intersection of limits of ranges.
 
-ghost use Rattle.std.specs.Prelude.{◌≡◌};
-ghost use Rattle.spki_tag.specs.Leaves.{limit_of};
+ghost use Rattle.std.specs.Prelude.{◌≡◌, MatchBool};
+ghost use Rattle.spki_tag.specs.Limits.{limit_of};
 ghost use Rattle.spki_tag.specs.Meet.{greater_low, lesser_up, exclude};
 
 use crate::leaf::{Limit, is_within};
 
-/// The greater of two lower limits. For equal strings it is the strict one. If one is missing, it is the other; None if
-/// both are.
-pub(crate) fn greater_low<'a>(one: &'a Option<Limit>, other: &'a Option<Limit>) -> &'a Option<Limit>
-    ensures { limit_of result.now ≡ greater_low (limit_of one.entry.now) (limit_of other.entry.now) }
+/// Whether the greater of two lower limits is the first. For equal strings a strict limit is greater. If one limit is
+/// missing, the greater is the other.
+pub(crate) fn is_greater_low(one: &Option<Limit>, other: &Option<Limit>) -> bool
+    ensures { let greater = greater_low (limit_of one.now) (limit_of other.now) in
+        MatchBool result (greater ≡ limit_of one.now) (greater ≡ limit_of other.now) }
 {
     match one {
-        None => other,
+        None => false,
         Some(low) => match other {
-            None => one,
+            None => true,
             Some(second) => {
-                if is_within(!low.strict, second.octets.as_slice(), low.octets.as_slice()) {
-                    one
-                } else {
-                    other
-                }
+                is_within(!low.strict, second.octets.as_slice(), low.octets.as_slice())
             }
         },
     }
 }
 
-/// The lesser of two upper limits. For equal strings it is the strict one. If one is missing, it is the other; None if
-/// both are.
-pub(crate) fn lesser_up<'a>(one: &'a Option<Limit>, other: &'a Option<Limit>) -> &'a Option<Limit>
-    ensures { limit_of result.now ≡ lesser_up (limit_of one.entry.now) (limit_of other.entry.now) }
+/// Whether the lesser of two upper limits is the first. For equal strings a strict limit is lesser. If one limit is
+/// missing, the lesser is the other.
+pub(crate) fn is_lesser_up(one: &Option<Limit>, other: &Option<Limit>) -> bool
+    ensures { let lesser = lesser_up (limit_of one.now) (limit_of other.now) in
+        MatchBool result (lesser ≡ limit_of one.now) (lesser ≡ limit_of other.now) }
 {
     match one {
-        None => other,
+        None => false,
         Some(up) => match other {
-            None => one,
+            None => true,
             Some(second) => {
-                if is_within(!up.strict, up.octets.as_slice(), second.octets.as_slice()) {
-                    one
-                } else {
-                    other
-                }
+                is_within(!up.strict, up.octets.as_slice(), second.octets.as_slice())
             }
         },
     }

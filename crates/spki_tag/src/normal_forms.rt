@@ -1,21 +1,21 @@
 //! Makes tags in normal form, from the inside out.
 
-ghost use Rattle.std.specs.Prelude.{◌≡◌, ◌≤◌, ◌++◌, IfOk, OnOk};
+ghost use Rattle.std.specs.Prelude.{◌≡◌, ◌≤◌, ◌++◌, OnOk};
 ghost use Rattle.std.specs.Arc.{arc_slice_items};
 ghost use Rattle.spki_tag.specs.Request.{IsHead};
-ghost use Rattle.spki_tag.specs.Tag.{tags, list, set, nodes, most_nodes};
-ghost use Rattle.spki_tag.specs.Reading.{AreNormal, spread, set_of};
+ghost use Rattle.spki_tag.specs.Tag.{IsNormalTag, tags, list, nodes, most_nodes};
+ghost use Rattle.spki_tag.specs.Reading.{AreNormal, set_of};
 ghost use Rattle.spki_tag.specs.Meet.{listed, members as in_place};
 
 use crate::form::{has_everything, has_nothing};
 use crate::leaf::SharedOctets;
 use crate::tag::{Node, Tag};
-use std::alloc::{AllocError, Global};
+use std::alloc::AllocError;
 
 /// Appends a tag to the members of a set. If the tag is a set itself, its members are appended instead. Err if memory
 /// ran out.
 #[tactic(auto, using(crate::proofs::Exact::items_tags))]
-fn push_member(members: &mut Vec<Tag>, tag: Tag) -> Result<(), AllocError>
+pub(crate) fn push_member(members: &mut Vec<Tag>, tag: Tag) -> Result<(), AllocError>
     ensures { OnOk result (members.new.items ≡ members.old.items ++ in_place tag) }
 {
     match tag.node {
@@ -32,22 +32,16 @@ fn push_member(members: &mut Vec<Tag>, tag: Tag) -> Result<(), AllocError>
 }
 
 impl Tag {
-    /// The set of these tags in normal form. The members of a set in it replace that set. A set with a member `(*)` is
-    /// `(*)`, and a set with one member is that member. Err if memory ran out.
-    #[tactic(auto, using(crate::proofs::NormalForms::spread_all, crate::proofs::NormalForms::gathered_set))]
-    pub(crate) fn set_of(alloc: Global, members: Vec<Tag>) -> Result<Tag, AllocError>
-        requires room { nodes (set (tags members.items)) ≤ most_nodes }
-        requires normal { AreNormal members.items }
-        ensures { IfOk result (λ tag. tag ≡ set_of (spread members.items)) }
+    /// The set of these members, none of which is a set, in normal form. With a member `(*)` it is `(*)`, and a set with one member is
+    /// that member.
+    pub(crate) fn set_of(members: Vec<Tag>) -> Tag
+        requires { IsNormalTag (set_of members.items) }
+        ensures { result ≡ set_of members.items }
     {
-        let mut spread = Vec::new(alloc);
-        for member in members {
-            push_member(&mut spread, member)?;
+        if has_everything(&members) {
+            return Tag::everything();
         }
-        if has_everything(&spread) {
-            return Ok(Tag::everything());
-        }
-        Ok(Tag::gathered(spread))
+        Tag::gathered(members)
     }
 
     /// The list of a head and these tags, in normal form. If one of the tags is `(* set)`, so is the list.

@@ -2,10 +2,13 @@
 
 ghost use Rattle.std.specs.Prelude.{◌≡◌, IfOk, option_map};
 ghost use Rattle.std.specs.Arc.{arc_slice_items};
-ghost use Rattle.spki_tag.specs.Leaves.{limit_of};
+ghost use Rattle.spki_tag.specs.Leaves.{range_tag};
+ghost use Rattle.spki_tag.specs.Limits.{limit_of};
 ghost use Rattle.spki_tag.specs.Meet.{least_above, from, strict_limit};
+ghost use Rattle.spki_tag.specs.Tag.{alpha, range};
 
-use crate::leaf::{Limit, SharedOctets};
+use crate::leaf::{Limit, RangeOrdering, SharedOctets};
+use crate::range::Range;
 use std::alloc::{AllocError, Global};
 use std::marker::Model;
 use std::sync::ArcSlice;
@@ -49,7 +52,7 @@ impl Prefix {
 
     /// The lower limit of the strings that start with the prefix: the prefix itself, included. Never None. Err if there
     /// are too many copies to count.
-    pub(crate) fn lower_limit(&self) -> Result<Option<Limit>, AllocError>
+    fn lower_limit(&self) -> Result<Option<Limit>, AllocError>
         ensures { IfOk result (λ low. limit_of low ≡ from self.now) }
     {
         Ok(Some(Limit {
@@ -60,7 +63,7 @@ impl Prefix {
 
     /// The upper limit of the strings that start with the prefix: a strict limit above all of them. None if the prefix
     /// is empty or has only octets `FF`. Err if there are too many copies to count.
-    pub(crate) fn upper_limit(&self) -> Result<Option<Limit>, AllocError>
+    fn upper_limit(&self) -> Result<Option<Limit>, AllocError>
         ensures { IfOk result (λ up. limit_of up ≡ strict_limit (least_above self.now)) }
     {
         match &self.above {
@@ -70,6 +73,19 @@ impl Prefix {
                 octets: above.clone()?,
             })),
         }
+    }
+
+    /// The range of the strings that start with the prefix. Its limits never exclude each other. Err if there are too many copies to
+    /// count.
+    #[tactic(auto, using(crate::proofs::Limits::least_above_apart))]
+    pub(crate) fn range(&self) -> Result<Range, AllocError>
+        ensures { IfOk result (λ r. range_tag r ≡ range alpha (from self.now) (strict_limit (least_above self.now))) }
+    {
+        Ok(Range::between(
+            RangeOrdering::Alpha,
+            self.lower_limit()?,
+            self.upper_limit()?,
+        ))
     }
 }
 

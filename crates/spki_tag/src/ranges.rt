@@ -3,16 +3,18 @@
 ghost use Rattle.std.specs.Prelude.{◌≡◌, ◌≢◌, ◌∷◌, [], Some, List, ℕ, IfOk, IfErr, MatchOption, codes};
 ghost use Rattle.std.specs.List.{list_any};
 ghost use Rattle.sexpr_core.specs.Value.{Value, plain, values};
-ghost use Rattle.spki_tag.specs.Leaves.{ordering_of, limit_of, leaf_tag};
+ghost use Rattle.spki_tag.specs.Leaves.{leaf_tag};
+ghost use Rattle.spki_tag.specs.Limits.{ordering_of, limit_of};
 ghost use Rattle.spki_tag.specs.Tag.{Ordering, tag_value, starred, ordering_name, limit_values};
 ghost use Rattle.spki_tag.specs.Faults.{IsNamed, is_hinted, limits_fault, range_fault};
 ghost use Rattle.spki_tag.specs.Reading.{AreLimits, AreNoLimits, IsNoLimit};
 
 use crate::fault::TagFault;
 use crate::leaf::{Leaf, Limit, RangeOrdering};
+use crate::range::Range;
 use sexpr_core::syntax::{Members, Node, NodeKind};
 use std::alloc::{AllocError, Global};
-use std::sync::ArcSlice;
+use std::sync::{Arc, ArcSlice};
 
 /// Whether a value is a string with a display hint.
 fn is_hinted(value: &Node<'_, '_>) -> bool
@@ -204,7 +206,7 @@ pub(crate) fn read_range(alloc: Global, further: Members<'_, '_>) -> Result<Leaf
         Some((name, rest)) => {
             let ordering = read_ordering(&name)?;
             let (low, up) = read_limits(alloc, rest)?;
-            Ok(Leaf::Range(ordering, low, up))
+            Ok(Leaf::Range(Arc::new(alloc, Range::of(ordering, low, up))?))
         }
     }
 }

@@ -6,11 +6,12 @@ ghost use Rattle.sexpr_core.specs.Value.{Value, plain, group, values, node};
 ghost use Rattle.spki_tag.specs.Leaves.{leaf_tag};
 ghost use Rattle.spki_tag.specs.Tag.{Tag, IsTag, tag_value, starred, nodes};
 ghost use Rattle.spki_tag.specs.Request.{IsHead};
-ghost use Rattle.spki_tag.specs.Reading.{ReadsAs, IsNoTag, most_read, IsRead, AreRead, fault_after, fault_after_all};
+ghost use Rattle.spki_tag.specs.Reading.{ReadsAs, IsNoTag, most_read, IsRead, AreRead, IsPut, ArePut, fault_after, fault_after_all};
 ghost use Rattle.spki_tag.specs.Faults.{IsNamed, group_fault, list_fault, prefix_fault, tag_fault};
 
 use crate::fault::TagFault;
 use crate::leaf::Leaf;
+use crate::normal_forms::push_member;
 use crate::prefix::Prefix;
 use crate::ranges::read_range;
 use crate::tag::Tag;
@@ -155,8 +156,73 @@ fn read_set(alloc: Global, further: Members<'_, '_>, used: usize) -> Result<(Tag
     ensures read { IfOk result (λ p. IsRead used (starred (codes "set") (values further.entry)) p.0 p.1) }
     ensures named { IfErr result (λ fault. IsNamed fault (fault_after used (starred (codes "set") (values further.entry)))) }
 {
-    let (members, after) = read_members(alloc, further, used + 1)?;
-    Ok((Tag::set_of(alloc, members)?, after))
+    let mut members = Vec::new(alloc);
+    let after = put_members(alloc, further, used + 1, &mut members)?;
+    Ok((Tag::set_of(members), after))
+}
+
+/// The members of a value that is written as a set. None for every other value.
+fn set_members<'d, 'a>(value: &Node<'d, 'a>) -> Option<Members<'d, 'a>>
+    ensures { IfSome result (λ vs. value.now ≡ starred (codes "set") (values vs)) }
+{
+    let further = value.headed(b"*")?;
+    let (form, members) = further.split_first()?;
+    if form.plain_octets()? == b"set".as_slice() {
+        Some(members)
+    } else {
+        None
+    }
+}
+
+/// Reads each of the values as a tag, and appends it to the members of a set. `used`, which must be at most 1,024, and the result are
+/// as for `read_tag`.
+#[cycle(read)]
+fn put_members(
+    alloc: Global,
+    values: Members<'_, '_>,
+    used: usize,
+    members: &mut Vec<Tag>,
+) -> Result<usize, TagFault>
+    requires { used ≤ most_read }
+    ensures read { IfOk result (ArePut used values.entry members.old.items members.new.items) }
+    ensures named { IfErr result (λ fault. IsNamed fault (fault_after_all used values.entry)) }
+{
+    let mut counted = used;
+    let mut left = values;
+    while let Some((first, further)) = left.split_first() {
+        counted = put_member(alloc, &first, counted, members)?;
+        left = further;
+    }
+    Ok(counted)
+}
+
+/// Reads a value as a tag, and appends it to the members of a set. The members of a set are read in its place, so that each is moved
+/// only once, however many sets are nested. `used` and the result are as for `read_tag`.
+#[cycle(read)]
+fn put_member(
+    alloc: Global,
+    value: &Node<'_, '_>,
+    used: usize,
+    members: &mut Vec<Tag>,
+) -> Result<usize, TagFault>
+    requires { used ≤ most_read }
+    ensures read { IfOk result (IsPut used value.now members.old.items members.new.items) }
+    ensures named { IfErr result (λ fault. IsNamed fault (fault_after used value.now)) }
+{
+    if used >= MOST_READ {
+        return Err(TagFault::TooManyNodes);
+    }
+    match set_members(value) {
+        Some(inner) => {
+            let counted = put_members(alloc, inner, used + 1, members)?;
+            Ok(counted)
+        }
+        None => {
+            let (tag, after) = read_tag(alloc, value, used)?;
+            push_member(members, tag)?;
+            Ok(after)
+        }
+    }
 }
 
 /// Reads a list with this head, which is not `*`, and these members after it as a tag. `used`, which must be below
@@ -192,7 +258,7 @@ fn read_members(
     ensures read { IfOk result (λ p. AreRead used members.entry p.0.items p.1) }
     ensures named { IfErr result (λ fault. IsNamed fault (fault_after_all used members.entry)) }
 {
-    let mut tags = Vec::new(alloc);
+    let mut tags = Vec::with_capacity(alloc, members.len().min(MOST_READ - used))?;
     let mut counted = used;
     let mut left = members;
     while let Some((first, further)) = left.split_first() {

@@ -127,7 +127,7 @@ fn read_request_members(alloc: Global, members: Members<'_, '_>) -> Result<Vec<G
     ensures read { IfOk result (λ gs. AreReadRequests members.entry gs.items) }
     ensures named { IfErr result (λ fault. IsNamed fault (fault_of_requests members.entry)) }
 {
-    let mut requests = Vec::new(alloc);
+    let mut requests = Vec::with_capacity(alloc, members.len())?;
     let mut left = members;
     while let Some((first, further)) = left.split_first() {
         requests.push(read_request(alloc, &first)?)?;

@@ -2,10 +2,12 @@
 
 ghost use Rattle.std.specs.Prelude.{◌≡◌, ◌++◌, ◌∷◌, [], IfOk, OnOk, map, codes};
 ghost use Rattle.sexpr_core.specs.Value.{plain, sexp_value};
-ghost use Rattle.spki_tag.specs.Leaves.{ordering_of, limit_of, leaf_tag};
-ghost use Rattle.spki_tag.specs.Tag.{range, tag_value, ordering_name, limit_values};
+ghost use Rattle.spki_tag.specs.Leaves.{leaf_tag, range_tag};
+ghost use Rattle.spki_tag.specs.Limits.{ordering_of, limit_of};
+ghost use Rattle.spki_tag.specs.Tag.{tag_value, ordering_name, limit_values};
 
 use crate::leaf::{Leaf, Limit, RangeOrdering};
+use crate::range::Range;
 use crate::tag::{Node, Tag};
 use sexpr_core::Sexp;
 use std::alloc::{AllocError, Global};
@@ -55,18 +57,13 @@ fn push_limit(
 }
 
 /// Writes `(* range ORDERING LOW UP)`. A limit that is None is left out. Err if memory ran out.
-fn write_range(
-    alloc: Global,
-    ordering: RangeOrdering,
-    low: &Option<Limit>,
-    up: &Option<Limit>,
-) -> Result<Sexp, AllocError>
-    ensures { IfOk result (λ s. sexp_value s ≡ tag_value (range (ordering_of ordering) (limit_of low.now) (limit_of up.now))) }
+fn write_range(alloc: Global, range: &Range) -> Result<Sexp, AllocError>
+    ensures { IfOk result (λ s. sexp_value s ≡ tag_value (range_tag range.now)) }
 {
     let mut out = starred(alloc, b"range")?;
-    out.push(Sexp::plain(alloc, ordering_name(ordering))?)?;
-    push_limit(alloc, &mut out, low, b"g", b"ge")?;
-    push_limit(alloc, &mut out, up, b"l", b"le")?;
+    out.push(Sexp::plain(alloc, ordering_name(range.ordering))?)?;
+    push_limit(alloc, &mut out, &range.low, b"g", b"ge")?;
+    push_limit(alloc, &mut out, &range.up, b"l", b"le")?;
     Ok(Sexp::list(out))
 }
 
@@ -86,7 +83,7 @@ fn write_leaf(alloc: Global, leaf: &Leaf) -> Result<Sexp, AllocError>
             out.push(Sexp::plain(alloc, prefix.octets())?)?;
             Ok(Sexp::list(out))
         }
-        Leaf::Range(ordering, low, up) => write_range(alloc, *ordering, low, up),
+        Leaf::Range(range) => write_range(alloc, range),
     }
 }
 

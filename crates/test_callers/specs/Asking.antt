@@ -1,5 +1,5 @@
 -- A question to a service.
-use Rattle.std.specs.Prelude.{List, [], None}
+use Rattle.std.specs.Prelude.{List, []}
 use Rattle.spki_cert.specs.declared.entry.Entry.{Entry}
 use Rattle.spki_cert.specs.declared.certificate.SeqItem.{SeqItem}
 use Rattle.spki_cert.specs.declared.principal.Policy.TheVariants.{Strict}
@@ -18,5 +18,6 @@ asked_case entries items question = record {
   moment = question.moment;
   policy = Strict;
   most_nodes = 1000000;
-  most_work = None;
+  most_work = 3000000000;
+  uncounted = 1000000;
 }

@@ -5,7 +5,7 @@ use Rattle.spki_cert.specs.declared.principal.Policy.{Policy}
 use Rattle.spki_case.specs.Case.{Case, Verified}
 use Rattle.spki_decision.specs.declared.decision.Decision.{Decision}
 use Rattle.spki_decision.specs.Granted.{IsDecision}
-use Rattle.spki_decision.specs.Standing.{with_entries}
+use Rattle.spki_decision.specs.CertificateTests.{with_entries}
 use Rattle.spki_service.specs.declared.question.Question.{Question}
 use Rattle.spki_service.specs.AccessLists.{AreEntries}
 use Rattle.spki_service.specs.Questions.{IsAskedCase}

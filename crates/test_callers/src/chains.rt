@@ -11,7 +11,7 @@ use std::alloc::Global;
 
 /// A question: whether a key may do a request at a moment.
 #[derive(Drop)]
-pub struct Asked<'r, 'k> {
+pub struct AccessQuestion<'r, 'k> {
     /// The client's key.
     pub key: &'r Key<'k>,
     /// The request.
@@ -30,7 +30,7 @@ pub fn grants<'a>(
     alloc: Global,
     first: &Five<'a>,
     steps: &[Step<'a>],
-    asked: &Asked,
+    asked: &AccessQuestion,
     policy: Policy,
 ) -> Result<bool, ReduceFault>
     requires own { issuer_of first.now.issuer ≡ own }
@@ -43,8 +43,8 @@ pub fn grants<'a>(
     match fold_chain(alloc, first, steps, policy)? {
         Fold::Stopped { .. } => Ok(false),
         Fold::Done(five) => {
-            let denial = five.first_denial(asked.key, asked.request, asked.moment, policy);
-            Ok(denial.is_none())
+            let missing = five.missing_grant(asked.key, asked.request, asked.moment, policy);
+            Ok(missing.is_none())
         }
     }
 }

@@ -2,13 +2,15 @@
 
 use crate::answers::{Called, Reply, answer, call_on, shown, word};
 use crate::failure::Failure;
-use crate::opened;
+use crate::owned_questions;
 use crate::texts::{at, behind, number, word_of};
 use crate::verifier::RowVerifier;
 use spki_cert::Policy;
-use spki_decision::{GuardFault, Reduction};
-use spki_service::{AskFault, Asked, Guard, Limits, Moment, Question, RequestInput, Texts};
-use std::alloc::Global;
+use spki_decision::{Decision, Grant, GuardFault, Reduction};
+use spki_service::{
+    AskFault, Guard, Limits, Moment, PreparedQuestion, Question, RequestInput, Texts,
+};
+use std::alloc::{AllocError, Global};
 
 /// The answer of the call with this name, of this module or of those behind it. None if there is no such call.
 pub(crate) fn call(alloc: Global, name: &str, texts: &[Vec<u8>]) -> Option<Reply> {
@@ -17,15 +19,19 @@ pub(crate) fn call(alloc: Global, name: &str, texts: &[Vec<u8>]) -> Option<Reply
         "Guard::read"
         | "Guard::ask"
         | "Guard::texts"
-        | "Asked::decide"
-        | "Asked::decide_by"
-        | "Asked::explain"
-        | "Asked::explain_by"
-        | "Asked::reduce"
-        | "Asked::reduce_by"
-        | "Asked::reduce_into"
-        | "Asked::is_possible" => { Some(call_on(alloc, guard(alloc, texts), name, texts)) }
-        _ => opened::call(alloc, name, texts),
+        | "PreparedQuestion::decide"
+        | "PreparedQuestion::decide_by"
+        | "PreparedQuestion::grant"
+        | "PreparedQuestion::grant_by"
+        | "PreparedQuestion::explain"
+        | "PreparedQuestion::explain_by"
+        | "PreparedQuestion::reduce"
+        | "PreparedQuestion::reduce_by"
+        | "PreparedQuestion::reduce_into"
+        | "PreparedQuestion::is_possible" => {
+            Some(call_on(alloc, guard(alloc, texts), name, texts))
+        }
+        _ => owned_questions::call(alloc, name, texts),
     }
 }
 
@@ -62,7 +68,7 @@ fn limits(octets: &[u8], nodes: &[u8]) -> Option<Limits> {
         return Some(Limits::default());
     }
     let (octets, nodes) = (number(octets).min(1_048_576), number(nodes).min(1_000_000));
-    Limits::new(octets, usize::MAX, usize::MAX, nodes, 200_000, 1_048_576)
+    Limits::new(octets, usize::MAX, usize::MAX, nodes, 2_000_000, 1_048_576)
 }
 
 /// The guard of the first four texts.
@@ -117,7 +123,7 @@ fn ask_words(alloc: Global, guard: &Guard, texts: &[Vec<u8>]) -> Reply {
         moment: Moment::Seconds(seconds(at(texts, 1))),
     };
     let read = guard.texts(alloc, &question)?;
-    of_texts(alloc, "Asked::decide_by", guard, read, &[])
+    of_texts(alloc, "PreparedQuestion::decide_by", guard, read, &[])
 }
 
 /// Seconds in decimal digits.
@@ -147,7 +153,7 @@ fn marked<'a>(
     guard: &'a Guard,
     texts: &'a Texts,
     marks: &[u8],
-) -> Result<Asked<'a>, AskFault> {
+) -> Result<PreparedQuestion<'a>, AskFault> {
     let mut asked = guard.ask(alloc, texts)?;
     for (place, octet) in marks.iter().enumerate() {
         if *octet == b'1' {
@@ -157,44 +163,60 @@ fn marked<'a>(
     Ok(asked)
 }
 
-impl Called for Asked<'_> {
+impl Called for PreparedQuestion<'_> {
     fn call(&self, alloc: Global, name: &str, texts: &[Vec<u8>]) -> Reply {
         match name {
-            "Asked::decide" | "Asked::explain" | "Asked::reduce" => {
-                with_verifier(alloc, name, self, at(texts, 0))
-            }
+            "PreparedQuestion::decide"
+            | "PreparedQuestion::grant"
+            | "PreparedQuestion::explain"
+            | "PreparedQuestion::reduce" => { with_verifier(alloc, name, self, at(texts, 0)) }
             _ => with_marks(alloc, name, self),
         }
     }
 }
 
-fn with_verifier(alloc: Global, name: &str, asked: &Asked, rows: &[u8]) -> Reply {
+fn with_verifier(alloc: Global, name: &str, asked: &PreparedQuestion, rows: &[u8]) -> Reply {
     let verifier = RowVerifier::read(alloc, rows)?;
     let reply = by_verifier(alloc, name, asked, &verifier);
     drop(verifier);
     reply
 }
 
-fn by_verifier(alloc: Global, name: &str, asked: &Asked, verifier: &RowVerifier) -> Reply {
+fn by_verifier(
+    alloc: Global,
+    name: &str,
+    asked: &PreparedQuestion,
+    verifier: &RowVerifier,
+) -> Reply {
     match name {
-        "Asked::decide" => answer(alloc, asked.decide(alloc, verifier)),
-        "Asked::explain" => answer(alloc, asked.explain(alloc, verifier)),
+        "PreparedQuestion::decide" => answer(alloc, asked.decide(alloc, verifier)),
+        "PreparedQuestion::grant" => granted(alloc, asked.grant(alloc, verifier)),
+        "PreparedQuestion::explain" => answer(alloc, asked.explain(alloc, verifier)),
         _ => answer(alloc, asked.reduce(alloc, verifier)),
     }
 }
 
-fn with_marks(alloc: Global, name: &str, asked: &Asked) -> Reply {
+fn with_marks(alloc: Global, name: &str, asked: &PreparedQuestion) -> Reply {
     match name {
-        "Asked::decide_by" => answer(alloc, asked.decide_by(alloc)),
-        "Asked::is_possible" => answer(alloc, asked.is_possible(alloc)),
-        "Asked::explain_by" => answer(alloc, asked.explain_by(alloc)),
-        "Asked::reduce_by" => answer(alloc, asked.reduce_by(alloc)),
+        "PreparedQuestion::decide_by" => answer(alloc, asked.decide_by(alloc)),
+        "PreparedQuestion::grant_by" => granted(alloc, asked.grant_by(alloc)),
+        "PreparedQuestion::is_possible" => answer(alloc, asked.is_possible(alloc)),
+        "PreparedQuestion::explain_by" => answer(alloc, asked.explain_by(alloc)),
+        "PreparedQuestion::reduce_by" => answer(alloc, asked.reduce_by(alloc)),
         _ => answer(alloc, reduction(alloc, asked)),
     }
 }
 
+/// The decision that a grant is.
+fn granted(alloc: Global, grant: Result<Option<Grant>, AllocError>) -> Reply {
+    match grant {
+        Ok(grant) => answer(alloc, Ok::<Decision, AllocError>(Grant::decision(grant))),
+        Err(error) => answer(alloc, Err::<Decision, AllocError>(error)),
+    }
+}
+
 /// The reduction that is put into a vector.
-fn reduction<'a>(alloc: Global, asked: &Asked<'a>) -> Result<Reduction<'a>, GuardFault> {
+fn reduction<'a>(alloc: Global, asked: &PreparedQuestion<'a>) -> Result<Reduction<'a>, GuardFault> {
     let mut folds = Vec::new(alloc);
     match asked.reduce_into(alloc, &mut folds)? {
         Some(failure) => Ok(Reduction::Evidence {

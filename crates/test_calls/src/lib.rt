@@ -11,7 +11,7 @@ mod documents;
 pub mod failure;
 mod forms;
 pub mod guards;
-pub mod opened;
+pub mod owned_questions;
 mod tags;
 pub mod texts;
 mod tuples;

@@ -14,6 +14,8 @@ pub(crate) fn call(alloc: Global, name: &str, texts: &[Vec<u8>]) -> Option<Reply
         | "Tag::same"
         | "Tag::meet"
         | "Tag::meet_within"
+        | "Tag::into_meet"
+        | "Tag::weight"
         | "Index::places" => Some(call_on(alloc, read::<Tag>(alloc, at(texts, 0)), name, texts)),
         "merged" => Some(merge(alloc, at(texts, 0), at(texts, 1))),
         _ => windows::call(alloc, name, texts),
@@ -25,6 +27,7 @@ impl Called for Tag {
         match name {
             "Tag::clone" => answer(alloc, self.clone()?),
             "Tag::holds" => holds(alloc, self, at(texts, 1)),
+            "Tag::weight" => weight(alloc, self),
             _ => with_other(alloc, name, self, texts),
         }
     }
@@ -35,6 +38,15 @@ fn holds(alloc: Global, tag: &Tag, text: &[u8]) -> Reply {
     let is_held = tag.holds(&request);
     drop(request);
     answer(alloc, is_held)
+}
+
+/// The weight as the only member of a list, which is empty if there is none.
+fn weight(alloc: Global, tag: &Tag) -> Reply {
+    let mut weights = Vec::new(alloc);
+    if let Some(weight) = tag.weight() {
+        weights.push(weight)?;
+    }
+    answer(alloc, weights)
 }
 
 /// The same for that tag and another one, which the second text is.
@@ -53,6 +65,11 @@ fn of_both(alloc: Global, name: &str, tag: &Tag, other: &Tag, most: &[u8]) -> Re
         "Tag::meet_within" => {
             let most = number(most).min(1_000_000);
             answer(alloc, tag.meet_within(alloc, other, most))
+        }
+        "Tag::into_meet" => {
+            let most = number(most).min(1_000_000);
+            let own = tag.clone()?;
+            answer(alloc, own.into_meet(alloc, other, most))
         }
         _ => places(alloc, tag, other),
     }

@@ -13,7 +13,7 @@ use std::alloc::Global;
 /// The answer of the call with this name, of this module or of those behind it. None if there is no such call.
 pub(crate) fn call(alloc: Global, name: &str, texts: &[Vec<u8>]) -> Option<Reply> {
     match name {
-        "Five::write" | "Five::first_denial" => {
+        "Five::write" | "Five::missing_grant" => {
             Some(call_on(alloc, five(alloc, texts), name, behind(texts, 3)))
         }
         "Five::then" => Some(call_on(alloc, five(alloc, behind(texts, 3)), name, texts)),
@@ -83,24 +83,24 @@ impl Called for Five<'_> {
         match name {
             "Five::write" => self.answered(alloc),
             "Five::then" => then(alloc, texts, self),
-            _ => denial(alloc, self, texts),
+            _ => missing(alloc, self, texts),
         }
     }
 }
 
-fn denial(alloc: Global, five: &Five, texts: &[Vec<u8>]) -> Reply {
+fn missing(alloc: Global, five: &Five, texts: &[Vec<u8>]) -> Reply {
     let holder: Key = read(alloc, at(texts, 0))?;
     let request: Ground = read(alloc, at(texts, 1))?;
-    let reply = denial_at(alloc, five, &holder, &request, at(texts, 2));
+    let reply = missing_at(alloc, five, &holder, &request, at(texts, 2));
     drop(request);
     reply
 }
 
-fn denial_at(alloc: Global, five: &Five, holder: &Key, request: &Ground, moment: &[u8]) -> Reply {
+fn missing_at(alloc: Global, five: &Five, holder: &Key, request: &Ground, moment: &[u8]) -> Reply {
     let moment: Date = read(alloc, moment)?;
     shown(
         alloc,
-        &five.first_denial(holder, request, &moment, Policy::Open),
+        &five.missing_grant(holder, request, &moment, Policy::Open),
     )
 }
 

@@ -15,7 +15,7 @@ use spki_tag::{MeetFault, Tag, TagFault};
 use std::alloc::Global;
 use test_callers::cases::{Question, case_of};
 use test_callers::certificates::pinned_key;
-use test_callers::chains::{Asked, grants};
+use test_callers::chains::{AccessQuestion, grants};
 use test_callers::decisions::decide_unrevoked;
 use test_callers::services::{ServiceFault, answer_both, shared_guard};
 use test_callers::streams::{TextFault, text_from};
@@ -114,7 +114,7 @@ fn asks(alloc: Global, first: &Five, texts: &[Vec<u8>]) -> Reply
     requires { issuer_of first.now.issuer ≡ own }
 {
     let question = question(alloc, texts)?;
-    let asked = Asked {
+    let asked = AccessQuestion {
         key: &question.key,
         request: &question.request,
         moment: &question.moment,

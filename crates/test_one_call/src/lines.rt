@@ -2,14 +2,14 @@
 
 use crate::streams;
 use spki_guard::{
-    Answer, IntersectFault, Opened, Query, SharedGuard, Verdict, answer_opened, check_accepted,
-    intersect, is_granted, is_possible, open_question,
+    Answer, IntersectFault, OpenedAnswer, OwnedQuestion, Query, SharedGuard, Verdict,
+    answer_opened, check_accepted, intersect, is_granted, is_possible, open_question,
 };
 use std::alloc::Global;
 use test_calls::answers::{Reply, answer, joined, refused, shown, word};
 use test_calls::failure::Failure;
 use test_calls::guards::{guard, question};
-use test_calls::opened::{mark_all, shared};
+use test_calls::owned_questions::{mark_all, shared};
 use test_calls::texts::{at, behind, word_of};
 
 /// The answer of the call with this name, of this module or of those behind it. None if there is no such call.
@@ -93,14 +93,14 @@ fn answer_to(alloc: Global, guard: &SharedGuard, query: Query, texts: &[Vec<u8>]
 }
 
 /// The line by marks. `other marks` if the question does not have a place that is marked, `other answers` if a call says another decision.
-fn answer_of(alloc: Global, query: Query, mut opened: Opened, marks: &[u8]) -> Reply {
+fn answer_of(alloc: Global, query: Query, mut opened: OwnedQuestion, marks: &[u8]) -> Reply {
     if !mark_all(&mut opened, marks) {
         drop(opened);
         return word(alloc, "other marks");
     }
-    let answer = answer_opened(alloc, query, &opened);
-    let is_same = is_granted(&opened)
-        == (query == Query::Decide && answer.verdict == Verdict::Done);
+    let OpenedAnswer { answer, grant } = answer_opened(alloc, query, &opened);
+    let is_yes = query == Query::Decide && answer.verdict == Verdict::Done;
+    let is_same = is_granted(&opened) == is_yes && grant.is_some() == is_yes;
     let is_fit = is_possible(&opened) || !is_granted(&opened);
     drop(opened);
     if query == Query::Decide && !(is_same && is_fit) {

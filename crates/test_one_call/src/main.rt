@@ -1,11 +1,11 @@
 //! `test_one_call` does calls of the libraries. Each line of standard input is a row: the name of a call and its texts, as hexadecimal
-//! digits, with one space between them. For each row it writes a line: the answer, as hexadecimal digits. `tests/call_rows.py` says
+//! digits, with one space between them. For each row it writes a line: the answer, as hexadecimal digits. `tests/rows/call_rows.py` says
 //! which texts a call takes.
 //!
 //! The crate `test_calls` contains the calls of the libraries up to `spki_service`, and this crate the others. This crate is proved last,
 //! when nothing else is left to prove.
 //!
-//! If memory runs out for a row, its line is `refused Memory`, and the program ends with status 2. `tests/test_hostile.py` refuses each
+//! If memory runs out for a row, its line is `refused Memory`, and the program ends with status 2. `tests/suite/test_hostile.py` refuses each
 //! allocation of a call in turn.
 #![tactic(auto)]
 

@@ -3,7 +3,7 @@
 // It reads strings from standard input, each as LENGTH:OCTETS, and writes the lines of each answer as one string. A list of strings is its
 // number of strings, and the strings. A question is these, in this order:
 //
-//   - the strings COMMAND, POLICY, ACL, SEQUENCE and KEY
+//   - the strings COMMAND, POLICY, LIMITS (`usual` or `highest`), ACL, SEQUENCE and KEY
 //   - `text` or `words`, and a list of strings
 //   - `text` or `seconds`, and a string
 //   - a list of what the verifier accepts, three strings each: a key, a message and a value
@@ -59,14 +59,14 @@ func (i *input) list() []string {
 
 // A task is a question with what is asked of the guard.
 type task struct {
-	command, policy, list string
-	question              guard.Question
-	accepted              map[[3]string]bool
+	command, policy, limits, list string
+	question                      guard.Question
+	accepted                      map[[3]string]bool
 }
 
 // task reads the next question.
 func (i *input) task() task {
-	made := task{command: i.next(), policy: i.next(), list: i.next(), accepted: map[[3]string]bool{}}
+	made := task{command: i.next(), policy: i.next(), limits: i.next(), list: i.next(), accepted: map[[3]string]bool{}}
 	made.question.Sequence = []byte(i.next())
 	made.question.Key = spki.AssumeKey([]byte(i.next()))
 	form, request := i.next(), i.list()
@@ -91,11 +91,14 @@ func (i *input) task() task {
 
 // answer returns the lines of the answer.
 func (t task) answer() (string, error) {
-	policy := guard.AllowSHA1
+	policy, limits := guard.AllowSHA1, guard.Limits{}
 	if t.policy == "strict" {
 		policy = guard.Strict
 	}
-	list, err := guard.Open([]byte(t.list), policy, guard.Highest())
+	if t.limits == "highest" {
+		limits = guard.Highest()
+	}
+	list, err := guard.Open([]byte(t.list), policy, limits)
 	if err != nil {
 		return "", err
 	}

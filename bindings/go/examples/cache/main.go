@@ -1,5 +1,4 @@
-// Command cache is a build cache for one client, whose key TLS has proved. Usage: cache ACL FOLDER KEY SEQUENCE; then lines `read PATH` and
-// `write PATH TEXT`.
+// Command cache is a build cache for one client, whose key is proved: cache ACL FOLDER KEY SEQUENCE; then lines `read PATH`, `write PATH TEXT`.
 package main
 
 import (
@@ -28,13 +27,16 @@ func main() {
 		log.Fatal("usage: cache ACL FOLDER KEY SEQUENCE")
 	}
 	list := must(guard.Open(must(os.ReadFile(os.Args[1])), guard.Strict, guard.Limits{}))
-	question := guard.Question{Key: spki.AssumeKey(must(os.ReadFile(os.Args[3]))), Sequence: must(os.ReadFile(os.Args[4]))}
+	client, sequence, kept, last := spki.AssumeKey(must(os.ReadFile(os.Args[3]))), must(os.ReadFile(os.Args[4])), guard.Decision{}, ""
 	for lines := bufio.NewScanner(os.Stdin); lines.Scan(); {
 		words := append(strings.SplitN(lines.Text(), " ", 3), "", "")
-		question.Words, question.Time = []string{"cache", words[0], words[1]}, time.Now()
-		file := os.Args[2] + words[1]
-		isNormal := words[1] != "/" && path.Clean("/"+words[1]) == words[1]
-		if decision, err := list.Decide(question, verify.Signature); err != nil || !decision.Granted() || !isNormal {
+		file, isNormal := os.Args[2]+words[1], words[1] != "/" && path.Clean("/"+words[1]) == words[1]
+		if asked := words[0] + " " + words[1]; asked != last || !kept.HoldsAt(time.Now()) {
+			question := guard.Question{Key: client, Sequence: sequence, Words: []string{"cache", words[0], words[1]}, Time: time.Now()}
+			last = asked
+			kept, _ = list.Decide(question, verify.Signature) // a refusal is no grant
+		}
+		if !isNormal || !kept.HoldsAt(time.Now()) {
 			fmt.Println("denied")
 		} else if words[0] == "write" {
 			fmt.Println("written", must(len(words[2]), os.WriteFile(file, []byte(words[2]), 0o600)))

@@ -41,10 +41,16 @@ pub const STRICT: c_int = 0;
 /// Hashes by SHA-1 name keys too.
 pub const ALLOW_SHA1: c_int = 1;
 
-/// The most octets and nodes that limits may set.
+/// The most octets, nodes and work that limits may set.
 pub const MOST_OCTETS: usize = 1_048_576;
 #[allow(missing_docs)]
 pub const MOST_NODES: usize = 1_000_000;
+#[allow(missing_docs)]
+pub const MOST_WORK: usize = 1_000_000_000;
+/// The usual limit of an answer, and the most that the safe interface lets a limit be.
+pub const USUAL_ANSWER: usize = 1_048_576;
+#[allow(missing_docs)]
+pub const MOST_ANSWER: usize = 268_435_456;
 
 /// `struct spki_text`.
 #[repr(C)]
@@ -101,7 +107,7 @@ pub struct Question {
     pub size: usize,
     /// `(sequence ..)`.
     pub sequence: Text,
-    /// `(public-key ..)`.
+    /// `(public-key ..)`: `struct spki_proven_key`, which is this text.
     pub key: Text,
     /// The request, if `words` is null.
     pub request: Text,
@@ -129,6 +135,24 @@ pub struct Signed {
     pub octets: Text,
 }
 
+/// `struct spki_answered`.
+#[repr(C)]
+#[derive(Clone, Copy, Debug)]
+pub struct Answered {
+    /// `DONE`, the status of a decision, or why there is no answer.
+    pub status: Status,
+}
+
+/// `struct spki_decision`.
+#[repr(C)]
+#[derive(Clone, Copy, Debug)]
+pub struct Decision {
+    /// `YES`, `NO`, or why there is no decision.
+    pub status: Status,
+    /// With `YES` the second since 1970-01-01 00:00:00 UTC until which the same question is a yes, and `i64::MAX` if no window ends.
+    pub until: i64,
+}
+
 /// What a `spki_guard *` points to. Nothing here reads it.
 #[repr(C)]
 #[derive(Debug)]
@@ -143,13 +167,13 @@ pub struct Asked {
     _none: [u8; 0],
 }
 
-/// `spki_asked_decide`, `spki_asked_explain` or `spki_asked_reduce`.
-pub type Answers = unsafe extern "C" fn(
+/// `spki_asked_explain` or `spki_asked_reduce`, or `spki_asked_decide`, which returns a [`Decision`].
+pub type Answers<A = Answered> = unsafe extern "C" fn(
     asked: *const Asked,
     buffer: *mut c_void,
     buffer_length: usize,
     needed: *mut usize,
-) -> Status;
+) -> A;
 
 #[allow(missing_docs)]
 extern "C" {
@@ -187,19 +211,19 @@ extern "C" {
         buffer: *mut c_void,
         buffer_length: usize,
         needed: *mut usize,
-    ) -> Status;
+    ) -> Decision;
     pub fn spki_asked_explain(
         asked: *const Asked,
         buffer: *mut c_void,
         buffer_length: usize,
         needed: *mut usize,
-    ) -> Status;
+    ) -> Answered;
     pub fn spki_asked_reduce(
         asked: *const Asked,
         buffer: *mut c_void,
         buffer_length: usize,
         needed: *mut usize,
-    ) -> Status;
+    ) -> Answered;
     pub fn spki_asked_close(asked: *mut Asked);
     pub fn spki_string(
         text: *const c_void,
@@ -216,6 +240,6 @@ extern "C" {
         buffer: *mut c_void,
         buffer_length: usize,
         needed: *mut usize,
-    ) -> Status;
+    ) -> Answered;
     pub fn spki_version() -> *const c_char;
 }

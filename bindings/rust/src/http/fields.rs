@@ -9,6 +9,8 @@ const MOST_COMPONENTS: usize = 32;
 const MOST_DIGITS: usize = 15;
 const DERIVED: [&str; 5] = ["@method", "@authority", "@target-uri", "@path", "@query"];
 const PARAMETERS: usize = 6;
+/// The field with the key that signs, which is always covered.
+pub(super) const PUBLIC_KEY: &str = "x-spki-public-key";
 
 /// The digest of a body, of `Content-Digest`.
 #[derive(Clone, Debug, PartialEq, Eq)]
@@ -175,7 +177,7 @@ impl<'a> Input<'a> {
         parser.end()?;
         let has = |name: &str| self.components.contains(&name);
         let has_target = has("@target-uri") || has("@path") && has("@query");
-        if !has("@method") || !has("@authority") || !has_target {
+        if !has("@method") || !has("@authority") || !has(PUBLIC_KEY) || !has_target {
             return Err(Unproved::MissingComponent);
         }
         if seen.len() < PARAMETERS {

@@ -3,24 +3,34 @@
 use super::fields::decoded;
 use super::Unproved;
 
-const HALF: usize = 32;
 const MOST_KEY: usize = 4096;
-/// The algorithms, and the canonical texts of their keys and of the values of their signatures, with `%` for each string.
-const FORMS: [(&str, &str, &str); 3] = [
+const ECDSA: &str = "(7:sig-val(5:ecdsa(1:r%)(1:s%)))";
+/// The algorithms, the canonical texts of their keys and of the values of their signatures, with `%` for each string, and the octets of a signature:
+/// 0 where the key says it.
+const FORMS: [(&str, &str, &str, usize); 4] = [
     (
         "ed25519",
         "(10:public-key(3:ecc(5:curve7:Ed25519)(5:flags5:eddsa)(1:q%)))",
         "(7:sig-val(5:eddsa(1:r%)(1:s%)))",
+        64,
     ),
     (
         "ecdsa-p256-sha256",
         "(10:public-key(3:ecc(5:curve10:NIST P-256)(1:q%)))",
-        "(7:sig-val(5:ecdsa(1:r%)(1:s%)))",
+        ECDSA,
+        64,
+    ),
+    (
+        "ecdsa-p384-sha384",
+        "(10:public-key(3:ecc(5:curve10:NIST P-384)(1:q%)))",
+        ECDSA,
+        96,
     ),
     (
         "rsa-v1_5-sha256",
         "(10:public-key(3:rsa(1:n%)(1:e%)))",
         "(7:sig-val(3:rsa(1:s%)))",
+        0,
     ),
 ];
 
@@ -50,21 +60,20 @@ impl Kind {
     }
 }
 
-/// The key of a `keyid`, and its kind.
-pub(super) fn key_of(keyid: &str) -> Result<(Vec<u8>, Kind), Unproved> {
-    let bare = keyid
-        .strip_prefix('{')
-        .and_then(|rest| rest.strip_suffix('}'));
+/// The key that a text is in transport form, and its kind.
+pub(super) fn key_of(text: &[u8]) -> Result<(Vec<u8>, Kind), Unproved> {
+    let bare = text
+        .strip_prefix(b"{")
+        .and_then(|rest| rest.strip_suffix(b"}"));
     let key = bare
-        .filter(|_| keyid.len() <= MOST_KEY)
-        .and_then(|text| decoded(text.as_bytes()))
+        .filter(|_| text.len() <= MOST_KEY)
+        .and_then(decoded)
         .ok_or(Unproved::BadKey)?;
-    for (algorithm, form, value) in FORMS {
+    for (algorithm, form, value, length) in FORMS {
         if let Some(first) = first_string(&key, form) {
-            let octets = if algorithm.starts_with("rsa") {
-                first.iter().skip_while(|octet| **octet == 0).count()
-            } else {
-                2 * HALF
+            let octets = match length {
+                0 => first.iter().skip_while(|octet| **octet == 0).count(),
+                _ => length,
             };
             let kind = Kind {
                 algorithm,

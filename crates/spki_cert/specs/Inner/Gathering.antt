@@ -7,12 +7,12 @@ use Rattle.spki_tag.specs.Reading.{ReadsAs}
 use Rattle.spki_cert.specs.declared.principal.Principal.{Principal}
 use Rattle.spki_cert.specs.declared.window.Window.{Window}
 use Rattle.spki_cert.specs.declared.principal_reader.Issuer.{Issuer}
-use Rattle.spki_cert.specs.declared.principal_reader.Who.{Who}
-use Rattle.spki_cert.specs.declared.fields.Known.{Known}
+use Rattle.spki_cert.specs.declared.principal_reader.WrittenSubject.{WrittenSubject}
+use Rattle.spki_cert.specs.declared.fields.FieldValues.{FieldValues}
 use Rattle.spki_cert.specs.declared.fields.Place.{Place}
 use Rattle.spki_cert.specs.declared.fields.Place.TheVariants as places
-use Rattle.spki_cert.specs.declared.fields.Said.{Said}
-use Rattle.spki_cert.specs.declared.fields.Said.TheVariants as said
+use Rattle.spki_cert.specs.declared.fields.FieldValue.{FieldValue}
+use Rattle.spki_cert.specs.declared.fields.FieldValue.TheVariants as field_value
 use Rattle.spki_tag.specs.declared.fault.TagFault.{TagFault}
 use Rattle.spki_tag.specs.declared.fault.TagFault.TheVariants as tag_faults
 use Rattle.spki_cert.specs.declared.fault.CertFaultKind.{CertFaultKind}
@@ -25,16 +25,16 @@ use Rattle.spki_tag.specs.Faults.{first_fault, unless}
 use Rattle.spki_cert.specs.declared.hash.HashAlg.{HashAlg}
 use Rattle.spki_cert.specs.FieldFaults.{is_plain, any_octets, is_sized, is_again, limit_fault, has, fields_fault, entry_field_fault, cert_field_fault, is_both_ways}
 use Rattle.spki_cert.specs.Readings.{DateOf}
-use Rattle.spki_cert.specs.Fields.{PrincipalOf, plains, is_headed, Sole, Given, IssuerIn, WhoIn, LimitsAre, ValidOf, IsField, IsCertField, AreFields, propagates, WindowOf}
+use Rattle.spki_cert.specs.Fields.{PrincipalOf, plains, is_headed, Sole, Given, IssuerIn, WrittenSubjectIn, LimitsAre, ValidOf, IsField, IsCertField, AreFields, propagates, WindowOf}
 use Rattle.spki_cert.specs.Structures.{IssuedBy, IssuedFor, AuthCertOf, NameCertOf, waits_after}
 
 -- ---- subjects
 
 -- names after a principal, or alone
-abbrev pub NamesWho : List Value → Option Principal → List (List ℕ) → Type 0
-NamesWho vs None names =
+abbrev pub NamesWrittenSubject : List Value → Option Principal → List (List ℕ) → Type 0
+NamesWrittenSubject vs None names =
     (first : List ℕ) × (others : List (List ℕ)) × (names ≡ first ∷ others) × (vs ≡ plains names)
-NamesWho vs (Some principal) names =
+NamesWrittenSubject vs (Some principal) names =
     (owner : Value) × (first : List ℕ) × (others : List (List ℕ))
     × PrincipalOf owner principal × (names ≡ first ∷ others) × (vs ≡ owner ∷ plains names)
 
@@ -72,8 +72,8 @@ LimitLook w v found =
 abbrev pub IssuerAt : List Value → Issuer → Type 0
 IssuerAt rest i = IssuerIn rest (i.principal, i.name)
 
-abbrev pub WhoAt : List Value → Who → Type 0
-WhoAt rest s = WhoIn rest (s.principal, s.names.items)
+abbrev pub WrittenSubjectAt : List Value → WrittenSubject → Type 0
+WrittenSubjectAt rest s = WrittenSubjectIn rest (s.principal, s.names.items)
 
 -- a field whose content is not used
 pub record IsSilent (v : Value) : Type 0 where
@@ -84,22 +84,22 @@ pub record IsSilent (v : Value) : Type 0 where
   pub last : is_headed (codes "not-after") v ≡ false
   pub valid : is_headed (codes "valid") v ≡ false
 
-abbrev pub Says : Value → Said → Type 0
-Says v said.Nothing = IsSilent v
-Says v (said.Issuer i) = Headed (codes "issuer") IssuerAt v i
-Says v (said.Subject s) = Headed (codes "subject") WhoAt v s
-Says v (said.Tag t) = Headed (codes "tag") (Sole ReadsAs) v t
-Says v (said.NotBefore date) = Headed (codes "not-before") (Sole DateOf) v date
-Says v (said.NotAfter date) = Headed (codes "not-after") (Sole DateOf) v date
-Says v (said.Valid window) = Headed (codes "valid") ValidOf v window
+abbrev pub FieldValueOf : Value → FieldValue → Type 0
+FieldValueOf v field_value.Nothing = IsSilent v
+FieldValueOf v (field_value.Issuer i) = Headed (codes "issuer") IssuerAt v i
+FieldValueOf v (field_value.Subject s) = Headed (codes "subject") WrittenSubjectAt v s
+FieldValueOf v (field_value.Tag t) = Headed (codes "tag") (Sole ReadsAs) v t
+FieldValueOf v (field_value.NotBefore date) = Headed (codes "not-before") (Sole DateOf) v date
+FieldValueOf v (field_value.NotAfter date) = Headed (codes "not-after") (Sole DateOf) v date
+FieldValueOf v (field_value.Valid window) = Headed (codes "valid") ValidOf v window
 
 -- what is known after one more field with this content
-abbrev pub gather : Known → Said → Known
-gather k said.Nothing = k
-gather k (said.Issuer i) = record { issuer = Some i; subject = k.subject; tag = k.tag; limits = k.limits; valid = k.valid }
-gather k (said.Subject s) = record { issuer = k.issuer; subject = Some s; tag = k.tag; limits = k.limits; valid = k.valid }
-gather k (said.Tag t) = record { issuer = k.issuer; subject = k.subject; tag = Some t; limits = k.limits; valid = k.valid }
-gather k (said.NotBefore date) =
+abbrev pub gather : FieldValues → FieldValue → FieldValues
+gather k field_value.Nothing = k
+gather k (field_value.Issuer i) = record { issuer = Some i; subject = k.subject; tag = k.tag; limits = k.limits; valid = k.valid }
+gather k (field_value.Subject s) = record { issuer = k.issuer; subject = Some s; tag = k.tag; limits = k.limits; valid = k.valid }
+gather k (field_value.Tag t) = record { issuer = k.issuer; subject = k.subject; tag = Some t; limits = k.limits; valid = k.valid }
+gather k (field_value.NotBefore date) =
     record {
       issuer = k.issuer;
       subject = k.subject;
@@ -107,7 +107,7 @@ gather k (said.NotBefore date) =
       valid = k.valid;
       limits = record { not_before = Some date; not_after = k.limits.not_after };
     }
-gather k (said.NotAfter date) =
+gather k (field_value.NotAfter date) =
     record {
       issuer = k.issuer;
       subject = k.subject;
@@ -115,13 +115,13 @@ gather k (said.NotAfter date) =
       valid = k.valid;
       limits = record { not_before = k.limits.not_before; not_after = Some date };
     }
-gather k (said.Valid window) =
+gather k (field_value.Valid window) =
     record { issuer = k.issuer; subject = k.subject; tag = k.tag; limits = k.limits; valid = Some window }
 
 -- the contents of fields
-pub record KnownOf (fields : List Value) (k : Known) : Type 0 where
+pub record FieldValuesOf (fields : List Value) (k : FieldValues) : Type 0 where
   pub issuer_is : Given (codes "issuer") IssuerAt fields k.issuer
-  pub subject_is : Given (codes "subject") WhoAt fields k.subject
+  pub subject_is : Given (codes "subject") WrittenSubjectAt fields k.subject
   pub tag_is : Given (codes "tag") (Sole ReadsAs) fields k.tag
   pub limits_are : LimitsAre fields k.limits
   pub valid_is : Given (codes "valid") ValidOf fields k.valid
@@ -147,9 +147,9 @@ pub record IsNew (v : Value) (heads : List (List ℕ)) (head : List ℕ) : Type 
   pub fresh : is_word_among heads head ≡ false
 
 -- fields that were read, with these heads
-pub record AreRead (fields : List Value) (heads : List (List ℕ)) (k : Known) : Type 0 where
+pub record AreRead (fields : List Value) (heads : List (List ℕ)) (k : FieldValues) : Type 0 where
   pub heads_are : (word : List ℕ) → is_word_among heads word ≡ list_any (is_headed word) fields
-  pub known : KnownOf fields k
+  pub known : FieldValuesOf fields k
 
 -- ---- validity, directly or in one (valid ..)
 

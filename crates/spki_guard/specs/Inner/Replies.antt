@@ -21,7 +21,7 @@ use Rattle.spki_words.specs.declared.commands.Command.TheVariants.{Reduce, Check
 use Rattle.spki_guard.specs.declared.sources.CaseCommand.{CaseCommand}
 use Rattle.spki_guard.specs.declared.sources.CaseCommand.TheVariants as case_command
 use Rattle.spki_guard.specs.declared.sources.Source.{Source}
-use Rattle.spki_guard.specs.declared.sources.Source.TheVariants.{Standing, Converted}
+use Rattle.spki_guard.specs.declared.sources.Source.TheVariants.{CanonicalCase, Converted}
 use Rattle.spki_guard.specs.declared.statuses.Status.{Status}
 use Rattle.spki_guard.specs.declared.statuses.Status.TheVariants.{WriteFault}
 use Rattle.spki_guard.specs.declared.answers.Answer.{Answer}
@@ -106,7 +106,7 @@ command_of case_command.Explain = Explain
 
 -- the case of a text that is canonical, or a text's value in the form that the command needs
 abbrev pub IsSourceOf : Command → List ℕ → Source → Type 0
-IsSourceOf command text (Standing own case) = (command ≡ command_of own) × IsCaseText text (model case)
+IsSourceOf command text (CanonicalCase own case) = (command ≡ command_of own) × IsCaseText text (model case)
 IsSourceOf command text (Converted octets) = (v : Value) × IsTextWithin text v × (octets.items ≡ written (form_of command) v)
 
 -- ---- reading

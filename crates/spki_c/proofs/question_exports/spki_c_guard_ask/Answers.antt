@@ -1,5 +1,5 @@
 use Rattle.std.proofs.Common.{◌≡◌, rules, ℕ, ℤ, List, map, inl, inr, ap, subst, ◌∙◌, Some, refl}
-use Rattle.spki_service.specs.AccessLists.{Held}
+use Rattle.spki_service.specs.AccessLists.{GuardModel}
 use Rattle.spki_service.specs.GuardQuestions.{IsOpened}
 use Rattle.spki_service.specs.declared.question.Question.{Question}
 use Rattle.spki_guard.specs.TextAnswers.{written_by}
@@ -39,7 +39,7 @@ returns-in-Ok-open_parts-clause-asked c g held lent clear =
       inl (record {
         question = it.0;
         held_is = c.hold.ensures ∙ ap Some (c.of.ensures ∙ it.1);
-        opened = subst (λ (h : Held). IsOpened h opened.0 it.0) same it.2;
+        opened = subst (λ (h : GuardModel). IsOpened h opened.0 it.0) same it.2;
         unmarked = it.3;
         unchanged = refl;
         needed_is = refl;
@@ -58,7 +58,7 @@ returns-in-Err-clause-asked c g held lent clear =
         kept = refl;
         verdict = answer.verdict;
         output = written_by answer;
-        unread = subst (λ (h : Held). IsUnreadQuestion h refused.0 answer.verdict (written_by answer)) same refused.2;
+        unread = subst (λ (h : GuardModel). IsUnreadQuestion h refused.0 answer.verdict (written_by answer)) same refused.2;
         handed = c.hand_over-in-Err.ensures;
       }),
     )

@@ -1,5 +1,5 @@
 use Rattle.std.proofs.Common.{rules}
-use Rattle.spki_cert.proofs.Looking.{carried, behind-group}
+use Rattle.spki_cert.proofs.HeadedLists.{carried, behind-group}
 use Rattle.spki_case.specs.Case.{sha256_fault}
 use Rattle.spki_case.proofs.rows.sha256_of.Goals as goal
 

@@ -1,6 +1,6 @@
 use Rattle.std.proofs.Common.{◌∙◌}
 use Rattle.std.specs.Prelude.{codes}
-use Rattle.spki_cert.proofs.Looking.{same_others}
+use Rattle.spki_cert.proofs.HeadedLists.{same_others}
 use Rattle.spki_cert.proofs.EntryFaultLaws.{unversioned}
 use Rattle.spki_cert.proofs.acl.behind_version.Goals as goal
 

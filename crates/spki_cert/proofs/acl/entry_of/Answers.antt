@@ -1,7 +1,7 @@
 use Rattle.std.proofs.Common.{◌≡◌, ◌≢◌, ap, ◌∙◌, Some, Option, refl, rules}
 use Rattle.spki_cert.specs.declared.fault.CertFaultKind.{CertFaultKind}
 use Rattle.spki_cert.specs.declared.fault.CertFaultKind.TheVariants.{Memory}
-use Rattle.spki_cert.proofs.Looking.{carried}
+use Rattle.spki_cert.proofs.HeadedLists.{carried}
 use Rattle.std.proofs.lemmas.Result.{IfErr-weaker}
 use Rattle.spki_cert.proofs.EntryFaultNone.{entry-refused}
 use Rattle.spki_cert.proofs.SubjectFaultNone.{entry_subject-none}

@@ -2,7 +2,7 @@ use Rattle.std.proofs.Common.{◌≢◌, Option, ℕ, List, ◌≡◌, Some, tru
 use Rattle.spki_tag.specs.Tag as tags
 use Rattle.spki_cert.specs.declared.fault.CertFaultKind.{CertFaultKind}
 use Rattle.spki_cert.specs.declared.fault.CertFaultKind.TheVariants.{Memory}
-use Rattle.spki_cert.proofs.Looking.{carried}
+use Rattle.spki_cert.proofs.HeadedLists.{carried}
 use Rattle.std.specs.Prelude.{is_some}
 use Rattle.spki_cert.specs.StructureFaults.{cert_fault}
 use Rattle.spki_cert.proofs.SequenceFaultLaws.{cert-unheaded, cert-looked}

@@ -1,5 +1,5 @@
 use Rattle.std.proofs.Common.{None, true, false, refl, rules}
-use Rattle.spki_cert.proofs.Looking.{carried}
+use Rattle.spki_cert.proofs.HeadedLists.{carried}
 use Rattle.spki_cert.proofs.FieldFaultLaws.{both-ways, one-way}
 use Rattle.spki_cert.proofs.SequenceFaultLaws.{parts-tested, parts-known}
 use Rattle.spki_cert.proofs.certificate_reader.parts_of.Goals as goal

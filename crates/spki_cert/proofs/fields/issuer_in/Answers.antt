@@ -1,5 +1,5 @@
 use Rattle.std.proofs.Common.{arith}
-use Rattle.spki_cert.proofs.Looking.{none-some}
+use Rattle.spki_cert.proofs.HeadedLists.{none-some}
 use Rattle.spki_cert.proofs.SubjectFaultNone.{issuer-none}
 use Rattle.spki_cert.proofs.fields.issuer_in.Goals as goal
 

@@ -1,7 +1,7 @@
 use Rattle.std.proofs.Common.{◌≡◌, ◌∷◌, ◌++◌, [], ℕ, List, sym, ap, subst, ◌∙◌, rules}
-use Rattle.spki_cert.specs.declared.fields.Known.{Known}
+use Rattle.spki_cert.specs.declared.fields.FieldValues.{FieldValues}
 use Rattle.spki_cert.specs.Inner.Gathering.{AreRead, IsNew, gather, fault_in}
-use Rattle.spki_cert.proofs.Looking.{carried, split, moved}
+use Rattle.spki_cert.proofs.HeadedLists.{carried, split, moved}
 use Rattle.spki_cert.proofs.FieldLaws.{read-none, read-more}
 use Rattle.spki_cert.specs.declared.fault.CertFaultKind.TheVariants.{Shape}
 use Rattle.spki_cert.proofs.FieldFaultLaws.{left-all, left-fault, left-next, left-none, field-new, field-not_new, field-is_new}
@@ -17,7 +17,7 @@ loop-field-preserved c =
     i.2 new c.in_ok-said.ensures.says in (
       i.0 ++ c.in-Some.field ∷ [],
       moved c.args.members i.0 c.in-Some.others c.in-Some.field e,
-      subst (λ (k : Known). AreRead (i.0 ++ c.in-Some.field ∷ []) c.push.new.self.items k) (sym c.add.ensures)
+      subst (λ (k : FieldValues). AreRead (i.0 ++ c.in-Some.field ∷ []) c.push.new.self.items k) (sym c.add.ensures)
           (subst (λ (hs : List (List ℕ)). AreRead (i.0 ++ c.in-Some.field ∷ []) hs (gather c.loop-field.known c.in_ok-said.said))
           (sym (c.in_ok-push.ensures.items ∙ ap (λ (h : List ℕ). c.loop-field.heads.items ++ h ∷ []) c.new.ensures)) more),
       left-next (fault_in c.args.place) c.args.members i.0 c.loop-field.rest c.in-Some.others c.in-Some.field i.3 c.in-Some.ensures

@@ -1,5 +1,5 @@
 use Rattle.std.proofs.Common.{◌∙◌, rules}
-use Rattle.spki_cert.proofs.Looking.{carried}
+use Rattle.spki_cert.proofs.HeadedLists.{carried}
 use Rattle.spki_cert.proofs.FieldFaultLaws.{time-valid as time-valid_field}
 use Rattle.spki_cert.proofs.fields.read_validity_field.Goals as goal
 

@@ -1,6 +1,6 @@
 use Rattle.spki_cert.specs.declared.fault.CertFaultKind.TheVariants.{Shape}
 use Rattle.spki_cert.specs.FieldFaults.{kind_of_tag}
-use Rattle.spki_cert.proofs.Looking.{sole-found}
+use Rattle.spki_cert.proofs.HeadedLists.{sole-found}
 use Rattle.spki_cert.proofs.FieldFaultLaws.{tag-named}
 use Rattle.spki_cert.proofs.fields.tag_in.Goals as goal
 

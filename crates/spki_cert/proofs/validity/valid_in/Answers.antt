@@ -1,6 +1,6 @@
 use Rattle.std.proofs.Common.{◌≡◌, ◌∷◌, ◌++◌, [], refl, Some, rules}
 use Rattle.spki_cert.specs.declared.fault.CertFaultKind.{CertFaultKind}
-use Rattle.spki_cert.proofs.Looking.{carried, split, moved}
+use Rattle.spki_cert.proofs.HeadedLists.{carried, split, moved}
 use Rattle.spki_cert.proofs.FieldLaws.{valid-none, valid-more}
 use Rattle.spki_cert.specs.FieldFaults.{limit_fault, fields_fault}
 use Rattle.spki_cert.proofs.FieldFaultLaws.{left-all, left-fault, left-next, left-none}

@@ -2,7 +2,7 @@ use Rattle.spki_cert.specs.declared.fault.CertFaultKind.{CertFaultKind}
 use Rattle.std.proofs.Common.{◌≡◌, List, ℕ, sym, refl, Option, Some, None, false, ◌∙◌, rules}
 use Rattle.std.specs.Prelude.{codes, is_some}
 use Rattle.spki_cert.specs.Inner.Gathering.{first, last, LimitLook}
-use Rattle.spki_cert.proofs.Looking.{carried}
+use Rattle.spki_cert.proofs.HeadedLists.{carried}
 use Rattle.spki_cert.specs.Readings.{DateOf}
 use Rattle.spki_cert.specs.Fields.{Sole}
 use Rattle.spki_cert.specs.FieldFaults.{limit_fault}

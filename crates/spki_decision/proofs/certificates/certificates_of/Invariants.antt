@@ -1,6 +1,6 @@
 use Rattle.std.proofs.Common.{◌≡◌, ◌++◌, suc, map, drop}
 use Rattle.spki_case.specs.Case.{certificates, certificates_from}
-use Rattle.spki_decision.specs.Standing.{shown_of}
+use Rattle.spki_decision.specs.CertificateTests.{shown_of}
 use Rattle.spki_decision.proofs.certificates.certificates_of.Given as goal
 
 abbrev pub invariant-loop-place : goal.invariant-loop-place

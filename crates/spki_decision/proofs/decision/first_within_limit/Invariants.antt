@@ -1,6 +1,8 @@
 use Rattle.spki_case.specs.View.{model}
 use Rattle.spki_reduce.specs.Chain.{tuples_of}
 use Rattle.spki_decision.specs.Granted.{NoneBefore, SmallBefore}
+use Rattle.spki_decision.specs.Requirements.{work_left, IsBudgetFor}
+use Rattle.spki_decision.proofs.Charges.{Spent}
 use Rattle.spki_decision.proofs.decision.first_within_limit.Given as goal
 
 -- no entry so far supports what is asked, and no step is too large for one
@@ -8,4 +10,6 @@ abbrev pub invariant-loop-index : goal.invariant-loop-index
 invariant-loop-index l = record {
   none_before : NoneBefore (model l.case) (tuples_of l.steps) l.index;
   small_before : SmallBefore (model l.case) (tuples_of l.steps) l.index;
+  spent : Spent (model l.case) (tuples_of l.steps) l.index (work_left l.budget);
+  sizes : IsBudgetFor (tuples_of l.steps) l.budget;
 }

@@ -1,30 +1,20 @@
-use Rattle.std.proofs.Common.{◌≡◌, List, [], ◌∷◌, refl, ap, rules}
-use Rattle.spki_reduce.specs.declared.tuple.Step.{Step}
-use Rattle.spki_reduce.specs.Reduction.{FiveTuple}
-use Rattle.spki_reduce.specs.Chain.{tuples_of}
+use Rattle.std.proofs.Common.{refl, sym, ◌∙◌, inl, inr, ℕ, Result, Ok, Err, OnOk}
+use Rattle.spki_reduce.proofs.Working.{none_taken}
 use Rattle.spki_decision.proofs.entry_chain.fold_entry.Goals as goal
 
-no_steps : (steps : List Step) → tuples_of steps ≡ [] → steps ≡ []
-no_steps [] e = refl
-no_steps (s ∷ steps) e = absurd cc
+always : {T E P : Type 0} (r : Result T E) → P → OnOk r P
+always (Ok x) p = p
+always (Err e) p = tt
 
-pub returns-clause-fold : goal.returns-clause-fold
-returns-clause-fold c = rw c.in_ok-own.ensures at c.fold_owned.ensures.fold
+along : {T E P Q : Type 0} (r : Result T E) → (P → Q) → OnOk r P → OnOk r Q
+along (Ok x) f p = f p
+along (Err e) f p = tt
 
-pub returns-clause-alone : goal.returns-clause-alone
-returns-clause-alone c none = rw c.in_ok-own.ensures at (c.fold_owned.ensures.alone (no_steps c.args.steps.now none))
+pub returns-then-are_small-clause-charged : goal.returns-then-are_small-clause-charged
+returns-then-are_small-clause-charged c =
+    always c.fold_owned.result (0, inl (sym c.are_small.ensures ∙ c.if-are_small.true, refl), none_taken _ _ refl)
 
-pub returns-clause-issuer : goal.returns-clause-issuer
-returns-clause-issuer c = rw (ap (λ (t : FiveTuple). t.issuer) c.in_ok-own.ensures) at c.fold_owned.ensures.issuer
-
-pub returns-clause-value : goal.returns-clause-value
-returns-clause-value c = rw c.in_ok-own.ensures at c.fold_owned.ensures.value
-
-pub returns-clause-excluded : goal.returns-clause-excluded
-returns-clause-excluded c = rw c.in_ok-own.ensures at c.fold_owned.ensures.excluded
-
-pub returns-clause-within_limit : goal.returns-clause-within_limit
-returns-clause-within_limit c = rw c.in_ok-own.ensures at c.fold_owned.ensures.within_limit
-
-pub returns-clause-too_large : goal.returns-clause-too_large
-returns-clause-too_large c h = search rules
+pub returns-else-are_small-clause-charged : goal.returns-else-are_small-clause-charged
+returns-else-are_small-clause-charged c =
+    along c.fold_owned-else-are_small.result (λ w. (w.0, inr (sym c.are_small.ensures ∙ c.if-are_small.false, rw c.in_ok-own.ensures at w.1), w.2))
+    c.fold_owned-else-are_small.ensures.worked

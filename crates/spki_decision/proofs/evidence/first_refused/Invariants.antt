@@ -1,6 +1,6 @@
 use Rattle.std.proofs.Common.{map, take}
 use Rattle.std.specs.List.{AllByRecursion}
-use Rattle.spki_decision.specs.Standing.{signed_of, IsAccepted}
+use Rattle.spki_decision.specs.CertificateTests.{signed_of, IsAccepted}
 use Rattle.spki_decision.proofs.evidence.first_refused.Given as goal
 
 -- each so far is accepted

@@ -1,5 +1,5 @@
 use Rattle.std.proofs.Common.{◌≡◌, ap, rules, Some, option_copied}
-use Rattle.spki_decision.specs.Standing.{shown_of}
+use Rattle.spki_decision.specs.CertificateTests.{shown_of}
 use Rattle.spki_decision.proofs.examination.test.Goals as goal
 
 pub returns-clause-tested : goal.returns-clause-tested

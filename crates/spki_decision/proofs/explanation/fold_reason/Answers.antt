@@ -1,6 +1,6 @@
 use Rattle.std.proofs.Common.{◌≡◌, []}
 use Rattle.spki_case.specs.View.{model}
-use Rattle.spki_decision.specs.Standing.{with_entries}
+use Rattle.spki_decision.specs.CertificateTests.{with_entries}
 use Rattle.spki_reduce.specs.Reduction.{five, entry_tuple, five_tuple}
 use Rattle.spki_reduce.specs.Chain.{FoldsTo, HasMet}
 use Rattle.spki_decision.proofs.Explanations.{reasoned, is_own}
@@ -13,9 +13,9 @@ returns-in-Done c es tuples e h =
     let became : FoldsTo c.args.case.now.policy first tuples f × HasMet first tuples f × (tuples ≡ [] → five_tuple f ≡ entry_tuple e) =
     rw c.in-Done.is at h in
     let folds = became.0 in
-    rw c.reason_of.ensures (reasoned (with_entries (model c.args.case.now) es) tuples e f c.first_denial-denial.result folds became.1
-    (c.first_denial-denial.ensures.denial folds.root folds.reduced)
-    (c.first_denial-denial.ensures.supported first tuples folds (is_own (with_entries (model c.args.case.now) es) tuples e f folds)))
+    rw c.reason_of.ensures (reasoned (with_entries (model c.args.case.now) es) tuples e f c.missing_grant-missing.result folds became.1
+    (c.missing_grant-missing.ensures.missing folds.root folds.reduced)
+    (c.missing_grant-missing.ensures.supported first tuples folds (is_own (with_entries (model c.args.case.now) es) tuples e f folds)))
 
 pub returns-in-Stopped : goal.returns-in-Stopped
 returns-in-Stopped c es tuples e h = rw c.in-Stopped.is at h

@@ -1,24 +1,25 @@
 use Rattle.std.proofs.Common.{[], ◌∷◌, ◌++◌, refl, arith, rules}
 use Rattle.spki_case.specs.View.{model}
-use Rattle.spki_reduce.specs.Chain.{tuples_of, left_of}
-use Rattle.spki_decision.specs.Standing.{with_entries}
+use Rattle.spki_reduce.specs.Chain.{tuples_of}
+use Rattle.spki_decision.specs.CertificateTests.{with_entries}
+use Rattle.spki_decision.specs.Requirements.{work_left}
 use Rattle.spki_decision.proofs.EntryChains.{stands, one_put, none_folded, one_folded, too_large_here, all_folded}
 use Rattle.spki_decision.proofs.reduction.put_folds.Goals as goal
 
 pub loop-place-init : goal.loop-place-init
-loop-place-init g c = ([], search rules, search rules, search (rules, none_folded))
+loop-place-init g c = ([], search rules, search rules, search (rules, none_folded), c.of-budget.ensures.sizes)
 
 pub returns-in_err-fold-clause-too_large : goal.returns-in_err-fold-clause-too_large
 returns-in_err-fold-clause-too_large g c h =
-    let (folds, taken, put, before) = c.loop-place.invariant in
+    let (folds, taken, put, before, sizes) = c.loop-place.invariant in
     let m = with_entries (model c.args.case.now) c.args.acl.now in
     let here = stands m c.args.acl.now c.loop-place.place c.index-acl-place.result refl c.loop-place-test.true c.index-acl-place.is in
-    too_large_here m (tuples_of c.args.steps.now) c.loop-place.place c.index-acl-place.result here (left_of c.loop-place.work) folds before
+    too_large_here m (tuples_of c.args.steps.now) c.loop-place.place c.index-acl-place.result here (work_left c.loop-place.budget) folds before
     (search rules)
 
 pub loop-place-preserved : goal.loop-place-preserved
 loop-place-preserved g c =
-    let (folds, taken, put, before) = c.loop-place.invariant in
+    let (folds, taken, put, before, sizes) = c.loop-place.invariant in
     let told = c.in_ok-fold.ensures in
     let m = with_entries (model c.args.case.now) c.args.acl.now in
     let here = stands m c.args.acl.now c.loop-place.place c.index-acl-place.result refl c.loop-place-test.true c.index-acl-place.is in
@@ -26,15 +27,16 @@ loop-place-preserved g c =
       folds ++ c.in_ok-fold.fold ∷ [],
       c.in_ok-put.ensures c.args.sink.now folds taken (omega (arith, numbered)),
       one_put c.loop-place.place folds c.in_ok-fold.fold put told.dated told.end,
-      one_folded m (tuples_of c.args.steps.now) c.loop-place.place c.index-acl-place.result here (left_of c.loop-place.work) folds before
-          c.in_ok-fold.fold (left_of c.entry_fold.new.work) told.worked.0 (told.exact c.args.acl.now) told.within_limit told.worked.1 told.worked.2,
+      one_folded m (tuples_of c.args.steps.now) c.loop-place.place c.index-acl-place.result here (work_left c.loop-place.budget) folds before
+          c.in_ok-fold.fold (work_left c.entry_fold.new.budget) told.charged.0 (told.exact c.args.acl.now) told.within_limit told.charged.1 told.charged.2,
+      told.same_sizes,
     )
 
 pub returns-clause-folds : goal.returns-clause-folds
 returns-clause-folds g c =
-    let (folds, taken, put, all) = c.loop-place.invariant in
+    let (folds, taken, put, all, sizes) = c.loop-place.invariant in
     let low = c.loop-place-test.false in
     let high = c.loop-place.auto.place-end in
     let each = all_folded (with_entries (model c.args.case.now) c.args.acl.now) (tuples_of c.args.steps.now) c.loop-place.place
-    (left_of c.loop-place.work) folds (omega (arith, low, high)) all in
+    (work_left c.loop-place.budget) folds (omega (arith, low, high)) all in
     (folds, taken, each, put.dated, put.end)

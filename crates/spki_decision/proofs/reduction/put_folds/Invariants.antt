@@ -1,12 +1,14 @@
 -- What the entries so far become.
 use Rattle.std.proofs.Common.{List}
 use Rattle.spki_case.specs.View.{model}
-use Rattle.spki_reduce.specs.Chain.{tuples_of, left_of}
-use Rattle.spki_decision.specs.Standing.{with_entries}
+use Rattle.spki_reduce.specs.Chain.{tuples_of}
+use Rattle.spki_decision.specs.CertificateTests.{with_entries}
 use Rattle.spki_decision.specs.declared.reduction.EntryFold.{EntryFold}
+use Rattle.spki_decision.specs.Requirements.{work_left, IsBudgetFor}
 use Rattle.spki_decision.proofs.EntryChains.{ArePut, FoldedTo}
 use Rattle.spki_decision.proofs.reduction.put_folds.Given as goal
 
 abbrev pub invariant-loop-place : goal.invariant-loop-place
 invariant-loop-place g l = (folds : List EntryFold) × g.S.FoldSink.takes l.initial.sink folds l.sink × ArePut l.place folds
-    × FoldedTo (with_entries (model l.case) l.acl) (tuples_of l.steps) l.place (left_of l.work) folds
+    × FoldedTo (with_entries (model l.case) l.acl) (tuples_of l.steps) l.place (work_left l.budget) folds
+    × IsBudgetFor (tuples_of l.steps) l.budget

@@ -1,12 +1,14 @@
-use Rattle.std.proofs.Common.{◌≡◌, ◌+◌, ◌≤◌, ◌∷◌, [], ◌++◌, All, take, false, ap, ◌∙◌, arith, rules}
+use Rattle.std.proofs.Common.{◌≡◌, ◌+◌, ◌≤◌, ℕ, max, take, drop, false, true, ap, ◌∙◌, sym, arith, rules, inl, inr, List}
 use Rattle.std.proofs.lemmas.Bool.{or_from}
-use Rattle.std.proofs.lemmas.List.Elements.{All-push, All-weaker}
-use Rattle.spki_tag.specs.Tag.{tags, nodes_all, some_nests_set}
-use Rattle.spki_tag.proofs.MeetSizes.{append-nodes}
-use Rattle.spki_reduce.specs.Reduction.{Tuple, tags_of, step_tuple, nodes_product}
+use Rattle.std.proofs.lemmas.List.{take-append-drop}
+use Rattle.spki_tag.specs.Tag.{tags, some_nests_set}
+use Rattle.spki_reduce.specs.Reduction.{tags_of, step_tuple}
+use Rattle.spki_reduce.specs.declared.tuple.Step.{Step}
 use Rattle.spki_reduce.specs.Chain.{tuples_of, all_tags}
-use Rattle.spki_decision.proofs.Memberships.{more_tuples, more_tags}
+use Rattle.spki_decision.specs.Spared.{nodes_together, most_of_one}
+use Rattle.spki_decision.proofs.ChainRequirements.{more_tuples, more_tags}
 use Rattle.spki_decision.proofs.EntryChains.{append-sets}
+use Rattle.spki_decision.proofs.StepNodes.{together-more, most-more, together-front, sets-front}
 use Rattle.spki_decision.proofs.sizes.plain_of.Goals as goal
 
 -- one step more
@@ -22,13 +24,23 @@ loop-step-preserved c =
     let no_set : some_nests_set (tags (all_tags (tuples_of (take (i + 1) steps)))) ≡ false =
     ap (λ ts. some_nests_set (tags ts)) all ∙ append-sets (all_tags before) own
     ∙ or_from (some_nests_set (tags (all_tags before))) (some_nests_set (tags own)) c.loop-step.invariant.no_set
-    (c.nests_set.ensures c.if-nests_set.false) in
-    let sum : nodes_all (tags (all_tags (tuples_of (take (i + 1) steps)))) ≡ nodes_all (tags (all_tags before)) + nodes_all (tags own) =
-    ap (λ ts. nodes_all (tags ts)) all ∙ append-nodes (all_tags before) own in
-    let P : Tuple → Type 0 = λ tuple. nodes_product (tags_of tuple) ≤ c.max.result in
-    let each : All P (before ++ step_tuple x ∷ []) =
-    All-push P before (step_tuple x)
-    (All-weaker (λ tuple. nodes_product (tags_of tuple) ≤ c.loop-step.plain.most) P (λ tuple h. omega (arith, h)) before
-    c.loop-step.invariant.each_nodes)
-    (omega (arith, c.nodes_in-nodes.ensures.counted)) in
-    search rules
+    (sym c.nests_set.ensures ∙ c.if-nests_set.false) in
+    let sum = ap nodes_together more ∙ together-more before (step_tuple x) in
+    let largest = ap most_of_one more ∙ most-more before (step_tuple x) in
+    record {
+      no_set = no_set;
+      all_nodes = omega (arith, sum, c.loop-step.invariant.all_nodes, c.nodes_in-nodes.ensures.together);
+      most_nodes = omega (arith, largest, c.loop-step.invariant.most_nodes, c.nodes_in-nodes.ensures.counted, c.max.ensures);
+      few = (omega arith, omega (arith, c.max.ensures, c.nodes_in-nodes.ensures.few, c.loop-step.invariant.few.1));
+    }
+
+-- a set, or too many nodes, in the steps so far are in all
+pub returns-then-nests_set : goal.returns-then-nests_set
+returns-then-nests_set c =
+    inl (sets-front c.args.steps.now c.loop-step.step-index c.step-item.result c.loop-step-test.true c.step-item.is
+    (sym c.nests_set.ensures ∙ c.if-nests_set.true))
+
+pub returns-then-plain-gt-MOST_NODES : goal.returns-then-plain-gt-MOST_NODES
+returns-then-plain-gt-MOST_NODES c =
+    let front = together-front c.args.steps.now c.loop-step.step-index c.step-item.result c.loop-step-test.true c.step-item.is in
+    inr (omega (arith, front, c.loop-step.invariant.all_nodes, c.nodes_in-nodes.ensures.together))

@@ -2,7 +2,8 @@ use Rattle.std.proofs.Common.{◌≡◌, ◌+◌, ◌*◌, take, sym, ap, ◌∙
 use Rattle.spki_reduce.specs.Reduction.{tags_of, step_tuple, nodes_product}
 use Rattle.spki_reduce.specs.Chain.{tuples_of, all_tags}
 use Rattle.spki_reduce.proofs.ReducedForms.{nodes_product-append}
-use Rattle.spki_decision.proofs.Memberships.{more_tags}
+use Rattle.spki_decision.proofs.ChainRequirements.{more_tags}
+use Rattle.spki_decision.proofs.StepNodes.{product-front}
 use Rattle.spki_decision.proofs.sizes.product_of.Goals as goal
 
 -- one step more
@@ -20,3 +21,15 @@ loop-step-preserved c =
           ∙ ap (λ n. nodes_product (all_tags before) * n) c.nodes_in-product.ensures.counted ∙ sym product,
       omega arith,
     )
+
+-- a product of the steps so far that is over the limit is that of a part
+pub returns-then-product-gt-MOST_NODES : goal.returns-then-product-gt-MOST_NODES
+returns-then-product-gt-MOST_NODES c =
+    let steps = c.args.steps.now in
+    let i = c.loop-step.step-index in
+    let x = c.step-item.result in
+    let front = product-front steps i x c.loop-step-test.true c.step-item.is in
+    let own : c.loop-step.product * c.nodes_in-product.result
+    ≡ nodes_product (all_tags (tuples_of (take i steps))) * nodes_product (tags_of (step_tuple x)) =
+    λ j. c.loop-step.invariant.0 j * c.nodes_in-product.ensures.counted j in
+    omega (arith, front, own)

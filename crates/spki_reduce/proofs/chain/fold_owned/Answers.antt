@@ -27,10 +27,10 @@ returns-in-Err-clause-too_large c e =
     inr (record {
       steps = c.loop-place.place + 1;
       within = omega (arith, place, length-map c.args.steps.now step_tuple);
-      work = so_far.0 + c.cost_with.result;
+      work = so_far.0 + c.cost_with.ensures.0;
       is = work_here c.args.steps.now c.loop-place.place place c.index-steps-place.is c.loop-place.invariant.folds
-          c.loop-place.invariant.value so_far.0 c.cost_with.result so_far.1 c.cost_with.ensures;
-      over = over _ _ so_far.0 c.cost_with.result so_far.2 c.in-Err.ensures.over;
+          c.loop-place.invariant.value so_far.0 c.cost_with.ensures.0 so_far.1 c.cost_with.ensures.2;
+      over = over _ _ so_far.0 c.cost_with.ensures.0 so_far.2 (c.in-Err.ensures.over c.cost_with.ensures.0 c.cost_with.ensures.1);
     })
 
 pub returns-in-Stopped-clause-fold : goal.returns-in-Stopped-clause-fold
@@ -58,12 +58,12 @@ returns-in-Stopped-clause-worked c =
     let so_far = c.loop-place.invariant.worked in
     let place : c.loop-place.place < length c.args.steps.now = omega arith in
     let here = work_here c.args.steps.now c.loop-place.place place c.index-steps-place.is c.loop-place.invariant.folds
-    c.loop-place.invariant.value so_far.0 c.cost_with.result so_far.1 c.cost_with.ensures in (
-      so_far.0 + c.cost_with.result,
+    c.loop-place.invariant.value so_far.0 c.cost_with.ensures.0 so_far.1 c.cost_with.ensures.2 in (
+      so_far.0 + c.cost_with.ensures.0,
       work_stopped c.args.policy (five (five_tuple c.args.first)) (tuples_of c.args.steps.now) (steps_tagged c.args.steps.now)
-          (c.loop-place.place + 1) c.in-Stopped.cause (returns-in-Stopped-clause-fold c) (so_far.0 + c.cost_with.result)
+          (c.loop-place.place + 1) c.in-Stopped.cause (returns-in-Stopped-clause-fold c) (so_far.0 + c.cost_with.ensures.0)
           (omega (arith, place, length-map c.args.steps.now step_tuple)) here,
-      taken _ _ _ so_far.0 c.cost_with.result so_far.2 c.in_default.ensures.taken,
+      taken _ _ _ so_far.0 c.cost_with.ensures.0 so_far.2 (c.in_default.ensures.taken c.cost_with.ensures.0 c.cost_with.ensures.1),
     )
 
 pub loop-place-preserved : goal.loop-place-preserved
@@ -78,10 +78,10 @@ loop-place-preserved c =
       within_limit = small_here c.args.steps.now c.loop-place.place (omega arith) c.index-steps-place.is c.loop-place.invariant.folds
           c.loop-place.invariant.value c.loop-place.invariant.within_limit c.in_ok-next.ensures.within_limit;
       worked = (
-        so_far.0 + c.cost_with.result,
+        so_far.0 + c.cost_with.ensures.0,
         work_here c.args.steps.now c.loop-place.place (omega arith) c.index-steps-place.is c.loop-place.invariant.folds
-            c.loop-place.invariant.value so_far.0 c.cost_with.result so_far.1 c.cost_with.ensures,
-        taken _ _ _ so_far.0 c.cost_with.result so_far.2 c.in_default.ensures.taken,
+            c.loop-place.invariant.value so_far.0 c.cost_with.ensures.0 so_far.1 c.cost_with.ensures.2,
+        taken _ _ _ so_far.0 c.cost_with.ensures.0 so_far.2 (c.in_default.ensures.taken c.cost_with.ensures.0 c.cost_with.ensures.1),
       );
       issuer = same_issuer c.args.policy c.loop-place.folded c.in-Done.next (step_tuple c.index-steps-place.result) made.0
           ∙ c.loop-place.invariant.issuer;

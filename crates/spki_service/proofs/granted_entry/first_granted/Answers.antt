@@ -1,13 +1,15 @@
-use Rattle.std.proofs.Common.{◌≡◌, ◌-◌, ◌+◌, ◌∙◌, slice_get, length, ap, arith}
+use Rattle.std.proofs.Common.{◌≡◌, ◌-◌, ◌+◌, ◌∙◌, ◌∷◌, slice_get, length, ap, subst, arith}
 use Rattle.std.proofs.lemmas.Option.{slice_get_within, slice_get-get_or}
 use Rattle.std.proofs.lemmas.Slice.Zip.{AllZip-long}
-use Rattle.spki_reduce.specs.Chain.{tuples_of}
+use Rattle.spki_cert.specs.declared.entry.Entry.{Entry}
+use Rattle.spki_reduce.specs.Chain.{tuples_of, all_windows}
 use Rattle.spki_case.specs.View.{model}
 use Rattle.spki_decision.specs.declared.decision.Decision.TheVariants.{Yes, No}
-use Rattle.spki_decision.specs.Standing.{with_entries}
-use Rattle.spki_decision.proofs.Standing.{not_yet, found}
+use Rattle.spki_decision.specs.CertificateTests.{with_entries}
+use Rattle.spki_decision.specs.Until.{IsLeastEnd}
+use Rattle.spki_decision.proofs.CertificateTests.{not_yet, found}
 use Rattle.spki_service.proofs.Costs.{octets_first, text_long, entry_light}
-use Rattle.spki_service.proofs.SelectedEntries.{picked_there}
+use Rattle.spki_service.proofs.SelectedEntries.{picked_there, read_there}
 use Rattle.spki_service.proofs.granted_entry.first_granted.Goals as goal
 
 pub returns-then-grants-clause-answer : goal.returns-then-grants-clause-answer
@@ -17,7 +19,7 @@ returns-then-grants-clause-answer g c es picked are picks =
     let i = c.loop-number.number-index in
     let stands = picked_there c.args.texts.now es picked c.args.numbers.now i c.in_ok-entry.entry are c.requires picks
     c.loop-number-test.true (λ f is. c.in_ok-entry.ensures.answer f (rw c.text.ensures is)) in
-    let named = found case tuples i c.in_ok-entry.entry stands ((c.grants_counted-grants.ensures.answer tuples c.in_ok-membership.ensures.answer).0 c.if-grants.true)
+    let named = found case tuples i c.in_ok-entry.entry stands ((c.grants_counted-grants.ensures.answer tuples c.in_ok-requirement.ensures.answer).0 c.if-grants.true)
     (c.loop-number.invariant.none es picked are picks) in
     let here : i + 1 - 1 ≡ i = omega arith in
     (Yes (i + 1), named, ap (slice_get c.args.numbers.now) here ∙ slice_get-get_or c.args.numbers.now i 0 c.loop-number-test.true)
@@ -47,7 +49,7 @@ loop-number-preserved g c =
           let stands = picked_there c.args.texts.now es picked c.args.numbers.now i c.in_ok-entry.entry are c.requires picks
           c.loop-number-test.true (λ f is. c.in_ok-entry.ensures.answer f (rw c.text.ensures is)) in
           not_yet case tuples i c.in_ok-entry.entry stands c.grants_counted-grants.result c.if-grants.false
-          (c.grants_counted-grants.ensures.answer tuples c.in_ok-membership.ensures.answer).1 (c.loop-number.invariant.none es picked are picks);
+          (c.grants_counted-grants.ensures.answer tuples c.in_ok-requirement.ensures.answer).1 (c.loop-number.invariant.none es picked are picks);
       each = omega (
         arith,
         octets_first c.args.texts.now c.args.numbers.now i c.loop-number-test.true,
@@ -93,3 +95,13 @@ returns-in_err-entry-clause-cost g c es are =
       c.in_err-entry.ensures.cost,
       ap length c.text.ensures,
     )
+
+pub returns-then-grants-clause-until : goal.returns-then-grants-clause-until
+returns-then-grants-clause-until g c es are place e numbered stands =
+    let tuples = tuples_of c.args.steps.now in
+    let i = c.loop-number.number-index in
+    let same = read_there c.args.texts.now es c.args.numbers.now i place e c.in_ok-entry.entry are c.requires c.loop-number-test.true
+    (λ f is. c.in_ok-entry.ensures.answer f (rw c.text.ensures is)) numbered stands in
+    subst (λ (x : Entry). IsLeastEnd (x.window ∷ all_windows tuples) c.until-until.result) same
+    (c.until-until.ensures tuples (model c.args.case.now) c.in_ok-requirement.ensures.answer c.in_ok-requirement.ensures.end
+    ((c.grants_counted-grants.ensures.answer tuples c.in_ok-requirement.ensures.answer).0 c.if-grants.true))

@@ -9,14 +9,14 @@ use Rattle.spki_service.proofs.index.rows_of.Goals as goal
 -- one entry more
 pub loop-place-preserved : goal.loop-place-preserved
 loop-place-preserved c =
-    let es = c.args.entries.now in
+    let ps = c.args.owners.now in
     let place = c.loop-place.place in
-    let e = c.index-entries-place.result in
-    let within : place < length es = c.loop-place-test.true in
-    let counted : place + 1 ≡ 1 + length (take place es) = omega (arith, length-take-le place es (omega arith)) in
-    let more : take (place + 1) es ≡ take place es ++ e ∷ [] = rw (← c.index-entries-place.is) at (take_more es place e within) in
-    let row : Row = record { tail = tail_of (octets_of e.subject.principal); number = place + 1 } in
-    let longer = rows_more c.args.alg e 1 (take place es) row refl counted in
+    let p = c.index-owners-place.result in
+    let within : place < length ps = c.loop-place-test.true in
+    let counted : place + 1 ≡ 1 + length (take place ps) = omega (arith, length-take-le place ps (omega arith)) in
+    let more : take (place + 1) ps ≡ take place ps ++ p ∷ [] = rw (← c.index-owners-place.is) at (take_more ps place p within) in
+    let row : Row = record { tail = tail_of (octets_of p); number = place + 1 } in
+    let longer = rows_more c.args.alg p 1 (take place ps) row refl counted in
     rw more (elim c.if-is_by.branch [
       | then-is_by+in_ok-push w ↦ search (rules, longer)
       | else-is_by w ↦ search (rules, longer)

@@ -3,4 +3,4 @@ use Rattle.spki_service.specs.AccessLists.{rows_from}
 use Rattle.spki_service.proofs.index.rows_of.Given as goal
 
 abbrev pub invariant-loop-place : goal.invariant-loop-place
-invariant-loop-place l = l.rows.items ≡ rows_from 1 l.alg (take l.place l.entries)
+invariant-loop-place l = l.rows.items ≡ rows_from 1 l.alg (take l.place l.owners)

@@ -1,11 +1,11 @@
 use Rattle.std.proofs.Common.{◌∙◌, sym, subst}
-use Rattle.spki_service.specs.declared.opened.Opened.{Opened}
+use Rattle.spki_service.specs.declared.owned_question.OwnedQuestion.{OwnedQuestion}
 use Rattle.spki_service.specs.GuardQuestions.{IsOpened}
 use Rattle.spki_service.proofs.laws.marked_stays.Goals as goal
 
 pub returns : goal.returns
 returns c held q old new place m o =
-    subst (λ (n : Opened). IsOpened held q n) (sym m.others) (record {
+    subst (λ (n : OwnedQuestion). IsOpened held q n) (sym m.others) (record {
       guard_is = o.guard_is;
       texts = o.texts;
       short = o.short;

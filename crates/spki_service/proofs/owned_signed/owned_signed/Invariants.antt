@@ -1,5 +1,5 @@
 use Rattle.std.proofs.Common.{◌≡◌, ◌++◌, map, drop}
-use Rattle.spki_decision.specs.Standing.{signed_of}
+use Rattle.spki_decision.specs.CertificateTests.{signed_of}
 use Rattle.spki_service.proofs.owned_signed.owned_signed.Given as goal
 
 abbrev pub invariant-loop-one : goal.invariant-loop-one

@@ -1,7 +1,8 @@
 use Rattle.std.proofs.Common.{◌++◌, [], ◌∷◌, arith, rules}
-use Rattle.spki_reduce.specs.Chain.{tuples_of, left_of}
+use Rattle.spki_reduce.specs.Chain.{tuples_of}
 use Rattle.spki_case.specs.View.{model}
-use Rattle.spki_decision.specs.Standing.{with_entries}
+use Rattle.spki_decision.specs.CertificateTests.{with_entries}
+use Rattle.spki_decision.specs.Requirements.{work_left}
 use Rattle.spki_decision.proofs.EntryChains.{one_put, none_folded}
 use Rattle.spki_service.proofs.AnswerLaws.{one_more, too_large, all_texts}
 use Rattle.spki_service.proofs.text_folds.fold_texts.Goals as goal
@@ -11,34 +12,36 @@ loop-place-init g c = (
   [],
   search rules,
   search rules,
-  λ es are. none_folded (with_entries (model c.args.case.now) es) (tuples_of c.args.steps.now) _ c.new-work.ensures,
+  λ es are. none_folded (with_entries (model c.args.case.now) es) (tuples_of c.args.steps.now) _ c.of-budget.ensures.work,
+  c.of-budget.ensures.sizes,
 )
 
 pub returns-in_err-fold-clause-too_large : goal.returns-in_err-fold-clause-too_large
 returns-in_err-fold-clause-too_large g c es are h =
-    let (folds, taken, put, before) = c.loop-place.invariant in
+    let (folds, taken, put, before, sizes) = c.loop-place.invariant in
     too_large c.args.texts.now (model c.args.case.now) (tuples_of c.args.steps.now) c.loop-place.place
-    (omega (arith, c.loop-place-test.true, c.len-place-end.ensures)) c.in_ok-entry.entry (λ f is. c.in_ok-entry.ensures f (rw c.text.ensures is)) (left_of c.loop-place.work) folds before es are
+    (omega (arith, c.loop-place-test.true, c.len-place-end.ensures)) c.in_ok-entry.entry (λ f is. c.in_ok-entry.ensures f (rw c.text.ensures is)) (work_left c.loop-place.budget) folds before es are
     (search rules)
 
 pub loop-place-preserved : goal.loop-place-preserved
 loop-place-preserved g c =
-    let (folds, taken, put, before) = c.loop-place.invariant in
+    let (folds, taken, put, before, sizes) = c.loop-place.invariant in
     let told = c.in_ok-fold.ensures in
     let numbered = put.count in (
       folds ++ c.in_ok-fold.fold ∷ [],
       c.in_ok-put.ensures c.args.sink.now folds taken (omega (arith, numbered)),
       one_put c.loop-place.place folds c.in_ok-fold.fold put told.dated told.end,
       one_more c.args.texts.now (model c.args.case.now) (tuples_of c.args.steps.now) c.loop-place.place
-          (omega (arith, c.loop-place-test.true, c.len-place-end.ensures)) c.in_ok-entry.entry (λ f is. c.in_ok-entry.ensures f (rw c.text.ensures is)) (left_of c.loop-place.work) folds before
-          c.in_ok-fold.fold (left_of c.entry_fold-folded.new.work) told.worked.0 told.exact told.within_limit told.worked.1 told.worked.2,
+          (omega (arith, c.loop-place-test.true, c.len-place-end.ensures)) c.in_ok-entry.entry (λ f is. c.in_ok-entry.ensures f (rw c.text.ensures is)) (work_left c.loop-place.budget) folds before
+          c.in_ok-fold.fold (work_left c.entry_fold-folded.new.budget) told.charged.0 told.exact told.within_limit told.charged.1 told.charged.2,
+      told.same_sizes,
     )
 
 pub returns-clause-folds : goal.returns-clause-folds
 returns-clause-folds g c =
-    let (folds, taken, put, all) = c.loop-place.invariant in
+    let (folds, taken, put, all, sizes) = c.loop-place.invariant in
     let low = c.loop-place-test.false in
     let high = c.loop-place.auto.place-end in
-    let each = all_texts c.args.texts.now (model c.args.case.now) (tuples_of c.args.steps.now) c.loop-place.place (left_of c.loop-place.work)
+    let each = all_texts c.args.texts.now (model c.args.case.now) (tuples_of c.args.steps.now) c.loop-place.place (work_left c.loop-place.budget)
     folds (omega (arith, low, high, c.len-place-end.ensures)) all in
     (folds, taken, (each, put.dated, put.end))

@@ -15,7 +15,7 @@ read_headed-returns-clause-read t c = rw (c.list.ensures, c.in_ok-octets.ensures
 
 pub read_request_members-returns-in_err-read_request-clause-named : goal.read_request_members-returns-in_err-read_request-clause-named
 read_request_members-returns-in_err-read_request-clause-named t c =
-    passed _ _ _ c.from_residual.ensures.1 (so_far-named _ _ _ _ _ _ c.loop-first.invariant c.in-Some.ensures c.in_err-read_request.ensures.named)
+    passed _ _ _ c.from_residual-in_err-read_request.ensures.1 (so_far-named _ _ _ _ _ _ c.loop-first.invariant c.in-Some.ensures c.in_err-read_request.ensures.named)
 
 pub read_headed-returns-in_err-members-clause-named : goal.read_headed-returns-in_err-members-clause-named
 read_headed-returns-in_err-members-clause-named t c = search (rules, requests_read)
@@ -40,3 +40,6 @@ read_request_list-returns-then-eq-clause-named t c = search (rules, requests_rea
 
 pub read_request_members-returns-in_err-push-clause-named : goal.read_request_members-returns-in_err-push-clause-named
 read_request_members-returns-in_err-push-clause-named t c = search (rules, requests_read)
+
+pub read_request_members-returns-in_err-requests-clause-named : goal.read_request_members-returns-in_err-requests-clause-named
+read_request_members-returns-in_err-requests-clause-named t c = search (rules, requests_read)

@@ -9,13 +9,13 @@ use denote.Param.Send.{IsSend, AllSend, owning_send, struct_send, sendable}
 use Rattle.std.specs.Prelude.{Option, Some, None}
 use Rattle.std.proofs.Crossing.{frees}
 use Rattle.std_alloc.proofs.SendSync.{quiet, lies}
-use Rattle.spki_c.specs.contracts.content.Content as content
-use Rattle.spki_c.specs.declared.content.Content.{Content}
-use Rattle.spki_c.proofs.content.Content.TheSendSync.{the_send as content_send}
+use Rattle.spki_c.specs.contracts.handle_value.HandleValue as content
+use Rattle.spki_c.specs.declared.handle_value.HandleValue.{HandleValue}
+use Rattle.spki_c.proofs.handle_value.HandleValue.TheSendSync.{the_send as content_send}
 use Rattle.spki_c.specs.Pointers.{heap, held_owns}
 use Rattle.spki_c.specs.contracts.handle.Handle.{the_row, the_type}
 
-held_keyless : (p : Ptr) (held : Option Content) → Keyless (held_owns content.the_row p held)
+held_keyless : (p : Ptr) (held : Option HandleValue) → Keyless (held_owns content.the_row p held)
 held_keyless p None = tt
 held_keyless p (Some g) = (lies content.the_row content_send p g, frees.frees heap (raw (lone content.the_row.mir)) p)
 

@@ -28,7 +28,7 @@ use Rattle.std.specs.contracts.alloc.Global as heap
 use Rattle.std.proofs.alloc.Global.TheLaws as heap_laws
 use Rattle.std.specs.contracts.impls.GlobalAllocator.TheImpl.{ghosts}
 use Rattle.std.proofs.raw_atomic.Walks.{proved_at}
-use Rattle.spki_c.specs.contracts.content.Content.{the_row as G}
+use Rattle.spki_c.specs.contracts.handle_value.HandleValue.{the_row as G}
 use Rattle.spki_c.specs.contracts.handle.Handle.{the_row as R, the_type}
 use Rattle.spki_c.specs.contracts.box_pointer.BoxPointer as box_pointer
 use Rattle.spki_c.specs.contracts.handle.Handle.hold as f

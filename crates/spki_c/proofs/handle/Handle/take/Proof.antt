@@ -29,7 +29,7 @@ use Rattle.std.proofs.alloc.Calls.{Al, handle_tells}
 use Rattle.std.proofs.raw_atomic.Walks.{proved_at}
 use Rattle.std_alloc.specs.Box.Ownership.{box_owns}
 use Rattle.spki_c.specs.Pointers.{held_owns, heap as global}
-use Rattle.spki_c.specs.contracts.content.Content.{the_row as G}
+use Rattle.spki_c.specs.contracts.handle_value.HandleValue.{the_row as G}
 use Rattle.spki_c.specs.contracts.handle.Handle.{the_row as R}
 use Rattle.spki_c.specs.contracts.box_pointer.BoxPointer as box_pointer
 use Rattle.spki_c.specs.contracts.handle.Handle.take as f

@@ -1,7 +1,7 @@
 use Rattle.std.proofs.Common.{◌≡◌, ◌∷◌, ◌++◌, [], true, sym, ◌∙◌, ap, refl}
 use Rattle.spki_cert.specs.Naming.{names}
 use Rattle.spki_reduce.specs.Reduction.{four_tuple}
-use Rattle.spki_decision.proofs.Memberships.{defined_before}
+use Rattle.spki_decision.proofs.ChainRequirements.{defined_before}
 use Rattle.spki_decision.proofs.required_subject.RequiredSubject.before_definition.Goals as goal
 
 pub returns-clause-answer : goal.returns-clause-answer

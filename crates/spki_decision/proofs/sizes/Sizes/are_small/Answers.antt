@@ -1,24 +1,17 @@
-use Rattle.std.proofs.Common.{◌≡◌, ◌+◌, ◌*◌, ◌≤◌, false, subst, sym, ◌∙◌, rules, leb-true, mul-le-mul_left}
-use Rattle.spki_tag.specs.Tag.{nodes, nests_set}
+use Rattle.std.proofs.Common.{sym, ◌∙◌, ap, Bool, ◌||◌}
 use Rattle.spki_reduce.specs.Chain.{tuples_of}
-use Rattle.spki_decision.specs.Requirements.{ArePlain}
-use Rattle.spki_decision.proofs.EntryChains.{small_product, small_plain}
+use Rattle.spki_decision.specs.Spared.{is_plain, is_spared}
 use Rattle.spki_decision.proofs.sizes.Sizes.are_small.Goals as goal
 
-pub returns-then-nodes-most : goal.returns-then-nodes-most
-returns-then-nodes-most c _ = search (rules, small_product)
+pub returns-then-have_small_product : goal.returns-then-have_small_product
+unfolding is_spared
+returns-then-have_small_product c =
+    c.if-have_small_product.true ∙ ap (λ (b : Bool). b || is_plain c.args.most (tuples_of c.args.steps.now) c.args.tag.now)
+    (sym c.if-have_small_product.true ∙ c.have_small_product.ensures)
 
-pub overflow_add-result : goal.overflow_add-result
-overflow_add-result c = search rules
-
-pub overflow_mul-result : goal.overflow_mul-result
-overflow_mul-result c = search (rules, mul-le-mul_left)
-
--- no tag has a set
-pub returns-then-not-nests_set : goal.returns-then-not-nests_set
-returns-then-not-nests_set c small =
-    let plain : ArePlain (tuples_of c.args.steps.now) c.in-Some-plain.plain = rw c.in-Some-plain.is at c.requires.plain in
-    let no_set : nests_set c.args.tag.now ≡ false = sym c.nests_set.ensures ∙ c.if-not-nests_set.true in
-    let within : (nodes c.args.tag.now + c.in-Some-plain.plain.all) * c.in-Some-plain.plain.most ≤ c.args.most =
-    subst (λ n. (n + c.in-Some-plain.plain.all) * c.in-Some-plain.plain.most ≤ c.args.most) c.nodes-then-not-nests_set.ensures.count (leb-true _ _ small) in
-    small_plain c.args.most c.args.tag.now (tuples_of c.args.steps.now) c.in-Some-plain.plain plain no_set within
+pub returns-else-have_small_product : goal.returns-else-have_small_product
+unfolding is_spared
+returns-else-have_small_product c =
+    c.are_plain.ensures
+    ∙ ap (λ (b : Bool). b || is_plain c.args.most (tuples_of c.args.steps.now) c.args.tag.now)
+    (sym c.if-have_small_product.false ∙ c.have_small_product.ensures)

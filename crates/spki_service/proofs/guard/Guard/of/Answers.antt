@@ -1,4 +1,6 @@
-use Rattle.std.proofs.Common.{◌≡◌, ap, length, arith}
+use Rattle.std.proofs.Common.{◌≡◌, ◌∙◌, ap, length, arith}
+use Rattle.std.proofs.lemmas.List.{length-map}
+use Rattle.spki_cert.specs.declared.entry.Entry.{Entry}
 use Rattle.spki_cert.proofs.EntryFaultNone.{acl-refused}
 use Rattle.spki_service.proofs.ListReading.{named_fault, texts_held, value_held, many}
 use Rattle.spki_service.proofs.guard.Guard.of.Goals as goal
@@ -13,19 +15,19 @@ returns-in-Err-clause-refused c found =
 
 pub invariant_of-result : goal.invariant_of-result
 invariant_of-result c =
-    let a = c.in-Ok.ensures.acl in
+    let (es, a, are) = c.in-Ok.ensures.acl in
     let long : length a.entries ≡ c.len.result =
-    omega (arith, many c.args.list.now c.in-Ok.entries.items a, ap length c.deref.ensures.value, c.len.ensures) in (
-      c.in-Ok.entries.items,
-      texts_held c.args.list.now c.in-Ok.entries.items c.in_ok-texts.texts a
+    omega (arith, many c.args.list.now es a, ap length are, length-map es (λ (e : Entry). e.subject.principal), c.len.ensures) in (
+      es,
+      texts_held c.args.list.now es c.in_ok-texts.texts a
           (c.in_ok-texts.ensures a.version a.entries a.version_is a.written long),
-      rw c.deref.ensures.value at c.in_ok-index.ensures,
+      c.in_ok-index.ensures es (c.deref.ensures.value ∙ are),
     )
 
 pub returns-clause-list : goal.returns-clause-list
 returns-clause-list c =
-    let a = c.in-Ok.ensures.acl in
+    let (es, a, are) = c.in-Ok.ensures.acl in
     let long : length a.entries ≡ c.len.result =
-    omega (arith, many c.args.list.now c.in-Ok.entries.items a, ap length c.deref.ensures.value, c.len.ensures) in
-    value_held c.args.list.now c.in-Ok.entries.items c.in_ok-texts.texts a
+    omega (arith, many c.args.list.now es a, ap length are, length-map es (λ (e : Entry). e.subject.principal), c.len.ensures) in
+    value_held c.args.list.now es c.in_ok-texts.texts a
     (c.in_ok-texts.ensures a.version a.entries a.version_is a.written long)

@@ -1,0 +1,39 @@
+"""What commands passed and failed, by the last lines of what they say."""
+import re
+
+LAST = re.compile(r"^(\d+) passed, (\d+) failed(?:$| \()")
+LEFT_OUT = re.compile(r"^(?:skipped: (.*)|(.*) (?:is|are) left out)$", re.MULTILINE)
+
+
+def last_counts(said: str) -> re.Match[str] | None:
+    """The counts in the last line of what a command says, if it is 'N passed, M failed'."""
+    return LAST.match(said.rstrip("\n").rpartition("\n")[2])
+
+
+class Counts:
+    """What passed, what failed, and what was left out because a tool is missing."""
+
+    def __init__(self) -> None:
+        """Nothing yet."""
+        self.passed = self.failed = 0
+        self.left_out: list[str] = []
+
+    def add(self, is_passed: bool, said: str) -> None:
+        """Counts one trial, and prints what is said of it."""
+        print(said, flush=True)
+        self.passed += is_passed
+        self.failed += not is_passed
+
+    def add_log(self, said: str, status: int, has_counts: bool = True) -> None:
+        """Counts what a command said that ended with this status, by its last line 'N passed, M failed'. One that has no such line failed; or, if
+        it is none that counts, its status alone says whether it passed."""
+        found = last_counts(said)
+        passed, failed = (int(found[1]), int(found[2])) if found else (int(not has_counts and status == 0), int(has_counts))
+        self.passed += passed
+        self.failed += failed or int(status != 0)
+        self.left_out += [skipped or part for skipped, part in LEFT_OUT.findall(said)]
+
+    def end(self) -> int:
+        """Prints what was left out and the last line. Returns the exit status."""
+        print(*(f"skipped: {part}" for part in self.left_out), f"{self.passed} passed, {self.failed} failed", sep="\n", flush=True)
+        return 1 if self.failed else 0

@@ -1,0 +1,68 @@
+"""What the gate needs of the toolchain that no command of `rt` gives. `rt` is a script, which is loaded as a module. All names of it that are
+used stand here:
+
+| Name | Why no command serves |
+|---|---|
+| `read_edit` | applies an edit as `rt ci` and `rt must-fail` do, which apply it only to try it |
+| `checked` | checks a copy of a crate with other texts, over the libraries that `rt ci` leaves. `rt check` proves these libraries again |
+| `unread` | whether a line says that an edited text could not be read. The texts of such lines are the toolchain's own |
+| `must_fail`, `REFUSED` | the verdict on one edit. `rt must-fail` proves the whole crate first, and knows no file outside of must-fail/ |
+| `rtlib.crates_below`, `rtlib.ALLOW_C` | the crates as `checked` and `must_fail` take them, with no functions in C |
+| `rtlib.guarded` | ends the checks when this process ends. It must be called first in the main thread |
+"""
+import functools
+import importlib.machinery
+import os
+import shutil
+import sys
+import types
+from typing import Any
+
+TOP = os.path.realpath(os.path.join(os.path.dirname(os.path.abspath(__file__)), "..", ".."))
+# What the toolchain says of an edit that it refuses for a name alone, or by a limit of its own: that shows nothing of the contract.
+SAYS_LITTLE = ("says little of the contract", "says less of the contract")
+# One check has one process.
+ONE = ["--jobs", "1"]
+
+
+@functools.lru_cache(maxsize=None)
+def inside() -> Any:
+    """The toolchain's `rt`, as a module. Python writes nothing beside it."""
+    sys.dont_write_bytecode = True
+    path = os.path.realpath(shutil.which("rt") or sys.exit("rt is not in the path"))
+    loader = importlib.machinery.SourceFileLoader("rt", path)
+    made = sys.modules["rt"] = types.ModuleType("rt")
+    made.__file__ = path
+    loader.exec_module(made)
+    os.environ.pop(made.rtlib.ALLOW_C, None)
+    made.rtlib.guarded()
+    return made
+
+
+def crates(*names: str) -> dict[str, Any]:
+    """The crates with these names, or all, the lowest first. Ends the process if one is missing."""
+    every = {it.name: it for it in sorted(inside().rtlib.crates_below(TOP), key=lambda it: len(it.below()))}
+    missing = sorted(set(names) - every.keys())
+    if missing:
+        sys.exit(f"there is no crate {', '.join(missing)}")
+    return {name: crate for name, crate in every.items() if not names or name in names}
+
+
+def applied(path: str, folder: str) -> tuple[dict[str, str], str]:
+    """The texts that an edit makes of files of the crate in a folder, or why it cannot be applied."""
+    texts, why = inside().read_edit(path, folder)
+    return texts or {}, why or ""
+
+
+def check_of(crate: Any, texts: dict[str, str], only: list[str], over: str) -> str:
+    """What a check of these functions alone says of a crate with other texts. Empty if it does not judge them: it did not end, or a text could
+    not be read. It begins with what the folder `over` has, and keeps there what it proves."""
+    ran = inside().checked(crate, texts, [*ONE, *(f"--only={path}" for path in only)], over)
+    is_read = not any(inside().unread(line, texts) for line in ran.stdout.split("\n"))
+    return ran.stdout if is_read and ran.returncode in (0, 1) else ""
+
+
+def verdict_on(crate: Any, path: str) -> tuple[bool, str]:
+    """Whether a crate's contract refuses an edit, and what is said of it. The whole crate is checked."""
+    verdict, said = inside().must_fail(crate, path, ONE)
+    return verdict == inside().REFUSED and not any(words in said for words in SAYS_LITTLE), said

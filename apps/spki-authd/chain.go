@@ -1,0 +1,103 @@
+package main
+
+import (
+	"bytes"
+	"fmt"
+	"strconv"
+	"time"
+
+	"conguraki/spki/guard"
+)
+
+// open opens a list of these entries, by the policy and the limits of all lists.
+func (c *config) open(entries []byte) (*guard.Guard, error) {
+	policy, err := policyOf(c.Policy)
+	if err != nil {
+		return nil, err
+	}
+	return guard.Open(append(append([]byte("(3:acl"), entries...), ')'), policy, c.Limits.ofQuestion())
+}
+
+// signaturesOf returns the signatures of a sequence of certificates, of which there is one, whatever a list gives. Each certificate stands if they
+// are all valid.
+func (c *config) signaturesOf(sequence string, key guard.ProvenKey, now time.Time) ([]guard.Signature, error) {
+	empty, err := c.open(nil)
+	if err != nil {
+		return nil, err
+	}
+	defer empty.Close()
+	asked, err := empty.Ask(guard.Question{Sequence: []byte(sequence), Key: key, Words: anyWords, Time: now})
+	if err != nil {
+		return nil, err
+	}
+	defer asked.Close()
+	signatures := asked.Signatures()
+	if err := markFirst(asked, len(signatures)); err != nil {
+		return nil, err
+	}
+	// (by a list without entries it says nothing but which certificate does not stand)
+	stops, err := asked.Explain()
+	if err != nil {
+		return nil, err
+	}
+	for _, stop := range stops.Reasons() {
+		return nil, fmt.Errorf("%w: %v", errUnkept, stop)
+	}
+	if len(signatures) == 0 {
+		return nil, errEmpty
+	}
+	return signatures, nil
+}
+
+// names says whether a principal names a key: by itself or by a hash that the policy allows. The library decides, by a list with an entry for this
+// principal alone.
+func (c *config) names(principal []byte, key guard.ProvenKey, now time.Time) (bool, error) {
+	if !bytes.HasPrefix(principal, []byte("(10:public-key")) && !bytes.HasPrefix(principal, []byte("(4:hash")) {
+		return false, nil
+	}
+	list, err := c.open([]byte("(5:entry" + string(principal) + "(3:tag(1:*)))"))
+	if err != nil {
+		return false, err
+	}
+	defer list.Close()
+	decision, err := list.Decide(guard.Question{Sequence: nothingShown.canonical(), Key: key, Words: anyWords, Time: now}, nil)
+	return decision.Granted(), err
+}
+
+// anyWords are a request that only a right to everything contains.
+var anyWords = []string{"any", "request"}
+
+// subjectOf returns the subject of a certificate, which the library has read, in canonical form.
+func subjectOf(certificate []byte) []byte {
+	const begin, field = "(", "(7:subject"
+	for rest := certificate[len(begin):]; len(rest) > 0; rest = rest[lengthOf(rest):] {
+		if bytes.HasPrefix(rest, []byte(field)) {
+			return rest[len(field) : lengthOf(rest)-1]
+		}
+	}
+	return nil
+}
+
+// lengthOf returns the octets of the value that a canonical text begins with, or of the rest where it begins with none.
+func lengthOf(text []byte) int {
+	depth := 0
+	for place := 0; place < len(text); {
+		switch text[place] {
+		case '(', '[':
+			depth, place = depth+1, place+1
+		case ')', ']':
+			depth, place = depth-1, place+1
+		default:
+			digits, _, _ := bytes.Cut(text[place:], []byte(":"))
+			length, err := strconv.Atoi(string(digits))
+			if err != nil || length < 0 {
+				return len(text)
+			}
+			place += len(digits) + 1 + length
+		}
+		if depth == 0 && place <= len(text) {
+			return place
+		}
+	}
+	return len(text)
+}

@@ -1,0 +1,72 @@
+package main
+
+import (
+	"encoding/hex"
+	"fmt"
+	"time"
+)
+
+// A storedChains has the sequences that clients have left in a store, so that each daemon finds them.
+type storedChains struct {
+	*chains
+	reader reader
+	// What was read for a key not long ago.
+	known *recent[string, readChains]
+}
+
+// A readChains is what a store has for a key, and when that was read.
+type readChains struct {
+	chains []keptChain
+	at     time.Time
+}
+
+// The number of keys whose sequences are known, and for how long: a sequence that was left with another daemon is found that much later.
+const (
+	mostRead = 1_000
+	knownFor = 2 * time.Second
+)
+
+// newStoredChains returns what finds sequences in a store.
+func newStoredChains(c *chains, reader reader) *storedChains {
+	return &storedChains{c, reader, newRecent[string, readChains](mostRead)}
+}
+
+// of returns the sequences of a key that have not ended.
+func (s *storedChains) of(key string, now time.Time) (left []keptChain, err error) {
+	read, isKnown := s.known.get(key)
+	if age := now.Sub(read.at); !isKnown || age < 0 || age > knownFor {
+		if read.chains, err = s.reader.chains(digestIn(key)); err != nil {
+			return nil, fmt.Errorf("kept certificates: %w", err)
+		}
+		read.at = now
+		s.known.add(key, read)
+	}
+	for _, each := range read.chains {
+		if now.Before(each.until) {
+			left = append(left, each)
+		}
+	}
+	return left, nil
+}
+
+// becomes says what becomes of a sequence beside those of its key, or nothing. Whether there is room for its key the store says.
+func (s *storedChains) becomes(key string, chain keptChain, now time.Time) (answer, error) {
+	others, err := s.of(key, now)
+	return s.beside(others, chain.text), err
+}
+
+// add keeps a sequence of a key.
+func (s *storedChains) add(key string, chain keptChain, _ time.Time) answer {
+	became, err := s.reader.keep(digestIn(key), chain, s.chains)
+	if err != nil {
+		return answerFailed
+	}
+	s.known.add(key, readChains{})
+	return became
+}
+
+// digestIn returns a digest that is written in hexadecimal digits.
+func digestIn(text string) (made digest) {
+	_, _ = hex.Decode(made[:], []byte(text))
+	return made
+}

@@ -1,0 +1,238 @@
+//go:build spki_postgres
+
+package main
+
+import (
+	"database/sql/driver"
+	"encoding/hex"
+	"math/rand"
+	"os"
+	"strconv"
+	"strings"
+	"sync"
+	"testing"
+	"time"
+
+	"conguraki/spki/guard"
+)
+
+// tests/suite/test_store_failures.py sets these: the servers of which one can be written to, and the file whose coming ends the test.
+const (
+	envWriters = "SPKI_STORE_WRITERS"
+	envEnd     = "SPKI_STORE_END"
+)
+
+// The seconds after which a store is stale in these tests, how long a server may take to answer, and the time between two changes.
+const (
+	failingStale    = 3
+	failingPatience = 2 * time.Second
+	betweenChanges  = 5 * time.Millisecond
+)
+
+// A version is the entries of a list, and when they may have been what was in force: since its change was begun, until the next change was over.
+type version struct {
+	entries     map[int]string
+	from, until time.Time
+}
+
+// A timeline has the versions of a list whose server can fail. Until a change that failed is settled, two versions may be in force.
+type timeline struct {
+	*rig
+	writers []*pool
+	// The writer that is asked, and the last number of an entry.
+	at, number int
+	// How many changes were not certain.
+	uncertain int
+	end       chan struct{}
+	mutex     sync.Mutex
+	past      []*version
+}
+
+// newTimeline opens the store that the environment names, and what writes to it.
+func newTimeline(t *testing.T) *timeline {
+	t.Helper()
+	if os.Getenv(envWriters) == "" {
+		t.Skip("tests/suite/test_store_failures.py names servers")
+	}
+	made := &timeline{rig: newRig(t, failingPatience), end: make(chan struct{}), past: []*version{{map[int]string{}, time.Now(), time.Time{}}}}
+	made.store.of.StaleSeconds = failingStale
+	for _, host := range strings.Split(os.Getenv(envWriters), ",") {
+		of := *made.store.of
+		of.Host, of.Root, of.Connections = host, "", 1
+		opened, err := openReader(&of, failingPatience)
+		if err != nil {
+			t.Fatal(err)
+		}
+		made.writers = append(made.writers, opened.(*pool))
+	}
+	return made
+}
+
+// writes runs statements in one transaction, and returns the rows of all. If that fails, the next server is asked next.
+func (l *timeline) writes(texts []string, values ...driver.Value) (rows [][]driver.Value, err error) {
+	writer := l.writers[l.at]
+	taken, err := writer.take()
+	if err != nil {
+		l.at = (l.at + 1) % len(l.writers)
+		return nil, err
+	}
+	for place, text := range append(append([]string{"BEGIN READ WRITE"}, texts...), "COMMIT") {
+		given := values
+		if place != len(texts) {
+			given = nil
+		}
+		taken.statements[0] = nil
+		err = taken.ask(0, strings.ReplaceAll(text, "@", l.store.of.Schema), func(row []driver.Value) error {
+			// (the octets of a row are valid until the next one)
+			made := append([]driver.Value(nil), row...)
+			for place, value := range made {
+				if octets, isText := value.([]byte); isText {
+					made[place] = append([]byte(nil), octets...)
+				}
+			}
+			rows = append(rows, made)
+			return nil
+		}, given)
+		if err != nil {
+			taken.Close()
+			taken = nil
+			l.at = (l.at + 1) % len(l.writers)
+			break
+		}
+	}
+	writer.slots <- taken
+	return rows, err
+}
+
+// A beat, by the clock of a server, which is wrong by what the table `error` says.
+const beats = "UPDATE @.heartbeat SET number = number + 1, moment = clock_timestamp() + (SELECT by FROM @.error)"
+
+// change adds an entry or removes one, with a beat.
+func (l *timeline) change() {
+	last := l.past[len(l.past)-1].entries
+	next, begun := make(map[int]string, len(last)+1), time.Now()
+	for number, text := range last {
+		next[number] = text
+	}
+	var err error
+	if len(next) < 40 || l.random.Intn(2) == 0 {
+		l.number++
+		next[l.number] = l.entry()
+		_, err = l.writes([]string{beats, "INSERT INTO @.entries (number, text) OVERRIDING SYSTEM VALUE VALUES ($1, $2)"}, int64(l.number), []byte(next[l.number]))
+	} else {
+		numbers := numbersOf(next)
+		number := numbers[l.random.Intn(len(numbers))]
+		delete(next, number)
+		_, err = l.writes([]string{beats, "DELETE FROM @.entries WHERE number = $1"}, int64(number))
+	}
+	l.add(&version{next, begun, time.Time{}}, err == nil)
+	if err != nil {
+		l.uncertain++
+		l.settle(begun)
+	}
+}
+
+// settle waits until a server can be written to, and reads what is in force there, when no other transaction is under way.
+func (l *timeline) settle(begun time.Time) {
+	for {
+		rows, err := l.writes([]string{"SELECT changes FROM @.state FOR UPDATE", beats, "SELECT number, text FROM @.entries"})
+		if err == nil {
+			entries := map[int]string{}
+			for _, row := range rows[1:] {
+				entries[int(row[0].(int64))] = string(row[1].([]byte))
+			}
+			l.add(&version{entries, begun, time.Time{}}, true)
+			return
+		}
+		select {
+		case <-l.end:
+			return
+		case <-time.After(50 * time.Millisecond):
+		}
+	}
+}
+
+// add adds a version. If it is certain, no version before it is in force any more.
+func (l *timeline) add(made *version, isCertain bool) {
+	l.mutex.Lock()
+	defer l.mutex.Unlock()
+	for place := len(l.past) - 1; isCertain && place >= 0 && l.past[place].until.IsZero(); place-- {
+		l.past[place].until = time.Now()
+	}
+	l.past = append(l.past, made)
+}
+
+// within returns the lists that may have been in force in some time, the last one first.
+func (l *timeline) within(from, until time.Time) (found []map[int]string) {
+	l.mutex.Lock()
+	defer l.mutex.Unlock()
+	for place := len(l.past) - 1; place >= 0; place-- {
+		if it := l.past[place]; !it.from.After(until) && (it.until.IsZero() || !it.until.Before(from)) {
+			found = append(found, it.entries)
+		}
+	}
+	return found
+}
+
+// isRight says whether an answer is that of a list that was in force at most `failingStale` seconds before its question was asked, or since.
+func (l *timeline) isRight(asked time.Time, question guard.Question, answer string) bool {
+	for _, entries := range l.within(asked.Add(-failingStale*time.Second), time.Now()) {
+		if l.wholeAnswer(entries, question) == answer {
+			return true
+		}
+	}
+	return false
+}
+
+// changes changes the list until the test ends.
+func (l *timeline) changes() {
+	for {
+		select {
+		case <-l.end:
+			return
+		case <-time.After(betweenChanges):
+			l.change()
+		}
+	}
+}
+
+// TestQuestionsUnderFailures asks a store while its entries change and tests/suite/test_store_failures.py has something fail. Each answer must be a
+// failure, or that of the guard of the whole list as of a moment that is at most `failingStale` seconds ago.
+func TestQuestionsUnderFailures(t *testing.T) {
+	l := newTimeline(t)
+	random := rand.New(rand.NewSource(l.random.Int63()))
+	over := make(chan struct{})
+	go l.store.poll()
+	go func() { defer close(over); l.changes() }()
+	wanted, _ := strconv.Atoi(os.Getenv(envQuestions))
+	met, last := map[string]int{}, time.Now()
+	for count := 0; !t.Failed() && (count < wanted || !isThere(os.Getenv(envEnd))); {
+		question, asked := l.question(random), time.Now()
+		answer := l.answer(question)
+		if strings.HasPrefix(answer, failed) {
+			met[failed]++
+			time.Sleep(time.Millisecond)
+			if time.Since(last) > 5*time.Minute {
+				t.Fatal("no answer for minutes: " + answer)
+			}
+			continue
+		}
+		count, last = count+1, time.Now()
+		met[answer[:2]]++
+		if !l.isRight(asked, question, answer) {
+			t.Errorf("seed %s, question %d: %s: %s", os.Getenv(envSeed), count, answer, hex.EncodeToString(question.Sequence))
+		}
+	}
+	close(l.end)
+	<-over
+	if met["ye"] < wanted/20 || met["no"] < wanted/20 || met[failed] == 0 {
+		t.Errorf("%v", met)
+	}
+	t.Logf("%v, %d versions, %d changes not certain, %d kept of %d", met, len(l.past), l.uncertain, l.store.count.hits, l.store.count.hits+l.store.count.misses)
+}
+
+// isThere says whether a file is there.
+func isThere(path string) bool {
+	_, err := os.Stat(path)
+	return err == nil
+}

@@ -1,0 +1,227 @@
+//go:build spki_postgres
+
+package main
+
+import (
+	"bufio"
+	"database/sql/driver"
+	"fmt"
+	"math/rand"
+	"net"
+	"os"
+	"path/filepath"
+	"sort"
+	"strconv"
+	"strings"
+	"sync"
+	"sync/atomic"
+	"testing"
+	"time"
+
+	"github.com/lib/pq"
+)
+
+// bench/store.py sets these: the sockets of daemons, their processes, that of the server, the requests a second of each daemon or 0 for as many as it
+// answers, and for how long.
+const (
+	envFronts  = "SPKI_STORE_SOCKETS"
+	envDaemons = "SPKI_STORE_DAEMONS"
+	envServer  = "SPKI_STORE_SERVER"
+	envRate    = "SPKI_STORE_RATE"
+	envSeconds = "SPKI_STORE_SECONDS"
+)
+
+// The people whose rows are kept, those who ask once, and the connections to each daemon.
+const (
+	hotPeople, coldPeople = 200, 20_000
+	connectionsEach       = 16
+)
+
+// A load asks daemons over HTTP, nine of ten times for somebody whose rows they keep.
+type load struct {
+	*testing.T
+	requests []string
+	sockets  []string
+	every    time.Duration
+	seconds  time.Duration
+	times    [][]time.Duration
+}
+
+// TestStoreServed prints what decisions over HTTP take, with a TLS certificate of each client and its entry in the store.
+func TestStoreServed(t *testing.T) {
+	if os.Getenv(envFronts) == "" {
+		t.Skip("bench/store.py names daemons")
+	}
+	l := &load{T: t, sockets: strings.Split(os.Getenv(envFronts), ",")}
+	rate, _ := strconv.Atoi(os.Getenv(envRate))
+	if rate > 0 {
+		l.every = time.Second * connectionsEach / time.Duration(rate)
+	}
+	seconds, _ := strconv.Atoi(os.Getenv(envSeconds))
+	l.seconds = time.Duration(seconds) * time.Second
+	l.populate()
+	l.warm()
+	daemons, server := strings.Split(os.Getenv(envDaemons), ","), processesOf(os.Getenv(envServer))
+	before, beforeServer, octets, begun := processorTime(daemons), processorTime(server), transferredBy(daemons), time.Now()
+	l.all()
+	took, times := time.Since(begun), []time.Duration{}
+	for _, each := range l.times {
+		times = append(times, each...)
+	}
+	each := func(sum time.Duration) float64 { return float64(sum.Microseconds()) / float64(len(times)) }
+	sort.Slice(times, func(one, other int) bool { return times[one] < times[other] })
+	fmt.Printf("figure served second %.0f p50 %d p99 %d daemon %.1f server %.1f octets %d\n", float64(len(times))/took.Seconds(),
+		times[len(times)/2].Microseconds(), times[len(times)*99/100].Microseconds(), each(processorTime(daemons)-before),
+		each(processorTime(server)-beforeServer), (transferredBy(daemons)-octets)/len(times))
+}
+
+// populate makes people, their entries, and the requests of each.
+func (l *load) populate() {
+	f := newFigures(l.T, 1)
+	writer, err := openReader(f.store.of, time.Minute)
+	if err != nil {
+		l.Fatal(err)
+	}
+	entries := pq.ByteaArray{}
+	for number := 0; number < hotPeople+coldPeople; number++ {
+		who := newPerson(l.T)
+		entries = append(entries, []byte("(5:entry"+who.key+propagates+"(3:tag"+prefix("read", "/web/")+"))"))
+		l.requests = append(l.requests, "GET /auth HTTP/1.1\r\nHost: d\r\nX-Original-Method: GET\r\nX-Original-URI: /web/x\r\nX-Client-Cert: "+who.escaped()+"\r\n\r\n")
+	}
+	added, err := entries.Value()
+	if err == nil {
+		err = runAt(writer.(*pool), "INSERT INTO "+f.store.of.Schema+".entries (text) SELECT * FROM unnest($1::bytea[])", added)
+	}
+	if err != nil {
+		l.Fatal(err)
+	}
+	// (the daemons poll that before anything is measured)
+	time.Sleep(2 * pollEvery)
+}
+
+// warm has each daemon read the rows of those who ask often.
+func (l *load) warm() {
+	for _, socket := range l.sockets {
+		one := l.visitor(socket, 0, nil)
+		for number := 0; number < hotPeople; number++ {
+			one.asks(number)
+		}
+		one.connection.Close()
+	}
+}
+
+// all has each connection ask until the time is over, or until all who ask once have asked its daemon: their rows are kept from then on.
+func (l *load) all() {
+	var group sync.WaitGroup
+	end, cold := time.Now().Add(l.seconds), make([]atomic.Int64, len(l.sockets))
+	l.times = make([][]time.Duration, len(l.sockets)*connectionsEach)
+	for place := range l.times {
+		group.Add(1)
+		at := place % len(l.sockets)
+		go func(place int, visitor *visitor, cold *atomic.Int64) {
+			defer group.Done()
+			for turn, next := place, time.Now().Add(time.Duration(visitor.random.Int63n(int64(l.every)+1))); time.Now().Before(end) && cold.Load() < coldPeople; turn++ {
+				time.Sleep(time.Until(next))
+				next = next.Add(l.every)
+				number := visitor.random.Intn(hotPeople)
+				if turn%10 == 0 {
+					number = hotPeople + int(cold.Add(1))%coldPeople
+				}
+				visitor.asks(number)
+			}
+		}(place, l.visitor(l.sockets[at], int64(place), &l.times[place]), &cold[at])
+	}
+	group.Wait()
+}
+
+// A visitor asks over one connection, and notes what each answer took.
+type visitor struct {
+	*load
+	connection net.Conn
+	reader     *bufio.Reader
+	random     *rand.Rand
+	times      *[]time.Duration
+}
+
+// visitor connects to a daemon.
+func (l *load) visitor(socket string, seed int64, times *[]time.Duration) *visitor {
+	connection, err := net.Dial("unix", socket)
+	if err != nil {
+		l.Fatal(err)
+	}
+	return &visitor{l, connection, bufio.NewReader(connection), rand.New(rand.NewSource(seed)), times}
+}
+
+// asks asks for somebody, who must be granted it.
+func (a *visitor) asks(number int) {
+	begun := time.Now()
+	if _, err := a.connection.Write([]byte(a.requests[number])); err != nil {
+		a.Error(err)
+	}
+	for first := true; ; first = false {
+		line, err := a.reader.ReadSlice('\n')
+		if err != nil || first && !strings.HasPrefix(string(line), "HTTP/1.1 200 ") {
+			a.Errorf("%d: %q %v", number, line, err)
+			return
+		}
+		if len(line) == 2 {
+			break
+		}
+	}
+	if a.times != nil {
+		*a.times = append(*a.times, time.Since(begun))
+	}
+}
+
+// runAt runs a statement.
+func runAt(writer *pool, text string, values ...driver.Value) error {
+	link, err := writer.take()
+	if err != nil {
+		return err
+	}
+	defer link.Close()
+	return link.ask(0, text, func([]driver.Value) error { return nil }, values)
+}
+
+// processesOf returns a process and those that it started.
+func processesOf(parent string) []string {
+	found := []string{parent}
+	paths, _ := filepath.Glob("/proc/[0-9]*/stat")
+	for _, path := range paths {
+		if fields := statOf(path); len(fields) > 1 && fields[1] == parent {
+			found = append(found, filepath.Base(filepath.Dir(path)))
+		}
+	}
+	return found
+}
+
+// statOf returns the fields of a process from its state on.
+func statOf(path string) []string {
+	text, _ := os.ReadFile(path)
+	_, rest, _ := strings.Cut(string(text), ") ")
+	return strings.Fields(rest)
+}
+
+// processorTime returns the time of a processor that processes have used.
+func processorTime(processes []string) (sum time.Duration) {
+	for _, each := range processes {
+		if fields := statOf("/proc/" + each + "/stat"); len(fields) > 12 {
+			for _, ticks := range fields[11:13] {
+				count, _ := strconv.Atoi(ticks)
+				sum += time.Duration(count) * 10 * time.Millisecond
+			}
+		}
+	}
+	return sum
+}
+
+// transferredBy returns how many octets processes have read and written.
+func transferredBy(processes []string) (sum int) {
+	for _, each := range processes {
+		text, _ := os.ReadFile("/proc/" + each + "/io")
+		var read, wrote int
+		_, _ = fmt.Sscanf(string(text), "rchar: %d\nwchar: %d", &read, &wrote)
+		sum += read + wrote
+	}
+	return sum
+}

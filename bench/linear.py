@@ -1,0 +1,324 @@
+#!/usr/bin/env python3
+"""Times `spki check` on texts whose time must be linear in their octets. `slowest.py` searches for others.
+
+Each text is made for three lengths. Times are processor times, the least of some runs. The ratio for 4 times the octets is that of times or
+that of instructions, whichever is less: short times differ by half from run to run, and a comparison of long octets has more instructions than
+its time shows. The limits are:
+
+- At most 1 second at 1 MiB for each text except the last, and where it takes over 0.1 seconds, at most 5 times for 4 times the octets.
+- Many entries with many certificates take at most 1.5 times what the entries take with one certificate and the certificates with one entry.
+- The last text is of the worst kind that is known: each certificate is intersected with a tag of 331,776 strings. It has 16 certificates, and
+  is only measured. A guard decides it as quickly as the others, because it forms no intersection.
+
+The exit status is 1 if a limit is exceeded or an answer is wrong.
+
+Build the program first (`rt run` in crates/spki). Usage: bench/linear.py [PROGRAM]
+"""
+import subprocess
+import sys
+from dataclasses import dataclass
+from typing import Callable
+
+from check import PROGRAM, STAR, group, key, run, string
+from counting import counted, counter
+from shapes import a_set, by_hashes, by_keys, certificate, definition, digest, entry, name, parts_of, through_names
+
+SIZES = [64 * 1024, 256 * 1024, 1024 * 1024]
+RUNS, ENOUGH_SECONDS, MOST_SECONDS = 7, 2.0, 120
+LIMIT_SECONDS, SHORT_SECONDS, LIMIT_RATIO, LIMIT_SUM = 1.0, 0.1, 5.0, 1.5
+# The certificates behind a tag of 331,776 strings.
+BEHIND_LARGE = 16
+# The most members of a set or list of which two have 1,000,000 as the product of their nodes.
+MEMBERS = 999
+OTHER = key("other")
+OWNER = key("k")
+FTP = group(string("ftp"))
+RANGE = group(*map(string, ("*", "range", "alpha", "ge", "a", "le", "b")))
+SET_OF_TWO = group(*map(string, ("*", "set", "a", "b")))
+
+
+def shown(octets, signer, value=string("sig")):
+    """A certificate's octets with its signature behind them."""
+    return octets + group(string("signature"), digest(octets), signer, value)
+
+
+def asked(entries, rows, items, asks=OTHER):
+    """A case of these parts. The key that asks is none of theirs, so that every entry is tried."""
+    return group(
+        string("case"), group(string("acl"), *entries), group(string("accepted"), *rows), group(string("sequence"), *items),
+        group(string("key"), asks), group(string("request"), string("ftp")), group(string("at"), string("2024-01-01_00:00:00")))
+
+
+def row(octets, signer, value=string("sig")):
+    return group(string("by"), signer, digest(octets), value)
+
+
+def repeated(entries, cert, certificates, before=()):
+    """A case of one certificate of the owner many times, with others before it."""
+    return asked(entries, [row(octets, OWNER) for octets in (*before, cert)],
+                 [shown(octets, OWNER) for octets in before] + [shown(cert, OWNER)] * certificates)
+
+
+# Each shape makes a case of so many entries and certificates. The third number is the most members of a set or list.
+
+def chain(entries, certificates, members):
+    return by_keys(certificates, asks=OTHER)
+
+
+def chain_of_hashes(entries, certificates, members):
+    return by_hashes(certificates, OTHER)
+
+
+def chain_of_names(entries, certificates, members):
+    return through_names(certificates, asks=OTHER)
+
+
+def many_rows(entries, certificates, members):
+    """Certificates of one key, each with a row."""
+    certs = [certificate(OWNER, OWNER, group(string("*"), string("set"), string("ftp"), string(f"x{place:05}"))) for place in range(certificates)]
+    return asked([entry(OWNER)], [row(cert, OWNER) for cert in certs], [shown(cert, OWNER) for cert in certs])
+
+
+def rows_of_one_digest(entries, certificates, members):
+    """One certificate many times, each time with another signature, and a row for each of these signatures."""
+    cert = certificate(OWNER, OWNER)
+    values = [string(f"v{place:05}") for place in range(certificates)]
+    return asked([entry(OWNER)], [row(cert, OWNER, value) for value in values], [shown(cert, OWNER, value) for value in values])
+
+
+def wide_lists(entries, certificates, members):
+    return by_keys(certificates, group(string("ftp"), *[string("x")] * (members - 1)), asks=OTHER)
+
+
+def wide_sets(entries, certificates, members):
+    return by_keys(certificates, group(string("*"), string("set"), *[string(f"{place:03}") for place in range(members)]), asks=OTHER)
+
+
+def list_of_members(entries, certificates, members):
+    """An entry for a list, and a certificate for its head."""
+    return repeated([entry(OWNER, group(string("ftp"), *[string("x")] * (members * 9 // 10 - 1)))], certificate(OWNER, OWNER, FTP), certificates)
+
+
+def entries_and_chain(entries, certificates, members):
+    return by_keys(certificates, entries=entries, asks=OTHER)
+
+
+def entries_and_tags(entries, certificates, members):
+    """The product of all nodes is over the limit, so that it alone says nothing."""
+    return by_keys(certificates, FTP, entries=entries, asks=OTHER)
+
+
+def entries_in_turns(entries, certificates, members):
+    """Each entry has another tag than the one before it."""
+    return by_keys(certificates, FTP, entries=entries, asks=OTHER, turn=STAR)
+
+
+def entries_with_own_tags(entries, certificates, members):
+    """Each entry has a tag that no other has, and that the certificates leave as it is."""
+    text = by_keys(certificates, FTP, entries=0, asks=OTHER)
+    listed = [entry(key("k00000"), group(string("ftp"), string(f"x{place:05}"))) for place in range(entries)]
+    return text.replace(group(string("acl")), group(string("acl"), *listed), 1)
+
+
+def entries_and_names(entries, certificates, members):
+    return through_names(certificates, entries=entries, asks=OTHER)
+
+
+def entries_and_two_words(entries, certificates, members):
+    """Entries for a friend of a friend, of whom the definitions resolve the first."""
+    text = through_names(certificates, entries=0, asks=OTHER)
+    listed = [entry(name(key("k00000"), "friends", "friend"))] * entries
+    return text.replace(group(string("acl")), group(string("acl"), *listed), 1)
+
+
+def long_key(entries, octets, members):
+    """Entries for a hash, each of which is compared with a long key."""
+    return asked([entry(digest(OWNER))] * entries, [], [], key("k" * octets))
+
+
+def long_issuer(entries, certificates, members):
+    """Entries for the hash of a long key, and one certificate many times, from this hash to itself."""
+    long = key("k" * (148 * certificates))
+    cert = certificate(digest(long), digest(long))
+    return asked([entry(digest(long))] * entries, [row(cert, long)], [long] + [shown(cert, digest(long))] * certificates)
+
+
+def long_name(names, certificates, members):
+    """An entry for a long name, and one definition many times, of its first word by itself."""
+    first = name(OWNER, "n")
+    return repeated([entry(name(OWNER, *["n"] * names))], definition(first, first), certificates)
+
+
+def large_tag(entries, certificates, members, other=string("a")):
+    """Two sets whose intersection has the most strings, and one certificate many times, each of which goes over them."""
+    large = a_set(string("a"), members)
+    return repeated([entry(OWNER, large)], certificate(OWNER, OWNER, other), certificates, [certificate(OWNER, OWNER, large)])
+
+
+def large_tag_and_range(entries, certificates, members):
+    """The same with a certificate for a range, which contains the strings."""
+    return large_tag(entries, certificates, members, RANGE)
+
+
+def large_tag_and_set(entries, certificates, members):
+    """The same with a certificate for a set of two strings, which has 3 nodes: so there are fewer members."""
+    return large_tag(entries, certificates, int(members / 3 ** 0.5), SET_OF_TWO)
+
+
+def between(place):
+    """A range that lies within that of the place before."""
+    return group(*map(string, ("*", "range", "alpha", "g", f"a{10_000 + place}", "l", f"a{99_999 - place}")))
+
+
+def after_large(large, tags):
+    """An entry and a certificate for a large tag, and certificates for these tags."""
+    certs = [certificate(OWNER, OWNER, tag) for tag in (large, *tags)]
+    return asked([entry(OWNER, large)], [row(cert, OWNER) for cert in certs], [shown(cert, OWNER) for cert in certs])
+
+
+def narrowed_ranges(entries, certificates, members):
+    """Two sets whose intersection has the most ranges, and certificates for ranges, each of which lies within the one before it: so each
+    changes both limits of all ranges."""
+    return after_large(a_set(RANGE, members), map(between, range(certificates)))
+
+
+def ranges_and_sets_of_two(entries, certificates, members):
+    """The same with certificates for sets of two ranges, of which one has nothing in common with the others. Such a set has 3 nodes: so there
+    are fewer members."""
+    low, high = (group(*map(string, ("*", "range", "alpha", word, "b"))) for word in ("l", "g"))
+    sets = (group(string("*"), string("set"), between(place), high) for place in range(certificates))
+    return after_large(a_set(low, int(members / 3 ** 0.5)), sets)
+
+
+def strangers(entries, certificates, members):
+    """Entries for other keys, each with a set of its own, and certificates that a stranger issues to itself."""
+    tags = (group(string("*"), string("set"), *[string(f"{place:05}{at}") for at in range(3)]) for place in range(entries))
+    listed = [entry(key(f"other{place:05}"), tag) for place, tag in enumerate(tags)]
+    return repeated(listed, certificate(OWNER, OWNER, a_set(string("a"), 30)), certificates)
+
+
+@dataclass(frozen=True)
+class Shape:
+    """A kind of text, of which the list takes this part, and whether it is one of many entries and many certificates."""
+
+    what: str
+    make: Callable
+    listed: float = 0.5
+    is_product: bool = False
+
+    @property
+    def name(self):
+        return self.make.__name__
+
+    def entries(self, octets, members):
+        """How many entries have at most so many octets in the list."""
+        return most(lambda count: lengths_in_case(self.make(count, 2, members))[0], octets)
+
+    def fitting(self, size):
+        """The counts of entries and certificates in the largest text of at most so many octets."""
+        entries = self.entries(int(size * self.listed), MEMBERS)
+        others = lengths_in_case(self.make(1, 2, MEMBERS))[1]
+        listed = len(self.make(entries, 2, MEMBERS)) - others
+        return entries, most(lambda count: lengths_in_case(self.make(1, count, MEMBERS))[1], size - listed)
+
+    def text(self, size):
+        """What the largest text of at most so many octets is, and the text."""
+        counts = self.fitting(size)
+        return self.what.format(*counts), self.make(*counts, MEMBERS)
+
+
+def most(octets_of, octets):
+    """The greatest count for which the octets are at most so many, if they grow by the same for each; 1 if they do not grow."""
+    few, many = octets_of(2), octets_of(12)
+    return max(1, 2 + (octets - 16 - few) * 10 // (many - few)) if many > few else 1
+
+
+def lengths_in_case(text):
+    """The octets of a case's list, and of all else."""
+    listed = len(parts_of(text)[0])
+    return listed, len(text) - listed
+
+
+# Those of which `service.py` asks guards.
+LARGE_TAG = Shape("two sets whose intersection has 998,001 strings, {1:,} times a certificate for one string", large_tag, 0.0)
+LARGE_TAG_AND_RANGE = Shape("the same sets, {1:,} times a certificate for a range with two limits", large_tag_and_range, 0.0)
+LARGE_TAG_AND_SET = Shape("two sets whose intersection has 331,776 strings, {1:,} times a certificate for a set of two", large_tag_and_set, 0.0)
+SHAPES = [
+    Shape("1 entry, {1:,} certificates in a chain", chain, 0.0),
+    Shape("1 entry, {1:,} certificates in a chain, by hashes of keys", chain_of_hashes, 0.0),
+    Shape("1 entry, {1:,} definitions of names in a chain", chain_of_names, 0.0),
+    Shape("1 entry, {1:,} certificates of one key", many_rows, 0.0),
+    Shape("1 entry, {1:,} times one certificate, each time with another signature", rows_of_one_digest, 0.0),
+    Shape("1 entry, {1:,} certificates for lists of 1,000 nodes", wide_lists, 0.0),
+    Shape("1 entry, {1:,} certificates for sets of 1,000 nodes", wide_sets, 0.0),
+    Shape("1 entry for a list of 900 nodes, {1:,} times a certificate for its head", list_of_members, 0.0),
+    Shape("{0:,} entries for the first issuer, {1:,} certificates in a chain, all for (*)", entries_and_chain, is_product=True),
+    Shape("{0:,} entries for the first issuer, {1:,} certificates in a chain, all for (ftp)", entries_and_tags, is_product=True),
+    Shape("the same of {0:,} and {1:,}, every second entry for (*)", entries_in_turns, is_product=True),
+    Shape("the same of {0:,} and {1:,}, each entry with a tag of its own", entries_with_own_tags, is_product=True),
+    Shape("{0:,} entries for the first name, {1:,} definitions in a chain", entries_and_names, is_product=True),
+    Shape("{0:,} entries for names of two words, {1:,} definitions in a chain", entries_and_two_words, is_product=True),
+    Shape("{0:,} entries for a hash, an asking key of {1:,} octets", long_key),
+    Shape("{0:,} entries, {1:,} times one certificate, all for the hash of one long key", long_issuer, 0.25),
+    Shape("a subject of {0:,} names, {1:,} times one definition of the first by itself", long_name),
+    Shape("{0:,} entries for other keys, each for a set of its own, {1:,} times a certificate for a set of 30", strangers, is_product=True),
+]
+
+
+def seconds_of(text):
+    """The least processor time of some runs, or None if a run was ended."""
+    times = []
+    while len(times) < RUNS and sum(times) < ENOUGH_SECONDS:
+        try:
+            times.append(run(text, b"no\n", MOST_SECONDS))
+        except subprocess.TimeoutExpired:
+            return None
+    return min(times)
+
+
+def timed(shape, sizes=SIZES):
+    """The times of a shape for these lengths, each of which is printed."""
+    for size in sizes:
+        what, text = shape.text(size)
+        took = seconds_of(text)
+        print(f"{len(text):>9,}  " + (f"{took:>8.3f} s" if took is not None else f"over {MOST_SECONDS} s") + f"  {what}", flush=True)
+        yield float("inf") if took is None else took
+
+
+def faults_of(shape, count):
+    """The limits that a shape exceeds, where `count` counts instructions."""
+    def instructions(text):
+        return counted(count, [PROGRAM, "check"], text)
+
+    def ratio_of(numbers):
+        return max(after / before for before, after in zip(numbers, numbers[1:]))
+
+    times = list(timed(shape))
+    counts = [instructions(shape.text(size)[1]) for size in SIZES]
+    many, ratio = counts[-1], min(ratio_of(times), ratio_of(counts))
+    print(f"{'':<9}  {ratio:>8.2f}    times for 4 times the octets", flush=True)
+    if times[-1] > LIMIT_SECONDS:
+        yield f"{shape.name}: {times[-1]:.2f} s (at most {LIMIT_SECONDS})"
+    if ratio > LIMIT_RATIO and times[-1] > SHORT_SECONDS:
+        yield f"{shape.name}: {ratio:.1f} times for 4 times the octets (at most {LIMIT_RATIO})"
+    if shape.is_product:
+        entries, certificates = shape.fitting(SIZES[-1])
+        parts = instructions(shape.make(entries, 1, MEMBERS)) + instructions(shape.make(1, certificates, MEMBERS))
+        print(f"{'':<9}  {many / parts:>8.2f}    times the entries with one certificate, and the certificates with one entry", flush=True)
+        if many > LIMIT_SUM * parts:
+            yield f"{shape.name}: {many / parts:.1f} times what its parts take (at most {LIMIT_SUM})"
+
+
+def main():
+    print(f"{'octets':>9}  {'time':>10}  text")
+    count = counter()
+    over = [fault for shape in SHAPES for fault in faults_of(shape, count)]
+    text = large_tag_and_set(1, BEHIND_LARGE, MEMBERS)
+    print(f"{len(text):>9,}  {seconds_of(text):>8.3f} s  {LARGE_TAG_AND_SET.what.format(0, BEHIND_LARGE)}", flush=True)
+    print("over the limits:", *over or ["none"], sep="\n")
+    if over:
+        sys.exit(1)
+
+
+if __name__ == "__main__":
+    main()

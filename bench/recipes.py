@@ -1,0 +1,292 @@
+"""Texts that are made by numbers, so that a search can change them: which tags and names an entry and the certificates have, how long, how
+often and how deep. All certificates are of one key, and join, so that no work is left out. One number of the entries and one of the
+certificates grows until the text has the octets that are wanted."""
+import base64
+import random
+from collections.abc import Callable, Iterator
+from dataclasses import dataclass, replace
+
+from check import STAR, group, string
+from shapes import definition, digest, name
+
+# What a tag written in a text may have.
+MOST_NODES, MOST_DEPTH = 1024, 57
+OWNER, OTHER = (group(string("public-key"), group(string(word))) for word in "ab")
+AT = b"2024-01-01_00:00:00"
+KINDS = ("star", "string", "prefix", "range", "limits", "list", "set")
+LEAVES = ("string", "prefix", "range", "limits")
+
+
+def named(count: int) -> bytes:
+    """The owner, or a name of the owner of so many strings. The first one is that which a definition defines, and the others are empty."""
+    return name(OWNER, "n", *[""] * (count - 1)) if count else OWNER
+
+
+@dataclass(frozen=True)
+class Tag:
+    """A tag: lists or sets in one another, of which the innermost has these members."""
+
+    kind: str = "star"
+    members: int = 1
+    octets: int = 1
+    depth: int = 1
+    of: str = "string"
+    are_equal: bool = True
+    # Lists beside it in a set, which nothing else contains: they count where a command multiplies the nodes of all tags, and are gone after a step.
+    lists: int = 0
+
+    def leaf(self, kind: str, number: int = 0) -> bytes:
+        """A string, a prefix, or a range without or with limits. All begin with the same octets."""
+        octets = b"m" * self.octets + (b"" if self.are_equal else b"%04d" % number)
+        if kind == "string":
+            return string(octets)
+        if kind == "prefix":
+            return group(*map(string, (b"*", b"prefix", octets)))
+        limits = [string(it) for it in (b"ge", octets + b"a", b"le", octets + b"z")] if kind == "limits" else []
+        return group(*map(string, (b"*", b"range", b"alpha")), *limits)
+
+    @property
+    def nodes(self) -> int:
+        """At most as many as it is written with."""
+        own = self.members + self.depth * (1 if self.kind == "set" else 2) if self.kind in ("list", "set") else 1
+        return own + 2 * self.lists + (1 if self.lists else 0)
+
+    def text(self) -> bytes:
+        """The octets of the tag."""
+        alone = self.alone()
+        return group(string("*"), string("set"), alone, *[group(string("l"))] * self.lists) if self.lists else alone
+
+    def alone(self) -> bytes:
+        """The same without lists beside it."""
+        if self.kind == "star":
+            return STAR
+        if self.kind in LEAVES:
+            return self.leaf(self.kind)
+        head = [string("*"), string("set")] if self.kind == "set" else [string("l")]
+        made = group(*head, *[self.leaf(self.of, number) for number in range(self.members)])
+        for _ in range(self.depth - 1):
+            made = group(*head, made)
+        return made
+
+
+@dataclass(frozen=True)
+class Entries:
+    """Entries for the owner, or for a name of the owner."""
+
+    tag: Tag = Tag()
+    count: int = 1
+    names: int = 0
+    grows: str = "count"
+
+
+@dataclass(frozen=True)
+class Link:
+    """A certificate, so often: a right, or while the subject before it has names the definition of the first one. Its subject has so many
+    names, and it has a comment of so many lists."""
+
+    tag: Tag = Tag()
+    repeats: int = 1
+    names: int = 0
+    comment: int = 0
+
+
+@dataclass(frozen=True)
+class Recipe:
+    """A list and a question. `grown` is the certificate of which a number grows."""
+
+    entries: Entries = Entries()
+    links: tuple[Link, ...] = ()
+    grown: int = 0
+    grows: str = ""
+    words: int = 1
+    word_octets: int = 3
+    is_by_other: bool = True
+
+    def list_text(self) -> bytes:
+        """The access list."""
+        its = self.entries
+        subject = named(its.names)
+        one = group(string("entry"), subject, group(string("propagate")), group(string("tag"), its.tag.text()))
+        return group(string("acl"), *[one] * its.count)
+
+    def certificates(self) -> Iterator[bytes]:
+        """The certificates, in order."""
+        names = self.entries.names
+        for link in self.links:
+            for _ in range(link.repeats):
+                subject = named(link.names)
+                is_right = names == 0
+                names = link.names + max(0, names - 1)
+                if is_right:
+                    parts = [group(string("issuer"), OWNER), group(string("subject"), subject), group(string("propagate")),
+                             group(string("tag"), link.tag.text())]
+                    made = group(string("cert"), *parts)
+                else:
+                    made = definition(name(OWNER, "n"), subject)
+                comment = [group(string("comment"), *[b"()"] * link.comment)] if link.comment else []
+                yield made[:-1] + b"".join(comment) + b")"
+
+    def parts(self) -> list[bytes]:
+        """The list, the sequence, the key, the request and the moment."""
+        items = [cert + group(string("signature"), digest(cert), OWNER, string("s")) for cert in self.certificates()]
+        word = string(b"m" * self.word_octets)
+        request = group(*[word] * self.words) if self.words > 1 else word
+        return [self.list_text(), group(string("sequence"), *items), OTHER if self.is_by_other else OWNER, request, string(AT)]
+
+    def case(self) -> bytes:
+        """The same as one text, with a row for each certificate."""
+        listed, sequence, key, request, moment = self.parts()
+        rows = {group(string("by"), OWNER, digest(cert), string("s")) for cert in self.certificates()}
+        return group(string("case"), listed, group(string("accepted"), *sorted(rows)), sequence, group(string("key"), key),
+                     group(string("request"), request), group(string("at"), moment))
+
+    def tags(self) -> bytes:
+        """Two tags to be intersected."""
+        return group(string("intersect"), self.entries.tag.text(), (self.links[0] if self.links else Link()).tag.text())
+
+    # ---- how a text grows
+
+    def with_list(self, number: int) -> "Recipe":
+        """The same where the number of the entries that grows is this one."""
+        its, what = self.entries, self.entries.grows
+        if what in ("count", "names"):
+            return replace(self, entries=replace(its, **{what: number}))
+        return replace(self, entries=replace(its, tag=replace(its.tag, **{what: number})))
+
+    def with_links(self, number: int) -> "Recipe":
+        """The same of the certificates."""
+        if not self.links or not self.grows:
+            return self
+        at, what = self.grown % len(self.links), self.grows
+        link = self.links[at]
+        is_own = what in ("repeats", "names", "comment")
+        grown = replace(link, **{what: number}) if is_own else replace(link, tag=replace(link.tag, **{what: number}))
+        return replace(self, links=(*self.links[:at], grown, *self.links[at + 1:]))
+
+    def is_read(self, certificates: int) -> bool:
+        """Whether all tags have few enough nodes, and there are few enough certificates."""
+        tags = [self.entries.tag, *(link.tag for link in self.links)]
+        return (all(tag.nodes <= MOST_NODES and tag.depth <= MOST_DEPTH for tag in tags)
+                and sum(link.repeats for link in self.links) <= certificates)
+
+
+def greatest(fits: Callable[[int], bool], most: int = 1 << 20) -> int:
+    """The greatest number that fits, if each that is less does; 0 if none does."""
+    low, high = 0, 1
+    while high <= most and fits(high):
+        low, high = high, 2 * high
+    while high - low > 1:
+        middle = (low + high) // 2
+        low, high = (middle, high) if fits(middle) else (low, middle)
+    return low
+
+
+def fitted(recipe: Recipe, listed: int, asked: int, certificates: int) -> Recipe | None:
+    """The largest list and question of a recipe that have at most so many octets. None if the smallest have more."""
+    def asks(number: int) -> bool:
+        made = recipe.with_links(number)
+        return made.is_read(certificates) and sum(map(len, made.parts()[1:])) <= asked
+
+    number = greatest(asks) if recipe.links and recipe.grows else int(asks(1))
+    made = recipe.with_links(number)
+    if not number:
+        return None
+
+    def lists(number: int) -> bool:
+        larger = made.with_list(number)
+        return larger.is_read(certificates) and len(larger.list_text()) <= listed
+
+    number = greatest(lists)
+    return made.with_list(number) if number else None
+
+
+@dataclass(frozen=True)
+class Form:
+    """A text for the conversions: lists in one another, of which the innermost has strings of one kind."""
+
+    kind: str = "token"
+    count: int = 1
+    octets: int = 1
+    depth: int = 1
+    lists: int = 1
+    is_braced: bool = False
+
+    def text(self) -> bytes:
+        """The octets of the text."""
+        octets = self.octets
+        one = {"token": b"m" * octets + b" ", "canonical": b"%d:" % octets + b"\1" * octets, "quoted": b'"' + b'\\"' * octets + b'"',
+               "escaped": b'"' + b"\\x01" * octets + b'"', "hexadecimal": b"#" + b"01" * octets + b"#", "base64": b"|" + b"AQEB" * octets + b"|",
+               "hinted": b"[1:h]%d:" % octets + b"m" * octets, "empty": b"0:", "lists": b"()"}[self.kind]
+        inner = b"(" * self.depth + one * self.count + b")" * self.depth
+        text = b"(" + inner * self.lists + b")"
+        return b"{%s}" % base64.b64encode(text) if self.is_braced else text
+
+
+FORMS = ("token", "canonical", "quoted", "escaped", "hexadecimal", "base64", "hinted", "empty", "lists")
+
+
+def formed(form: Form, octets: int) -> Form | None:
+    """The largest text of a form that has at most so many octets, by its lists."""
+    lists = greatest(lambda number: len(replace(form, lists=number).text()) <= octets)
+    return replace(form, lists=lists) if lists else None
+
+
+# ---- changes by chance
+
+
+def near(chance: random.Random, number: int, most: int) -> int:
+    """A number near another one, or any."""
+    if chance.random() < 0.3:
+        return min(most, int(2 ** chance.uniform(0, most.bit_length())))
+    return max(1, min(most, int(number * 2 ** chance.uniform(-1.5, 1.5)) + chance.choice((-1, 0, 1))))
+
+
+def changed_tag(chance: random.Random, tag: Tag) -> Tag:
+    """A tag of which one part is another."""
+    what = chance.choice(("kind", "kind", "members", "octets", "depth", "of", "are_equal", "lists"))
+    others = {"kind": lambda: chance.choice(KINDS), "members": lambda: near(chance, tag.members, 999),
+              "octets": lambda: near(chance, tag.octets, 30_000), "depth": lambda: near(chance, tag.depth, MOST_DEPTH),
+              "of": lambda: chance.choice(LEAVES), "are_equal": lambda: not tag.are_equal, "lists": lambda: chance.choice((0, 0, 1, 10))}
+    return replace(tag, **{what: others[what]()})
+
+
+def changed_link(chance: random.Random, link: Link) -> Link:
+    """A certificate of which one part is another."""
+    what = chance.choice(("tag", "tag", "tag", "repeats", "names", "comment"))
+    if what == "tag":
+        return replace(link, tag=changed_tag(chance, link.tag))
+    if what == "repeats":
+        return replace(link, repeats=near(chance, link.repeats, 60))
+    number = 0 if chance.random() < 0.5 else near(chance, getattr(link, what) or 1, 30_000)
+    return replace(link, **{what: number})
+
+
+def changed(chance: random.Random, recipe: Recipe) -> Recipe:
+    """A recipe of which one part is another."""
+    its, links, what = recipe.entries, recipe.links, chance.choice(("entries", "entries", "link", "link", "links", "grows", "request", "by"))
+    if what == "entries":
+        made = chance.choice((replace(its, tag=changed_tag(chance, its.tag)), replace(its, names=chance.choice((0, 0, 1, 2, 50))),
+                              replace(its, grows=chance.choice(("count", "octets", "names")))))
+        return replace(recipe, entries=made)
+    if what == "link" and links:
+        at = chance.randrange(len(links))
+        return replace(recipe, links=(*links[:at], changed_link(chance, links[at]), *links[at + 1:]))
+    if what in ("link", "links"):
+        at = chance.randrange(len(links) + 1)
+        if links and (len(links) == 4 or chance.random() < 0.3):
+            return replace(recipe, links=(*links[:at], *links[at + 1:]) if at < len(links) else links[1:])
+        return replace(recipe, links=(*links[:at], chance.choice((*links, changed_link(chance, Link()))), *links[at:]))
+    if what == "grows":
+        return replace(recipe, grown=chance.randrange(4), grows=chance.choice(("", "repeats", "names", "octets", "members", "comment")))
+    if what == "request":
+        return replace(recipe, words=near(chance, recipe.words, 64), word_octets=near(chance, recipe.word_octets, 20_000))
+    return replace(recipe, is_by_other=not recipe.is_by_other)
+
+
+def changed_form(chance: random.Random, form: Form) -> Form:
+    """A form of which one part is another."""
+    what = chance.choice(("kind", "count", "octets", "depth", "is_braced"))
+    others = {"kind": lambda: chance.choice(FORMS), "count": lambda: near(chance, form.count, 100_000),
+              "octets": lambda: near(chance, form.octets, 100_000), "depth": lambda: near(chance, form.depth, 60),
+              "is_braced": lambda: not form.is_braced}
+    return replace(form, **{what: others[what]()})

@@ -1,0 +1,57 @@
+/* Counts the memory that a program takes, which is linked with --wrap=malloc, --wrap=realloc and --wrap=free. */
+#ifndef TAKEN_H
+#define TAKEN_H
+
+#include <malloc.h>
+#include <stddef.h>
+
+static size_t taken, most;
+
+void *__real_malloc(size_t size);
+void *__real_realloc(void *block, size_t size);
+void __real_free(void *block);
+
+/* Counts a block, which may be null. */
+static void *counted(void *block)
+{
+    taken += malloc_usable_size(block);
+    if (taken > most)
+        most = taken;
+    return block;
+}
+
+void *__wrap_malloc(size_t size)
+{
+    return counted(__real_malloc(size));
+}
+
+/* While a block is copied, both are there. */
+void *__wrap_realloc(void *block, size_t size)
+{
+    size_t before = malloc_usable_size(block);
+    void *made = __real_realloc(block, size);
+    if (!made)
+        return NULL;
+    counted(made);
+    taken -= before;
+    return made;
+}
+
+void __wrap_free(void *block)
+{
+    taken -= malloc_usable_size(block);
+    __real_free(block);
+}
+
+static inline void begin_counting(void)
+{
+    taken = most = 0;
+}
+
+/* The most octets that were taken at once since the counting began. */
+static inline size_t most_taken(void)
+{
+    return most;
+}
+
+#endif

@@ -1,0 +1,38 @@
+// Command service lets clients read packages, by signed requests. Usage: service ACL NAME, behind a server with TLS.
+package main
+
+import (
+	"fmt"
+	"log"
+	"net"
+	"net/http"
+	"os"
+	"path"
+	"time"
+
+	"conguraki/spki/guard"
+	"conguraki/spki/httpsig"
+	"conguraki/spki/verify"
+)
+
+func main() {
+	octets, unread := os.ReadFile(os.Args[1])
+	list, refused := guard.Open(octets, guard.Strict, guard.Limits{})
+	listener, broken := net.Listen("tcp", "127.0.0.1:0")
+	if unread != nil || refused != nil || broken != nil {
+		log.Fatal(unread, refused, broken)
+	}
+	fmt.Println(listener.Addr().(*net.TCPAddr).Port)
+	verifier := httpsig.NewVerifier(os.Args[2])
+	log.Fatal(http.Serve(listener, http.HandlerFunc(func(answer http.ResponseWriter, request *http.Request) {
+		var decision guard.Decision
+		proof, err := verifier.Request(request)
+		if err == nil {
+			words := []string{"packages", "read", request.RequestURI}
+			decision, err = list.Decide(guard.Question{Sequence: proof.Sequence, Key: proof.Key, Words: words, Time: time.Now()}, verify.Signature)
+		}
+		if err != nil || !decision.Granted() || request.Method != http.MethodGet || path.Clean(request.URL.Path) != request.RequestURI {
+			http.Error(answer, "denied", http.StatusForbidden)
+		}
+	})))
+}

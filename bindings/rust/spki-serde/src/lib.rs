@@ -1,0 +1,87 @@
+//! Serde for what a service stores or logs of the crate `spki`. Limits and policies are read and written. Decisions, refusals and explanations are
+//! only written: nothing makes a grant, a mark or a proven key of a text.
+//!
+//! A field names a module or a function of this crate:
+//!
+//! ```
+//! /// The settings of a service.
+//! struct Settings {
+//!     limits: spki::Limits,
+//!     policy: spki::Policy,
+//! }
+//!
+//! # fn read(mut from: serde_json::Value) -> Result<Settings, serde_json::Error> {
+//! // with serde_derive: #[serde(with = "spki_serde::limits")] and #[serde(with = "spki_serde::policy")]
+//! let settings = Settings {
+//!     limits: spki_serde::limits::deserialize(from["limits"].take())?,
+//!     policy: spki_serde::policy::deserialize(from["policy"].take())?,
+//! };
+//! # Ok(settings)
+//! # }
+//! # let text = r#"{"limits": {"octets": 4096}, "policy": "strict"}"#;
+//! # let settings = read(serde_json::from_str(text)?)?;
+//! # assert_eq!(settings.policy, spki::Policy::Strict);
+//! # assert_eq!(settings.limits.named()[0], ("octets", 4096));
+//! # Ok::<(), serde_json::Error>(())
+//! ```
+
+#![deny(missing_docs)]
+#![forbid(unsafe_code)]
+
+use serde::ser::{SerializeMap, SerializeSeq};
+use serde::Serializer;
+use spki::{Denied, Explanation, Grant, Refusal};
+use std::fmt::Display;
+use std::time::UNIX_EPOCH;
+
+pub mod limits;
+pub mod policy;
+
+/// Writes a decision: whether the request is granted, and the entry that grants it and the second since 1970 until which it does, or the refusal,
+/// or why the verifier failed.
+///
+/// # Errors
+///
+/// Those of the serializer.
+pub fn decision<S: Serializer, E: Display>(
+    decision: &Result<Grant, Denied<E>>,
+    to: S,
+) -> Result<S::Ok, S::Error> {
+    let mut map = to.serialize_map(None)?;
+    map.serialize_entry("granted", &decision.is_ok())?;
+    match decision {
+        Ok(grant) => {
+            map.serialize_entry("entry", &grant.entry)?;
+            let until = grant
+                .until
+                .and_then(|it| it.duration_since(UNIX_EPOCH).ok());
+            map.serialize_entry("until", &until.map(|it| it.as_secs()))?;
+        }
+        Err(Denied::No) => {}
+        Err(Denied::Refused(refusal)) => map.serialize_entry("refused", refusal.line())?,
+        Err(other) => map.serialize_entry("failed", &other.to_string())?,
+    }
+    map.end()
+}
+
+/// Writes the line of a refusal.
+///
+/// # Errors
+///
+/// Those of the serializer.
+pub fn refusal<S: Serializer>(refusal: &Refusal, to: S) -> Result<S::Ok, S::Error> {
+    to.serialize_str(refusal.line())
+}
+
+/// Writes the lines of an explanation.
+///
+/// # Errors
+///
+/// Those of the serializer.
+pub fn explanation<S: Serializer>(explanation: &Explanation, to: S) -> Result<S::Ok, S::Error> {
+    let mut lines = to.serialize_seq(None)?;
+    for line in explanation.text().lines() {
+        lines.serialize_element(line)?;
+    }
+    lines.end()
+}

@@ -1,0 +1,63 @@
+//! Limits are a map of numbers with the names of `struct spki_limits`. One that is not there, and 0, is the library's own.
+
+use serde::de::{Deserializer, Error, MapAccess, Visitor};
+use serde::Serializer;
+use spki::Limits;
+use std::fmt;
+
+/// Writes the limits that are set.
+///
+/// # Errors
+///
+/// Those of the serializer.
+pub fn serialize<S: Serializer>(limits: &Limits, to: S) -> Result<S::Ok, S::Error> {
+    to.collect_map(limits.named().into_iter().filter(|(_, most)| *most > 0))
+}
+
+/// Reads limits. More than the library's highest means that.
+///
+/// # Errors
+///
+/// Those of the deserializer; a name that is no limit, or is there twice; what is no number from 0 on.
+pub fn deserialize<'de, D: Deserializer<'de>>(from: D) -> Result<Limits, D::Error> {
+    from.deserialize_map(Named)
+}
+
+struct Named;
+
+impl<'de> Visitor<'de> for Named {
+    type Value = Limits;
+
+    fn expecting(&self, f: &mut fmt::Formatter) -> fmt::Result {
+        f.write_str("limits by their names")
+    }
+
+    fn visit_map<A: MapAccess<'de>>(self, mut map: A) -> Result<Limits, A::Error> {
+        let (mut limits, mut seen) = (Limits::default(), Vec::new());
+        while let Some(name) = map.next_key::<String>()? {
+            let most = map.next_value()?;
+            if seen.contains(&name) {
+                return Err(A::Error::custom(format_args!(
+                    "the limit {name} is there twice"
+                )));
+            }
+            limits = with(limits, &name, most)
+                .ok_or_else(|| A::Error::custom(format_args!("there is no limit {name}")))?;
+            seen.push(name);
+        }
+        Ok(limits)
+    }
+}
+
+/// The limits with another one set, if there is one of this name.
+fn with(limits: Limits, name: &str, most: usize) -> Option<Limits> {
+    Some(match name {
+        "octets" => limits.octets(most),
+        "certificates" => limits.certificates(most),
+        "words" => limits.words(most),
+        "nodes" => limits.nodes(most),
+        "work" => limits.work(most),
+        "answer" => limits.answer(most),
+        _ => return None,
+    })
+}

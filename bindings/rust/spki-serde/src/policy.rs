@@ -1,0 +1,51 @@
+//! A policy is the word `strict` or `allow-sha1`, as in the settings of `spki-authd`.
+
+use serde::de::{Deserializer, Error, Unexpected, Visitor};
+use serde::Serializer;
+use spki::Policy;
+use std::fmt;
+
+/// The policies and their words.
+const WORDS: [(Policy, &str); 2] = [
+    (Policy::Strict, "strict"),
+    (Policy::AllowSha1, "allow-sha1"),
+];
+
+/// Writes the word.
+///
+/// # Errors
+///
+/// Those of the serializer; the policy is one that this crate does not know.
+pub fn serialize<S: Serializer>(policy: &Policy, to: S) -> Result<S::Ok, S::Error> {
+    let found = WORDS.iter().find(|(known, _)| known == policy);
+    let unknown = || serde::ser::Error::custom("a policy without a word");
+    found
+        .ok_or_else(unknown)
+        .and_then(|(_, word)| to.serialize_str(word))
+}
+
+/// Reads the word.
+///
+/// # Errors
+///
+/// Those of the deserializer; another word.
+pub fn deserialize<'de, D: Deserializer<'de>>(from: D) -> Result<Policy, D::Error> {
+    from.deserialize_str(Word)
+}
+
+struct Word;
+
+impl Visitor<'_> for Word {
+    type Value = Policy;
+
+    fn expecting(&self, f: &mut fmt::Formatter) -> fmt::Result {
+        f.write_str("strict or allow-sha1")
+    }
+
+    fn visit_str<E: Error>(self, word: &str) -> Result<Policy, E> {
+        let found = WORDS.iter().find(|(_, known)| *known == word);
+        found
+            .map(|(policy, _)| *policy)
+            .ok_or_else(|| E::invalid_value(Unexpected::Str(word), &self))
+    }
+}

@@ -1,0 +1,114 @@
+//! What is written and read, as JSON.
+
+use serde::de::value::{Error, MapDeserializer};
+use serde_json::value::Serializer;
+use serde_json::{json, Value};
+use spki::{Denied, Guard, Limits, Policy, ProvenKey, Question, Request};
+use spki_serde::{decision, explanation, limits, policy, refusal};
+use std::time::{Duration, UNIX_EPOCH};
+
+const LIST: &[u8] =
+    b"(acl (entry (public-key (test a)) (tag (ftp))) (entry (public-key (test b)) (tag (ftp)) (not-after \"2026-06-30_23:59:59\")))";
+
+fn limits_of(value: Value) -> Result<Limits, String> {
+    limits::deserialize(value).map_err(|error| error.to_string())
+}
+
+#[test]
+fn limits_are_written_and_read() {
+    let some = Limits::default().octets(4096).work(7);
+    let written = limits::serialize(&some, Serializer).expect("a map");
+    assert_eq!(written, json!({"octets": 4096, "work": 7}));
+    for all in [some, Limits::default(), Limits::highest()] {
+        let written = limits::serialize(&all, Serializer).expect("a map");
+        let read = limits_of(written).expect("limits");
+        assert_eq!(read.named(), all.named());
+    }
+    let above = limits_of(json!({"octets": 1_000_000_000_u64})).expect("limits");
+    assert_eq!(above.named(), Limits::default().octets(1_048_576).named());
+    for wrong in [
+        json!({"octet": 1}),
+        json!({"words": -1}),
+        json!({"words": "1"}),
+        json!({"words": null}),
+        json!([1]),
+        json!(null),
+    ] {
+        assert!(limits_of(wrong.clone()).is_err(), "{wrong}");
+    }
+    let twice = [("words", 1_u64), ("words", 2)].into_iter();
+    let read: Result<Limits, Error> = limits::deserialize(MapDeserializer::new(twice));
+    assert_eq!(
+        read.map(|it| it.named()).map_err(|error| error.to_string()),
+        Err("the limit words is there twice".into())
+    );
+}
+
+#[test]
+fn policies_are_written_and_read() {
+    for (word, wanted) in [
+        ("strict", Policy::Strict),
+        ("allow-sha1", Policy::AllowSha1),
+    ] {
+        assert_eq!(
+            policy::serialize(&wanted, Serializer).expect("a word"),
+            word
+        );
+        assert_eq!(policy::deserialize(json!(word)).expect("a policy"), wanted);
+    }
+    for wrong in [json!("open"), json!("Strict"), json!(0), json!(null)] {
+        assert!(policy::deserialize(wrong.clone()).is_err(), "{wrong}");
+    }
+}
+
+#[test]
+fn decisions_are_written() {
+    let guard = Guard::read(LIST, Policy::Strict, Limits::default()).expect("a list");
+    let key = ProvenKey::assume(&b"(public-key (test b))"[..]);
+    let now = UNIX_EPOCH + Duration::from_secs(1_704_067_200);
+    let asked = |word: &'static [u8], sequence: &'static [u8]| {
+        let words = [word];
+        guard.decide(
+            &Question::new(sequence, &key, Request::Words(&words), now),
+            |_| false,
+        )
+    };
+    let of = |decided: &_| decision(decided, Serializer).expect("a map");
+    assert_eq!(
+        of(&asked(b"http", b"(sequence)")),
+        json!({"granted": false})
+    );
+    let refused = asked(b"ftp", b"(sequence");
+    assert_eq!(
+        of(&refused),
+        json!({"granted": false, "refused": "refused sequence Short"})
+    );
+    let line = refused
+        .as_ref()
+        .err()
+        .and_then(Denied::refusal)
+        .expect("a refusal");
+    assert_eq!(
+        refusal(line, Serializer).expect("a line"),
+        "refused sequence Short"
+    );
+    let failed = Err(Denied::Verifier("no answer"));
+    assert_eq!(
+        decision(&failed, Serializer).expect("a map"),
+        json!({"granted": false, "failed": "a signature could not be verified: no answer"})
+    );
+    let question = Question::new(b"(sequence)", &key, Request::Text(b"(ftp)"), now);
+    assert_eq!(
+        of(&guard.decide(&question, |_| false)),
+        json!({"granted": true, "entry": 2, "until": 1_782_863_999})
+    );
+    let explained = guard
+        .ask(&question)
+        .expect("a question")
+        .explain()
+        .expect("lines");
+    assert_eq!(
+        explanation(&explained, Serializer).expect("lines"),
+        json!(["entry 1 NotTheKey", "entry 2 grants"])
+    );
+}

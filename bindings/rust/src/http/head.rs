@@ -1,0 +1,51 @@
+//! The head of a request of HTTP/1.1, taken apart.
+
+use super::{fields::is_of_token, Message};
+
+/// The head of a request of HTTP/1.1. Its authority is that of `Host`.
+#[derive(Clone, Debug)]
+pub struct Head<'a> {
+    /// The method.
+    pub method: &'a str,
+    /// The path and the query.
+    pub target: &'a str,
+    authority: &'a str,
+    fields: Vec<(&'a str, &'a [u8])>,
+}
+
+impl<'a> Head<'a> {
+    /// Takes a head apart, which ends with its empty line. Nothing is returned if it is none, if a field has several lines, or if there is not one
+    /// `Host`.
+    #[must_use]
+    pub fn read(head: &'a str) -> Option<Head<'a>> {
+        let mut lines = head.strip_suffix("\r\n\r\n")?.split("\r\n");
+        let (method, rest) = lines.next()?.split_once(' ')?;
+        let target = rest.strip_suffix(" HTTP/1.1")?;
+        let fields: Vec<_> = lines.map(field_of).collect::<Option<_>>()?;
+        let mut hosts = fields
+            .iter()
+            .filter(|(name, _)| name.eq_ignore_ascii_case("host"));
+        let (Some((_, host)), None) = (hosts.next(), hosts.next()) else {
+            return None;
+        };
+        Some(Head {
+            method,
+            target,
+            authority: std::str::from_utf8(host).ok()?.trim_matches([' ', '\t']),
+            fields,
+        })
+    }
+
+    /// The request, to be proved.
+    #[must_use]
+    pub fn message(&self) -> Message<'_> {
+        Message::new(self.method, self.authority, self.target, &self.fields)
+    }
+}
+
+/// The name and the value of a line.
+fn field_of(line: &str) -> Option<(&str, &[u8])> {
+    let (name, value) = line.split_once(':')?;
+    let is_name = !name.is_empty() && name.bytes().all(is_of_token);
+    is_name.then_some((name, value.as_bytes()))
+}

@@ -1,0 +1,30 @@
+-- What a C program holds by a pointer: which kind it is, and what a mark makes of it.
+use Rattle.std.specs.Prelude.{◌≡◌, ◌<◌, ◌≤◌, ℕ, Bool, true, false, Option, Some, None, length, if◌then◌else◌}
+use Rattle.spki_service.specs.GuardQuestions.{HasMark}
+use Rattle.spki_service.specs.declared.owned_question.OwnedQuestion.{OwnedQuestion}
+use Rattle.spki_c.specs.declared.handle_value.HandleValue.{HandleValue}
+use Rattle.spki_c.specs.declared.handle_value.HandleValue.TheVariants.{Guard, Question}
+
+-- it is a question
+abbrev pub IsQuestion : HandleValue → Type 0
+IsQuestion (Guard held) = ⊥
+IsQuestion (Question opened) = Unit {0}
+
+-- The place is marked if the content is a question with such a place. Otherwise the content is unchanged.
+abbrev pub IsMarkedBy : HandleValue → ℕ → HandleValue → Bool → Type 0
+IsMarkedBy (Guard held) place new said = (new ≡ Guard held) × (said ≡ false)
+IsMarkedBy (Question old) place new said =
+    (place < length old.marks.items → (p : OwnedQuestion) × (new ≡ Question p) × HasMark old place p × (said ≡ true))
+    × (length old.marks.items ≤ place → (new ≡ Question old) × (said ≡ false))
+
+-- The content is handed back: marked at the place, with status 6, or unchanged, with status 5.
+abbrev pub HandsBack : HandleValue → ℕ → Option HandleValue → ℕ → Type 0
+HandsBack old place back status =
+    (new : HandleValue) × (said : Bool) × (back ≡ Some new) × IsMarkedBy old place new said × (status ≡ (if said then 6 else 5))
+
+-- What is of the kind that is freed is not returned, and what is of the other kind is.
+abbrev pub IsClosed : Bool → HandleValue → Option HandleValue → Type 0
+IsClosed true (Question opened) back = back ≡ None
+IsClosed true (Guard held) back = back ≡ Some (Guard held)
+IsClosed false (Question opened) back = back ≡ Some (Question opened)
+IsClosed false (Guard held) back = back ≡ None

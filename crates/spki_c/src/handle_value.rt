@@ -1,0 +1,68 @@
+//! What a C program holds by a pointer: a guard, or an opened question.
+ghost use Rattle.std.specs.Prelude.{◌≡◌, ◌≢◌, ◌↔◌, IfOk, IsTrue, MatchOption};
+ghost use Rattle.spki_service.specs.AccessLists.{GuardModel};
+ghost use Rattle.spki_c.specs.HandleValues.{IsQuestion, IsMarkedBy};
+
+use spki_guard::{OwnedQuestion, SharedGuard};
+use std::alloc::{AllocError, Global};
+
+/// A value that a C program holds.
+#[derive(Drop)]
+pub enum HandleValue {
+    /// A guard.
+    Guard(SharedGuard),
+    /// An opened question.
+    Question(OwnedQuestion),
+}
+
+impl HandleValue {
+    /// The guard. None for a question.
+    pub(crate) fn guard(&self) -> Option<&SharedGuard>
+        ensures { MatchOption result ((g : GuardModel) → self.now ≢ HandleValue.Guard g) (λ g. self.now ≡ HandleValue.Guard g.now) }
+    {
+        match self {
+            HandleValue::Guard(guard) => Some(guard),
+            HandleValue::Question(_) => None,
+        }
+    }
+
+    /// The question. None for a guard.
+    pub(crate) fn question(&self) -> Option<&OwnedQuestion>
+        ensures { MatchOption result ((o : OwnedQuestion) → self.now ≢ HandleValue.Question o) (λ o. self.now ≡ HandleValue.Question o.now) }
+    {
+        match self {
+            HandleValue::Guard(_) => None,
+            HandleValue::Question(opened) => Some(opened),
+        }
+    }
+
+    /// Whether it is a question.
+    pub(crate) fn is_question(&self) -> bool
+        ensures { IsTrue result ↔ IsQuestion self.now }
+    {
+        match self {
+            HandleValue::Guard(_) => false,
+            HandleValue::Question(_) => true,
+        }
+    }
+
+    /// Marks a place of a question, as `OwnedQuestion::mark` does. Returns false, and changes nothing, if there is no such place, and for a guard.
+    pub(crate) fn mark(&mut self, place: usize) -> bool
+        ensures { IsMarkedBy self.old place self.new result }
+    {
+        match self {
+            HandleValue::Guard(_) => false,
+            HandleValue::Question(opened) => opened.mark(place),
+        }
+    }
+}
+
+/// Puts a guard or a question on the heap. Err if memory ran out.
+pub(crate) fn boxed(alloc: Global, content: HandleValue) -> Result<Box<HandleValue>, AllocError>
+    ensures { IfOk result (λ b. b.value ≡ content) }
+{
+    match Box::new(alloc, content) {
+        Ok(held) => Ok(held),
+        Err(_) => Err(AllocError),
+    }
+}

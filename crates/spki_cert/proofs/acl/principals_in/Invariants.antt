@@ -1,0 +1,17 @@
+use Rattle.std.proofs.Common.{◌≡◌, ◌+◌, ◌++◌, List, length, map}
+use Rattle.std.specs.List.{AllZip}
+use Rattle.spki_tag.specs.Faults.{first_fault}
+use Rattle.spki_cert.specs.declared.entry.Entry.{Entry}
+use Rattle.spki_cert.specs.Structures.{EntryOf}
+use Rattle.spki_cert.specs.StructureFaults.{entry_fault, each_looked, entries_fault}
+use Rattle.spki_cert.proofs.acl.principals_in.Given as goal
+
+-- what is read of the rest stands behind the entries so far, whose principals are kept, and the first fault is that among the rest
+abbrev pub invariant-loop-member : goal.invariant-loop-member
+invariant-loop-member l =
+    ((read : List Entry) × (l.principals.items ≡ map (λ e. e.subject.principal) read)
+    × ((es : List Entry) → AllZip EntryOf l.rest es → AllZip EntryOf l.fn.members (read ++ es)))
+    × (entries_fault l.fn.members ≡ first_fault (each_looked entry_fault (length l.principals.items + 1) l.rest))
+
+abbrev pub decreases-loop-member : goal.decreases-loop-member
+decreases-loop-member l = length l.rest

@@ -1,0 +1,74 @@
+-- The numbers of nodes of steps, counted one step after another.
+use Rattle.std.proofs.Common.{◌≡◌, ℕ, ◌+◌, ◌*◌, ◌<◌, ◌≤◌, max, ◌||◌, true, List, [], ◌∷◌, ◌++◌, length, take, drop, get_or, map, sym, ap, ◌∙◌, arith, mul-le-mul_left, mul-le-mul_right}
+use Rattle.std.proofs.lemmas.Bool.{or_right}
+use Rattle.std.proofs.lemmas.List.{take-append-drop, map-append}
+use Rattle.std.proofs.lemmas.Grind.{flat_map-append}
+use Rattle.spki_tag.specs.Tag.{Tag, nodes, tags, some_nests_set}
+use Rattle.spki_tag.proofs.MeetSizes.{nodes-some}
+use Rattle.spki_reduce.specs.declared.tuple.Step.{Step}
+use Rattle.spki_reduce.specs.Reduction.{Tuple, tags_of, step_tuple, nodes_product}
+use Rattle.spki_reduce.specs.Chain.{tuples_of, all_tags}
+use Rattle.spki_reduce.proofs.ReducedForms.{nodes_product-append}
+use Rattle.spki_decision.specs.Spared.{nodes_in, nodes_together, most_of_one}
+use Rattle.spki_decision.proofs.ChainRequirements.{more_tuples, more_tags}
+use Rattle.spki_decision.proofs.EntryChains.{append-sets}
+
+together-append : (ts us : List Tuple) → nodes_together (ts ++ us) ≡ nodes_together ts + nodes_together us
+together-append [] us = omega arith
+together-append (t ∷ ts) us = omega (arith, together-append ts us)
+
+pub together-more : (ts : List Tuple) (t : Tuple) → nodes_together (ts ++ t ∷ []) ≡ nodes_together ts + nodes_in t
+together-more ts t = omega (arith, together-append ts (t ∷ []))
+
+pub most-more : (ts : List Tuple) (t : Tuple) → most_of_one (ts ++ t ∷ []) ≡ max (most_of_one ts) (nodes_product (tags_of t))
+most-more [] t = omega arith
+most-more (u ∷ ts) t = omega (arith, most-more ts t)
+
+product-some : (ts : List Tag) → 1 ≤ nodes_product ts
+product-some [] = omega arith
+product-some (t ∷ ts) = omega (arith, mul-le-mul_right (nodes_product ts) (nodes-some t), product-some ts)
+
+-- steps up to one, and those behind it
+module _ (steps : List Step) (i : ℕ) (step : Step) (below : i < length steps) (here : step ≡ get_or steps i step) where
+  abbrev behind : List Tuple
+  behind = tuples_of (drop (i + 1) steps)
+
+  whole : tuples_of steps ≡ (tuples_of (take i steps) ++ step_tuple step ∷ []) ++ behind
+  whole = ap tuples_of (sym (take-append-drop (i + 1) steps)) ∙ map-append step_tuple (take (i + 1) steps) (drop (i + 1) steps)
+      ∙ ap (λ (ts : List Tuple). ts ++ behind) (more_tuples steps i step below here)
+
+  all : all_tags (tuples_of steps) ≡ (all_tags (tuples_of (take i steps)) ++ tags_of (step_tuple step)) ++ all_tags behind
+  all =
+      ap (λ (xs : List Step). all_tags (tuples_of xs)) (sym (take-append-drop (i + 1) steps))
+      ∙ ap all_tags (map-append step_tuple (take (i + 1) steps) (drop (i + 1) steps))
+      ∙ flat_map-append tags_of (tuples_of (take (i + 1) steps)) behind
+      ∙ ap (λ (ts : List Tag). ts ++ all_tags behind) (more_tags steps i step below here)
+
+  pub together-front : nodes_together (tuples_of (take i steps)) + nodes_in (step_tuple step) ≤ nodes_together (tuples_of steps)
+  together-front =
+      omega (
+        arith,
+        ap nodes_together whole,
+        together-append (tuples_of (take i steps) ++ step_tuple step ∷ []) behind,
+        together-more (tuples_of (take i steps)) (step_tuple step),
+      )
+
+  pub sets-front : some_nests_set (tags (tags_of (step_tuple step))) ≡ true → some_nests_set (tags (all_tags (tuples_of steps))) ≡ true
+  sets-front set =
+      let front = all_tags (tuples_of (take i steps)) in
+      let own = tags_of (step_tuple step) in
+      let here_too = append-sets front own ∙ or_right (some_nests_set (tags front)) (some_nests_set (tags own)) set in
+      ap (λ (ts : List Tag). some_nests_set (tags ts)) all ∙ append-sets (front ++ own) (all_tags behind)
+      ∙ ap (λ b. b || some_nests_set (tags (all_tags behind))) here_too
+
+  pub product-front : nodes_product (all_tags (tuples_of (take i steps))) * nodes_product (tags_of (step_tuple step))
+      ≤ nodes_product (all_tags (tuples_of steps))
+  product-front =
+      let front = all_tags (tuples_of (take i steps)) in
+      let own = tags_of (step_tuple step) in
+      let product = nodes_product front * nodes_product own in
+      let more : product * 1 ≤ product * nodes_product (all_tags behind) = mul-le-mul_left product (product-some (all_tags behind)) in
+      let parted : nodes_product (all_tags (tuples_of steps)) ≡ product * nodes_product (all_tags behind) =
+      ap nodes_product all ∙ nodes_product-append (front ++ own) (all_tags behind)
+      ∙ ap (λ (n : ℕ). n * nodes_product (all_tags behind)) (nodes_product-append front own) in
+      omega (arith, more, parted)

@@ -1,4 +1,0 @@
-use Rattle.spki_decision.proofs.membership.Membership.grants.Given as goal
-
-abbrev pub ghosts-grants_from : goal.ghosts-grants_from
-ghosts-grants_from a = record { name = a.blank.name; parts = a.blank.parts }

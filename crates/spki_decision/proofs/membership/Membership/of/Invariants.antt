@@ -1,4 +1,0 @@
-use Rattle.spki_decision.proofs.membership.Membership.of.Given as goal
-
-abbrev pub ghosts-of_from : goal.ghosts-of_from
-ghosts-of_from a = record { name = a.blank.name; parts = a.blank.parts }

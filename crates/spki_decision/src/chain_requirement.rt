@@ -1,0 +1,220 @@
+//! Which entries grant what a case asks, by membership (RFC 2693, section 6.3). No intersection is formed.
+//!
+//! An entry and certificates grant a request at a moment exactly if three tests pass. The certificates lead from the entry's subject to
+//! the client's key. The request is in the entry's tag and in each certificate's tag. The moment is within the entry's window and within
+//! each certificate's window. The certificates are tested once for all entries.
+
+ghost use Rattle.std.specs.Prelude.{◌≡◌, ◌↔◌, ◌≤◌, ◌<◌, ◌+◌, ◌++◌, ◌∷◌, [], true, List, length, IsTrue, IfOk};
+ghost use Rattle.spki_case.specs.View.{model};
+ghost use Rattle.spki_cert.specs.declared.window.Window.{Window};
+ghost use Rattle.spki_reduce.specs.Reduction.{Tuple, tags_of, windows_of, step_tuple, in_each, within_each};
+ghost use Rattle.spki_reduce.specs.Chain.{tuples_of, all_tags, all_windows};
+ghost use Rattle.spki_decision.specs.Granted.{Supported};
+ghost use Rattle.spki_decision.specs.Requirements.{IsChainRequirement};
+ghost use Rattle.spki_decision.specs.Until.{IsLeastEnd, HasEnd, IsUntil};
+ghost use Rattle.spki_cert.specs.Cost.{entry_weight};
+ghost use Rattle.spki_decision.specs.Cost.{content_weight, contents_weight, tuples_weight};
+
+use crate::required_subject::{RequiredSubject, required_subject};
+use spki_case::Case;
+use spki_cert::{Date, Entry, Window};
+use spki_reduce::Step;
+use spki_tag::Ticks;
+use std::alloc::{AllocError, Global};
+use std::marker::Brand;
+use std::sync::ledger::{Blank, Ledger};
+
+/// What certificates require of an entry, so that both grant what a case asks.
+#[derive(Drop)]
+pub struct ChainRequirement<'a> {
+    /// The subject that the entry must have. None if no entry is granted with these certificates.
+    pub(crate) required: Option<RequiredSubject<'a>>,
+    /// The least not-after of the certificates' windows. None if none of them ends. It means nothing if `required` is None.
+    pub(crate) until: Option<Date>,
+}
+
+impl<'a> ChainRequirement<'a> {
+    /// What certificates with the tuples `steps` require of an entry, so that both grant what the case asks. If a
+    /// step's tag lacks the request, or its window the moment, no entry is enough. `of_counted` says how long it takes.
+    ///
+    /// # Errors
+    ///
+    /// `AllocError` if memory ran out.
+    pub fn of(
+        alloc: Global,
+        case: &Case<'a>,
+        steps: &[Step<'a>],
+    ) -> Result<ChainRequirement<'a>, AllocError>
+        ensures answer { IfOk result (IsChainRequirement (model case.now) (tuples_of steps.now)) }
+        ensures end { IfOk result (HasEnd (tuples_of steps.now)) }
+    {
+        ChainRequirement::of_from::<Brand>(alloc, case, steps, Blank::new(1))
+    }
+
+    /// The same, counted in a ledger of its own.
+    fn of_from<L: Ledger>(
+        alloc: Global,
+        case: &Case<'a>,
+        steps: &[Step<'a>],
+        blank: Blank,
+    ) -> Result<ChainRequirement<'a>, AllocError>
+        requires name { blank.name ≡ L.name }
+        requires parts { blank.parts ≡ L.parts }
+        requires some { 0 < blank.parts }
+        ensures answer { IfOk result (IsChainRequirement (model case.now) (tuples_of steps.now)) }
+        ensures end { IfOk result (HasEnd (tuples_of steps.now)) }
+    {
+        ChainRequirement::of_counted(alloc, case, steps, &mut Ticks::<L>::new(blank))
+    }
+
+    /// What certificates require of an entry, as `of`. A tick is a certificate, a tag or a name that is looked at, or an octet that is
+    /// compared. There are at most as many as the weights of the certificates' tuples together.
+    ///
+    /// # Errors
+    ///
+    /// `AllocError` if memory ran out.
+    pub fn of_counted<L: Ledger>(
+        alloc: Global,
+        case: &Case<'a>,
+        steps: &[Step<'a>],
+        ticks: &mut Ticks<L>,
+    ) -> Result<ChainRequirement<'a>, AllocError>
+        ensures answer { IfOk result (IsChainRequirement (model case.now) (tuples_of steps.now)) }
+        ensures end { IfOk result (HasEnd (tuples_of steps.now)) }
+        ensures cost { ticks.new ≤ ticks.old + tuples_weight (tuples_of steps.now) }
+        ensures grows { ticks.old ≤ ticks.new }
+    {
+        case.request.prove_well_formed();
+        let mut until = None;
+        if !all_contain(steps, case, &mut until, ticks) {
+            return Ok(ChainRequirement {
+                required: None,
+                until,
+            });
+        }
+        let required = required_subject(alloc, steps, &case.key, case.policy, ticks)?;
+        Ok(ChainRequirement { required, until })
+    }
+
+    /// Whether an entry and the certificates grant what this case asks, which must be that of `of`. Allocates nothing.
+    pub fn grants(&self, entry: &Entry, case: &Case) -> bool
+        ensures { (tuples : List Tuple) → IsChainRequirement (model case.now) tuples self.now
+            → IsTrue result ↔ Supported (model case.now) tuples entry.now }
+    {
+        self.grants_from::<Brand>(entry, case, Blank::new(1))
+    }
+
+    /// The same, counted in a ledger of its own.
+    fn grants_from<L: Ledger>(&self, entry: &Entry, case: &Case, blank: Blank) -> bool
+        requires name { blank.name ≡ L.name }
+        requires parts { blank.parts ≡ L.parts }
+        requires some { 0 < blank.parts }
+        ensures { (tuples : List Tuple) → IsChainRequirement (model case.now) tuples self.now
+            → IsTrue result ↔ Supported (model case.now) tuples entry.now }
+    {
+        self.grants_counted(entry, case, &mut Ticks::<L>::new(blank))
+    }
+
+    /// Whether an entry and the certificates grant what this case asks, as `grants`. A tick is the entry, or a name or a tag in it that
+    /// is looked at, or an octet of it that is compared. Digests are not counted.
+    pub fn grants_counted<L: Ledger>(
+        &self,
+        entry: &Entry,
+        case: &Case,
+        ticks: &mut Ticks<L>,
+    ) -> bool
+        ensures answer { (tuples : List Tuple) → IsChainRequirement (model case.now) tuples self.now
+            → IsTrue result ↔ Supported (model case.now) tuples entry.now }
+        ensures cost { ticks.new ≤ ticks.old + entry_weight entry.now }
+        ensures grows { ticks.old < ticks.new }
+    {
+        ticks.tick();
+        match &self.required {
+            None => false,
+            Some(required) => {
+                required.is_met_by(&entry.subject, entry.propagate, case.policy, ticks)
+                    && entry.tag.holds_counted(&case.request, ticks)
+                    && entry.window.holds(&case.moment)
+            }
+        }
+    }
+
+    /// The last moment at which an entry and the certificates grant what the case of `of` asks, if they grant it: the least not-after of
+    /// their windows. None if none of them ends. Allocates nothing.
+    pub fn until(&self, entry: &Entry) -> Option<Date>
+        ensures { (tuples : List Tuple) → IsUntil tuples self.now entry.now result }
+    {
+        earlier_end(&self.until, &entry.window)
+    }
+}
+
+/// Whether the tags of all steps contain the request of a case, and their windows its moment. If so, `until` becomes the least not-after of
+/// these windows and of what it was.
+fn all_contain<L: Ledger>(
+    steps: &[Step],
+    case: &Case,
+    until: &mut Option<Date>,
+    ticks: &mut Ticks<L>,
+) -> bool
+    ensures answer { IsTrue result ↔ ((in_each case.now.request (all_tags (tuples_of steps.now)) ≡ true)
+        × (within_each case.now.moment (all_windows (tuples_of steps.now)) ≡ true)) }
+    ensures end { IsTrue result → (windows : List Window) → IsLeastEnd windows until.old
+        → IsLeastEnd (windows ++ all_windows (tuples_of steps.now)) until.new }
+    ensures cost { ticks.new ≤ ticks.old + contents_weight (tuples_of steps.now) }
+    ensures each { IsTrue result → ticks.old + length steps.now ≤ ticks.new }
+    ensures grows { ticks.old ≤ ticks.new }
+{
+    for step in steps {
+        if !contains(step, case, ticks) {
+            return false;
+        }
+        *until = end_with(until, step);
+    }
+    true
+}
+
+/// The earlier of a limit and the not-after of a step's window. A missing limit does not limit.
+fn end_with(limit: &Option<Date>, step: &Step) -> Option<Date>
+    ensures { (windows : List Window) → IsLeastEnd windows limit.now → IsLeastEnd (windows ++ windows_of (step_tuple step.now)) result }
+{
+    match step {
+        Step::Auth(five) => earlier_end(limit, &five.window),
+        Step::Name(four) => earlier_end(limit, &four.window),
+    }
+}
+
+/// The earlier of a limit and the not-after of a window. A missing limit does not limit.
+fn earlier_end(limit: &Option<Date>, window: &Window) -> Option<Date>
+    ensures { (windows : List Window) → IsLeastEnd windows limit.now → IsLeastEnd (windows ++ window.now ∷ []) result }
+{
+    match window.not_after {
+        None => *limit,
+        Some(end) => {
+            let so_far = Window {
+                not_before: None,
+                not_after: *limit,
+            };
+            if so_far.holds(&end) {
+                Some(end)
+            } else {
+                *limit
+            }
+        }
+    }
+}
+
+/// Whether the tag of a step contains the request of a case, and its window the moment. A definition has no tag.
+fn contains<L: Ledger>(step: &Step, case: &Case, ticks: &mut Ticks<L>) -> bool
+    ensures answer { IsTrue result ↔ ((in_each case.now.request (tags_of (step_tuple step.now)) ≡ true)
+        × (within_each case.now.moment (windows_of (step_tuple step.now)) ≡ true)) }
+    ensures cost { ticks.new ≤ ticks.old + content_weight (step_tuple step.now) }
+    ensures grows { ticks.old < ticks.new }
+{
+    ticks.tick();
+    match step {
+        Step::Auth(five) => {
+            five.tag.holds_counted(&case.request, ticks) && five.window.holds(&case.moment)
+        }
+        Step::Name(four) => four.window.holds(&case.moment),
+    }
+}

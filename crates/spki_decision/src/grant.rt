@@ -1,0 +1,29 @@
+//! What a decision grants, and until when.
+
+ghost use Rattle.std.specs.Prelude.{◌≡◌};
+ghost use Rattle.spki_decision.specs.Until.{decision_of};
+
+use crate::decision::Decision;
+use spki_cert::Date;
+
+/// A yes.
+#[derive(Clone, Copy, Debug)]
+pub struct Grant {
+    /// This entry, counted from 1, grants the request, and no entry before it does.
+    pub entry: usize,
+    /// The last moment at which the same question is a yes by this entry: the least not-after of its window and of those of all
+    /// certificates, definitions of names too. None if none of them ends.
+    pub until: Option<Date>,
+}
+
+impl Grant {
+    /// The decision. `No` if there is no grant.
+    pub fn decision(grant: Option<Grant>) -> Decision
+        ensures { result ≡ decision_of grant }
+    {
+        match grant {
+            Some(grant) => Decision::Yes(grant.entry),
+            None => Decision::No,
+        }
+    }
+}

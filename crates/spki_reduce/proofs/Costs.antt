@@ -1,0 +1,57 @@
+-- What a step costs, as it is counted.
+use Rattle.std.proofs.Common.{◌≡◌, ℕ, ◌+◌, ◌*◌, ◌<◌, ◌≤◌, ◌^◌, List, [], ◌∷◌, length, arith, le_trans, mul-le-mul_left, mul-le-mul_right, Option, Some, None, ◌∙◌, ap, sym, inr, refl, subst, false, Result, Ok, Err, IfErr}
+use Rattle.std.specs.Option.{SomeIff}
+use Rattle.std.specs.Result.{is_ok}
+use Rattle.spki_cert.specs.declared.principal.Policy.{Policy}
+use Rattle.spki_cert.specs.declared.window.Window.{Window}
+use Rattle.spki_reduce.specs.declared.fold.Cause.{Cause}
+use Rattle.spki_reduce.specs.declared.tuple.Step.{Step}
+use Rattle.spki_tag.specs.Tag.{Tag, nodes}
+use Rattle.spki_tag.specs.Cost.{weight}
+use Rattle.spki_tag.proofs.MeetSizes.{nodes-some}
+use Rattle.spki_reduce.specs.declared.tuple.Five.{Five}
+use Rattle.spki_reduce.specs.declared.tuple.Four.{Four}
+use Rattle.spki_reduce.specs.Reduction.{five, four, five_tuple, four_tuple, step_tuple}
+use Rattle.spki_reduce.specs.Chain.{node_cost, step_cost, IsNumber, Reaches, IsCostOf}
+
+module _ (tag : Tag) (next : Five) (path : List (List ℕ)) where
+  -- the cost of one node of the tag
+  abbrev each : ℕ
+  each = 15 * nodes next.tag + weight next.tag
+
+  pub cost_is : step_cost tag path (five (five_tuple next)) ≡ nodes tag * each + length next.subject.names
+  unfolding step_cost node_cost
+  cost_is = omega arith
+
+  pub costs_over : (limit : ℕ) → limit ≤ each → limit ≤ step_cost tag path (five (five_tuple next))
+  costs_over limit h =
+      let some : 1 * each ≤ nodes tag * each = mul-le-mul_right each (nodes-some tag) in
+      omega (arith, cost_is, some, h)
+
+  pub product_is : (one count : ℕ) → one ≡ each → count ≡ nodes tag
+      → one * count + length next.subject.names ≡ step_cost tag path (five (five_tuple next))
+  product_is one count e k =
+      let turned : each * nodes tag ≡ nodes tag * each = omega arith in
+      ap (λ (n : ℕ). n + length next.subject.names) ((λ i. e i * k i) ∙ turned) ∙ sym cost_is
+
+pub resolution_is : (tag : Tag) (path : List (List ℕ)) (definition : Four)
+    → step_cost tag path (four (four_tuple definition)) ≡ 1 + length path + length definition.subject.names
+unfolding step_cost
+resolution_is tag path definition = omega arith
+
+-- a sum that is counted is the number, or over what is counted
+pub number_is : (r : Option ℕ) (n m : ℕ) → SomeIff r (n < 2 ^ 64) n → n ≡ m → IsNumber r m
+number_is None n m h e = omega (arith, h, e)
+number_is (Some x) n m h e = h.1 ∙ e
+
+-- a step that does not join costs nothing
+pub costs_nothing : (policy : Policy) (f : Five) (step other : Step) → step ≡ other → (Reaches policy (five_tuple f) (step_tuple other) → ⊥)
+    → IsCostOf policy (five_tuple f) f.tag (step_tuple step) 0
+costs_nothing policy f step other e none =
+    inr (subst (λ (s : Step). Reaches policy (five_tuple f) (step_tuple s) → ⊥) (sym e) none, refl)
+
+-- where there is no window, nothing joins
+pub unjoined : (r : Result Window Cause) (Q R : Cause → Type 0) (J : Type 0) → is_ok r ≡ false
+    → IfErr r (λ cause. Q cause × R cause × (J → ⊥)) → J → ⊥
+unjoined (Ok window) Q R J e h = absurd cc
+unjoined (Err cause) Q R J e h = h.2

@@ -1,0 +1,21 @@
+use Rattle.std.proofs.Common.{inl, inr, refl, arith}
+use Rattle.std.proofs.lemmas.Result.{IfOk-weaker}
+use Rattle.spki_decision.specs.CertificateTests.{signed_of}
+use Rattle.spki_service.proofs.Costs.{asked_octets}
+use Rattle.spki_service.proofs.prepared_question.PreparedQuestion.grant_by_counted.Goals as goal
+
+pub returns-in-None-clause-answer : goal.returns-in-None-clause-answer
+returns-in-None-clause-answer g c =
+    let all = rw c.in-None.is at c.unmarked_counted.ensures.answer in
+    IfOk-weaker c.granted_counted.result _ _ (λ g h. (inl (all, h.0), h.1)) c.granted_counted.ensures.answer
+
+pub returns-in-None-clause-cost : goal.returns-in-None-clause-cost
+returns-in-None-clause-cost g c shown found has =
+    omega (arith, c.unmarked_counted.ensures.cost, c.granted_counted.ensures.cost shown found has)
+
+pub returns-in-Some-clause-answer : goal.returns-in-Some-clause-answer
+returns-in-Some-clause-answer g c =
+    (inr (signed_of c.in-Some.field-0.now, rw c.in-Some.is at c.unmarked_counted.ensures.answer, refl), λ es are. tt)
+
+pub returns-in-Some-clause-cost : goal.returns-in-Some-clause-cost
+returns-in-Some-clause-cost g c shown found has = omega (arith, c.unmarked_counted.ensures.cost, asked_octets c.args.self.now shown found has)

@@ -1,0 +1,19 @@
+//! Questions that own what they need. `spki_asked` of C points to one.
+
+use crate::owned_signed::OwnedSigned;
+use crate::shared::SharedGuard;
+use crate::texts::Texts;
+use spki_decision::Grant;
+
+/// A question that was read for a guard, with all that it needs: the guard, the canonical texts of its parts, the
+/// signatures that a verifier is asked about, marks that say which of them are valid, and what is granted if all of them are. The texts
+/// that it was read from may change or be freed.
+#[derive(Drop)]
+pub struct OwnedQuestion {
+    pub(crate) guard: SharedGuard,
+    pub(crate) texts: Texts<'static>,
+    pub(crate) signed: Vec<OwnedSigned>,
+    pub(crate) marks: Vec<bool>,
+    /// What is granted if all these signatures are valid. It is no answer before.
+    pub(crate) if_valid: Option<Grant>,
+}

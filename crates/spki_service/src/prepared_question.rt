@@ -1,0 +1,74 @@
+//! Questions that were read for a guard.
+
+ghost use Rattle.std.specs.Prelude.{◌≡◌, ◌↔◌, ◌<◌, length, false, IsTrue, MatchOption};
+ghost use Rattle.spki_decision.specs.CertificateTests.{asked, signed_of};
+ghost use Rattle.spki_service.specs.GuardQuestions.{PreparedModel, IsMarkedToo, AllMarked, IsUnmarked};
+
+use crate::guard::Guard;
+use crate::marks::{first_unmarked, mark_at};
+use spki_case::Case;
+use spki_decision::{ExaminedSequence, Signed};
+use std::marker::Model;
+
+/// A question that was read for a guard: its parts, what a verifier is asked, and marks that say which of the listed signatures are
+/// valid. It has no mark at first. In a contract it is the guard's entries, the case of the parts, the guard's limit of the octets of an
+/// answer, and the marks.
+#[derive(Drop)]
+pub struct PreparedQuestion<'a> {
+    pub(crate) guard: &'a Guard,
+    pub(crate) case: Case<'a>,
+    pub(crate) examined: ExaminedSequence<'a>,
+    pub(crate) marks: Vec<bool>,
+}
+
+impl<'a> PreparedQuestion<'a> {
+    /// The most octets of the lines of an explanation or a reduction: the guard's limit. `explain` and `reduce` do not
+    /// test it: the code that prints their answers must.
+    pub fn most_answer(&self) -> usize
+        ensures { result ≡ self.now.answer }
+    {
+        self.guard.most_answer()
+    }
+
+    /// Says that the signature is valid that `signed` lists at this place, from 0. The mark is for this place alone, also if the same
+    /// signature is listed twice. It cannot be taken back. Returns false, and changes nothing, if nothing is listed there.
+    pub fn mark(&mut self, place: usize) -> bool
+        ensures listed { IsTrue result ↔ (place < length self.old.marks) }
+        ensures marked { IsTrue result → IsMarkedToo self.old.marks place self.new.marks }
+        ensures others { self.new ≡ record self.old { marks = self.new.marks } }
+        ensures same { result ≡ false → self.new ≡ self.old }
+    {
+        mark_at(&mut self.marks, place)
+    }
+
+    /// The first listed signature without a mark at its place. None if each has one.
+    pub(crate) fn unmarked(&self) -> Option<&Signed<'a>>
+        ensures { MatchOption result (AllMarked (asked self.now.case) self.now.marks)
+            (λ one. IsUnmarked (asked self.now.case) self.now.marks (signed_of one.now)) }
+    {
+        let signed: &Vec<Signed<'a>> = &self.examined.signed;
+        let place = first_unmarked(signed.len(), &self.marks)?;
+        signed.get(place)
+    }
+}
+
+impl<'a> Model for PreparedQuestion<'a> {
+    ghost use Rattle.std.specs.Prelude.{◌≡◌, map};
+    ghost use Rattle.std.specs.Coded.{codes};
+    ghost use Rattle.spki_tag.specs.contracts.tag.Tag as tag;
+    ghost use Rattle.spki_tag.specs.contracts.request.Ground as ground;
+    ghost use Rattle.spki_case.specs.View.{model};
+    ghost use Rattle.spki_decision.specs.CertificateTests.{asked, signed_of};
+    ghost use Rattle.spki_decision.specs.Judged.{IsUnverified};
+    ghost use Rattle.spki_service.specs.GuardQuestions.{PreparedModel};
+
+    ghost Value = { PreparedModel };
+
+    ghost coded = { Prim.hlevel (codes, tag.the_row.coded, ground.the_row.coded) };
+
+    ghost view = { λ a. record { texts = a.guard.now.texts; case = model a.case; answer = a.guard.now.answer; marks = a.marks.items } };
+
+    ghost invariant = { λ a. (map signed_of a.examined.signed.items ≡ asked (model a.case))
+        × IsUnverified a.case.policy a.case.sequence.items a.examined.unverified
+        × (a.guard.now.policy ≡ a.case.policy) };
+}

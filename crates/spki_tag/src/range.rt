@@ -1,0 +1,126 @@
+//! Ranges of strings (RFC 2693, section 6.3.1), and their intersection.
+
+ghost use Rattle.std.specs.Prelude.{◌≡◌, option_map};
+ghost use Rattle.spki_tag.specs.Limits.{limit_of, ordering_of};
+ghost use Rattle.spki_tag.specs.Meet.{exclude, ordering_meet};
+
+use crate::leaf::{Limit, RangeOrdering, copied_limit};
+use crate::limit_intersection::{exclude, is_greater_low, is_lesser_up};
+use std::alloc::AllocError;
+
+/// A range: an ordering and at most two limits. Whether the limits exclude each other is known since the range was made, so that no
+/// intersection compares them again.
+#[derive(Debug, Drop)]
+pub(crate) struct Range {
+    pub(crate) ordering: RangeOrdering,
+    excluded: bool,
+    pub(crate) low: Option<Limit>,
+    pub(crate) up: Option<Limit>,
+    ghost known: { excluded ≡ exclude (limit_of low) (limit_of up) },
+}
+
+/// The ordering of the strings that are in both orderings. None for a time and a date, since no string is both.
+fn common_ordering(one: RangeOrdering, other: RangeOrdering) -> Option<RangeOrdering>
+    ensures { option_map ordering_of result ≡ ordering_meet (ordering_of one) (ordering_of other) }
+{
+    match one {
+        RangeOrdering::Alpha => Some(other),
+        RangeOrdering::Time => match other {
+            RangeOrdering::Alpha => Some(one),
+            RangeOrdering::Time => Some(one),
+            RangeOrdering::Date => None,
+        },
+        RangeOrdering::Date => match other {
+            RangeOrdering::Alpha => Some(one),
+            RangeOrdering::Time => None,
+            RangeOrdering::Date => Some(one),
+        },
+    }
+}
+
+impl Range {
+    ghost use Rattle.std.specs.Prelude.{false, IfOk, Some};
+    ghost use Rattle.spki_tag.specs.Leaves.{range_tag, range_or_nothing};
+    ghost use Rattle.spki_tag.specs.Meet.{greater_low, lesser_up, ranged};
+    ghost use Rattle.spki_tag.specs.Tag.{range};
+
+    /// The range of an ordering with these limits.
+    pub(crate) fn of(ordering: RangeOrdering, low: Option<Limit>, up: Option<Limit>) -> Range
+        ensures { range_tag result ≡ range (ordering_of ordering) (limit_of low) (limit_of up) }
+    {
+        Range {
+            ordering,
+            excluded: exclude(&low, &up),
+            low,
+            up,
+        }
+    }
+
+    /// The range of an ordering with these limits, which do not exclude each other.
+    pub(crate) fn between(ordering: RangeOrdering, low: Option<Limit>, up: Option<Limit>) -> Range
+        requires { exclude (limit_of low) (limit_of up) ≡ false }
+        ensures { range_tag result ≡ range (ordering_of ordering) (limit_of low) (limit_of up) }
+    {
+        Range {
+            ordering,
+            excluded: false,
+            low,
+            up,
+        }
+    }
+
+    /// A copy of the range of an ordering with these limits. None if `excluded`, which says whether they exclude each other. Err if there
+    /// are too many copies to count.
+    fn unless(
+        excluded: bool,
+        ordering: RangeOrdering,
+        low: &Option<Limit>,
+        up: &Option<Limit>,
+    ) -> Result<Option<Range>, AllocError>
+        requires { excluded ≡ exclude (limit_of low.now) (limit_of up.now) }
+        ensures { IfOk result (λ r. range_or_nothing r
+            ≡ ranged (Some (ordering_of ordering)) (limit_of low.now) (limit_of up.now)) }
+    {
+        if excluded {
+            return Ok(None);
+        }
+        Ok(Some(Range::between(ordering, copied_limit(low)?, copied_limit(up)?)))
+    }
+
+    /// Returns the intersection of two ranges: the range with the greater lower limit and the lesser upper limit. None if one ordering
+    /// is of times and the other of dates, or if these limits exclude each other. A limit is compared only with limits of the other range,
+    /// and each comparison reads at most the octets of the shorter one: so at most twice the octets of the limits of either range. Err if
+    /// there are too many copies to count.
+    pub(crate) fn meet(&self, other: &Range) -> Result<Option<Range>, AllocError>
+        ensures { IfOk result (λ r. range_or_nothing r
+            ≡ ranged (ordering_meet (ordering_of self.now.ordering) (ordering_of other.now.ordering))
+            (greater_low (limit_of self.now.low) (limit_of other.now.low))
+            (lesser_up (limit_of self.now.up) (limit_of other.now.up))) }
+    {
+        let Some(ordering) = common_ordering(self.ordering, other.ordering) else {
+            return Ok(None);
+        };
+        let own_low = is_greater_low(&self.low, &other.low);
+        if is_lesser_up(&self.up, &other.up) {
+            if own_low {
+                Range::unless(self.excluded, ordering, &self.low, &self.up)
+            } else {
+                Range::unless(
+                    exclude(&other.low, &self.up),
+                    ordering,
+                    &other.low,
+                    &self.up,
+                )
+            }
+        } else if own_low {
+            Range::unless(
+                exclude(&self.low, &other.up),
+                ordering,
+                &self.low,
+                &other.up,
+            )
+        } else {
+            Range::unless(other.excluded, ordering, &other.low, &other.up)
+        }
+    }
+}

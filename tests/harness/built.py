@@ -1,0 +1,71 @@
+"""The built program and library as the tests take them, and the size of a run. `tests/run` builds them, and sets these variables of the
+environment:
+
+    SPKI_TEST_PROGRAM   another program than crates/spki/out/spki
+    SPKI_TEST_ONE_CALL  another program than crates/test_one_call/out/test_one_call
+    SPKI_TEST_LIBRARY   another static library than crates/spki_c/out/libspki_c.a; the shared one lies beside it, and those for ARM in the
+                        folder aarch64-unknown-linux-gnu there
+    SPKI_TEST_ALONE     the program alone is tested: there is no library
+    SPKI_TEST_CASES     how many generated cases are compared with the model
+    SPKI_TEST_LONG      the long tests too, which `.ci/deep` runs
+    SPKI_TEST_ANEW      nothing is left out since it passed on the same sources before
+"""
+import os
+import unittest
+
+from harness.support import ARM, LIBRARY, PROGRAM, TOP
+
+BY_RATTLE = os.path.join(TOP, "crates", "spki", "out", "spki.by-rattle")
+ONE_CALL = os.environ.get("SPKI_TEST_ONE_CALL", os.path.join(TOP, "crates", "test_one_call", "out", "test_one_call"))
+ONE_CALL_BY_RATTLE = os.path.join(TOP, "crates", "test_one_call", "out", "test_one_call.by-rattle")
+IS_LONG, IS_ALONE, IS_ANEW = (bool(os.environ.get(f"SPKI_TEST_{word}")) for word in ("LONG", "ALONE", "ANEW"))
+CASES = int(os.environ.get("SPKI_TEST_CASES", "2000"))
+
+
+def there(path: str) -> str:
+    """A built file, by its whole path. It must be there."""
+    if not os.path.exists(path):
+        raise FileNotFoundError(f"{path} is not there: tests/run builds it")
+    return os.path.abspath(path)
+
+
+def program() -> str:
+    """The program that is tested."""
+    return there(os.environ.get("SPKI_TEST_PROGRAM", PROGRAM))
+
+
+def library() -> str:
+    """The static library that is tested."""
+    return there(os.environ.get("SPKI_TEST_LIBRARY", LIBRARY))
+
+
+def shared() -> str:
+    """The shared library that is tested."""
+    return there(library().removesuffix(".a") + ".so")
+
+
+def arm() -> str:
+    """The static library for ARM that is tested. The shared one lies beside it."""
+    return there(os.path.join(os.path.dirname(library()), ARM, "libspki_c.a"))
+
+
+class OfProgram(unittest.TestCase):
+    """Tests of the program."""
+
+    program: str
+
+    @classmethod
+    def setUpClass(cls) -> None:
+        cls.program = program()
+
+
+class OfLibrary(OfProgram):
+    """Tests of the library, whose answers the program knows."""
+
+    library: str
+    shared: str
+
+    @classmethod
+    def setUpClass(cls) -> None:
+        super().setUpClass()
+        cls.library, cls.shared = library(), shared()

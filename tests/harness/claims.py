@@ -1,0 +1,104 @@
+"""What the rows of docs/PROOFS.md cite: functions, clauses of their contracts, and definitions that these clauses lead to.
+
+A cell has phrases, one behind the other with `;`. A phrase names functions, then clauses, and in parentheses definitions, as in
+"`decide`, `exact` (`IsDecision`)": each clause must be in the contract of one of the functions before it, and each definition must be
+cited by such a contract, or by a definition that it leads to. A phrase that names no function, such as "the readers' `named`", is about
+all functions of the crates of its section."""
+import re
+from collections.abc import Iterable, Iterator
+
+from harness.support import text_of
+
+SECTION = re.compile(r"^## (.*)\n((?:(?!## ).*\n)*)", re.MULTILINE)
+CLAIM = re.compile(r"^\| .* \| ([^|]*`[^|]*) \|$", re.MULTILINE)
+# What rows name that is of the language, and the sections whose rows name other things.
+OF_LANGUAGE, OTHER_SECTIONS = {"Send", "Sync", "test_callers"}, {"How to read a contract", "Only tested"}
+# A function with its contract, a block of functions of one type, and a type.
+FUNCTION = re.compile(r"^( *)(?:pub(?:\([\w:]+\))? |const |unsafe |extern \"C\" )*fn (\w+)((?:.|\n)*?)(?:\n\1| )\{\}?$", re.MULTILINE)
+BLOCK = re.compile(r"^impl\b[^{]*?(\w+)(?:<[^{]*>)? \{\n((?:.|\n)*?)^\}", re.MULTILINE)
+TYPE = re.compile(r"\b(?:struct|enum|trait|mod) (\w+)")
+CLAUSE = re.compile(r"\b(?:ensures|requires) (\w+) \{")
+# A definition of a specification, from its first line to the next.
+DEFINITION = re.compile(r"^ *(?:(?:abbrev|pub|record|data|unfoldable) )*([\w-]+)\b([^\n]*\n(?: +[^\n]*\n|\n)*)", re.MULTILINE)
+WORD = re.compile(r"[\w-]+")
+
+
+class Sources:
+    """The contracts of functions by name, also with the name of a type before it, and what each definition cites."""
+
+    def __init__(self, sources: Iterable[str], specs: Iterable[str]) -> None:
+        self.contracts: dict[str, list[str]] = {}
+        self.of_crate: dict[str, list[str]] = {}
+        self.cited: dict[str, set[str]] = {}
+        for path in sources:
+            text = text_of(path)
+            for _, name, contract in FUNCTION.findall(text):
+                self.contracts.setdefault(name, []).append(contract)
+                self.of_crate.setdefault(path.split("/")[1], []).append(contract)
+            for kind, body in BLOCK.findall(text):
+                for _, name, contract in FUNCTION.findall(body):
+                    self.contracts.setdefault(f"{kind}::{name}", []).append(contract)
+            for name in TYPE.findall(text):
+                self.contracts.setdefault(name, [])
+        for path in specs:
+            for name, body in DEFINITION.findall(text_of(path)):
+                self.cited.setdefault(name, set()).update(WORD.findall(body), [])
+
+    def called(self, name: str) -> list[str] | None:
+        """The contracts of the functions of a name. None if there is no such function and no such type."""
+        return self.contracts.get(name, self.contracts.get(name.split("::")[-1]))
+
+    def leads_to(self, contracts: list[str], wanted: str) -> bool:
+        """Whether a definition is cited by one of these contracts, or by what it cites."""
+        left, seen = set(WORD.findall(" ".join(contracts))), set[str]()
+        while left - seen and wanted not in left:
+            seen |= left
+            left = left.union(*(self.cited.get(name, set()) for name in left))
+        return wanted in left
+
+    def faults_of(self, cell: str, default: list[str]) -> Iterator[str]:
+        """What a cell names that is not where it says. `default` are the contracts of its section."""
+        contracts, is_closed, is_inside, is_of_all = default, True, False, False
+        for mark, word, name in re.findall(r"([();])|\b(calls?|readers)\b|`([\w:-]+)`", cell):
+            called = None if is_of_all else self.called(name)
+            if mark:
+                is_inside = mark == "(" or is_inside and mark == ";"
+                contracts, is_of_all = (default, False) if mark == ";" and not is_inside else (contracts, is_of_all)
+            elif word:
+                is_of_all = True
+            elif is_inside:
+                if not self.leads_to(contracts, name):
+                    yield f"no contract leads to {name}"
+            elif called is not None and (contracts is default or not has_clause(contracts, name)):
+                contracts, is_closed = (called if is_closed else [*contracts, *called]), False
+            elif not has_clause(contracts, name) and name not in OF_LANGUAGE:
+                yield f"no clause {name}"
+            else:
+                is_closed = True
+
+
+def unclaimed(page: str, header: str, source: str) -> Iterator[str]:
+    """The calls of a header for C whose export has no row on a page. The source of the header's calls says which exports there are."""
+    section = next(rows for head, rows in SECTION.findall(text_of(page)) if head == "`spki_c`")
+    introduction, _, rows = section.partition("\n|")
+    exports = set(re.findall(r"^\w[\w *]*\b(spki_c_\w+)\(", text_of(source), re.MULTILINE))
+    yield from (f"no row has {name}" for name in sorted(exports) if f"`{name}`" not in rows)
+    told = re.findall(r"`(\w+)`", introduction)
+    for name in re.findall(r"^\w[\w *]*\b(spki_\w+)\(", text_of(header), re.MULTILINE):
+        is_told = any(name == part or part[0] == "_" and name.endswith(part) for part in told)
+        if name.replace("spki_", "spki_c_", 1) not in exports and not is_told:
+            yield f"nothing says what {name} calls"
+
+
+def has_clause(contracts: list[str], name: str) -> bool:
+    """Whether one of these contracts has a clause of this name."""
+    return any(name in CLAUSE.findall(it) for it in contracts)
+
+
+def faults(page: str, sources: Sources) -> Iterator[str]:
+    """What the rows of a page cite that is not there."""
+    for head, rows in SECTION.findall(text_of(page)):
+        crates = re.findall(r"`(\w+)`", head) or list(sources.of_crate)
+        default = [contract for crate in crates for contract in sources.of_crate.get(crate, [])]
+        for cell in CLAIM.findall(rows) if head not in OTHER_SECTIONS else []:
+            yield from (f"{head}: {cell}: {fault}" for fault in sources.faults_of(cell, default))

@@ -1,0 +1,143 @@
+"""Servers of PostgreSQL in temporary folders, for the tests and benches of stores: also replicas, and servers whose network can be cut or whose disk
+can be filled."""
+from __future__ import annotations
+
+import contextlib
+import glob
+import os
+import shutil
+import signal
+import subprocess
+import sys
+import tempfile
+from collections.abc import Iterator
+from typing import Any
+
+from harness import needs, networks
+from harness.support import TOP, waits_for
+
+# (where another Python than Debian's is the first in the path, it does not look for Debian's modules)
+sys.path[1:1] = [os.path.join(TOP, "apps", "spki-store"), os.path.join(TOP, "bindings", "python")]
+sys.path.append(needs.DEBIAN)
+
+# What a server with a store needs.
+NEEDED = (needs.INITDB, f"{needs.DEBIAN}/psycopg")
+# How long a server may take to start, to follow or to end.
+SECONDS = 600
+SETTINGS = {"listen_addresses": "", "fsync": "off", "max_connections": "100", "wal_keep_size": "256MB", "hot_standby": "on", "max_wal_senders": "8"}
+
+
+def program(name: str) -> str:
+    """The path of a program of the server, which Debian keeps outside of the path."""
+    return sorted(glob.glob(f"/usr/lib/postgresql/*/bin/{name}"))[-1]
+
+
+def mount(folder: str, mib: int) -> None:
+    """Makes a folder a disk of its own, which is in memory."""
+    subprocess.run(["mount", "-t", "tmpfs", "-o", f"size={mib}m", "tmpfs", folder], check=True)
+
+
+def unmount(folder: str) -> None:
+    """Takes the disk away, when nothing uses it any more."""
+    waits_for(f"nothing uses {folder}", lambda: subprocess.run(["umount", folder], stderr=subprocess.DEVNULL, check=False).returncode == 0)
+
+
+# As whom a server is started: it refuses to run as root.
+OWNER = ["setpriv", "--reuid=postgres", "--regid=postgres", "--clear-groups"]
+
+
+class Server:
+    """A server in a temporary folder, which trusts whoever reaches its socket there. It ends with its context. It may be at a node of a network, and
+    then trusts other nodes too, and on a disk of its own of so many MiB."""
+
+    def __init__(self, at: networks.Node | None = None, mib: int = 0, **settings: str) -> None:
+        self.folder = tempfile.mkdtemp(prefix="spki-pg-")
+        self.at, self.mib = at, mib
+        self.settings = {**SETTINGS, **settings}
+        if at:
+            self.settings["listen_addresses"] = at.address
+        self.process: subprocess.Popen[Any] | None = None
+        self.data = os.path.join(self.folder, "data")
+        if mib:
+            mount(self.folder, mib)
+        if os.geteuid() == 0:
+            shutil.chown(self.folder, "postgres", "postgres")
+        os.chmod(self.folder, 0o755)
+
+    def __enter__(self) -> Server:
+        if not os.path.exists(self.data):
+            self.runs("initdb", "-D", self.data, "-U", "postgres", "-A", "trust", "-E", "UTF8", "--locale=C", "--no-sync")
+            with open(os.path.join(self.data, "pg_hba.conf"), "a", encoding="utf-8") as file:
+                file.write(f"host all,replication all {networks.ALL} trust\n")
+        self.start()
+        return self
+
+    def __exit__(self, *fault: object) -> None:
+        self.kill()
+        if self.mib:
+            unmount(self.folder)
+        shutil.rmtree(self.folder)
+
+    @property
+    def words(self) -> list[str]:
+        """What begins each command of the server."""
+        return [*(self.at.words if self.at else []), *(OWNER if os.geteuid() == 0 else [])]
+
+    @property
+    def host(self) -> str:
+        """Where other servers reach it."""
+        return self.at.address if self.at else self.folder
+
+    @property
+    def address(self) -> str:
+        """The settings of libpq."""
+        return f"host={self.folder} user=postgres dbname=postgres"
+
+    def runs(self, name: str, *words: str) -> str:
+        """What a program of the server writes."""
+        return subprocess.run([*self.words, program(name), *words], cwd=self.folder, check=True, stdout=subprocess.PIPE, stderr=subprocess.STDOUT,
+                              text=True, timeout=SECONDS).stdout
+
+    def start(self) -> None:
+        """Starts the server, and waits until it answers."""
+        options = [word for name, value in self.settings.items() for word in ("-c", f"{name}={value}")]
+        words = [*self.words, program("postgres"), "-D", self.data, "-k", self.folder, *options]
+        with open(os.path.join(self.folder, "log"), "ab") as log:
+            self.process = subprocess.Popen(words, cwd=self.folder, stdout=log, stderr=log)
+        waits_for("the server answers", self.answers)
+
+    def answers(self) -> bool:
+        """Whether the server takes connections."""
+        words = [program("pg_isready"), "-q", "-h", self.folder]
+        return subprocess.run(words, stdout=subprocess.DEVNULL, stderr=subprocess.DEVNULL, check=False).returncode == 0
+
+    def kill(self) -> None:
+        """Ends the server at once. It finishes no statement, and closes no connection in good order."""
+        if self.process is not None:
+            self.process.send_signal(signal.SIGQUIT)
+            self.process.wait()
+            self.process = None
+
+    def replica(self, at: networks.Node | None = None, mib: int = 0, **settings: str) -> Server:
+        """A replica of this server, which is not started yet."""
+        made = Server(at, mib, **{**self.settings, **settings})
+        made.runs("pg_basebackup", "-d", made.source(self), "-D", made.data, "-R", "-X", "stream", "-c", "fast", "--no-sync")
+        return made
+
+    def source(self, primary: Server) -> str:
+        """By what settings a replica of a primary follows it. The primary knows it by the name of its folder."""
+        return f"host={primary.host} user=postgres application_name={os.path.basename(self.folder)}"
+
+    def promote(self) -> None:
+        """Makes a replica a server that is written to."""
+        self.runs("pg_ctl", "promote", "-D", self.data, "-w")
+
+
+@contextlib.contextmanager
+def ended(process: subprocess.Popen[Any]) -> Iterator[subprocess.Popen[Any]]:
+    """Kills a process at the end."""
+    try:
+        yield process
+    finally:
+        process.kill()
+        process.wait()

@@ -1,0 +1,285 @@
+"""The calls for guards of the library for C programs, by ctypes: a question is asked in two steps, as a service does."""
+import ctypes
+import hashlib
+from ctypes import POINTER, Structure, byref, c_bool, c_char_p, c_int64, c_size_t, c_uint32, c_void_p
+from dataclasses import astuple
+from typing import Any
+
+from generators.guards import GuardQuestion
+from model import forms, guard
+from model import case as cases
+from model.answers import Answer
+from model.calls import DONE, GRANTED, MISUSED, TOO_SMALL
+from model.guard import Parts, Signed, answer
+from model.values import Atom
+
+ROOM = 64
+# so many structures have more octets than an array can have
+MANY = 2**60
+# as a place: what -255 is as an unsigned number
+FAR = 2**64 - 255 - 16
+At = tuple[Any, Any]
+
+
+class Text(Structure):
+    """`struct spki_text`."""
+
+    _fields_ = [("octets", c_char_p), ("length", c_size_t)]
+
+
+class Limits(Structure):
+    """`struct spki_limits`."""
+
+    _fields_ = [(name, c_size_t) for name in ("size", "octets", "certificates", "words", "nodes", "work", "answer")]
+
+
+class Asked(Structure):
+    """`struct spki_question`."""
+
+    _fields_ = [("size", c_size_t), ("sequence", Text), ("key", Text), ("request", Text), ("words", POINTER(Text)), ("word_count", c_size_t),
+                ("moment", Text), ("seconds", POINTER(c_int64))]
+
+
+class Decision(Structure):
+    """`struct spki_decision`."""
+
+    _fields_ = [("status", c_uint32), ("until", c_int64)]
+
+
+class Listed(Structure):
+    """`struct spki_signed`, whose octets may have any value."""
+
+    _fields_ = [(name + part, c_size_t) for name in ("key", "message", "value", "octets") for part in ("", "_length")]
+
+
+def text_of(octets: bytes) -> Text:
+    """A text as C has it."""
+    return Text(octets, len(octets))
+
+
+def rows_of(question: GuardQuestion) -> list[cases.Row]:
+    """What the verifier accepts."""
+    return cases.read_rows(forms.read(question.rows))
+
+
+def model_answer(question: GuardQuestion) -> tuple[Answer, list[Signed]]:
+    """What the model answers."""
+    wish = question.command.removeprefix("guard ")
+    return answer(wish, question.acl, parts_of(question), rows_of(question), question.policy, question.limits, question.oddity)
+
+
+def parts_of(question: GuardQuestion) -> Parts:
+    """The parts of a question as the model takes them."""
+    request: bytes | tuple[bytes, ...] = question.request if question.strings is None else question.strings
+    moment: bytes | int = question.moment if question.seconds is None else question.seconds
+    return Parts(question.sequence, question.key, request, moment)
+
+
+class GuardDoor:
+    """The calls for guards, of a library that is loaded."""
+
+    def __init__(self, loaded: ctypes.CDLL) -> None:
+        self.truths: tuple[bool, ...] = ()
+        """Whether the last decision is a yes, and whether it can be one, as the library says."""
+        self.until = guard.NEVER
+        """The last second of the last decision."""
+        needed = POINTER(c_size_t)
+        self.open, self.close, self.entries = loaded.spki_guard_open, loaded.spki_guard_close, loaded.spki_guard_entries
+        self.ask, self.count, self.signature = loaded.spki_guard_ask, loaded.spki_asked_count, loaded.spki_asked_signature
+        self.close_asked, self.mark = loaded.spki_asked_close, loaded.spki_asked_mark
+        self.granted, self.possible = loaded.spki_asked_granted, loaded.spki_asked_possible
+        self.decision = loaded.spki_asked_decide
+        self.decision.restype = Decision
+        self.by_wish: dict[str, Any] = {"decide": self.decide, "explain": loaded.spki_asked_explain, "reduce": loaded.spki_asked_reduce}
+        self.open.argtypes = [c_char_p, c_size_t, c_uint32, POINTER(Limits), POINTER(c_void_p), c_void_p, c_size_t, needed]
+        self.ask.argtypes = [c_void_p, POINTER(Asked), POINTER(c_void_p), c_void_p, c_size_t, needed]
+        self.signature.argtypes, self.mark.argtypes = [c_void_p, c_size_t, POINTER(Listed)], [c_void_p, c_size_t]
+        for call in (self.close, self.close_asked):
+            call.argtypes, call.restype = [c_void_p], None
+        for call in (self.entries, self.count):
+            call.argtypes, call.restype = [c_void_p], c_size_t
+        for call in (self.granted, self.possible):
+            call.argtypes, call.restype = [c_void_p], c_bool
+        for call in (self.decision, loaded.spki_asked_explain, loaded.spki_asked_reduce):
+            call.argtypes = [c_void_p, c_void_p, c_size_t, needed]
+
+    def decide(self, asked: Any, line: Any, room: int, needed: Any) -> int:
+        """Decides, as the other calls answer."""
+        said = self.decision(asked, line, room, needed)
+        self.until = said.until
+        return int(said.status)
+
+    def answers(self, question: GuardQuestion, wanted: tuple[Answer, list[Signed]]) -> str | None:
+        """What is wrong with the answer or with what the verifier is asked of, None if nothing is."""
+        handle, asked = c_void_p(), c_void_p()
+        self.truths = ()
+        try:
+            met, listed = self.answered(question, handle, asked)
+        finally:
+            self.close_asked(asked)
+            self.close(handle)
+        said, signed = wanted
+        if met != said:
+            return f"the guard answers {met[0]} {met[1][:300]!r}"
+        if self.truths and self.truths != self.wanted_truths(question, met):
+            return f"whether it is granted and whether it is possible are said to be {self.truths}"
+        if self.truths and self.until != guard.until(question.acl, parts_of(question), question.policy, question.limits, met):
+            return f"a decision holds until {self.until}"
+        if listed is None or met[0] == MISUSED or listed == signed:
+            return None
+        return f"the guard lists {len(listed)} signatures, or others than the model"
+
+    def wanted_truths(self, question: GuardQuestion, met: Answer) -> tuple[bool, ...]:
+        """Whether a decision is a yes, and whether the model says that it can be one."""
+        return met[0] == GRANTED, guard.is_possible(question.acl, parts_of(question), question.policy, question.limits)
+
+    def keeps_back(self, question: GuardQuestion) -> str | None:
+        """What is wrong where there is too little room by one, None if nothing is."""
+        handle, asked = c_void_p(), c_void_p()
+        try:
+            is_right = self.is_kept_back(question, handle, asked)
+        finally:
+            self.close_asked(asked)
+            self.close(handle)
+        return None if is_right else "a call for guards writes where there is too little room, or tells another length or status"
+
+    def answered(self, question: GuardQuestion, handle: c_void_p, asked: c_void_p) -> tuple[Answer, list[Signed] | None]:
+        """The answer, and the signatures that are listed where the question is read. The guard and the question are opened in the handles,
+        and the guard is closed before the question is answered."""
+        status, line = self.opened(question, handle, ROOM)
+        if status != DONE:
+            return (status, line), None
+        odd = question.oddity
+        if odd == "no guard" and self.entries(None):
+            return (status, b"the entries of no guard"), None
+        status, line = self.asked(question, handle, asked, ROOM)
+        if status != DONE:
+            return (status, line), None
+        if odd == guard.ANSWERED[2]:
+            return self.answer(question, handle), None
+        self.close(handle)
+        handle.value = None
+        if odd in guard.LISTED:
+            at, place = (None, byref(Listed())) if odd == "a signature of no question" else (asked, None)
+            return (self.signature(at, 0, place), b""), None
+        listed = self.listed(asked)
+        if odd in guard.MARKED:
+            past, far, _ = guard.MARKED
+            return (self.mark(None if odd not in (past, far) else asked, len(listed) if odd == past else FAR + len(listed)), b""), listed
+        self.mark_all(question, asked, listed)
+        said = self.answer(question, None if odd == "no opened question" else asked)
+        if question.command == "guard decide" and odd not in guard.ANSWERED:
+            self.truths = self.granted(asked), self.possible(asked)
+        return said, listed
+
+    def mark_all(self, question: GuardQuestion, asked: c_void_p, listed: list[Signed]) -> None:
+        """Marks the signatures that a row accepts. A mark past them has no effect."""
+        for place, is_valid in enumerate([*valid_of(question, listed), True]):
+            if is_valid:
+                self.mark(asked, place)
+
+    def opened(self, question: GuardQuestion, handle: c_void_p, room: int) -> Answer:
+        """What `spki_guard_open` answers, with a buffer of this room."""
+        line, needed, odd = ctypes.create_string_buffer(room + 1), c_size_t(), question.oddity
+        text, length = (None, 1) if odd == "a list that is null with a length" else (question.acl, len(question.acl))
+        size = ctypes.sizeof(Limits) - (odd == "limits of another size")
+        limits = None if odd == "limits" else byref(Limits(size, *astuple(question.limits)))
+        place = None if odd == "no place for the guard" else byref(handle)
+        status = self.open(text, length, question.policy, limits, place, line, room, byref(needed))
+        return status, line.raw[:needed.value]
+
+    def asked(self, question: GuardQuestion, handle: c_void_p, asked: c_void_p, room: int) -> Answer:
+        """What `spki_guard_ask` answers, with a buffer of this room. The question's texts change afterwards."""
+        line, needed, odd = ctypes.create_string_buffer(room + 1), c_size_t(), question.oddity
+        parts = asked_of(question)
+        given = None if odd == "no question" else byref(parts)
+        place = None if odd == "no place for the question" else byref(asked)
+        buffer = None if odd == "a buffer for a line that is null with a length" else line
+        status = self.ask(None if odd == "no guard" else handle, given, place, buffer, room, byref(needed))
+        return status, line.raw[:needed.value]
+
+    def listed(self, asked: c_void_p) -> list[Signed]:
+        """The signatures of an opened question. Where a value is one string, its octets are the end of it."""
+        found = []
+        for place in range(self.count(asked)):
+            signature = Listed()
+            if self.signature(asked, place, byref(signature)) != DONE:
+                return []
+            found.append(signed_at(signature))
+            octets = ctypes.string_at(signature.octets, signature.octets_length) if signature.octets else None
+            if octets != octets_of_value(found[-1][2]):
+                return []
+        return [] if self.signature(asked, len(found), byref(Listed())) == DONE else found
+
+    def answer(self, question: GuardQuestion, asked: c_void_p | None) -> Answer:
+        """What a call answers to a question by its marks."""
+        call, odd, needed = self.by_wish[question.command.removeprefix("guard ")], question.oddity, c_size_t()
+        if odd == "a buffer that is null with a length":
+            return call(asked, None, 1, byref(needed)), b""
+        status = call(asked, None, 0, byref(needed))
+        octets = ctypes.create_string_buffer(needed.value + 1)
+        if status == TOO_SMALL:
+            status = call(asked, octets, needed.value, None if odd == "needed" else byref(needed))
+        return status, octets.raw[:needed.value]
+
+    def is_kept_back(self, question: GuardQuestion, handle: c_void_p, asked: c_void_p) -> bool:
+        """Whether each call for a question says that there is too little room where one octet does not fit."""
+        status, line = self.opened(question, handle, ROOM)
+        if status != DONE:
+            status, said = self.opened(question, c_void_p(), len(line) - 1)
+            return (status, said) == (guard.kept_back("the line of a refused list"), len(line) * b"\0")
+        status, line = self.asked(question, handle, asked, ROOM)
+        if status != DONE:
+            status, said = self.asked(question, handle, c_void_p(), len(line) - 1)
+            return (status, said) == (guard.kept_back("the line of a refused question"), len(line) * b"\0")
+        self.mark_all(question, asked, self.listed(asked))
+        _, said = self.answer(question, asked)
+        octets, needed = ctypes.create_string_buffer(len(said)), c_size_t()
+        status = self.by_wish[question.command.removeprefix("guard ")](asked, octets, len(said) - 1, byref(needed))
+        return (status, needed.value, octets.raw) == (guard.kept_back("an answer"), len(said), len(said) * b"\0")
+
+
+def octets_of_value(value: bytes) -> bytes | None:
+    """The octets of a value in canonical form that is one string, None if it is a list."""
+    read = forms.read(value)
+    return read.body if isinstance(read, Atom) else None
+
+
+def signed_at(listed: Listed) -> Signed:
+    """The key, the message and the value of a signature that is listed."""
+    return (ctypes.string_at(listed.key, listed.key_length), ctypes.string_at(listed.message, listed.message_length),
+            ctypes.string_at(listed.value, listed.value_length))
+
+
+def asked_of(question: GuardQuestion) -> Asked:
+    """A question as C has it."""
+    request, moment = b"" if question.strings is not None else question.request, b"" if question.seconds is not None else question.moment
+    asked = Asked(ctypes.sizeof(Asked), *map(text_of, (question.sequence, question.key, request)), moment=text_of(moment))
+    if question.strings is not None:
+        # an array of no strings has an address too
+        asked.words = (Text * max(1, len(question.strings)))(*map(text_of, question.strings))
+        asked.word_count = len(question.strings)
+    if question.seconds is not None:
+        asked.seconds = ctypes.pointer(c_int64(question.seconds))
+    odd = question.oddity
+    if odd == "a part that is null with a length":
+        asked.key = Text(None, 1)
+    elif odd == "a part of a length over 2^63 - 1":
+        asked.sequence.length = 2**63
+    elif odd == "strings that are null with a count":
+        asked.words, asked.word_count = None, 1
+    elif odd == "more strings than there are octets":
+        asked.words, asked.word_count = (Text * 1)(), MANY
+    elif odd == "a question of another size":
+        asked.size += 1
+    elif odd == "a request as a text and as strings":
+        asked.words, asked.request = (Text * 1)(), text_of(b"x")
+    elif odd == "a moment as a text and in seconds":
+        asked.seconds, asked.moment = ctypes.pointer(c_int64(0)), text_of(b"x")
+    return asked
+
+
+def valid_of(question: GuardQuestion, listed: list[Signed]) -> list[bool]:
+    """Of each signature whether a row accepts it."""
+    rows = {(row.key.octets, row.digest, row.value) for row in rows_of(question)}
+    return [(key, hashlib.sha256(message).digest(), value) in rows for key, message, value in listed]

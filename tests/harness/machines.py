@@ -1,0 +1,56 @@
+"""Machines on which nothing is but what a page names: Debian's mmdebstrap makes each as a chroot, runs a script there, and removes it.
+
+A machine has the system's smallest set of packages, those that the page names, and the files of the repository in ~/clone, with what is built where
+the page's own commands would leave it. The script runs as an ordinary user with an empty home and no environment but a path."""
+from __future__ import annotations
+
+import os
+import re
+import subprocess
+import tempfile
+
+from harness import needs
+from harness.support import output_of
+
+SECONDS = 1800
+USER = "someone"
+PATH = "/usr/local/bin:/usr/bin:/bin"
+# The packages that a page may name besides those that the tests use, and words that stand for one.
+OTHERS, BY_WORD = ("python3-venv",), {"Python": "python3", "Go 1.": "golang-go", "C compiler": "gcc"}
+
+
+def packages_of(page: str) -> list[str]:
+    """The packages of Debian that the text of a page names: in Markdown in backticks."""
+    words = re.findall(r"`([^`\n]+)`", page) or re.split(r"[^\w.+-]+", page.replace("\\-", "-"))
+    known = {*(need.package for need in needs.NEEDS), *OTHERS}
+    return sorted(known & set(words) | {package for word, package in BY_WORD.items() if word in page})
+
+
+def release() -> str:
+    """The name of this machine's release of Debian."""
+    with open("/etc/os-release", encoding="utf-8") as lines:
+        return re.findall(r"^VERSION_CODENAME=(\w+)$", lines.read(), re.MULTILINE)[0]
+
+
+def said_on_machine(packages: list[str], clone: str, by_root: str, script: str) -> str:
+    """What a script writes that a user runs in an empty folder, after a script that root runs in the folder of the clone."""
+    with tempfile.TemporaryDirectory() as room:
+        for name, text in (("by-root", by_root), ("script", script)):
+            with open(os.path.join(room, name), "w", encoding="utf-8") as file:
+                file.write(text)
+        into = f">> {room}/said 2>&1 < /dev/null"
+        bare = f"/usr/bin/env -i HOME=/home/{USER} PATH={PATH}"
+        hooks = [f'chroot "$1" useradd --create-home {USER} && mkdir "$1/home/{USER}/clone" "$1/home/{USER}/empty"',
+                 f"sync-in {clone} /home/{USER}/clone", f"upload {room}/by-root /by-root", f"upload {room}/script /script",
+                 f'chroot "$1" chown -R {USER}: /home/{USER}',
+                 f'chroot "$1" env -i HOME=/root PATH={PATH}:/usr/sbin:/sbin sh -c "cd /home/{USER}/clone && . /by-root" {into}',
+                 f'chroot --userspec={USER}:{USER} "$1" {bare} sh -c "cd ~/empty && . /script" {into} || true']
+        # (apt-get installs what a package recommends, too)
+        words = ["mmdebstrap", "--quiet", "--variant=apt", '--aptopt=Apt::Install-Recommends "true"', f"--include={','.join(packages)}",
+                 *(f"--customize-hook={it}" for it in hooks), release(), "/dev/null"]
+        status, log = output_of(*words, seconds=SECONDS)
+        with open(os.path.join(room, "said"), encoding="utf-8", errors="replace") as file:
+            said = file.read()
+    if status:
+        raise subprocess.CalledProcessError(status, words, f"{log[-3000:]}\n{said[-3000:]}")
+    return said

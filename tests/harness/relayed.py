@@ -1,0 +1,195 @@
+"""The library for C programs on another kind of machine, called as ctypes calls one that is loaded into this process: `relay.c`, which an
+emulator runs, does the calls. Each block of memory that a call is given is copied there and back. Both kinds of machines have addresses and
+numbers of 64 bits, the lowest octet first."""
+import ctypes
+import os
+import struct
+import subprocess
+from collections.abc import Callable
+from ctypes import POINTER, Array, Structure, addressof, byref, c_bool, c_int, c_int64, c_size_t, c_void_p, sizeof, string_at
+from typing import Any, BinaryIO, cast
+
+from harness.guard_door import Asked, Decision, Listed, Text
+
+# In the order of `calls` in relay.c. The first copies memory.
+CALLS = ("memory", "spki_answer", "spki_check_accepted", "spki_guard_open", "spki_guard_close", "spki_guard_entries", "spki_guard_ask",
+         "spki_asked_count", "spki_asked_signature", "spki_asked_mark", "spki_asked_granted", "spki_asked_possible", "spki_asked_decide",
+         "spki_asked_explain", "spki_asked_reduce", "spki_asked_close", "spki_string")
+ARGUMENTS = 8
+PARTS = ("sequence", "key", "request", "moment")
+# A longer text, or more strings, are misuse: no octet of them is read.
+MOST_OCTETS, MOST_WORDS = 1 << 22, 2000
+REFERENCE: Any = type(byref(c_int()))
+SIMPLE: Any = c_int.__mro__[1]
+
+
+def numbers(*of: int) -> bytes:
+    """Numbers of 64 bits."""
+    return struct.pack(f"<{len(of)}Q", *(number % 2**64 for number in of))
+
+
+class Request:
+    """What one call is given: blocks of memory with addresses in them, and arguments."""
+
+    def __init__(self) -> None:
+        self.blocks: list[bytes] = []
+        self.links: list[tuple[int, int, int]] = []
+        self.arguments: list[tuple[bool, int]] = []
+        self.written: list[tuple[int, Any]] = []
+        """The blocks that are copied back, and where to."""
+
+    def block(self, octets: bytes) -> int:
+        """The number of a new block."""
+        self.blocks.append(octets)
+        return len(self.blocks) - 1
+
+    def give(self, value: Any, kind: Any) -> None:
+        """Adds an argument that ctypes converts to a type."""
+        is_pointer = not issubclass(kind, SIMPLE)
+        if isinstance(value, REFERENCE):
+            self.lend(cast(Any, value)._obj)
+        elif isinstance(value, (Array, Structure)) or is_pointer and value is not None:
+            self.lend(value)
+        elif isinstance(value, bytes):
+            self.arguments.append((True, self.block(value + b"\0")))
+        else:
+            self.arguments.append((False, (value.value if isinstance(value, SIMPLE) else value) or 0))
+
+    def lend(self, value: Any) -> None:
+        """Adds an argument that is the address of a value, which the call may write."""
+        block = self.question(value) if isinstance(value, Asked) else self.block(bytes(value))
+        self.arguments.append((True, block))
+        if not isinstance(value, Asked):
+            self.written.append((block, value))
+
+    def question(self, asked: Asked) -> int:
+        """A block that is a question, with blocks for all that it points to."""
+        block = self.block(bytes(asked))
+        for name in PARTS:
+            self.text(block, getattr(Asked, name).offset, getattr(asked, name))
+        if asked.words:
+            count = max(1, asked.word_count if asked.word_count <= MOST_WORDS else 0)
+            words = self.block(string_at(addressof(asked.words.contents), count * sizeof(Text)))
+            self.links.append((block, Asked.words.offset, words))
+            for place in range(count):
+                self.text(words, place * sizeof(Text), asked.words[place])
+        if asked.seconds:
+            self.links.append((block, Asked.seconds.offset, self.block(bytes(asked.seconds.contents))))
+        return block
+
+    def text(self, block: int, place: int, text: Text) -> None:
+        """Copies the octets of a text that is at a place in a block."""
+        at = c_void_p.from_address(addressof(text)).value
+        if at:
+            self.links.append((block, place, self.block(string_at(at, text.length if text.length <= MOST_OCTETS else 1))))
+
+    def written_down(self, call: int) -> bytes:
+        """The request as `relay.c` reads it."""
+        blocks = b"".join(numbers(len(octets)) + octets for octets in self.blocks)
+        links = b"".join(numbers(*link) for link in self.links)
+        given = b"".join(numbers(*argument) for argument in [*self.arguments, *[(False, 0)] * (ARGUMENTS - len(self.arguments))])
+        return numbers(len(self.blocks)) + blocks + numbers(len(self.links)) + links + numbers(call) + given
+
+
+class Call:
+    """A call, with the types that ctypes wants to know."""
+
+    def __init__(self, relayed: "Relayed", number: int) -> None:
+        self.relayed, self.number = relayed, number
+        self.argtypes: list[Any] = []
+        self.restype: Any = c_int
+
+    def decided(self, *given: Any) -> Decision:
+        """A decision, whose last second `relay.c` writes to an address."""
+        until, call = c_int64(), Call(self.relayed, self.number)
+        call.argtypes = [*self.argtypes, POINTER(c_int64)]
+        return Decision(call(*given, byref(until)), until.value)
+
+    def __call__(self, *given: Any) -> Any:
+        if self.restype is Decision:
+            return self.decided(*given)
+        request = Request()
+        for value, kind in zip(given, self.argtypes, strict=True):
+            request.give(value, kind)
+        returned, blocks = self.relayed.does(self.number, request)
+        for block, value in request.written:
+            ctypes.memmove(addressof(value), blocks[block][1], sizeof(value))
+            if isinstance(value, Listed):
+                self.relayed.fetch(value)
+            elif isinstance(value, c_void_p):
+                value.value = here(value.value, request, blocks)
+        # (a truth value is one octet of what is returned)
+        returned = returned & 0xff if self.restype is c_bool else returned
+        return None if self.restype is None else self.restype(returned).value
+
+
+def here(address: int | None, request: Request, blocks: list[tuple[int, bytes]]) -> int | None:
+    """An address inside a block as that in this process, or another one as it is."""
+    for block, value in request.written:
+        at, octets = blocks[block]
+        if address is not None and at <= address <= at + len(octets) and isinstance(value, Array):
+            return address - at + addressof(value)
+    return address
+
+
+class Relayed:
+    """What stands for the loaded library. Each process of this machine has one of the other machine."""
+
+    def __init__(self, words: list[str]) -> None:
+        self.words, self.owner = words, 0
+        self.process: subprocess.Popen[bytes] | None = None
+
+    def __getattr__(self, name: str) -> Callable[..., Any]:
+        if name not in CALLS:
+            raise AttributeError(name)
+        call = Call(self, CALLS.index(name))
+        setattr(self, name, call)
+        return call
+
+    def pipes(self) -> tuple[BinaryIO, BinaryIO]:
+        """What the other machine reads and writes. It is started at the first call."""
+        if self.process is None or self.owner != os.getpid():
+            self.process, self.owner = subprocess.Popen(self.words, stdin=subprocess.PIPE, stdout=subprocess.PIPE), os.getpid()
+        return cast(BinaryIO, self.process.stdin), cast(BinaryIO, self.process.stdout)
+
+    def does(self, call: int, request: Request) -> tuple[int, list[tuple[int, bytes]]]:
+        """What a call returns, and the address and the octets of each block behind it."""
+        given, taken = self.pipes()
+        given.write(request.written_down(call))
+        given.flush()
+
+        def number() -> int:
+            return int(struct.unpack("<Q", exactly(taken, 8))[0])
+
+        returned = number()
+        return returned, [(number(), exactly(taken, len(octets))) for octets in request.blocks]
+
+    def fetch(self, listed: Listed) -> None:
+        """Copies the texts of a signature, and sets its addresses to those of the copies."""
+        copies = []
+        for name in ("key", "message", "value", "octets"):
+            at, length, request = getattr(listed, name), getattr(listed, f"{name}_length"), Request()
+            if at:
+                request.block(bytes(length))
+                request.arguments = [(False, at), (False, length)]
+                copies.append(ctypes.create_string_buffer(self.does(0, request)[1][0][1], length + 1))
+                setattr(listed, name, c_size_t(addressof(copies[-1])).value)
+        # (a copy lasts as long as what points to it)
+        listed.copies = copies
+
+    def close(self) -> None:
+        """Ends the other machine."""
+        if self.process is not None and self.owner == os.getpid():
+            given, taken = self.pipes()
+            given.close()
+            self.process.wait()
+            taken.close()
+            self.process = None
+
+
+def exactly(pipe: BinaryIO, length: int) -> bytes:
+    """So many octets of a pipe."""
+    octets = pipe.read(length)
+    if len(octets) != length:
+        raise EOFError("the process that does the calls has ended")
+    return octets

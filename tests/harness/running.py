@@ -1,0 +1,244 @@
+"""Runs tests of unittest in several processes, and says what passed, what failed and what was skipped."""
+import contextlib
+import io
+import multiprocessing
+import os
+import sys
+import tempfile
+import time
+import traceback
+import unittest
+from collections import Counter
+from collections.abc import Iterable, Iterator, Sequence
+from concurrent.futures import FIRST_COMPLETED, Future, ProcessPoolExecutor, wait
+from dataclasses import dataclass, field
+
+from harness import needs
+from harness.support import TESTS
+
+# The modules that take longest begin first. A class whose tests ask the program alone, each by itself, is divided.
+LONGEST_FIRST = ("test_model", "test_clibrary", "test_go", "test_bindings", "test_hostile", "test_guide", "test_service", "test_store",
+                 "test_database")
+APART, MOST_TOGETHER = ("test_tables", "test_locate"), 60
+SUITE = os.path.join(TESTS, "suite")
+FAULT_LENGTH, SECONDS_BETWEEN_LINES = 6000, 300
+# A line of a test that is shown although it passes begins so.
+NOTE = "note: "
+
+
+@dataclass
+class Outcome:
+    """The outcome of some tests: how many passed, the names and texts of those that failed, the reasons of those that were skipped."""
+
+    name: str
+    passed: int = 0
+    failed: dict[str, str] = field(default_factory=dict)
+    skipped: list[tuple[str, str]] = field(default_factory=list)
+    seconds: float = 0.0
+    said: str = ""
+
+
+def module_of(test: unittest.TestCase) -> str:
+    """The module of a test, without the folder."""
+    return type(test).__module__.removeprefix("suite.")
+
+
+def short_name(test: unittest.TestCase | str) -> str:
+    """How a test is named to `tests/run`: a row by its place, another by module, class and method."""
+    module, _, rest = (test if isinstance(test, str) else test.id()).removeprefix("suite.").partition(".")
+    own, _, method = rest.partition(".")
+    bare = method.removeprefix("test_")
+    return bare if ":" in bare else f"{module.removeprefix('test_')}.{rest}"
+
+
+def goes_by(test: unittest.TestCase, name: str) -> bool:
+    """Whether a name asks for a test: its own, that of its table, class or module, or the path of the module."""
+    name = name.removeprefix(f"{os.path.relpath(SUITE)}{os.sep}").removesuffix(".py").removeprefix("suite.").removeprefix("test_")
+    bare, own = module_of(test).removeprefix("test_"), type(test).__qualname__
+    names = (short_name(test), test.id().removeprefix("suite.test_"), bare, f"{bare}.{own}", own)
+    return name in names or ":" in short_name(test) and short_name(test).startswith(f"{name}:")
+
+
+# ---- in a process of its own
+
+
+class Result(unittest.TestResult):
+    """Gathers what comes of tests. A part of a test that fails counts as the test, once."""
+
+    def __init__(self, outcome: Outcome, is_fast: bool) -> None:
+        super().__init__()
+        self.outcome, self.failfast = outcome, is_fast
+
+    def addSuccess(self, test: unittest.TestCase) -> None:
+        self.outcome.passed += short_name(test) not in self.outcome.failed
+
+    def addSkip(self, test: unittest.TestCase, reason: str) -> None:
+        if needs.is_honest(reason):
+            self.outcome.skipped.append((short_name(test), reason))
+        else:
+            self.add(test, f"it was skipped although tests/harness/needs.py says that nothing is missing: {reason}")
+
+    def addFailure(self, test, err) -> None:
+        text = str(err[1]) if isinstance(err[1], AssertionError) else "".join(traceback.format_exception(*err))
+        self.add(test, text)
+
+    def addError(self, test, err) -> None:
+        self.add(test, "".join(traceback.format_exception(*err)))
+
+    def addSubTest(self, test, subtest, err) -> None:
+        if err is not None:
+            self.addFailure(test, err)
+
+    def addUnexpectedSuccess(self, test) -> None:
+        self.add(test, "it passes, and it is marked as one that fails")
+
+    def add(self, test, text: str) -> None:
+        """Adds a fault of a test."""
+        name = short_name(test) if isinstance(test, unittest.TestCase) else str(test)
+        self.outcome.failed[name] = self.outcome.failed.get(name, "") + text.rstrip() + "\n"
+        if self.failfast:
+            self.stop()
+
+
+@contextlib.contextmanager
+def heard() -> Iterator[io.StringIO]:
+    """What is written to the two outputs of this process, and by programs that it starts."""
+    said, kept = io.StringIO(), [os.dup(1), os.dup(2)]
+    with tempfile.TemporaryFile() as file:
+        sys.stdout.flush()
+        sys.stderr.flush()
+        for place in (1, 2):
+            os.dup2(file.fileno(), place)
+        try:
+            yield said
+        finally:
+            sys.stdout.flush()
+            sys.stderr.flush()
+            for place, old in zip((1, 2), kept):
+                os.dup2(old, place)
+                os.close(old)
+            file.seek(0)
+            said.write(file.read().decode(errors="replace"))
+
+
+def run_part(name: str, tests: list[unittest.TestCase], is_fast: bool) -> Outcome:
+    """Runs some tests of one class."""
+    outcome, begun = Outcome(name), time.monotonic()
+    with heard() as said:
+        unittest.TestSuite(tests).run(Result(outcome, is_fast))
+    outcome.seconds, outcome.said = time.monotonic() - begun, said.getvalue()
+    return outcome
+
+
+# ---- all of them
+
+
+def flattened(suite: unittest.TestSuite | unittest.TestCase) -> Iterator[unittest.TestCase]:
+    """The tests of a suite."""
+    if isinstance(suite, unittest.TestCase):
+        yield suite
+    else:
+        for each in suite:
+            yield from flattened(each)
+
+
+def found(words: list[str], modules: Sequence[str] = ()) -> list[unittest.TestCase]:
+    """All tests of tests/, or those of some modules; and of these only those whose names have one of some words."""
+    loader = unittest.TestLoader()
+    if words:
+        loader.testNamePatterns = [word if "*" in word else f"*{word}*" for word in words]
+    if not modules:
+        return list(flattened(loader.discover(SUITE, top_level_dir=TESTS)))
+    return list(flattened(loader.loadTestsFromNames([f"suite.{module}" for module in modules])))
+
+
+def is_whole_module(test: unittest.TestCase) -> bool:
+    """Whether unittest has put this in the place of a module that is skipped or cannot be imported. No other process can be sent its class."""
+    return type(test).__module__ == unittest.loader.__name__
+
+
+def parts_of(tests: Iterable[unittest.TestCase]) -> list[tuple[str, list[unittest.TestCase]]]:
+    """The tests by classes, those that take longest first."""
+    by_class: dict[str, list[unittest.TestCase]] = {}
+    for test in tests:
+        name = test.id().rpartition(".")[2] if is_whole_module(test) else f"{module_of(test)}.{type(test).__qualname__}"
+        by_class.setdefault(name, []).append(test)
+    parts = []
+    for name, own in by_class.items():
+        size = MOST_TOGETHER if name.split(".")[0] in APART else len(own)
+        parts += [(name, own[start:start + size]) for start in range(0, len(own), size)]
+    order = {name: place for place, name in enumerate(LONGEST_FIRST)}
+    return sorted(parts, key=lambda part: order.get(part[0].split(".")[0], len(order)))
+
+
+def tell(outcome: Outcome, command: str) -> None:
+    """Prints all about what failed in a part, and the notes of its tests."""
+    for name, text in outcome.failed.items():
+        print(f"\nFAILED {name}\n{text[:FAULT_LENGTH]}alone  {command} '{name}'\n", flush=True)
+    if outcome.failed and outcome.said:
+        print(f"what {outcome.name} wrote:\n{outcome.said[-FAULT_LENGTH:]}", flush=True)
+    print("".join(f"{line}\n" for line in outcome.said.splitlines() if line.startswith(NOTE)), end="", flush=True)
+
+
+def told_in_short(name: str, outcomes: list[Outcome]) -> str:
+    """A line with the outcome of a class."""
+    counts = [(sum(it.passed for it in outcomes), "passed"), (sum(len(it.failed) for it in outcomes), "failed"),
+              (sum(len(it.skipped) for it in outcomes), "skipped")]
+    said = ", ".join(f"{count} {what}" for count, what in counts if count)
+    return f"{name:<44} {said or 'nothing was run'}, {sum(it.seconds for it in outcomes):.1f} s"
+
+
+class Report:
+    """The outcomes so far, printed by classes as they end."""
+
+    def __init__(self, parts: Iterable[tuple[str, list[unittest.TestCase]]], command: str) -> None:
+        self.left, self.command = Counter(name for name, _ in parts), command
+        self.outcomes: list[Outcome] = []
+
+    def add(self, outcome: Outcome) -> None:
+        """Adds the outcome of a part."""
+        self.outcomes.append(outcome)
+        tell(outcome, self.command)
+        self.left[outcome.name] -= 1
+        if not self.left[outcome.name]:
+            print(told_in_short(outcome.name, [it for it in self.outcomes if it.name == outcome.name]), flush=True)
+
+
+def outcome_of(future: Future, name: str) -> Outcome:
+    """The outcome of a part. If its process ended, that is a fault of the class."""
+    fault = future.exception()
+    return future.result() if fault is None else Outcome(name, failed={name: f"its process ended: {fault!r}\n"})
+
+
+def as_they_end(started: dict[Future, str]) -> Iterator[Future]:
+    """The parts that were begun. After each five minutes in which none ends it prints which run."""
+    left = set(started)
+    while left:
+        ended, left = wait(left, SECONDS_BETWEEN_LINES, FIRST_COMPLETED)
+        yield from ended
+        if not ended:
+            print("still running:", ", ".join(sorted({started[it] for it in left if it.running()})), flush=True)
+
+
+def run_all(tests: list[unittest.TestCase], jobs: int, is_fast: bool, command: str) -> list[Outcome]:
+    """Runs tests in so many processes. After the first that fails no more are begun, if that is asked."""
+    parts = parts_of(tests)
+    report = Report(parts, command)
+    for name, part in parts:
+        if is_whole_module(part[0]):
+            report.add(run_part(name, part, is_fast))
+    with ProcessPoolExecutor(jobs, mp_context=multiprocessing.get_context("fork")) as pool:
+        started = {pool.submit(run_part, name, part, is_fast): name for name, part in parts if not is_whole_module(part[0])}
+        for future in as_they_end(started):
+            if not future.cancelled():
+                report.add(outcome_of(future, started[future]))
+            if is_fast and any(it.failed for it in report.outcomes):
+                pool.shutdown(wait=False, cancel_futures=True)
+    return report.outcomes
+
+
+def skipped_lines(outcomes: Iterable[Outcome]) -> Iterator[str]:
+    """A line for each reason by which tests were skipped."""
+    reasons = Counter((outcome.name, reason) for outcome in outcomes for _, reason in outcome.skipped)
+    for (name, reason), count in sorted(reasons.items()):
+        yield f"skipped: {count} of {name} ({reason})"

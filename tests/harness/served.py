@@ -1,0 +1,182 @@
+"""The example of nginx and spki-authd, set up in an empty folder and started on a port of loopback, for the tests that ask it."""
+import contextlib
+import fcntl
+import os
+import shutil
+import signal
+import socket
+import ssl
+import subprocess
+import sys
+import tempfile
+import time
+from collections.abc import Iterator
+
+from harness import built, golang
+from harness.support import TESTS, TOP, waits_for
+
+EXAMPLE = os.path.join(TOP, "examples", "nginx")
+NEEDS = ("nginx", "go", "openssl", "curl", "import cryptography")
+# How long something may take that hangs. No test passes or fails by the clock.
+SECONDS = 600
+
+
+def path_of_commands() -> str:
+    """The path in which `spki-cert` and nginx are."""
+    return os.pathsep.join([os.path.join(TOP, "apps", "spki-cert"), os.environ["PATH"], "/usr/sbin"])
+
+
+def daemon_built(folder: str) -> str:
+    """The daemon, built over the library that is tested. It is kept, and linked again only if something has changed."""
+    kept, program = os.path.join(TESTS, "out", "spki-authd"), os.path.join(folder, "spki-authd")
+    os.makedirs(os.path.dirname(kept), exist_ok=True)
+    with open(f"{kept}.lock", "w", encoding="ascii") as lock:
+        fcntl.flock(lock, fcntl.LOCK_EX)
+        shutil.copy(golang.build_daemon(built.library(), kept), program)
+    return program
+
+
+def free_port() -> int:
+    """A port of loopback that nobody listens at."""
+    with socket.socket() as taken:
+        taken.bind(("127.0.0.1", 0))
+        return int(taken.getsockname()[1])
+
+
+class Site:
+    """A folder with nginx and the daemon, both started. `web_servers.py` has other web servers."""
+
+    def __init__(self) -> None:
+        self.room = tempfile.mkdtemp(prefix="site-")
+        self.port = free_port()
+        self.contexts: dict[str | None, ssl.SSLContext] = {}
+        self.settings = {**os.environ, "PATH": path_of_commands(), "PORT": str(self.port), "SPKI_LIBRARY": built.shared()}
+        self.program = daemon_built(tempfile.mkdtemp(prefix="daemon-"))
+        self.sh(os.path.join(EXAMPLE, "setup.sh"), self.room, str(self.port))
+        self.prepare()
+        self.start_daemon()
+        self.start_server()
+
+    def prepare(self) -> None:
+        """What is written before the programs start."""
+
+    def at(self, name: str) -> str:
+        return os.path.join(self.room, name)
+
+    def text(self, name: str) -> str:
+        with open(self.at(name), encoding="utf-8", errors="replace") as file:
+            return file.read()
+
+    def write(self, name: str, text: str) -> None:
+        with open(self.at(name), "w", encoding="utf-8") as file:
+            file.write(text)
+
+    def sh(self, *words: str) -> str:
+        """What a command writes in the folder. It must succeed."""
+        done = subprocess.run(words, cwd=self.room if os.path.isdir(self.room) else None, env=self.settings, stdout=subprocess.PIPE,
+                              stderr=subprocess.STDOUT, text=True, timeout=SECONDS)
+        if done.returncode:
+            raise AssertionError(f"{words}: {done.stdout}")
+        return done.stdout
+
+    def cert(self, *words: str) -> str:
+        """What `spki-cert` writes."""
+        return self.sh(sys.executable, os.path.join(TOP, "apps", "spki-cert", "spki-cert"), *words)
+
+    # ---- the programs
+
+    def start_daemon(self) -> None:
+        with open(self.at("log/authd.log"), "ab") as log, open(self.at("log/authd-events.log"), "ab") as events:
+            self.daemon = subprocess.Popen([self.program, "-config", self.at("etc/authd.json")], stdout=log, stderr=events, cwd=self.room)
+        self.write("run/authd.pid", str(self.daemon.pid))
+        waits_for("the daemon listens", self.daemon_listens)
+
+    def daemon_listens(self) -> bool:
+        with socket.socket(socket.AF_UNIX) as client, contextlib.suppress(OSError):
+            client.connect(self.at("run/socket"))
+            return True
+        if self.daemon.poll() is not None:
+            raise AssertionError(f"the daemon ended: {self.text('log/authd-events.log')}")
+        return False
+
+    def command(self) -> list[str]:
+        """The command that starts the web server."""
+        as_user = "user root;" if os.getuid() == 0 else ""
+        return ["nginx", "-p", self.room, "-c", "etc/loopback.conf", "-e", "log/error.log", "-g", as_user]
+
+    def start_server(self) -> None:
+        with open(self.at("log/server.log"), "ab") as log:
+            self.server = subprocess.Popen(self.command(), env=self.settings, cwd=self.room, stdout=log, stderr=log)
+        waits_for("the web server listens", self.server_listens)
+
+    def stop_daemon(self) -> None:
+        self.daemon.terminate()
+        self.daemon.wait()
+
+    def restart_server(self) -> None:
+        """Starts the web server again, with the configuration that is there now."""
+        self.server.terminate()
+        self.server.wait()
+        self.start_server()
+
+    def server_listens(self) -> bool:
+        with socket.socket() as client, contextlib.suppress(OSError):
+            client.connect(("127.0.0.1", self.port))
+            return True
+        if self.server.poll() is not None:
+            raise AssertionError(f"the web server ended: {self.text('log/server.log')}")
+        return False
+
+    def reload(self) -> str:
+        """Has the daemon read its list again, and returns what it says of that."""
+        before = self.text("log/authd-events.log")
+        self.daemon.send_signal(signal.SIGHUP)
+        waits_for("the list is read again", lambda: self.text("log/authd-events.log").count("\n") > before.count("\n"))
+        return self.text("log/authd-events.log")[len(before):]
+
+    def end(self) -> None:
+        """Ends both programs, and removes the folders."""
+        for each in (self.server, self.daemon):
+            each.terminate()
+            each.wait()
+        for folder in (self.room, os.path.dirname(self.program)):
+            subprocess.run(["rm", "-rf", folder], check=True)
+
+    # ---- asking
+
+    def context(self, who: str | None) -> ssl.SSLContext:
+        """The side of TLS of a client, by the names of its certificate and key, as `ann`, or `ann.crt ann`; of None it has none."""
+        if who not in self.contexts:
+            self.contexts[who] = context = ssl.create_default_context(cafile=self.at("ca/ca.crt"))
+            if who is not None:
+                certificate, _, key = who.partition(" ")
+                context.load_cert_chain(self.at(f"keys/{certificate if key else certificate + '.crt'}"), self.at(f"keys/{key or certificate}"))
+        return self.contexts[who]
+
+    @contextlib.contextmanager
+    def connected(self, who: str | None) -> Iterator[ssl.SSLSocket]:
+        with socket.create_connection(("127.0.0.1", self.port), SECONDS) as plain:
+            with self.context(who).wrap_socket(plain, server_hostname="localhost") as client:
+                yield client
+
+    def answer(self, who: str | None, request: bytes) -> bytes:
+        """All that nginx answers to some octets, until it ends the connection. Empty if there is no connection. Where the rate is exceeded, the
+        client waits and asks again."""
+        while (said := self.answer_at_once(who, request)).startswith(b"HTTP/1.1 429"):
+            time.sleep(0.2)
+        return said
+
+    def answer_at_once(self, who: str | None, request: bytes) -> bytes:
+        """The same, also where the rate is exceeded."""
+        said = b""
+        with contextlib.suppress(OSError), self.connected(who) as client:
+            client.sendall(request)
+            while octets := client.recv(65536):
+                said += octets
+        return said
+
+    def status(self, who: str | None, method: str, path: str, *lines: str, body: str = "") -> int:
+        """The status of a plain request, with more lines in its header."""
+        header = [f"{method} {path} HTTP/1.1", "Host: localhost", "Connection: close", *lines]
+        header += [f"Content-Length: {len(body)}"] if body else []
+        return int(self.answer(who, "\r\n".join([*header, "", body]).encode("latin-1")).split(b" ", 2)[1])

@@ -1,0 +1,111 @@
+"""What the scripts of tests/, bench/ and examples/ share: where the programs are, how one is run, and how S-expressions are read and
+written, by the model.
+
+A service that takes over `examples/signed/` does not need this module: `tools.py` there and `apps/spki-cert/spki_cert_tool/` stand by themselves.
+"""
+import base64
+import importlib.machinery
+import importlib.util
+import os
+import subprocess
+import sys
+import tempfile
+import time
+from collections.abc import Callable
+from typing import Any
+
+from model.plain import canonical, on_one_line, read
+from model.values import verbatim
+
+TOP = os.path.realpath(os.path.join(os.path.dirname(os.path.abspath(__file__)), "..", ".."))
+TESTS, BENCH, EXAMPLES = (os.path.join(TOP, name) for name in ("tests", "bench", "examples"))
+# (the last of them has the gate)
+sys.path += [os.path.join(TOP, *path) for path in (("apps", "spki-cert"), ("bindings", "python"), (".ci",))]
+PROGRAM = os.path.join(TOP, "crates", "spki", "out", "spki")
+LIBRARY = os.path.join(TOP, "crates", "spki_c", "out", "libspki_c.a")
+# The target of the library for ARM, and the words before a program for it that run it here.
+ARM, ON_ARM = "aarch64-unknown-linux-gnu", ["qemu-aarch64", "-L", "/usr/aarch64-linux-gnu"]
+COMMANDS = ("canonical", "advanced", "transport", "intersect", "reduce", "check", "explain")
+SECONDS, SECONDS_TO_COMPILE, SECONDS_TO_WAIT = 120, 900, 600
+
+__all__ = ["ARM", "BENCH", "COMMANDS", "EXAMPLES", "LIBRARY", "ON_ARM", "PROGRAM", "SECONDS", "TESTS", "TOP", "braced", "canonical",
+           "given_program", "group", "is_compiled", "loaded", "on_one_line", "output_of", "read", "run", "room_for", "string",
+           "tables_here", "text_of", "waits_for"]
+
+
+def given_program(place=1):
+    """The program that the command line gives at a place, or the built one. It must be there."""
+    program = os.path.abspath(sys.argv[place] if len(sys.argv) > place else PROGRAM)
+    if not os.access(program, os.X_OK):
+        sys.exit(f"{program} is not there: build it by rt run in crates/spki")
+    return program
+
+
+def run(program, command, text, seconds=SECONDS):
+    """The exit status of a command on a text, and what it writes."""
+    done = subprocess.run([program, command], input=text, stdout=subprocess.PIPE, stderr=subprocess.DEVNULL, timeout=seconds)
+    return done.returncode, done.stdout
+
+
+def output_of(*words, text=None, seconds=SECONDS, **settings):
+    """The status of a program, and all that it writes."""
+    done = subprocess.run(words, input=text, stdout=subprocess.PIPE, stderr=subprocess.STDOUT, timeout=seconds, text=True, **settings)
+    return done.returncode, done.stdout
+
+
+def is_compiled(*words):
+    """Whether a program in C compiles, with `spki.h`, and links."""
+    return subprocess.run([*words, "-I", os.path.join(TOP, "crates", "spki_c")], timeout=SECONDS_TO_COMPILE).returncode == 0
+
+
+def text_of(path):
+    """The text of a file, by its path from the top of the repository, or from the root of the file system."""
+    with open(os.path.join(TOP, path), encoding="utf-8") as file:
+        return file.read()
+
+
+def string(octets):
+    """A string in canonical form."""
+    return verbatim(octets.encode() if isinstance(octets, str) else octets)
+
+
+def group(*members):
+    """A list in canonical form, of members in canonical form."""
+    return b"(" + b"".join(members) + b")"
+
+
+def braced(octets):
+    """A text in the transport form, of one in canonical form."""
+    return b"{" + base64.b64encode(octets) + b"}"
+
+
+def waits_for(what: str, is_so: Callable[[], bool]) -> None:
+    """Waits until something is so, which is a fault if it takes very long."""
+    end = time.monotonic() + SECONDS_TO_WAIT
+    while not is_so():
+        if time.monotonic() > end:
+            raise AssertionError(f"not so after {SECONDS_TO_WAIT} seconds: {what}")
+        time.sleep(0.05)
+
+
+def room_for(test: Any) -> str:
+    """A new folder for a test, or for a class of tests, which is removed behind it."""
+    room, is_class = tempfile.TemporaryDirectory(), isinstance(test, type)
+    (test.addClassCleanup if is_class else test.addCleanup)(room.cleanup)
+    return room.name
+
+
+def tables_here():
+    """The tables of tests/tables/, by their paths."""
+    return [os.path.join(TESTS, "tables", name) for name in sorted(os.listdir(os.path.join(TESTS, "tables")))]
+
+
+def loaded(path):
+    """A script, also one without a suffix, as a module by another name than its own."""
+    sys.dont_write_bytecode = True
+    name = f"loaded {os.path.basename(path)}"
+    loader = importlib.machinery.SourceFileLoader(name, path)
+    made = importlib.util.module_from_spec(importlib.util.spec_from_loader(name, loader))
+    sys.modules[name] = made
+    loader.exec_module(made)
+    return made

@@ -1,0 +1,316 @@
+"""The web servers that ask spki-authd, each as its example sets it up, in the folder of a site: the port, the folders and the names of a real
+server are replaced. Each can be started with the ordinary lines that other sites have."""
+import http.server
+import os
+import re
+import socketserver
+import ssl
+import subprocess
+import threading
+from urllib.parse import unquote
+
+from harness import served
+from harness.support import EXAMPLES
+
+SORRY, SORRY_TEXT = "/sorry.html", "we are sorry"
+ERRORS = "500 502 503 504"
+# Lines of other sites: the file, a text of it, and what is put behind this text.
+More = list[tuple[str, str, str]]
+MODULES = ("mpm_event", "authz_core", "authz_host", "access_compat", "ssl", "lua", "dav", "dav_fs", "http2", "dir", "mime", "env", "setenvif",
+           "alias", "cache", "cache_disk", "include", "rewrite")
+FOLDER_OF_MODULES = "/usr/lib/apache2/modules"
+SOCKET_OF_LUA = "/usr/lib/*/lua/5.3/socket/unix.so"
+
+
+class Behind(served.Site):
+    """A site behind one of the web servers."""
+
+    # As the daemon calls the server, the form of a certificate there, and what it needs beside nginx's example.
+    name, form = "", "base64-der"
+    needs: tuple[str, ...] = ()
+    # The files of the example, and the names in them that are replaced, beside those of all.
+    files: tuple[str, ...] = ()
+    # Lines of other sites by what they do. `error pages` and `a cache` are columns of the table of attacks.
+    sites: dict[str, More] = {}
+    # Lines by which a request is not decided.
+    hole: More = []
+    # What is replaced, and by what, where the daemon is on a port with TLS: what the pages say. A server that cannot ask there has nothing.
+    on_port: list[tuple[str, str, str]] = []
+
+    def prepare(self) -> None:
+        """Writes what the server reads."""
+        self.kept: dict[str, str] = {}
+        self.write(f"files{SORRY}", SORRY_TEXT)
+        self.write("etc/authd.json", self.text("etc/authd.json").replace('"server": "nginx"', f'"server": "{self.name}"'))
+        for name in self.files:
+            with open(os.path.join(EXAMPLES, self.name, name), encoding="utf-8") as file:
+                self.write(f"etc/{name}", self.replaced(file.read()))
+
+    def replaced(self, text: str) -> str:
+        """The text of an example with the names of this site."""
+        for name, here in (("/etc/spki-files", "etc"), ("/run/spki-authd", "run"), ("/run/spki-files", "run/files"), ("/srv/files", "files"),
+                           ("/etc/haproxy", "etc"), ("/etc/apache2", "etc"), ("/var/lock/apache2", "tmp"), ("/var/log/nginx", "log")):
+            text = text.replace(name, self.at(here))
+        return text.replace("files.example.org", self.host())
+
+    def host(self) -> str:
+        """The name of the site, as its configuration has it."""
+        return "localhost"
+
+    def becomes(self, more: More) -> None:
+        """Starts the server again, with the lines of another site."""
+        self.replaces([(name, place, place + lines) for name, place, lines in more])
+
+    def asks_port(self, port: int) -> None:
+        """Starts the server again, so that it asks the daemon on a port with TLS."""
+        self.replaces([(name, place, lines.replace("{port}", str(port))) for name, place, lines in self.on_port])
+
+    def replaces(self, all_of_them: list[tuple[str, str, str]]) -> None:
+        """Starts the server again, with other texts in the place of some."""
+        for name, text in self.kept.items():
+            self.write(f"etc/{name}", text)
+        self.kept = {name: self.text(f"etc/{name}") for name, _, _ in all_of_them}
+        for name, place, lines in all_of_them:
+            text, place = self.text(f"etc/{name}"), place.replace("{room}", self.room)
+            if place not in text:
+                raise AssertionError(f"{name} has no {place!r}")
+            self.write(f"etc/{name}", text.replace(place, lines.replace("{room}", self.room), 1))
+        self.restart_server()
+
+
+class Nginx(Behind):
+    """nginx, without its rates. test_nginx.py has more lines of other sites."""
+
+    name, form = "nginx", "escaped-pem"
+    files = ("loopback.conf", "files.conf")
+    sites = {
+        "error pages": [("loopback.conf", "http {\n", f"proxy_intercept_errors on; error_page 401 403 {ERRORS} =200 {SORRY};\n")],
+        "a cache": [("loopback.conf", "http {\n", "proxy_cache_path {room}/tmp/cache keys_zone=site:1m; proxy_cache site; proxy_cache_valid any 1h;"
+                     "proxy_cache_key $host; proxy_ignore_headers Cache-Control Expires Set-Cookie Vary X-Accel-Expires;\n")]}
+
+    hole = [("files.conf", "location / {\n", "auth_request off;\n")]
+    on_port = [("files.conf", "server unix:{room}/run/socket;", "server 127.0.0.1:{port};"),
+               ("files.conf", "proxy_pass http://spki_authd/;", "proxy_pass https://spki_authd/; proxy_ssl_verify on; proxy_ssl_name spki-authd;"
+                "proxy_ssl_trusted_certificate {room}/etc/authd.crt; proxy_set_header X-Spki-Secret THE-SECRET;")]
+
+    def replaced(self, text: str) -> str:
+        text = super().replaced(text).replace("listen 443 ssl", f"listen 127.0.0.1:{self.port} ssl http2")
+        return re.sub("rate=[0-9]+r/s", "rate=9000r/s", text)
+
+
+class Caddy(Behind):
+    """Caddy, which only reads files. Debian's has no cache."""
+
+    name, needs, files = "caddy", ("caddy",), ("Caddyfile",)
+    SITE = "client_auth {\n\t\t\tmode request\n\t\t}\n\t}\n"
+    sites = {
+        "error pages": [("Caddyfile", SITE, "handle_errors {\nroot * {room}/files\nrewrite * /sorry.html\nfile_server\n}\n")],
+        "error pages of any name": [("Caddyfile", SITE, "handle_errors {\nfile_server\n}\n")],
+        "error pages by their names": [("Caddyfile", SITE, "handle_errors {\ntry_files {path}.html {path}\nfile_server {\nstatus 200\n}\n}\n")],
+        "a first lock that lets denials pass": [("Caddyfile", "uri /\n",
+                                                 "@denied status 401 403\nhandle_response @denied {\nheader X-Denied yes\n}\n")],
+        "templates": [("Caddyfile", SITE, "templates\n")],
+        "a choice of files": [("Caddyfile", SITE, "try_files {path} /web/index.html\n")],
+        "a folder of its own": [("Caddyfile", SITE, "file_server /secret/*\n")],
+        "all files": [("Caddyfile", SITE, "file_server browse\n")],
+        "the root of all": [("Caddyfile", SITE, "root * {room}/files\nfile_server\n")]}
+
+    hole = [("Caddyfile", "\troute {\n", "respond *.css 404\n")]
+    on_port = [("Caddyfile", "forward_auth unix/{room}/run/socket {\n", "forward_auth https://127.0.0.1:{port} {\ntransport http {\n"
+                "tls_trusted_ca_certs {room}/etc/authd.crt\ntls_server_name spki-authd\n}\n"),
+               ("Caddyfile", "header_up -X-Spki-Secret\n\t\t\tcopy_headers", "header_up X-Spki-Secret THE-SECRET\ncopy_headers")]
+
+    def replaced(self, text: str) -> str:
+        text = re.sub("(read_header|read_body|idle) [0-9]+s", r"\1 1s", super().replaced(text))
+        return text.replace("{\n\tservers", "{\n\tadmin off\n\tauto_https off\n\tservers", 1)
+
+    def host(self) -> str:
+        return f"https://localhost:{self.port}"
+
+    def command(self) -> list[str]:
+        self.settings.update(HOME=self.at("tmp"), XDG_DATA_HOME=self.at("tmp"), XDG_CONFIG_HOME=self.at("tmp"))
+        return ["caddy", "run", "--config", self.at("etc/Caddyfile"), "--adapter", "caddyfile"]
+
+
+class HAProxy(Behind):
+    """HAProxy before a server of files that knows nothing of rights."""
+
+    name, needs = "haproxy", ("haproxy",)
+    files: tuple[str, ...] = ("haproxy.cfg", "spki.lua")
+    ERRORFILES = "".join(f"    errorfile {status} {{room}}/etc/sorry.http\n" for status in (403, *ERRORS.split()))
+    sites = {
+        "error pages": [("haproxy.cfg", "defaults\n", ERRORFILES)],
+        "a cache": [("haproxy.cfg", "backend files\n", "    http-request cache-use site\n    http-response cache-store site\n"),
+                    ("haproxy.cfg", "# spki.lua is beside it.\n", "cache site\n    total-max-size 4\n    max-age 60\n")],
+        "another frontend": [("haproxy.cfg", "timeout server 30s\n",
+                              "frontend other\n    bind unix@{room}/run/other\n    default_backend files\n")],
+        "retries": [("haproxy.cfg", "defaults\n", "    retry-on all-retryable-errors\n    option redispatch\n    retries 3\n")],
+        "rules before": [("haproxy.cfg", "frontend files\n", "    http-request set-var(txn.other) str(yes)\n    option http-ignore-probes\n")],
+        "a first lock that fails": [("haproxy.cfg", "frontend files\n", "    http-request allow\n")],
+        "a Lua that fails": [("spki.lua", "function(txn)\n", "    local nothing = txn.none.nothing\n")]}
+
+    hole = [("haproxy.cfg", "frontend files\n", "    http-request return status 404 if METH_POST\n")]
+    on_port = [("haproxy.cfg", "global\n", "global\n    httpclient.ssl.verify required\n    httpclient.ssl.ca-file {room}/etc/authd.crt\n"),
+               ("spki.lua", 'url = "http://spki-authd/", dst = "unix@{room}/run/socket", timeout = 5000, headers = {\n',
+                'url = "https://spki-authd/", dst = "ipv4@127.0.0.1:{port}", timeout = 5000, headers = { ["x-spki-secret"] = { "THE-SECRET" },\n')]
+
+    def prepare(self) -> None:
+        super().prepare()
+        self.write("etc/server.pem", self.text("etc/server.crt") + self.text("etc/server.key"))
+        self.write("etc/sorry.http", f"HTTP/1.1 200 OK\r\nContent-Length: {len(SORRY_TEXT)}\r\nConnection: close\r\n\r\n{SORRY_TEXT}")
+        os.mkdir(self.at("run/files"))
+        self.behind = FileServer(self.at("run/files/socket"), self.at("files"))
+
+    def replaced(self, text: str) -> str:
+        text = re.sub("(?m)^    (user|group) .*\n", "", super().replaced(text))
+        text = text.replace("timeout http-request 10s", "timeout http-request 1s").replace("timeout client 10s", "timeout client 1s")
+        return text.replace("bind :443", f"bind 127.0.0.1:{self.port}")
+
+    def command(self) -> list[str]:
+        return ["haproxy", "-db", "-f", self.at("etc/haproxy.cfg")]
+
+    def end(self) -> None:
+        self.behind.shutdown()
+        self.behind.server_close()
+        super().end()
+
+
+class Apache(Behind):
+    """Apache, which reads and writes files by WebDAV."""
+
+    name, needs, files = "apache", ("apache2", SOCKET_OF_LUA), ("files.conf", "spki.lua")
+    LUA, ALLOW = 'local unix = require "socket.unix"\n', "function allow(r) return apache2.OK end\n"
+    CACHE = ("CacheEnable disk /\nCacheRoot {room}/tmp\nCacheQuickHandler on\nCacheIgnoreCacheControl On\nCacheIgnoreNoLastMod On\n"
+             "CacheStorePrivate On\nCacheStoreNoStore On\nCacheDefaultExpire 3600\n")
+    sites = {
+        "error pages": [("main.conf", "# more\n", "".join(f"ErrorDocument {status} {SORRY}\n" for status in (401, 403, *ERRORS.split())))],
+        "a cache": [("main.conf", "# more\n", CACHE)],
+        "error pages of the secret": [("main.conf", "# more\n",
+                                       "".join(f"ErrorDocument {status} /secret/plan.txt\n" for status in (401, 403, 500, 503)))],
+        "a cache without the quick handler": [("main.conf", "# more\n", CACHE.replace("Handler on", "Handler off"))],
+        "satisfy any": [("main.conf", "# more\n", "<Location />\nSatisfy Any\nRequire all granted\nAllow from all\n</Location>\n")],
+        "satisfy any in the site": [("files.conf", "TraceEnable off\n", "<Location /secret/>\nSatisfy Any\nRequire all granted\n</Location>\n")],
+        "rules of a folder": [("files.conf", "TraceEnable off\n", "<Directory {room}/files/secret>\nAllowOverride All\nOptions All\n</Directory>\n")],
+        "an alias": [("files.conf", "TraceEnable off\n", "Alias /open {room}/files/secret\n")],
+        "lists of folders": [("main.conf", "# more\n", "<Directory />\nOptions Indexes FollowSymLinks MultiViews\n</Directory>\n")],
+        "a rewrite": [("files.conf", "TraceEnable off\n", "RewriteEngine on\nRewriteRule ^/web/other$ /web/index.html [PT]\n")],
+        "a hook of fixups before": [("spki.lua", LUA, ALLOW), ("main.conf", "# more\n", "LuaHookFixups {room}/etc/spki.lua allow\n")],
+        "a hook of access before": [("spki.lua", LUA, ALLOW), ("main.conf", "# more\n", "LuaHookAccessChecker {room}/etc/spki.lua allow\n")],
+        "a script that fails": [("spki.lua", "function decide(r)\n", "    local nothing = r.none.nothing\n")]}
+
+    hole = [("spki.lua", "function decide(r)\n", "    if r.method == 'DELETE' then return apache2.DECLINED end\n")]
+
+    def prepare(self) -> None:
+        super().prepare()
+        modules = "".join(f"LoadModule {name}_module {FOLDER_OF_MODULES}/mod_{name}.so\n" for name in MODULES)
+        is_root = os.getuid() == 0
+        self.write("etc/main.conf", f"ServerRoot {self.room}\nServerName localhost\nTimeout 1\nKeepAliveTimeout 1\n"
+                   f"PidFile run/httpd.pid\nErrorLog log/error.log\n"
+                   f"Listen 127.0.0.1:{self.port}\n{modules}TypesConfig /etc/mime.types\n{'User www-data' if is_root else ''}\n# more\n"
+                   f"Include etc/files.conf\n")
+        if is_root:
+            # Apache does not serve as root: its user reaches the socket by its group, and must own the files.
+            os.chmod(self.room, 0o755)
+            subprocess.run(["chown", "-R", "www-data", self.at("files"), self.at("tmp")], check=True)
+
+    def replaced(self, text: str) -> str:
+        return super().replaced(text).replace("*:443", f"127.0.0.1:{self.port}")
+
+    def command(self) -> list[str]:
+        return ["apache2", "-f", self.at("etc/main.conf"), "-DFOREGROUND"]
+
+
+class OfFiles(http.server.BaseHTTPRequestHandler):
+    """Reads and writes each file that is asked for."""
+
+    protocol_version = "HTTP/1.1"
+
+    def answers(self, status: int, octets: bytes = b"") -> None:
+        self.send_response(status)
+        for line in (f"Content-Length: {len(octets)}", "Cache-Control: max-age=60", "Last-Modified: Thu, 01 Jan 2026 00:00:00 GMT"):
+            self.send_header(*line.split(": "))
+        self.end_headers()
+        if self.command != "HEAD" and octets:
+            self.wfile.write(octets)
+
+    def do_GET(self) -> None:
+        try:
+            with open(self.file(), "rb") as file:
+                self.answers(200, file.read())
+        except OSError:
+            self.answers(404)
+
+    def do_PUT(self) -> None:
+        os.makedirs(os.path.dirname(self.file()), exist_ok=True)
+        with open(self.file(), "wb") as file:
+            file.write(self.rfile.read(int(self.headers.get("Content-Length", "0"))))
+        self.answers(201)
+
+    def do_DELETE(self) -> None:
+        os.remove(self.file())
+        self.answers(204)
+
+    do_HEAD, do_POST, do_PATCH, do_OPTIONS, do_MOVE, do_COPY = do_GET, do_PUT, do_PUT, do_GET, do_DELETE, do_PUT
+
+    def file(self) -> str:
+        server = self.server
+        assert isinstance(server, FileServer)
+        path = os.path.join(server.folder, unquote(self.path.partition("?")[0]).lstrip("/"))
+        # (a link leads to no file)
+        return path if os.path.realpath(path) == path else os.path.join(server.folder, "none")
+
+    def address_string(self) -> str:
+        return "unix"
+
+    def log_message(self, format: str, *args: object) -> None:
+        pass
+
+
+class FileServer(socketserver.ThreadingUnixStreamServer):
+    """Serves a folder on a Unix socket, in threads of this process."""
+
+    daemon_threads = True
+
+    def __init__(self, path: str, folder: str) -> None:
+        super().__init__(path, OfFiles)
+        self.folder = folder
+        threading.Thread(target=self.serve_forever, daemon=True).start()
+
+    def handle_error(self, request: object, client_address: object) -> None:
+        """Says nothing of a connection that the web server has closed."""
+
+
+class Impostor(http.server.ThreadingHTTPServer):
+    """Says yes to everything on a port with TLS, by a certificate of its own, and keeps the secrets that it gets."""
+
+    def __init__(self, certificate: str, key: str) -> None:
+        self.secrets: list[str] = []
+        super().__init__(("127.0.0.1", 0), SaysYes)
+        context = ssl.SSLContext(ssl.PROTOCOL_TLS_SERVER)
+        context.load_cert_chain(certificate, key)
+        self.socket = context.wrap_socket(self.socket, server_side=True)
+        threading.Thread(target=self.serve_forever, daemon=True).start()
+
+    def handle_error(self, request: object, client_address: object) -> None:
+        """Says nothing of a web server that does not trust it."""
+
+
+class SaysYes(http.server.BaseHTTPRequestHandler):
+    """The answers of an impostor."""
+
+    protocol_version = "HTTP/1.1"
+
+    def do_GET(self) -> None:
+        server = self.server
+        assert isinstance(server, Impostor)
+        server.secrets.append(self.headers["X-Spki-Secret"])
+        self.send_response(200)
+        for line in ("X-Spki-Answer: yes", "Content-Length: 0"):
+            self.send_header(*line.split(": "))
+        self.end_headers()
+
+    def log_message(self, format: str, *args: object) -> None:
+        pass
+
+
+SERVERS: list[type[Behind]] = [Nginx, Caddy, HAProxy, Apache]

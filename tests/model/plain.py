@@ -1,0 +1,36 @@
+"""Values as Python has them: a string is `bytes`, a string with a display hint a pair of `bytes`, a list a `list`."""
+from typing import Any
+
+from . import canonical as forms
+from . import values
+from .printed import printed
+from .values import Atom, Value
+
+
+def plain(value: Value) -> Any:
+    """A value as Python has it."""
+    if isinstance(value, Atom):
+        return value.body if value.hint is None else (value.hint, value.body)
+    return [plain(member) for member in value]
+
+
+def valued(it: Any) -> Value:
+    """The value that Python has so."""
+    if isinstance(it, list):
+        return tuple(map(valued, it))
+    return Atom(it[1], it[0]) if isinstance(it, tuple) else Atom(it)
+
+
+def read(text: bytes) -> Any:
+    """The value of a canonical text."""
+    return plain(forms.read(text))
+
+
+def canonical(it: Any) -> bytes:
+    """The canonical text of a value."""
+    return values.canonical(valued(it))
+
+
+def on_one_line(it: Any) -> str:
+    """The printed text of a value."""
+    return printed(valued(it)).decode()

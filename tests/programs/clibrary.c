@@ -1,0 +1,236 @@
+/* Asks the library what `test_clibrary.py` wants to know, with buffers of several sizes, with requests for memory refused, and from
+ * several threads. Is linked with --wrap=malloc and --wrap=realloc.
+ *
+ * Usage: clibrary THREADS REFUSALS < QUESTIONS > ANSWERS
+ *
+ * A question is a line with the number of a command, 7 being spki_check_accepted, and the lengths of its two texts, and then their
+ * octets. An answer is a line with the status and the length, and then its octets. Of each question the first requests for memory,
+ * as many as REFUSALS says, are refused in turn. Ends with 99 where a call does otherwise than `spki.h` says, with a line on
+ * standard error. */
+#include <malloc.h>
+#include <pthread.h>
+#include <spki.h>
+#include <stdio.h>
+#include <stdlib.h>
+#include <string.h>
+
+enum { MOST = 10000, CHECK_ACCEPTED = 7, CANARIES = 16, CANARY = 0xa5, UNTOUCHED = 0x5a, STACK = 256 * 1024, BROKEN = 99 };
+
+struct question {
+    unsigned command;
+    size_t lengths[2];
+    unsigned char *texts[2];
+    enum spki_status status;
+    size_t length;
+    unsigned char *answer;
+};
+
+static struct question *questions;
+static size_t asked;
+
+/* Which request for memory is refused, counted down; none at 0. */
+static size_t until_refusal;
+static int is_refused;
+
+void *__real_malloc(size_t size);
+void *__real_realloc(void *block, size_t size);
+
+static int refuses(void)
+{
+    if (!until_refusal || --until_refusal)
+        return 0;
+    is_refused = 1;
+    return 1;
+}
+
+void *__wrap_malloc(size_t size)
+{
+    return refuses() ? NULL : __real_malloc(size);
+}
+
+void *__wrap_realloc(void *block, size_t size)
+{
+    /* (a block that becomes shorter is not refused: without that it stays as it is) */
+    return (!block || malloc_usable_size(block) < size) && refuses() ? NULL : __real_realloc(block, size);
+}
+
+static void broken(const char *what)
+{
+    fprintf(stderr, "%s\n", what);
+    exit(BROKEN);
+}
+
+static void *made(size_t length)
+{
+    void *block = malloc(length ? length : 1);
+    if (!block)
+        broken("no memory");
+    return block;
+}
+
+static enum spki_status ask(const struct question *it, void *buffer, size_t size, size_t *needed)
+{
+    if (it->command == CHECK_ACCEPTED)
+        return spki_check_accepted(it->texts[0], it->lengths[0], it->texts[1], it->lengths[1], buffer, size, needed).status;
+    return spki_answer((enum spki_command)it->command, it->texts[0], it->lengths[0], buffer, size, needed).status;
+}
+
+static int are(const unsigned char *octets, size_t length, unsigned char wanted)
+{
+    while (length && *octets == wanted)
+        octets++, length--;
+    return !length;
+}
+
+/* Asks with a buffer of this size between canaries. The answer must be the known one where it fits, and nothing else written. */
+static void ask_with(const struct question *it, size_t size)
+{
+    size_t needed = 12345, written = it->length <= size ? it->length : 0;
+    unsigned char *block = made(size + 2 * CANARIES), *buffer = block + CANARIES;
+    memset(block, CANARY, size + 2 * CANARIES);
+    memset(buffer, UNTOUCHED, size);
+    enum spki_status status = ask(it, buffer, size, &needed);
+    if (needed != it->length)
+        broken("another length is needed");
+    if (status != (it->length <= size ? it->status : SPKI_TOO_SMALL))
+        broken("another status");
+    if (written && memcmp(buffer, it->answer, written))
+        broken("another answer");
+    if (!written && size && *buffer)
+        broken("a line of an earlier call is left where no answer is written");
+    if (!written && size)
+        written = 1;
+    if (!are(buffer + written, size - written, UNTOUCHED))
+        broken("the buffer is written where no answer stands");
+    if (!are(block, CANARIES, CANARY) || !are(buffer + size, CANARIES, CANARY))
+        broken("the call writes past the buffer");
+    free(block);
+}
+
+/* Asks while one request for memory is refused, of the first ones each in turn. */
+static void ask_refused(const struct question *it, size_t most)
+{
+    static const char refused[] = "refused Memory\n";
+    size_t size = it->length + sizeof refused, needed;
+    unsigned char *buffer = made(size);
+    for (size_t request = 1; request <= most; request++) {
+        is_refused = 0;
+        until_refusal = request;
+        enum spki_status status = ask(it, buffer, size, &needed);
+        until_refusal = 0;
+        if (!is_refused)
+            break;
+        if (status != SPKI_REFUSED || needed != sizeof refused - 1 || memcmp(buffer, refused, needed))
+            broken("another answer where memory is refused");
+    }
+    free(buffer);
+}
+
+/* Asks without a buffer, then with one that is large enough, then with others. */
+static void answer(struct question *it)
+{
+    if (ask(it, NULL, 0, &it->length) != SPKI_TOO_SMALL || !it->length)
+        broken("an answer without octets");
+    it->answer = made(it->length);
+    it->status = ask(it, it->answer, it->length, NULL);
+    ask_with(it, 0);
+    ask_with(it, it->length - 1);
+    ask_with(it, it->length);
+    ask_with(it, it->length + 40);
+}
+
+static void *ask_all(void *place)
+{
+    size_t first = *(size_t *)place;
+    for (size_t i = 0; i < asked; i++) {
+        const struct question *it = &questions[(first + i) % asked];
+        ask_with(it, it->length + i % 2);
+    }
+    return NULL;
+}
+
+static void ask_side_by_side(size_t count)
+{
+    pthread_t threads[64];
+    size_t firsts[64];
+    pthread_attr_t small;
+    if (count > 64 || pthread_attr_init(&small) || pthread_attr_setstacksize(&small, STACK))
+        broken("no threads of this kind");
+    for (size_t i = 0; i < count; i++) {
+        firsts[i] = i * asked / count;
+        if (pthread_create(&threads[i], &small, ask_all, &firsts[i]))
+            broken("no thread");
+    }
+    for (size_t i = 0; i < count; i++)
+        pthread_join(threads[i], NULL);
+    pthread_attr_destroy(&small);
+}
+
+/* A command that does not exist. The first octet of the buffer is 0 then. */
+static void misuse_of(unsigned command, unsigned char *buffer, size_t size)
+{
+    size_t needed = 12345;
+    memset(buffer, UNTOUCHED, size);
+    if (spki_answer((enum spki_command)command, "1:a", 3, buffer, size, &needed).status != SPKI_MISUSED || needed)
+        broken("an unknown command is answered");
+    if (*buffer || !are(buffer + 1, size - 1, UNTOUCHED))
+        broken("misuse leaves a line, or writes to the buffer");
+}
+
+static void misuse(void)
+{
+    unsigned char buffer[64];
+    size_t needed = 12345;
+    for (unsigned command = 7; command; command *= 2)
+        misuse_of(command, buffer, sizeof buffer);
+    if (spki_answer(SPKI_CHECK, NULL, 1, buffer, sizeof buffer, &needed).status != SPKI_MISUSED || needed)
+        broken("a null text with a length");
+    if (spki_answer(SPKI_CHECK, "1:a", 3, NULL, 64, NULL).status != SPKI_MISUSED)
+        broken("a null buffer with a length");
+    if (spki_answer(SPKI_CHECK, "1:a", (size_t)PTRDIFF_MAX + 1, buffer, sizeof buffer, NULL).status != SPKI_MISUSED
+        || spki_answer(SPKI_CHECK, "1:a", 3, buffer, SIZE_MAX, NULL).status != SPKI_MISUSED)
+        broken("more octets than memory has");
+    if (spki_check_accepted(NULL, 1, "", 0, buffer, sizeof buffer, NULL).status != SPKI_MISUSED
+        || spki_check_accepted("", 0, NULL, 1, buffer, sizeof buffer, NULL).status != SPKI_MISUSED
+        || spki_check_accepted("", 0, "", 0, NULL, 1, NULL).status != SPKI_MISUSED)
+        broken("null pointers with lengths");
+    if (*buffer || !are(buffer + 1, sizeof buffer - 1, UNTOUCHED))
+        broken("misuse leaves a line, or writes to the buffer");
+}
+
+/* One question, if there is one. A text without octets is a null pointer. */
+static int heard(struct question *it)
+{
+    memset(it, 0, sizeof *it);
+    if (scanf("%u %zu %zu", &it->command, &it->lengths[0], &it->lengths[1]) != 3 || getchar() != '\n')
+        return 0;
+    for (int i = 0; i < 2; i++) {
+        it->texts[i] = it->lengths[i] ? made(it->lengths[i]) : NULL;
+        if (it->lengths[i] && fread(it->texts[i], 1, it->lengths[i], stdin) != it->lengths[i])
+            broken("a question is cut off");
+    }
+    return 1;
+}
+
+int main(int count, char **words)
+{
+    misuse();
+    questions = made(MOST * sizeof *questions);
+    if (count != 3)
+        broken("usage: clibrary THREADS REFUSALS");
+    while (asked < MOST && heard(&questions[asked])) {
+        answer(&questions[asked]);
+        ask_refused(&questions[asked++], (size_t)atoi(words[2]));
+    }
+    ask_side_by_side((size_t)atoi(words[1]));
+    for (size_t i = 0; i < asked; i++) {
+        struct question *it = &questions[i];
+        printf("%d %zu\n", (int)it->status, it->length);
+        fwrite(it->answer, 1, it->length, stdout);
+        free(it->answer);
+        free(it->texts[0]);
+        free(it->texts[1]);
+    }
+    free(questions);
+    return 0;
+}

@@ -1,0 +1,108 @@
+/* Gives spki.c structures of other headers: of one with a field more than the library's, and of one with a field less. LATER is the header that
+ * spki.c is compiled with: 0 for spki.h, 1 for one whose structures have a field `later` at their ends. What the proved library would be given is
+ * kept here. Ends with the line of what is wrong. */
+#include "spki.c"
+
+#include <stdio.h>
+
+static struct spki_limits limits_met;
+static struct parts parts_met;
+static size_t limits_count;
+
+uint32_t spki_c_guard_open(struct spki_text list, uint32_t policy, const struct spki_limits *limits, size_t count, struct handle *guard, ANSWER)
+{
+    (void)list, (void)policy, (void)buffer, (void)buffer_length, (void)needed;
+    limits_met = *limits;
+    limits_count = count;
+    guard->at = guard;
+    return SPKI_DONE;
+}
+
+uint32_t spki_c_guard_ask(struct handle *guard, struct parts parts, const struct spki_text *words, size_t word_count, const int64_t *seconds,
+                          size_t count, struct handle *asked, ANSWER)
+{
+    (void)guard, (void)words, (void)word_count, (void)seconds, (void)count, (void)buffer, (void)buffer_length, (void)needed;
+    parts_met = parts;
+    asked->at = asked;
+    return SPKI_DONE;
+}
+
+/* The calls that no structure goes to. */
+uint32_t spki_c_answer(uint32_t c, struct spki_text t, void *b, size_t l, size_t *n) { return (void)c, (void)t, (void)b, (void)l, (void)n, 0; }
+uint32_t spki_c_check_accepted(struct spki_text t, struct spki_text r, void *b, size_t l, size_t *n)
+{
+    return (void)t, (void)r, (void)b, (void)l, (void)n, 0;
+}
+void spki_c_close(bool is, struct handle v, struct handle *b) { (void)is, (void)v, (void)b; }
+size_t spki_c_guard_entries(struct handle *g) { return (void)g, 0; }
+size_t spki_c_asked_count(struct handle *a) { return (void)a, 0; }
+uint32_t spki_c_asked_signature(struct handle *a, size_t p, struct texts *t) { return (void)a, (void)p, (void)t, 0; }
+uint32_t spki_c_asked_mark(struct handle a, size_t p, struct handle *b) { return (void)a, (void)p, (void)b, 0; }
+bool spki_c_asked_granted(struct handle *a) { return (void)a, false; }
+bool spki_c_asked_possible(struct handle *a) { return (void)a, false; }
+uint32_t spki_c_asked_answer(uint32_t w, struct handle *a, int64_t *u, void *b, size_t l, size_t *n)
+{
+    return (void)w, (void)a, (void)u, (void)b, (void)l, (void)n, 0;
+}
+uint32_t spki_c_string(struct spki_text t, const size_t *p, size_t d, size_t *a, size_t *l)
+{
+    return (void)t, (void)p, (void)d, (void)a, (void)l, 0;
+}
+
+#define CHECK(what) \
+    do { \
+        if (!(what)) { \
+            printf("line %d: %s\n", __LINE__, #what); \
+            return 1; \
+        } \
+    } while (0)
+
+/* The structures without a size never change. */
+_Static_assert(sizeof(struct spki_text) == 2 * sizeof(size_t) && sizeof(struct spki_signed) == 4 * sizeof(struct spki_text)
+                   && sizeof(struct spki_proven_key) == sizeof(struct spki_text),
+               "a structure that has no size has another one");
+
+/* The fields of 0.2.0: the sizes of its structures must be read by each library of this interface. */
+enum { LIMITS = 7 * sizeof(size_t), QUESTION = 12 * sizeof(size_t), MORE = 4 };
+
+static enum spki_status opens(size_t *limits)
+{
+    spki_guard *guard;
+    return spki_guard_open("(acl)", 5, SPKI_STRICT, (const struct spki_limits *)(void *)limits, &guard, NULL, 0, NULL);
+}
+
+static enum spki_status asks(size_t *question)
+{
+    static size_t guard;
+    spki_asked *asked;
+    return spki_guard_ask((const spki_guard *)(void *)&guard, (const struct spki_question *)(void *)question, &asked, NULL, 0, NULL);
+}
+
+int main(void)
+{
+    size_t limits[7 + MORE] = {0, 70000, 0, 5}, question[12 + MORE] = {0, (size_t)"(sequence)", 10, (size_t)"key", 3};
+    for (size_t more = 0; more <= MORE; more++) {
+        size_t unknown = more > LATER ? more - LATER : 0;
+        limits[0] = LIMITS + more * sizeof more;
+        question[0] = QUESTION + more * sizeof more;
+        CHECK(opens(limits) == SPKI_DONE && limits_met.octets == 70000 && !limits_met.certificates && limits_met.words == 5 && limits_count == 1);
+        CHECK(asks(question) == SPKI_DONE && parts_met.sequence.length == 10 && parts_met.key.length == 3 && !parts_met.is_worded);
+#if LATER
+        CHECK(limits_met.later == 0);
+#endif
+        for (size_t at = 0; at < unknown; at++) {
+            limits[7 + LATER + at] = question[12 + LATER + at] = (size_t)1 << 63;
+            CHECK(opens(limits) == SPKI_MISUSED && asks(question) == SPKI_MISUSED);
+            limits[7 + LATER + at] = question[12 + LATER + at] = 0;
+        }
+    }
+    const size_t wrong[] = {0, 1, sizeof(size_t), LIMITS - sizeof(size_t), LIMITS - 1, LIMITS + 1, 4104, SIZE_MAX, SIZE_MAX - 7};
+    for (size_t place = 0; place < sizeof wrong / sizeof *wrong; place++) {
+        limits[0] = wrong[place];
+        CHECK(opens(limits) == SPKI_MISUSED);
+    }
+    question[0] = QUESTION - sizeof(size_t);
+    CHECK(asks(question) == SPKI_MISUSED && asks(NULL) == SPKI_MISUSED);
+    CHECK(opens(NULL) == SPKI_DONE && !limits_met.octets && limits_count == 1);
+    return 0;
+}

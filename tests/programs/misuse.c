@@ -1,0 +1,250 @@
+/* Makes each call of `spki.h` with each of its arguments null with a length, too long, or of another size, which must be misuse that changes
+ * nothing but the first octet of a buffer, with a handle of the other kind, and with what may be null. What no call can see is the caller's duty:
+ * a handle that was closed, or is of another library. Is linked with --wrap=malloc and --wrap=realloc. Ends with 99 where a call does otherwise,
+ * with a line on standard error. */
+#include "cguard.h"
+
+enum { UNTOUCHED = 0x5a };
+#define TOO_LONG ((size_t)PTRDIFF_MAX + 1)
+#define BUFFER buffer, sizeof buffer, &needed
+
+static const struct spki_text wrong[] = {{NULL, 1}, {NULL, TOO_LONG}, {"x", TOO_LONG}, {"x", SIZE_MAX}};
+enum { WRONG = sizeof wrong / sizeof *wrong };
+
+static unsigned char buffer[64];
+static size_t needed;
+static spki_guard *guard;
+static spki_asked *asked;
+
+/* Where a call sets the handle of what it opens. */
+static spki_guard *no_guard;
+static spki_asked *no_asked;
+
+/* A call that has no buffer, or cannot write to it. */
+static void misused_apart(enum spki_status status, const char *what)
+{
+    expect(status == SPKI_MISUSED && !needed, what);
+    for (size_t place = 0; place < sizeof buffer; place++)
+        expect(buffer[place] == UNTOUCHED, what);
+    needed = 12345;
+}
+
+/* A call that has a buffer, in which no line of an earlier call is left. */
+static void misused(enum spki_status status, const char *what)
+{
+    expect(!buffer[0], what);
+    buffer[0] = UNTOUCHED;
+    misused_apart(status, what);
+}
+
+static void opens_no_guard(enum spki_status status, const char *what)
+{
+    misused(status, what);
+    expect(!no_guard, what);
+    no_guard = guard;
+}
+
+static void opens_no_question(enum spki_status status, const char *what)
+{
+    misused(status, what);
+    expect(!no_asked, what);
+    no_asked = asked;
+}
+
+static void misused_question(const struct spki_question *question, const char *what)
+{
+    opens_no_question(spki_guard_ask(guard, question, &no_asked, BUFFER), what);
+}
+
+/* A question that is granted. */
+static struct spki_question granted(void)
+{
+    struct spki_question question = {.size = sizeof question, .sequence = text("(sequence)"), .key = spki_assume_key(text("(public-key (test b))")),
+                                     .request = text("x"), .seconds = &moment};
+    return question;
+}
+
+/* The texts of each call. */
+static void wrong_texts(struct spki_text it)
+{
+    const void *octets = &it;
+    opens_no_guard(spki_guard_open(it.octets, it.length, SPKI_STRICT, NULL, &no_guard, BUFFER), "spki_guard_open: list");
+    misused(spki_answer(SPKI_CHECK, it.octets, it.length, BUFFER).status, "spki_answer: text");
+    misused(spki_check_accepted(it.octets, it.length, "x", 1, BUFFER).status, "spki_check_accepted: text");
+    misused(spki_check_accepted("x", 1, it.octets, it.length, BUFFER).status, "spki_check_accepted: rows");
+    misused_apart(spki_string(it.octets, it.length, NULL, 0, &octets, &needed), "spki_string: text");
+    expect(!octets, "spki_string: text");
+}
+
+/* The texts of a question, and its list of strings. */
+static void wrong_parts(struct spki_text it)
+{
+    struct spki_question question = granted();
+    struct spki_text words[2] = {text("x"), it}, *const parts[] = {&question.sequence, &question.key.text, &question.request, &question.moment};
+    for (size_t place = 0; place < sizeof parts / sizeof *parts; place++) {
+        question = granted();
+        question.seconds = parts[place] == &question.moment ? NULL : &moment;
+        *parts[place] = it;
+        misused_question(&question, "spki_guard_ask: a part");
+    }
+    question = granted();
+    question.request.length = 0;
+    question.words = words;
+    question.word_count = 2;
+    misused_question(&question, "spki_guard_ask: a string");
+    question.words = it.octets ? words : NULL;
+    question.word_count = it.length;
+    misused_question(&question, "spki_guard_ask: strings");
+}
+
+/* The buffers of each call. */
+static void wrong_buffers(struct spki_text it)
+{
+    struct spki_question question = granted();
+    void *to = it.octets ? buffer : NULL;
+    misused_apart(spki_guard_open("(acl)", 5, SPKI_STRICT, NULL, &no_guard, to, it.length, &needed), "spki_guard_open: buffer");
+    misused_apart(spki_guard_ask(guard, &question, &no_asked, to, it.length, &needed), "spki_guard_ask: buffer");
+    expect(!no_guard && !no_asked, "a handle of a call that has no buffer");
+    no_guard = guard;
+    no_asked = asked;
+    misused_apart(spki_answer(SPKI_CHECK, "x", 1, to, it.length, &needed).status, "spki_answer: buffer");
+    misused_apart(spki_check_accepted("x", 1, "x", 1, to, it.length, &needed).status, "spki_check_accepted: buffer");
+    misused_apart(spki_asked_decide(asked, to, it.length, &needed).status, "spki_asked_decide: buffer");
+    misused_apart(spki_asked_explain(asked, to, it.length, &needed).status, "spki_asked_explain: buffer");
+    misused_apart(spki_asked_reduce(asked, to, it.length, &needed).status, "spki_asked_reduce: buffer");
+}
+
+static void wrong_sizes(void)
+{
+    struct spki_limits limits[] = {SPKI_USUAL_LIMITS, SPKI_USUAL_LIMITS, SPKI_USUAL_LIMITS, SPKI_USUAL_LIMITS, SPKI_USUAL_LIMITS,
+                                   SPKI_USUAL_LIMITS};
+    struct spki_question question = granted();
+    static const size_t sizes[] = {0, sizeof question - 1, sizeof question + 1, SIZE_MAX};
+    limits[0].size = 0;
+    limits[1].size++;
+    limits[2].octets = SPKI_MOST_OCTETS + 1;
+    limits[3].nodes = SPKI_MOST_NODES + 1;
+    limits[4].octets = SIZE_MAX;
+    limits[5].work = SPKI_MOST_WORK + 1;
+    for (size_t place = 0; place < sizeof limits / sizeof *limits; place++) {
+        opens_no_guard(spki_guard_open("(acl)", 5, SPKI_STRICT, &limits[place], &no_guard, BUFFER), "spki_guard_open: limits");
+    }
+    for (size_t place = 0; place < sizeof sizes / sizeof *sizes; place++) {
+        question.size = sizes[place];
+        misused_question(&question, "spki_guard_ask: the size of the question");
+    }
+}
+
+/* Numbers that have no meaning: commands, policies, places of signatures, paths that are too long. */
+static void wrong_numbers(void)
+{
+    static const size_t path[1];
+    static const unsigned numbers[] = {7, 8, 255, 256, 65536, 0x80000000u, 0xffffffffu};
+    const void *octets = &path;
+    for (size_t place = 0; place < sizeof numbers / sizeof *numbers; place++) {
+        misused(spki_answer((enum spki_command)numbers[place], "x", 1, BUFFER).status, "spki_answer: command");
+        opens_no_guard(spki_guard_open("(acl)", 5, (enum spki_policy)numbers[place], NULL, &no_guard, BUFFER), "spki_guard_open: policy");
+    }
+    for (size_t place = 1; place; place *= 2)
+        expect(spki_asked_mark(asked, place - 1) == SPKI_MISUSED && spki_asked_mark(asked, 0 - place) == SPKI_MISUSED, "spki_asked_mark: place");
+    misused_apart(spki_string("1:a", 3, path, TOO_LONG / sizeof *path, &octets, &needed), "spki_string: depth");
+    misused_apart(spki_string("1:a", 3, NULL, 1, &octets, &needed), "spki_string: path");
+    expect(!octets, "spki_string: path");
+}
+
+/* Handles and places of results that are null. */
+static void nulls(void)
+{
+    struct spki_question question = granted(), twice = question;
+    struct spki_signed signature;
+    memset(&signature, 1, sizeof signature);
+    misused(spki_guard_open("(acl)", 5, SPKI_STRICT, NULL, NULL, BUFFER), "spki_guard_open: guard");
+    opens_no_question(spki_guard_ask(NULL, &question, &no_asked, BUFFER), "spki_guard_ask: guard");
+    misused_question(NULL, "spki_guard_ask: question");
+    misused(spki_guard_ask(guard, &question, NULL, BUFFER), "spki_guard_ask: asked");
+    misused(spki_asked_decide(NULL, BUFFER).status, "spki_asked_decide: asked");
+    misused(spki_asked_explain(NULL, BUFFER).status, "spki_asked_explain: asked");
+    misused(spki_asked_reduce(NULL, BUFFER).status, "spki_asked_reduce: asked");
+    misused_apart(spki_string("1:a", 3, NULL, 0, NULL, &needed), "spki_string: octets");
+    expect(spki_asked_signature(asked, 0, NULL) == SPKI_MISUSED, "spki_asked_signature: signature");
+    expect(spki_asked_signature(NULL, 0, &signature) == SPKI_MISUSED && !signature.key.octets && !signature.octets.length,
+           "spki_asked_signature: asked");
+    expect(!spki_guard_entries(NULL) && !spki_asked_count(NULL), "the count of nothing");
+    expect(!spki_asked_granted(NULL) && !spki_asked_possible(NULL) && spki_asked_mark(NULL, 0) == SPKI_MISUSED, "a mark and a yes of nothing");
+    spki_guard_close(NULL);
+    spki_asked_close(NULL);
+    twice.moment = text("19:2024-01-01_00:00:00");
+    misused_question(&twice, "spki_guard_ask: two moments");
+    twice = question;
+    twice.words = &twice.key.text;
+    misused_question(&twice, "spki_guard_ask: two requests");
+}
+
+/* A question in place of a guard, and a guard in place of a question. */
+static void other_kinds(void)
+{
+    struct spki_question question = granted();
+    spki_guard *no_such_guard = (spki_guard *)asked;
+    spki_asked *no_such_question = (spki_asked *)guard;
+    struct spki_signed signature;
+    memset(&signature, 1, sizeof signature);
+    opens_no_question(spki_guard_ask(no_such_guard, &question, &no_asked, BUFFER), "spki_guard_ask: a question");
+    misused(spki_asked_decide(no_such_question, BUFFER).status, "spki_asked_decide: a guard");
+    misused(spki_asked_explain(no_such_question, BUFFER).status, "spki_asked_explain: a guard");
+    misused(spki_asked_reduce(no_such_question, BUFFER).status, "spki_asked_reduce: a guard");
+    expect(!spki_asked_granted(no_such_question) && !spki_asked_possible(no_such_question), "a yes of a guard");
+    for (size_t place = 0; place < 3; place++)
+        expect(spki_asked_mark(no_such_question, place) == SPKI_MISUSED, "spki_asked_mark: a guard");
+    expect(spki_asked_signature(no_such_question, 0, &signature) == SPKI_MISUSED && !signature.key.octets, "spki_asked_signature: a guard");
+    expect(!spki_guard_entries(no_such_guard) && !spki_asked_count(no_such_question), "the counts of another kind");
+    spki_guard_close(no_such_guard);
+    spki_asked_close(no_such_question);
+    expect(spki_guard_entries(guard) == 1 && spki_asked_granted(asked), "a close of another kind");
+}
+
+/* What may be null: what has no octets, `needed`, limits. */
+static void allowed(void)
+{
+    static const size_t path[1];
+    struct spki_question question = granted();
+    struct spki_text empty = {NULL, 0};
+    const void *octets;
+    spki_guard *other = NULL;
+    spki_asked *opened_question = NULL;
+    expect(spki_guard_open("(acl)", 5, SPKI_ALLOW_SHA1, NULL, &other, NULL, 0, NULL) == SPKI_DONE && other, "an open guard without a buffer");
+    spki_guard_close(other);
+    question.words = &empty;
+    question.word_count = 1;
+    question.request = empty;
+    expect(spki_guard_ask(guard, &question, &opened_question, NULL, 0, NULL) == SPKI_DONE && opened_question, "a string without octets");
+    expect(spki_asked_decide(opened_question, NULL, 0, NULL).status == SPKI_TOO_SMALL, "a decision without a buffer");
+    expect(spki_asked_decide(opened_question, buffer, sizeof buffer, NULL).status == SPKI_YES, "a decision without a length");
+    spki_asked_close(opened_question);
+    expect(spki_answer(SPKI_CANONICAL, NULL, 0, NULL, 0, NULL).status == SPKI_TOO_SMALL, "no text");
+    expect(spki_check_accepted(NULL, 0, NULL, 0, NULL, 0, NULL).status == SPKI_TOO_SMALL, "no case");
+    expect(spki_string("0:", 2, path, 0, &octets, NULL) == SPKI_DONE && octets, "a string without a length");
+}
+
+int main(void)
+{
+    struct spki_question question = granted();
+    guard = opened("(acl (entry (public-key (test b)) (tag (*))))", SPKI_STRICT);
+    asked = asked_of(guard, &question);
+    memset(buffer, UNTOUCHED, sizeof buffer);
+    no_guard = guard;
+    no_asked = asked;
+    for (size_t place = 0; place < WRONG; place++) {
+        wrong_texts(wrong[place]);
+        wrong_parts(wrong[place]);
+        wrong_buffers(wrong[place]);
+    }
+    wrong_sizes();
+    wrong_numbers();
+    nulls();
+    other_kinds();
+    allowed();
+    decides(guard, &question, 0, SPKI_YES, "yes entry 1\n");
+    spki_asked_close(asked);
+    spki_guard_close(guard);
+    return 0;
+}

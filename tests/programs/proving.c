@@ -1,0 +1,76 @@
+/* Proves requests by examples/c/http_request.c. Reads strings from standard input, each as LENGTH:OCTETS, for each request: the method, the
+ * authority, the target, the time, how long before the same came or an empty string, the number of fields, and the name and the value of each.
+ * Writes a line for each: the refusal or `valid`, and behind it the digest of the body. */
+#include "http_request.h"
+
+#include <stdio.h>
+#include <stdlib.h>
+
+enum { MOST_FIELDS = 64, HEAD = 6 };
+
+static bool read_string(struct spki_text *string)
+{
+    size_t length;
+    if (scanf("%zu", &length) != 1 || getchar() != ':')
+        return false;
+    unsigned char *octets = malloc(length + 1);
+    if (!octets || fread(octets, 1, length, stdin) != length)
+        return false;
+    octets[length] = 0;
+    *string = (struct spki_text){octets, length};
+    return true;
+}
+
+static bool read_strings(struct spki_text *strings, size_t count)
+{
+    for (size_t i = 0; i < count; i++)
+        if (!read_string(&strings[i]))
+            return false;
+    return true;
+}
+
+static void free_strings(struct spki_text *strings, size_t count)
+{
+    while (count > 0)
+        free((void *)strings[--count].octets);
+}
+
+/* Copies a request to places of its own, so that a read behind a text is seen. */
+static void answer(const struct spki_text *head, struct spki_text *of_fields, size_t count)
+{
+    const struct spki_text names[] = {SPKI_LITERAL("example.com")};
+    struct http_field *fields = malloc((count + 1) * sizeof *fields);
+    struct http_service service = {names, 1, 1792000000, http_nonces_take, http_nonces_open(4)};
+    struct http_request request = {head[0], head[1], head[2], fields, count};
+    struct http_proof proof = {.digest_length = 0};
+    long long now = atoll(head[3].octets);
+    if (!fields || !service.store)
+        exit(1);
+    for (size_t i = 0; i < count; i++)
+        fields[i] = (struct http_field){of_fields[2 * i], of_fields[2 * i + 1]};
+    if (head[4].length && http_request_proves(&service, &request, now - atoll(head[4].octets), &proof))
+        exit(1);
+    const char *why = http_request_proves(&service, &request, now, &proof);
+    if (!why && http_proven_key(&proof).text.octets != proof.key)
+        exit(1);
+    printf("%s ", why ? why : "valid");
+    for (size_t i = 0; !why && i < proof.digest_length; i++)
+        printf("%02x", proof.digest[i]);
+    puts("");
+    free(fields);
+    http_nonces_close(service.store);
+}
+
+int main(void)
+{
+    struct spki_text head[HEAD], of_fields[2 * MOST_FIELDS];
+    while (read_strings(head, HEAD)) {
+        size_t count = (size_t)atoll(head[5].octets);
+        if (count > MOST_FIELDS || !read_strings(of_fields, 2 * count))
+            return 1;
+        answer(head, of_fields, count);
+        free_strings(of_fields, 2 * count);
+        free_strings(head, HEAD);
+    }
+    return feof(stdin) ? 0 : 1;
+}

@@ -1,0 +1,138 @@
+/* Preloaded before a program, it refuses some of what the program asks for, counted from 1 and from main on:
+ *
+ *   REFUSE_MEMORY=N, REFUSE_READ=N, REFUSE_WRITE=N   the Nth request for memory, read of standard input, write of standard
+ *                                                    output; with N.. each one behind it too
+ *   REFUSE_WITH=E    what a refused read or write returns: the error E, or with 0 that it took no octet
+ *   REFUSE_STEP=1    a read or a write takes one octet at most
+ *   REFUSE_IN=WORD   where the program was started by another word it is left alone
+ *
+ * At the end it writes to descriptor 3 how many were asked and refused of each, and how many requests for memory came before
+ * the first read. A program that hangs is ended by SIGALRM.
+ */
+#define _GNU_SOURCE
+#include <dlfcn.h>
+#include <errno.h>
+#include <malloc.h>
+#include <stdio.h>
+#include <stdlib.h>
+#include <string.h>
+#include <unistd.h>
+
+#define SECONDS 30
+#define NEXT(type, name) \
+    static __typeof__(type) next; \
+    if (next == NULL) next = (__typeof__(type))dlsym(RTLD_NEXT, name)
+
+struct calls {
+    unsigned long first, asked, refused;
+    int all;
+};
+
+typedef int entry(int, char **, char **);
+
+static struct calls memory, reads, writes;
+static unsigned long before_reads;
+static int counting, told, single;
+static entry *program;
+
+static int refuses(struct calls *calls) {
+    if (!counting) return 0;
+    calls->asked++;
+    if (calls->first == 0 || calls->asked < calls->first || (calls->asked > calls->first && !calls->all)) return 0;
+    calls->refused++;
+    return 1;
+}
+
+static void *no_memory(void) {
+    errno = ENOMEM;
+    return NULL;
+}
+
+static void plan(struct calls *calls, const char *name) {
+    const char *words = getenv(name);
+    if (words == NULL) return;
+    calls->first = strtoul(words, NULL, 10);
+    calls->all = strstr(words, "..") != NULL;
+}
+
+void *malloc(size_t size) {
+    NEXT(void *(*)(size_t), "malloc");
+    return refuses(&memory) ? no_memory() : next(size);
+}
+
+void *calloc(size_t count, size_t size) {
+    NEXT(void *(*)(size_t, size_t), "calloc");
+    return refuses(&memory) ? no_memory() : next(count, size);
+}
+
+void *realloc(void *old, size_t size) {
+    NEXT(void *(*)(void *, size_t), "realloc");
+    /* (a block that becomes shorter is not refused: without that it stays as it is) */
+    return (old == NULL || malloc_usable_size(old) < size) && refuses(&memory) ? no_memory() : next(old, size);
+}
+
+void *reallocarray(void *old, size_t count, size_t size) {
+    NEXT(void *(*)(void *, size_t, size_t), "reallocarray");
+    return refuses(&memory) ? no_memory() : next(old, count, size);
+}
+
+void *memalign(size_t align, size_t size) {
+    NEXT(void *(*)(size_t, size_t), "memalign");
+    return refuses(&memory) ? no_memory() : next(align, size);
+}
+
+void *aligned_alloc(size_t align, size_t size) {
+    NEXT(void *(*)(size_t, size_t), "aligned_alloc");
+    return refuses(&memory) ? no_memory() : next(align, size);
+}
+
+int posix_memalign(void **out, size_t align, size_t size) {
+    NEXT(int (*)(void **, size_t, size_t), "posix_memalign");
+    return refuses(&memory) ? ENOMEM : next(out, align, size);
+}
+
+static ssize_t refused_call(void) {
+    errno = told;
+    return told == 0 ? 0 : -1;
+}
+
+ssize_t read(int file, void *octets, size_t most) {
+    NEXT(ssize_t (*)(int, void *, size_t), "read");
+    if (file == 0 && reads.asked == 0) before_reads = memory.asked;
+    if (file == 0 && refuses(&reads)) return refused_call();
+    return next(file, octets, file == 0 && single && most > 1 ? 1 : most);
+}
+
+ssize_t write(int file, const void *octets, size_t most) {
+    NEXT(ssize_t (*)(int, const void *, size_t), "write");
+    if (file == 1 && refuses(&writes)) return refused_call();
+    return next(file, octets, file == 1 && single && most > 1 ? 1 : most);
+}
+
+/* Stands round the program's main. */
+static int counted(int count, char **words, char **environment) {
+    const char *word = getenv("REFUSE_IN");
+    if (word != NULL && (count == 0 || strcmp(words[0], word) != 0)) return program(count, words, environment);
+    plan(&memory, "REFUSE_MEMORY");
+    plan(&reads, "REFUSE_READ");
+    plan(&writes, "REFUSE_WRITE");
+    told = getenv("REFUSE_WITH") == NULL ? EIO : atoi(getenv("REFUSE_WITH"));
+    single = getenv("REFUSE_STEP") != NULL;
+    alarm(SECONDS);
+    counting = 1;
+    return program(count, words, environment);
+}
+
+int __libc_start_main(entry *main, int count, char **words, void (*init)(void), void (*fini)(void), void (*end)(void), void *stack) {
+    NEXT(int (*)(entry *, int, char **, void (*)(void), void (*)(void), void (*)(void), void *), "__libc_start_main");
+    program = main;
+    return next(counted, count, words, init, fini, end, stack);
+}
+
+__attribute__((destructor)) static void report(void) {
+    char line[200];
+    counting = 0;
+    int length = snprintf(line, sizeof line, "%lu %lu %lu %lu %lu %lu %lu\n", memory.asked, memory.refused, reads.asked,
+                          reads.refused, writes.asked, writes.refused, before_reads);
+    if (write(3, line, length) != length) return;
+}

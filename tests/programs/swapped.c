@@ -1,0 +1,69 @@
+/* Changes a guard while threads ask it, as the head of spki.h says: each asks while it holds a lock for reading, and the pointer is changed while one
+ * thread holds it for writing. Questions that are open are decided after their guard is closed. Ends with the line of what is wrong. */
+#define _XOPEN_SOURCE 700
+#include <spki.h>
+
+#include <pthread.h>
+#include <stdio.h>
+#include <stdlib.h>
+
+#define CHECK(what) \
+    do { \
+        if (!(what)) { \
+            printf("line %d: %s\n", __LINE__, #what); \
+            exit(1); \
+        } \
+    } while (0)
+
+enum { THREADS = 4, TURNS = 40 };
+
+static pthread_rwlock_t lock = PTHREAD_RWLOCK_INITIALIZER;
+static spki_guard *guard;
+
+/* A guard that grants Bob all, or nothing. */
+static spki_guard *opened(bool grants)
+{
+    static const char all[] = "(acl (entry (public-key (test b)) (tag (*))))", none[] = "(acl)";
+    spki_guard *made;
+    CHECK(spki_guard_open(grants ? all : none, grants ? sizeof all - 1 : sizeof none - 1, SPKI_STRICT, NULL, &made, NULL, 0, NULL) == SPKI_DONE);
+    return made;
+}
+
+static void *ask(void *unused)
+{
+    static const int64_t now = 1704067200;
+    static const struct spki_text words = {"ftp", 3};
+    const struct spki_question question = {.size = sizeof question, .sequence = SPKI_LITERAL("(sequence)"), .words = &words, .word_count = 1,
+                                           .key = spki_assume_key(SPKI_LITERAL("(public-key (test b))")), .seconds = &now};
+    for (int turn = 0; turn < TURNS; turn++) {
+        spki_asked *asked;
+        pthread_rwlock_rdlock(&lock);
+        bool grants = spki_guard_entries(guard) == 1;
+        CHECK(spki_guard_ask(guard, &question, &asked, NULL, 0, NULL) == SPKI_DONE);
+        pthread_rwlock_unlock(&lock);
+        /* (the guard may be closed by now) */
+        CHECK(spki_asked_granted(asked) == grants);
+        spki_asked_close(asked);
+    }
+    return unused;
+}
+
+int main(void)
+{
+    pthread_t threads[THREADS];
+    guard = opened(true);
+    for (size_t place = 0; place < THREADS; place++)
+        CHECK(pthread_create(&threads[place], NULL, ask, NULL) == 0);
+    for (int turn = 0; turn < TURNS; turn++) {
+        spki_guard *next = opened(turn % 2), *last;
+        pthread_rwlock_wrlock(&lock);
+        last = guard;
+        guard = next;
+        pthread_rwlock_unlock(&lock);
+        spki_guard_close(last);
+    }
+    for (size_t place = 0; place < THREADS; place++)
+        CHECK(pthread_join(threads[place], NULL) == 0);
+    spki_guard_close(guard);
+    return 0;
+}

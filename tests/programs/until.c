@@ -1,0 +1,53 @@
+/* Asks until when a question is a yes, and whether it is one then and a second later: `until.py`.
+ *
+ * Usage: until LIST SEQUENCE KEY MOMENT. Prints the last second of the decision, and 1 or 0 for each of the two seconds if they can be asked. */
+#include <inttypes.h>
+#include <spki.h>
+#include <stdio.h>
+#include <stdlib.h>
+#include <string.h>
+
+static struct spki_text text(const char *words)
+{
+    return (struct spki_text){words, strlen(words)};
+}
+
+/* Decides a question, whose signatures are all valid. */
+static struct spki_decision decided(const spki_guard *guard, const struct spki_question *question)
+{
+    unsigned char line[64];
+    spki_asked *asked;
+    if (spki_guard_ask(guard, question, &asked, line, sizeof line, NULL) != SPKI_DONE)
+        exit(2);
+    for (size_t place = 0; spki_asked_mark(asked, place) == SPKI_DONE; place++)
+        continue;
+    const struct spki_decision said = spki_asked_decide(asked, line, sizeof line, NULL);
+    if (spki_asked_granted(asked) != (said.status == SPKI_YES))
+        exit(3);
+    spki_asked_close(asked);
+    return said;
+}
+
+int main(int count, char **words)
+{
+    spki_guard *guard;
+    char moment[32];
+    struct spki_question question = {.size = sizeof question, .request = text("x")};
+    if (count != 5 || spki_guard_open(words[1], strlen(words[1]), SPKI_STRICT, NULL, &guard, NULL, 0, NULL) != SPKI_DONE)
+        return 1;
+    question.sequence = text(words[2]);
+    question.key = spki_assume_key(text(words[3]));
+    snprintf(moment, sizeof moment, "19:%s", words[4]);
+    question.moment = text(moment);
+    const struct spki_decision said = decided(guard, &question);
+    printf("%d %" PRId64, said.status, said.until);
+    question.moment = (struct spki_text){0};
+    for (int64_t later = 0; later < 2 && said.until >= 0 && said.until < 253402300799; later++) {
+        const int64_t seconds = said.until + later;
+        question.seconds = &seconds;
+        printf(" %d", decided(guard, &question).status == SPKI_YES);
+    }
+    puts("");
+    spki_guard_close(guard);
+    return 0;
+}

@@ -1,0 +1,115 @@
+"""Reads the tables in `tables/`, and says what is wrong with a program's answer to a row.
+
+A row of a table is a command, the exit status that is wanted, a text and the answer that is wanted, with two or more spaces
+between them. `any` stands for each of the commands. A line that begins with `;` is a remark. In texts and answers
+
+    %41         is the octet 41
+    %n          is a line feed
+    %-          is nothing, where a text or an answer has no octet
+    %<64*(>     is what stands behind the star, so many times
+    %[PATH]     is what the file has, the path being one from the top of the repository
+
+and every other octet stands for itself. Of each text that `canonical` converts, what `advanced` and `transport` write must be
+read again as the same canonical form. Each text that `check` refuses `reduce` and `explain` must refuse by the same line; of each
+that it decides, the first entry that `explain` says grants must be the one that `check` names.
+"""
+import os
+import re
+from collections.abc import Iterator
+from typing import NamedTuple
+
+from harness.support import COMMANDS, TOP, run
+
+GRANTS = re.compile(rb"entry (\d+) grants")
+TOO_LARGE = (2, b"refused TooLarge\n")
+ESCAPE = re.compile(rb"%(?:([0-9A-F]{2})|(n)|(-)|<(\d+)\*([^>]*)>|\[([^]]+)\]|())")
+SHOWN = 1000
+
+
+class Row(NamedTuple):
+    """Where a row stands, a command, a text, and the status and the answer that are wanted."""
+
+    place: str
+    command: str
+    text: bytes
+    status: int
+    answer: bytes
+
+
+def octets_of(found: re.Match[bytes]) -> bytes:
+    """The octets that an escape stands for."""
+    code, line_feed, nothing, times, repeated, path, _ = found.groups()
+    if code:
+        return bytes.fromhex(code.decode())
+    if line_feed:
+        return b"\n"
+    if nothing:
+        return b""
+    if times:
+        return int(times) * repeated
+    if path:
+        with open(os.path.join(TOP, path.decode()), "rb") as file:
+            return file.read()
+    raise ValueError(f"{found.string!r} has an unknown escape")
+
+
+def unescaped(field: bytes) -> bytes:
+    """The octets that a field of a row stands for."""
+    return ESCAPE.sub(octets_of, field)
+
+
+def rows_of(table: str) -> Iterator[Row]:
+    """The rows of a table."""
+    with open(table, "rb") as lines:
+        for number, line in enumerate(lines, 1):
+            line = line.rstrip(b"\n")
+            if not line or line.startswith(b";"):
+                continue
+            place = f"tables/{os.path.basename(table)}:{number}"
+            fields = re.split(rb" {2,}", line)
+            if len(fields) != 4:
+                raise ValueError(f"{place}: a row has a command, a status, a text and an answer")
+            command, status, text, answer = fields
+            for each in COMMANDS if command == b"any" else [command.decode()]:
+                yield Row(place, each, unescaped(text), int(status), unescaped(answer))
+
+
+def shown(octets: bytes) -> str:
+    """Octets as a fault shows them, cut where they are long."""
+    return f"{octets[:SHOWN]!r}{f'.. ({len(octets)} octets)' if len(octets) > SHOWN else ''}"
+
+
+def fault_of(program: str, row: Row) -> str | None:
+    """What is wrong with the program's answer to a row, None if nothing is."""
+    met = run(program, row.command, row.text)
+    wrong = fault_beside(program, row) if met == (row.status, row.answer) else (
+        f"wanted {row.status} {shown(row.answer)}\ncame   {met[0]} {shown(met[1])}")
+    return wrong and f"{row.place}: {row.command}\ntext   {shown(row.text)}\n{wrong}"
+
+
+def fault_beside(program: str, row: Row) -> str | None:
+    """What is wrong with what other commands say of a row whose answer is right, None if nothing is."""
+    if row.command == "check":
+        return fault_of_check(program, row)
+    if row.command != "canonical" or row.status:
+        return None
+    for form in ("advanced", "transport"):
+        written = run(program, form, row.text)[1]
+        again = run(program, "canonical", written)
+        if again != (0, row.answer):
+            return f"what {form} writes is {shown(written)}\nwanted canonical to read the same value again\ncame   {again[0]} {shown(again[1])}"
+    return None
+
+
+def fault_of_check(program: str, row: Row) -> str | None:
+    """What is wrong with what `reduce` and `explain` say of a text beside the answer of `check`, None if nothing is."""
+    decided = row.status, row.answer
+    reduced, explained = (run(program, command, row.text) for command in ("reduce", "explain"))
+    said = f"check     {decided[0]} {shown(row.answer)}\nreduce    {reduced[0]} {shown(reduced[1])}\nexplain   {explained[0]} {shown(explained[1])}"
+    if row.status == 2:
+        return None if reduced == explained == decided else f"wanted reduce and explain to refuse it by the same line\n{said}"
+    if explained[0] == 2:
+        return None if explained == reduced == TOO_LARGE else f"wanted explain to decide it\n{said}"
+    first = GRANTS.search(explained[1])
+    line = b"yes entry %s\n" % first[1] if first else b"no\n"
+    return None if decided == (explained[0], line) else f"wanted explain to agree with check\n{said}"

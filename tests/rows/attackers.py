@@ -1,0 +1,123 @@
+"""What attackers send: the certificates and keys that attacks.py names, made for a site."""
+import base64
+import os
+import re
+from collections.abc import Iterator
+from typing import Any, Optional
+
+from harness import built
+from harness.served import Site
+from harness.support import canonical
+from spki_cert_tool.files import now, signer_at
+from spki_cert_tool.keys import digest_of
+from spki_cert_tool.making import certificate_of, fields_of, signed_sequence
+from spki_cert_tool.places import read_text
+from spki_cert_tool.sexp import Value
+
+READ = "(files read (* prefix /web/))"
+CONTENTS = {"web/index.html": b"<p>the web</p>", "web/out/main.js": b"main();", "secret/plan.txt": b"a plan"}
+STATUS = re.compile(rb"^HTTP/1\.[01] (\d{3})", re.MULTILINE)
+
+
+# Who asks for what.
+Asked = tuple[Optional[str], str, str]
+# What nobody gets of these, of which the gate asks for the first ones, and what Ann is granted.
+ALL_ASKED: list[Asked] = [
+    (None, "GET", "/secret/plan.txt"), ("eve", "GET", "/web/index.html"), ("ann", "GET", "/secret/plan.txt"), ("eve", "PUT", "/web/made"),
+    (None, "GET", "/web/index.html"), ("eve", "HEAD", "/web/index.html"), ("eve", "PUT", "/secret/made"), ("eve", "DELETE", "/web/index.html"),
+    (None, "DELETE", "/secret/plan.txt"), ("robot", "GET", "/web/out/main.js"), ("eve", "MKCOL", "/web/made/"), ("ann", "GET", "/web/"),
+    ("eve", "POST", "/web/index.html")]
+ASKED = ALL_ASKED if built.IS_LONG else ALL_ASKED[:5]
+GRANTED: list[Asked] = [("ann", "GET", "/web/index.html"), ("ann", "PUT", "/web/made"), ("ann", "DELETE", "/web/index.html")]
+# The statuses of a denial, and those where nothing has decided.
+DENIED, UNDECIDED = {400, 401, 403, 404, 405, 409}, {500, 502, 503}
+
+
+def changes_of(site: Site, answer: bytes) -> Iterator[str]:
+    """The files whose content is in an answer, and those that have changed."""
+    for name, content in CONTENTS.items():
+        if content in answer:
+            yield f"{name} is sent"
+        if site.text(f"files/{name}").strip() != content.decode():
+            yield f"{name} has changed"
+    yield from (f"{name} was made" for name in ("web/made", "secret/made") if os.path.exists(site.at(f"files/{name}")))
+
+
+def faults_of(site: Site, asked: Asked, must: set[int]) -> list[str]:
+    """What is wrong in the answer to a plain request, whose status must be one of some."""
+    who, method, path = asked
+    body = "made" if method == "PUT" else ""
+    header = f"{method} {path} HTTP/1.1\r\nHost: localhost\r\nConnection: close\r\nContent-Length: {len(body)}\r\n\r\n"
+    answer = site.answer(who, (header + body).encode())
+    wrong = [f"{who} {method} {path} is {each}" for each in statuses(answer) or [0] if each not in must]
+    return wrong + [f"{who} {method} {path}: {each}" for each in changes_of(site, answer)]
+
+
+def statuses(answer: bytes) -> list[int]:
+    """The statuses of all answers on a connection."""
+    return [int(found) for found in STATUS.findall(answer)]
+
+
+def in_braces(value: Any) -> str:
+    """A sequence, or octets that are none, as a header has it."""
+    return "{" + base64.b64encode(value if isinstance(value, bytes) else canonical(value)).decode() + "}"
+
+
+def sequence(site: Site, by: str, to: str, tag: str, *, days: int = 9, begins: int = 0, chain: Value | None = None) -> Any:
+    """The sequence of a certificate, which may not be delegated."""
+    signer, key = (signer_at(site.at(f"keys/{who}")) for who in (by, to))
+    fields = fields_of(read_text(tag.encode())[1].value, now(begins), now(days))
+    return signed_sequence(certificate_of(signer.key, key.key, fields), signer, chain)
+
+
+class Attackers:
+    """What is sent to a site."""
+
+    def __init__(self, site: Site, form: str = "escaped-pem") -> None:
+        self.site, self.form = site, form
+        self.sent = self.sequences()
+        self.certificates_of_tls()
+
+    def sequences(self) -> dict[str, str]:
+        """What attacks.py names, as headers have it."""
+        site = self.site
+        good = sequence(site, "ann", "ben", READ)
+        text = canonical(good)
+        values: dict[str, Any] = {
+            "ben": good, "ended": sequence(site, "ann", "ben", READ, days=-1, begins=-2), "early": sequence(site, "ann", "ben", READ, begins=5),
+            "tag": text.replace(b"4:read", b"5:write"), "value": text[:-8] + bytes([text[-8] ^ 1]) + text[-7:],
+            "subject": text.replace(self.key("ben"), self.key("eve")), "own": sequence(site, "ben", "ben", READ),
+            "signer": canonical(sequence(site, "ben", "ben", READ)).replace(b"6:issuer" + self.key("ben"), b"6:issuer" + self.key("ann")),
+            "secret": sequence(site, "ann", "ben", "(files read (* prefix /secret/))"),
+            "other": sequence(site, "ann", "ben", "(files read /web/other)"),
+            "passed": sequence(site, "ben", "eve", READ, chain=good), "unsigned": [b"sequence", good[1]], "none": [b"sequence"],
+            "many": [b"sequence", *good[1:] * 17], "bare": self.key("ben"), "deep": b"(1:a" * 65 + b")" * 65, "name": self.name()}
+        certificate = site.text("keys/ann.crt")
+        ann = certificate.translate({ord(it): f"%{ord(it):02X}" for it in "\n +/=%"})
+        if self.form == "base64-der":
+            ann = "".join(certificate.splitlines()[1:-1])
+        digest = digest_of(signer_at(site.at("keys/ann")).key).hex()
+        return {**{name: in_braces(value) for name, value in values.items()}, "ann": ann, "key": digest}
+
+    def key(self, who: str) -> bytes:
+        return canonical(signer_at(self.site.at(f"keys/{who}")).key)
+
+    def name(self) -> Value:
+        """A certificate by which Ann only calls Ben something."""
+        signer = signer_at(self.site.at("keys/ann"))
+        certificate = certificate_of(signer.key, signer_at(self.site.at("keys/ben")).key, fields_of(None, None, now(9)), b"readers")
+        return signed_sequence(certificate, signer, None)
+
+    def certificates_of_tls(self) -> None:
+        """Certificates for TLS that only attackers make."""
+        site, make = self.site, ("openssl", "req", "-x509", "-new")
+        site.sh(*make, "-key", "keys/eve", "-subj", "/CN=ann", "-days", "9", "-out", "keys/named-ann.crt")
+        site.write("keys/both.crt", site.text("keys/eve.crt") + site.text("keys/ann.crt"))
+        site.sh("openssl", "genpkey", "-algorithm", "EC", "-pkeyopt", "ec_paramgen_curve:P-521", "-out", "keys/p521")
+        site.sh(*make, "-key", "keys/p521", "-subj", "/CN=p521", "-days", "9", "-out", "keys/p521.crt")
+        site.sh("openssl", "req", "-new", "-key", "keys/ben", "-subj", "/CN=ben", "-out", "tmp/old.csr")
+        site.sh("openssl", "x509", "-req", "-in", "tmp/old.csr", "-key", "keys/ben", "-days", "-1", "-out", "keys/old.crt")
+
+    def filled(self, octets: bytes) -> bytes:
+        """The octets of an attack, with what they name."""
+        return re.sub(rb"\{(\w+)\}", lambda found: self.sent.get(found[1].decode(), found[0].decode()).encode(), octets)

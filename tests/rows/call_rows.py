@@ -1,0 +1,118 @@
+"""Rows for `test_one_call`, the program that does calls of the libraries: those of the tables in `calls/`, and texts that are made here.
+
+A row of a table is the name of a call, its texts and the answer that is wanted, with two or more spaces between them. Several names with
+commas between them are a row each. Texts and answers are written as in `tables/` (`rows/__init__.py`). What a call takes and answers:
+
+    decode, read_any, Tag::read ..  a text; the value in canonical form. `Tag::read` answers the number of nodes too
+    Tag::meet, Tag::holds ..        two texts; a text, or yes or no
+    Five::then, fold_chain ..       tuples, three texts each: the key of the issuer, the name that is defined, the rest as an entry.
+                                    `fold_owned` takes the most nodes and the bound on work before them. The answer is an
+                                    authorization, or the cause of a stop
+    decide, explain, judge ..       a case, and a verifier: rows, or `all`, or `broken`, which is out of memory
+    Guard::read                     a list, its policy, the most octets and nodes
+    PreparedQuestion::decide ..     the same; a sequence, a key, a request, a moment; a verifier or marks
+    answer_opened                   a guard's four texts, what is asked for, then questions of five texts each, the last being marks
+    OwnedQuestion::signed, OwnedQuestion::decide_by, OwnedQuestion::is_possible   one question, which is opened, without what is asked for
+    Guard::ask                      the first four; a key, seconds, and the strings of a request
+    first_member, grants ..         what the callers in `test_callers` take: `crates/test_one_call/src/callers.rt` says it
+    run                             a command, a text; of the reader and of the writer: the octets of each call, the room, what follows
+                                    then (`fails`, `interrupted`, or nothing more); and whether a flush fails. The answer is the status;
+                                    the reader's calls, faults, whether it ended, octets left; the writer's calls, faults, whether it was
+                                    flushed; and what was written
+
+A refused text's answer is the fault and its message.
+"""
+import os
+import re
+import subprocess
+from collections.abc import Iterable, Iterator
+from typing import NamedTuple
+
+from harness.support import EXAMPLES, SECONDS, TESTS
+from rows import unescaped
+
+CALLS = os.path.join(TESTS, "calls")
+SHORT = b"Form(Short): the text ends too soon"
+ADVANCED, BRACES = b'(a "b c" #6 4# |ZQ==| |ZQ| [x]3:fgh)', b"{KDE6YSk=}"
+LINE = b"yes entry 1\n"
+
+
+class CallRow(NamedTuple):
+    """Where a row stands, the name of a call, its texts, and the answer that is wanted."""
+
+    place: str
+    call: str
+    texts: tuple[bytes, ...]
+    answer: bytes
+
+    def line(self) -> bytes:
+        """The row as the program reads it."""
+        return b" ".join([self.call.encode(), *(text.hex().encode() for text in self.texts)]) + b"\n"
+
+
+def rows_of(table: str) -> Iterator[CallRow]:
+    """The rows of a table."""
+    with open(os.path.join(CALLS, table), "rb") as lines:
+        for number, line in enumerate(lines, 1):
+            line = line.rstrip(b"\n")
+            if line and not line.startswith(b";"):
+                calls, *texts, answer = re.split(rb" {2,}", line)
+                for call in calls.decode().split(","):
+                    yield CallRow(f"calls/{table}:{number}", call, tuple(map(unescaped, texts)), unescaped(answer))
+
+
+def tables() -> dict[str, list[CallRow]]:
+    """The rows of each table."""
+    return {name: list(rows_of(name)) for name in sorted(os.listdir(CALLS))}
+
+
+def answers(program: str, rows: Iterable[CallRow]) -> list[bytes]:
+    """What the program answers to rows. The last answer is what it says where it stops early."""
+    given = b"".join(row.line() for row in rows)
+    done = subprocess.run([program], input=given, stdout=subprocess.PIPE, stderr=subprocess.STDOUT, timeout=SECONDS)
+    return [answer_of(line) for line in done.stdout.split(b"\n")[:-1]] + ([b"ended with %d" % done.returncode] if done.returncode else [])
+
+
+def answer_of(line: bytes) -> bytes:
+    """The answer that a line is, or the line itself where it is none."""
+    try:
+        return bytes.fromhex(line.decode())
+    except ValueError:
+        return line
+
+
+# ---- texts that are cut short
+
+
+def first_run() -> bytes:
+    """The text of the first run."""
+    with open(os.path.join(EXAMPLES, "first-run.csexp"), "rb") as file:
+        return file.read()
+
+
+def cut_short() -> Iterator[CallRow]:
+    """Each proper beginning of a text is `Short`, for each reader of its form."""
+    for calls, text in ((("decode", "Doc::open"), first_run()), (("read_advanced", "read_any"), ADVANCED), (("read_any",), BRACES)):
+        for length in range(len(text)):
+            for call in calls:
+                yield CallRow(f"calls/cut:{call}:{text[:2].decode()}:{length}", call, (text[:length],), SHORT)
+
+
+# ---- readers and writers that fail
+
+
+def number(value: int) -> bytes:
+    return b"%d" % value
+
+
+def failing_ends() -> Iterator[CallRow]:
+    """The first run, while the reader fails after each number of octets, and the writer fails or takes nothing more."""
+    text = first_run()
+    for room in range(len(text) + 1):
+        wanted = b"3, %d 1 false %d, 0 0 false;" % (room + 1, len(text) - room)
+        yield CallRow(f"calls/ends:read {room}", "run", (b"check", text, b"1", number(room), b"fails"), wanted)
+    for room in range(len(LINE)):
+        for past in (b"fails", b""):
+            wanted = b"3, 2 0 true 0, %d 1 false;%s" % (room + 1, LINE[:room])
+            texts = (b"check", text, b"", b"", b"", b"1", number(room), past)
+            yield CallRow(f"calls/ends:write {room} {past.decode() or 'no more'}", "run", texts, wanted)

@@ -1,0 +1,345 @@
+"""Cases with certificates, whose digests are computed here. The answers are worked out by hand from docs/FORMATS.md."""
+import base64
+import hashlib
+import re
+
+from model import forms, values
+
+NOW = '"2024-01-01_00:00:00"'
+
+
+def canonical(text: str | bytes) -> bytes:
+    """The canonical form of any text."""
+    return values.canonical(forms.read(text.encode() if isinstance(text, str) else text))
+
+
+def digest(text, alg="sha256"):
+    return f"(hash {alg} #{hashlib.new(alg, canonical(text)).hexdigest()}#)"
+
+
+def key(letter):
+    return f"(public-key (test {letter}))"
+
+
+def cert(issuer, subject, fields="(propagate) (tag (*))"):
+    return f"(cert (issuer {issuer}) (subject {subject}) {fields})"
+
+
+def signed(certificate, signer, value="sig", of=None):
+    """A certificate and its signature, which may be of another text."""
+    return f"{certificate} (signature {digest(of or certificate)} {signer} {value})"
+
+
+def row(certificate, signer, value="sig"):
+    return f"(by {signer} {digest(certificate)} {value})"
+
+
+def case(entries, rows="", items="", asks=key("d"), request="(ftp)", at=NOW, policy=""):
+    return f"(case (acl {entries}) (accepted {rows}) (sequence {items}) (key {asks}) (request {request}) (at {at}) {policy})"
+
+
+def entry(letter, fields="(propagate) (tag (*))"):
+    return f"(entry {key(letter)} {fields})"
+
+
+YES, NO = (0, "yes entry 1\n"), (1, "no\n")
+
+
+def refused(line):
+    return 2, f"refused {line}\n"
+
+
+# ---- chains from a by b and c to d
+
+CHAIN = [(key("a"), key("b")), (key("b"), key("c")), (key("c"), key("d"))]
+
+
+def chain(changed=None, how=None):
+    """The rows and the items of the chain, of which one certificate fails a test of its evidence."""
+    rows, items = [], []
+    for place, (issuer, subject) in enumerate(CHAIN):
+        fails = how if place == changed else None
+        shown = cert(digest(issuer) if fails == "key not shown" else issuer, subject)
+        signer = key("x") if fails == "signer differs" else issuer
+        other = cert(issuer, key("x")) if fails == "digest differs" else None
+        items.append(signed(shown, signer, of=other))
+        if fails != "not accepted":
+            rows.append(row(shown, issuer))
+    return " ".join(rows), " ".join(items)
+
+
+def chains():
+    yield "whole chain", case(entry("a"), *chain()), YES
+    for place in range(3):
+        for how in ("key not shown", "digest differs", "signer differs", "not accepted"):
+            yield f"certificate {place + 1}: {how}", case(entry("a"), *chain(place, how)), NO
+    rows, items = chain()
+    hashed = cert(digest(key("a")), key("d"))
+    yield "hashed issuer, its key shown", case(entry("a"), row(hashed, key("a")), signed(hashed, key("a")) + key("a")), YES
+    yield "chain in another order", case(entry("a"), rows, " ".join(reversed([signed(cert(*link), link[0]) for link in CHAIN]))), NO
+    yield "one certificate left out", case(entry("a"), rows, signed(cert(*CHAIN[0]), key("a"))), NO
+    yield "one certificate twice", case(entry("a"), rows, items + signed(cert(*CHAIN[2]), key("c"))), NO
+    yield "second entry", case(entry("b") + entry("a"), rows, items), (0, "yes entry 2\n")
+    yield "value of another row", case(entry("a"), rows.replace(" sig)", " other)"), items), NO
+    yield "row of another key", case(entry("a"), rows.replace("test c", "test x"), items), NO
+    yield "entry that does not delegate", case(entry("a", "(tag (*))"), rows, items), NO
+    last = cert(key("a"), key("d"), "(tag (*))")
+    yield "last certificate need not delegate", case(entry("a"), row(last, key("a")), signed(last, key("a"))), YES
+
+
+def windows_and_tags():
+    for limit, answer in (('(not-after "2024-01-01_00:00:00")', YES), ('(not-after "2023-12-31_23:59:59")', NO),
+                          ('(valid (not-before "2024-01-01_00:00:01"))', NO)):
+        c = cert(key("a"), key("d"), f"(tag (*)) {limit}")
+        yield f"window {limit}", case(entry("a"), row(c, key("a")), signed(c, key("a"))), answer
+    for tag, answer in (("(ftp)", YES), ("(ftp host)", NO), ("(http)", NO), ("(* set (http) (ftp))", YES)):
+        c = cert(key("a"), key("d"), f"(tag {tag})")
+        yield f"tag {tag}", case(entry("a"), row(c, key("a")), signed(c, key("a"))), answer
+
+
+def sizes():
+    """Products of nodes from both sides of 1,000,000, and an entry before and behind a larger one."""
+    def set_of(n):
+        return "(* set " + " ".join(f"n{i}" for i in range(n)) + ")"
+
+    big = cert(key("a"), key("d"), f"(tag {set_of(1000)})")
+    large, small = entry("a", f"(propagate) (tag {set_of(999)})"), entry("a", "(propagate) (tag n0)")
+    shown = row(big, key("a")), signed(big, key("a"))
+    yield "too large", case(large + small, *shown, request="n0"), refused("TooLarge")
+    yield "granted before too large", case(small + large, *shown, request="n0"), YES
+    for third, answer in ((101, YES), (102, refused("TooLarge"))):
+        def copies(n):
+            return "(* set " + " ".join(["a"] * n) + ")"
+
+        first, second = cert(key("a"), key("b"), f"(propagate) (tag {copies(99)})"), cert(key("b"), key("d"), f"(tag {copies(third)})")
+        both = row(first, key("a")) + row(second, key("b")), signed(first, key("a")) + signed(second, key("b"))
+        yield f"chain with {third} strings", case(entry("a", f"(propagate) (tag {copies(99)})"), *both, request="a"), answer
+
+
+def long_lists():
+    """Lists of eight entries that are denied, each for one reason, and a ninth."""
+    rows, items = chain()
+    ninth = (0, "yes entry 9\n")
+    over = '(not-after "2023-12-31_23:59:59")'
+    for why, other in (("of another key", entry("x")), ("that do not delegate", entry("a", "(tag (*))")),
+                       ("whose window is over", entry("a", f"(propagate) (tag (*)) {over}")),
+                       ("for another request", entry("a", "(propagate) (tag (http))"))):
+        yield f"eight entries {why}, and one that grants", case(other * 8 + entry("a"), rows, items), ninth
+        yield f"nine entries {why}", case(other * 9, rows, items), NO
+    yield "nine entries, and another key asks", case(entry("a") * 9, rows, items, asks=key("x")), NO
+    yield "nine entries, and a certificate twice", case(entry("a") * 9, rows, items + signed(cert(*CHAIN[2]), key("c"))), NO
+    big = cert(key("a"), key("d"), f"(tag (* set {'n ' * 1000}))")
+    large, small = (entry("a", f"(propagate) (tag {tag}) {over}") for tag in (f"(* set {'n ' * 999})", "n"))
+    granted, shown = entry("a", "(propagate) (tag n)"), (row(big, key("a")), signed(big, key("a")))
+    yield "eight entries whose window is over, and one too large", case(small * 8 + large, *shown, request="n"), refused("TooLarge")
+    yield "eight entries whose window is over, and one that grants, before one too large", \
+        case(small * 8 + granted + large, *shown, request="n"), ninth
+    named = [f"(entry (name {key('a')} {names}) (tag (*)))" for names in ("friends", "friends friends", "others")]
+    first, second = (f"(cert (issuer (name {key(issuer)} friends)) (subject {key(subject)}))" for issuer, subject in ("ab", "bd"))
+    both = row(first, key("a")) + row(second, key("b")), signed(first, key("a")) + signed(second, key("b"))
+    yield "eight entries for a name, and one for two names", case(named[0] * 8 + named[1], *both), ninth
+    one = row(first, key("a")), signed(first, key("a"))
+    yield "eight entries for another name, and one for the name", case(named[2] * 8 + named[0], *one, asks=key("b")), ninth
+    yield "nine entries for a name that is another key's", case(named[0] * 9, *one), NO
+
+
+def long_lists_of_tags():
+    """Lists of nine entries, and two certificates whose tags have over 1,000,000 as the product of their nodes."""
+    def behind(entries, tag):
+        first, second = cert(key("a"), key("b"), f"(propagate) (tag {tag})"), cert(key("b"), key("d"), f"(tag {tag})")
+        both = row(first, key("a")) + row(second, key("b")), signed(first, key("a")) + signed(second, key("b"))
+        return case(entries, *both, request="n")
+
+    over, granted = entry("a", '(propagate) (tag n) (not-after "2023-12-31_23:59:59")'), entry("a", "(propagate) (tag n)")
+    one, copies = "(* set n " + " ".join(f"a{i}" for i in range(999)) + ")", f"(* set {'n ' * 1000})"
+    yield "eight entries of which one member is left, and one that grants", behind(over * 8 + granted, one), (0, "yes entry 9\n")
+    yield "nine entries of which 1,000 members are left", behind(over * 9, copies), refused("TooLarge")
+    yield "nine entries of which nothing is left", behind(entry("a", "(propagate) (tag m)") * 9, copies), NO
+
+
+def moments():
+    """A window that holds its own last moment, and two windows that share one moment or none."""
+    alone = f"(entry {key('a')} (tag (*)) (not-after \"2024-12-31_23:59:59\"))"
+    for at, answer in (("2024-12-31_23:59:59", YES), ("2025-01-01_00:00:00", NO)):
+        yield f"windows: entry alone at {at}", case(alone, asks=key("a"), at=f'"{at}"'), answer
+    until = entry("a", '(propagate) (tag (*)) (not-after "2024-06-01_00:00:00")')
+    for start, answer in (("2024-06-01_00:00:00", YES), ("2024-06-01_00:00:01", NO)):
+        c = cert(key("a"), key("b"), f'(tag (*)) (valid (not-before "{start}"))')
+        both = row(c, key("a")), signed(c, key("a"))
+        yield f"windows: certificate from {start}", case(until, *both, asks=key("b"), at='"2024-06-01_00:00:00"'), answer
+    turned = f"(entry {key('a')} (tag (*)) (not-before \"2024-06-01_00:00:00\") (not-after \"2024-01-01_00:00:00\"))"
+    yield "limits: a window without moments", case(turned, asks=key("a"), at='"2024-03-01_00:00:00"'), NO
+
+
+def policies():
+    """What the strict policy refuses: hashes by SHA-1 as subject, issuer and signer, and not as a message's digest."""
+    a, b = key("a"), key("b")
+    c1 = cert(a, b, "(tag (*))")
+    hashed = {alg: cert(digest(a, alg), b, "(tag (*))") for alg in ("sha1", "sha256", "sha512")}
+    sha1_digest = f"{c1} (signature {digest(c1, 'sha1')} {a} sig)"
+    sha1_signer = f"{c1} (signature {digest(c1)} {digest(a, 'sha1')} sig)"
+    examples = [
+        ("subject by sha1", f"(entry {digest(a, 'sha1')} (tag (*)))", "", "", a, NO),
+        ("subject by sha512", f"(entry {digest(a, 'sha512')} (tag (*)))", "", "", a, YES),
+        ("issuer by sha1", entry("a"), row(hashed["sha1"], a), signed(hashed["sha1"], a) + a, b, NO),
+        ("issuer by sha256", entry("a"), row(hashed["sha256"], a), signed(hashed["sha256"], a) + a, b, YES),
+        ("issuer by sha512", entry("a"), row(hashed["sha512"], a), a + signed(hashed["sha512"], a), b, YES),
+        ("digest by sha1", entry("a"), row(c1, a), sha1_digest, b, YES),
+        ("signer by sha1", entry("a"), row(c1, a), sha1_signer, b, NO),
+    ]
+    for name, entries, rows, items, asks, answer in examples:
+        yield f"open: {name}", case(entries, rows, items, asks), YES
+        yield f"strict: {name}", case(entries, rows, items, asks, policy="(policy strict)"), answer
+    for name in ("sha1", "sha256", "sha512"):
+        yield f"issuer by {name}, no key shown", case(entry("a"), row(hashed[name], a), signed(hashed[name], a), b), NO
+    short = f"(entry (hash sha512 #{hashlib.sha256(canonical(a)).hexdigest()}#) (tag (*)))"
+    for policy in ("", "(policy strict)"):
+        yield f"short digest {policy}", case(short, asks=a, policy=policy), refused("acl 1 DigestLength")
+
+
+def order():
+    """Where signatures stand."""
+    a, c1 = key("a"), cert(key("a"), key("b"), "(tag (*))")
+    one = f"(signature {digest(c1)} {a} sig)"
+    for items, line in ((one, "1 StraySignature"), (f"{c1} {a} {one}", "1 UnsignedCert"), (c1, "1 UnsignedCert"),
+                        (f"{c1} {one} {one}", "3 StraySignature"), ("(do sign)", "1 UnknownOp")):
+        yield f"sequence {items}", case(entry("a"), "", items), refused(f"sequence {line}")
+    with_operations = f"(do hash sha1) {c1} (do hash sha256) {one}"
+    yield "operations between", case(entry("a"), row(c1, a), with_operations, key("b")), YES
+
+
+# ---- malformed rows, and two faults in one case
+
+HASH = digest("x")
+
+
+def malformed():
+    faults = [
+        ("()", "Shape"), ("x", "Shape"), ("(by)", "Shape"), ("(row)", "Shape"), (f"(by {key('a')})", "Shape"),
+        (f"(by {key('a')} {HASH})", "Shape"), (f"(by {key('a')} {HASH} sig sig)", "Shape"), (f"(by a {HASH} sig)", "Shape"),
+        (f"(by (public-key (test a) (uri x)) {HASH} sig)", "KeyUris"), (f"(by {key('a')} (hash md5 x) sig)", "HashAlg"),
+        (f"(by {key('a')} (hash sha256 x) sig)", "DigestLength"), (f"(by {key('a')} {digest('x', 'sha1')} sig)", "HashAlg"),
+        (f"(by {key('a')} {digest('x', 'sha512')} sig)", "HashAlg"), (f"(by {key('a')} (hash sha1 x) sig)", "DigestLength"),
+        (f"(by {key('a')} (hash) sig)", "Shape"), (f"(by {HASH} {HASH} sig)", "Shape"), (f"({key('a')} {HASH} sig)", "Shape"),
+    ]
+    good = f"(by {key('a')} {HASH} (any (value)))"
+    for written, kind in faults:
+        yield f"row {written}", case("", written), refused(f"accepted 1 {kind}")
+        yield f"row {written} behind two", case("", good + good + written), refused(f"accepted 3 {kind}")
+    for policy, answer in (("", NO), ("(policy strict)", NO), ("(policy lax)", refused("case Shape")), ("(policy)", refused("case Shape")),
+                           ("(policy strict strict)", refused("case Shape")), ("(policy (strict))", refused("case Shape")),
+                           ("strict", refused("case Shape")), ("(policy strict) (policy strict)", refused("case Shape"))):
+        yield f"policy {policy}", case("", policy=policy), answer
+    bad_entry, bad_row, bad_item, bad_key, bad_request, bad_moment = "(entry)", "(by)", "(do)", "k", "()", "x"
+    yield "all parts", case(bad_entry, bad_row, bad_item, bad_key, bad_request, bad_moment, "(policy lax)"), refused("case Shape")
+    yield "all parts but the policy", case(bad_entry, bad_row, bad_item, bad_key, bad_request, bad_moment), refused("acl 1 Shape")
+    yield "from the rows on", case("", bad_row, bad_item, bad_key, bad_request, bad_moment), refused("accepted 1 Shape")
+    yield "from the sequence on", case("", "", bad_item, bad_key, bad_request, bad_moment), refused("sequence 1 UnknownOp")
+    yield "from the key on", case("", "", "", bad_key, bad_request, bad_moment), refused("key Shape")
+    yield "from the request on", case("", "", "", key("a"), bad_request, bad_moment), refused("request EmptyList")
+    yield "the moment", case("", "", "", key("a"), "(ftp)", bad_moment), refused("at BadDate")
+
+
+# ---- what `reduce` and `explain` write
+
+B_MAY_ALL = "(five (subject (public-key (test b))) (tag (*)))"
+NONE = (1, "no entries\n")
+
+
+def shown(*certificates):
+    """The rows and the items of certificates, each with its signer."""
+    return " ".join(row(*c) for c in certificates), " ".join(signed(*c) for c in certificates)
+
+
+def explained():
+    """Cases with the reduction and the explanation of each: the status and the lines."""
+    a, b, c = key("a"), key("b"), key("c")
+    all_of_it = entry("a")
+    c1, c2 = cert(a, b, "(tag (*))"), cert(b, c, "(tag (*))")
+    first = shown((c1, a))
+    yield "first run", case(f"(entry {a} (tag (ftp host)))", asks=a, request="(ftp host dir)"), (
+        0, "entry 1 (five (subject (public-key (test a))) (tag (ftp host)))\n"), (0, "entry 1 grants\n")
+    yield "shorter request", case(f"(entry {a} (tag (ftp host)))", asks=a), (
+        0, "entry 1 (five (subject (public-key (test a))) (tag (ftp host)))\n"), (1, "entry 1 TagLacks\n")
+    packed = base64.b64encode(hashlib.sha256(canonical(a)).digest()).decode()
+    yield "entry for a hash", case(f"(entry {digest(a)[:-1]} (uri http://keys.example/a)) (tag (*)))", asks=a), (
+        0, f"entry 1 (five (subject (hash sha256 |{packed}|)) (tag (*)))\n"), (0, "entry 1 grants\n")
+    yield "delegation", case(all_of_it, *first, b), (0, f"entry 1 {B_MAY_ALL}\n"), (0, "entry 1 grants\n")
+    stopped = 1, "entry 1 item 3 NoDelegation\n"
+    yield "delegation: one too many", case(all_of_it, *shown((c1, a), (c2, b)), c), stopped, stopped
+    passed_on = cert(a, b)
+    yield "delegation passed on", case(all_of_it, *shown((passed_on, a)), b), (
+        0, "entry 1 (five (subject (public-key (test b))) (propagate) (tag (*)))\n"), (0, "entry 1 grants\n")
+    alone = f"(entry {a} (tag (*)) (not-after \"2024-12-31_23:59:59\"))"
+    valid = '(valid (not-after "2024-12-31_23:59:59"))'
+    yield "windows: too late", case(alone, asks=a, at='"2025-01-01_00:00:00"'), (
+        0, f"entry 1 (five (subject {a}) (tag (*)) {valid})\n"), (1, "entry 1 WindowLacks\n")
+    until = entry("a", '(propagate) (tag (*)) (not-after "2024-06-01_00:00:00")')
+    for start, reduced, why in (
+        ("2024-06-01_00:00:00", (0, 'entry 1 (five (subject (public-key (test b))) (tag (*)) '
+                                    '(valid (not-before "2024-06-01_00:00:00") (not-after "2024-06-01_00:00:00")))\n'), "WindowLacks"),
+        ("2024-06-01_00:00:01", (1, "entry 1 item 1 NoValidity\n"), "item 1 NoValidity"),
+    ):
+        limited = cert(a, b, f'(tag (*)) (valid (not-before "{start}"))')
+        yield f"windows: certificate from {start}", case(until, *shown((limited, a)), b), reduced, (1, f"entry 1 {why}\n")
+    friends, bob = f"(cert (issuer (name {a} friends)) (subject {b}))", f"(cert (issuer (name {b} bob)) (subject {c}))"
+    of_friends = f"(entry (name {a} friends bob) (tag (*)))"
+    yield "linked names", case(of_friends, *shown((friends, a), (bob, b)), c), (
+        0, f"entry 1 (five (subject {c}) (tag (*)))\n"), (0, "entry 1 grants\n")
+    turned = 1, "entry 1 item 1 NotTheName\n"
+    yield "linked names: in the other order", case(of_friends, *shown((bob, b), (friends, a)), c), turned, turned
+    yield "linked names: one left", case(of_friends, *shown((friends, a)), c), (
+        0, f"entry 1 (five (subject (name {b} bob)) (tag (*)))\n"), (1, "entry 1 NotTheKey\n")
+    by_hash = cert(digest(a), b, "(tag (*))")
+    for name, items, line in (
+        ("no key shown", signed(by_hash, a), "item 1 KeyNotShown\n"),
+        ("digest of another text", signed(by_hash, a, of=c1) + a, "item 1 DigestDiffers\n"),
+        ("signed by another", signed(by_hash, b) + a, "item 1 SignerDiffers\n"),
+    ):
+        yield f"hash issuer: {name}", case(all_of_it, row(by_hash, a), items, b), (1, line), (1, line)
+    yield "not accepted", case(all_of_it, "", first[1], b), (1, "item 1 NotAccepted\n"), (1, "item 1 NotAccepted\n")
+    later = 1, "item 4 NotAccepted\n"
+    yield "evidence behind a key", case(all_of_it, first[0], first[1] + a + signed(c2, b), c), later, later
+    yield "no entries where evidence fails", case("", "", first[1], b), (1, "item 1 NotAccepted\n"), (1, "item 1 NotAccepted\n")
+    yield "no entries", case("", *first, b), NONE, NONE
+    yield "second entry", case(f"(entry {c} (tag (*)))" + all_of_it, *first, a), (
+        0, f"entry 1 item 1 NotIssuer\nentry 2 {B_MAY_ALL}\n"), (1, "entry 1 item 1 NotIssuer\nentry 2 NotTheKey\n")
+    both = entry("a", "(propagate) (tag (* set read write))")
+    narrowed = cert(a, b, "(tag (* set write (* prefix re)))")
+    yield "reduced sets", case(both, *shown((narrowed, a)), b, "read"), (
+        0, f"entry 1 (five (subject {b}) (tag (* set read write)))\n"), (0, "entry 1 grants\n")
+    apart = cert(a, b, "(tag x)")
+    none = 1, "entry 1 item 1 NoTag\n"
+    yield "reduced sets: none", case(both, *shown((apart, a)), b, "read"), none, none
+    relative = cert(a, "(name bob)", "(tag (*))"), f"(cert (issuer (name {a} bob)) (subject {b}))"
+    yield "relative name", case(all_of_it, *shown((relative[0], a), (relative[1], a)), b), (
+        0, f"entry 1 {B_MAY_ALL}\n"), (0, "entry 1 grants\n")
+    hashed = f"(hash sha1 |{base64.b64encode(hashlib.sha1(canonical(a)).digest()).decode()}|)"
+    by_sha1 = f"(entry {digest(a, 'sha1')} (tag (*)))"
+    yield "open: subject by sha1", case(by_sha1, asks=a), (0, f"entry 1 (five (subject {hashed}) (tag (*)))\n"), (0, "entry 1 grants\n")
+    yield "strict: subject by sha1", case(by_sha1, asks=a, policy="(policy strict)"), (
+        0, f"entry 1 (five (subject {hashed}) (tag (*)))\n"), (1, "entry 1 NotTheKey\n")
+    backwards = f"(entry {a} (tag (*)) (not-before \"2024-06-01_00:00:00\") (not-after \"2024-01-01_00:00:00\"))"
+    yield "limits: a window without moments", case(backwards, asks=a, at='"2024-03-01_00:00:00"'), (
+        0, f'entry 1 (five (subject {a}) (tag (*)) (valid (not-before "2024-06-01_00:00:00") (not-after "2024-01-01_00:00:00")))\n'), (
+        1, "entry 1 WindowLacks\n")
+    tests = f"(entry {c} (tag (http)) (not-after \"2000-01-01_00:00:00\"))"
+    for asks, request, why in ((a, "(ftp)", "NotTheKey"), (c, "(ftp)", "TagLacks"), (c, "(http)", "WindowLacks")):
+        yield f"three tests: {why}", case(tests, asks=asks, request=request), (
+            0, f'entry 1 (five (subject {c}) (tag (http)) (valid (not-after "2000-01-01_00:00:00")))\n'), (1, f"entry 1 {why}\n")
+
+
+def decided(lines):
+    """What `check` answers of a case that `explain` answers so."""
+    granted = re.search(r"^entry (\d+) grants$", lines, re.MULTILINE)
+    return (0, f"yes entry {granted[1]}\n") if granted else NO
+
+
+def rows():
+    for examples in (chains, windows_and_tags, moments, policies, order, sizes, long_lists, long_lists_of_tags,
+                     malformed):
+        for name, text, (status, answer) in examples():
+            yield f"chains:{name}", "check", text.encode(), status, answer.encode()
+    for name, text, reduced, why in explained():
+        for command, (status, answer) in (("reduce", reduced), ("explain", why), ("check", decided(why[1]))):
+            yield f"chains:{name}", command, text.encode(), status, answer.encode()

@@ -1,0 +1,233 @@
+"""Rows for `test_one_call` that are made here: cases with certificates, whose digests are computed, and questions to guards. What guards
+answer is what the model answers to their parts; other answers are worked out by hand from docs/FORMATS.md."""
+import hashlib
+import re
+from collections.abc import Iterator
+from typing import Any
+
+from harness.support import braced
+from model import forms, guard
+from model import case as cases
+from model.printed import printed
+from model.values import canonical as written
+from rows import chains
+from rows.call_rows import CallRow, first_run
+from rows.chains import canonical, cert, entry, key, row, signed
+
+KA, KB, KC = map(key, "abc")
+NOW = b'"2024-01-01_00:00:00"'
+C1 = cert(KA, KB, "(tag (*))")
+ALL = entry("a")
+HOST = entry("a", "(tag (ftp host))")
+NO_ROWS = b"(8:accepted)"
+ENTRY = re.compile(rb"entry \d+ ")
+SHAPES = {"Canonical": lambda text: text, "Advanced": lambda text: printed(forms.read(text)), "Transport": braced}
+
+
+def case(entries: str, rows: str = "", items: str = "", asks: str = KB, request: str = "(ftp)") -> bytes:
+    """The canonical text of a case."""
+    return canonical(chains.case(entries, rows, items, asks, request))
+
+
+# ---- cases and verifiers
+
+
+def changed(certificate: str) -> str:
+    """A certificate and its signature, with one octet of the digest changed."""
+    digest = chains.digest(certificate)
+    other = digest.replace("#" + digest.split("#")[1][:2], f"#{int(digest.split('#')[1][:2], 16) ^ 1:02x}")
+    return f"{certificate} (signature {other} {KA} sig)"
+
+
+def by_hash(behind: str, is_changed: bool = False) -> bytes:
+    """A case with a certificate whose issuer is the hash of KA. The items behind it may show KA."""
+    hashed = cert(chains.digest(KA), KB, "(tag (*))")
+    return case(ALL, row(hashed, KA), (changed(hashed) if is_changed else signed(hashed, KA)) + behind)
+
+
+def delegation(rows: str, signer: str) -> bytes:
+    """A case in which KA delegates its right to KB."""
+    return case(ALL, rows, signed(C1, signer))
+
+
+def rows_of(text: bytes) -> bytes:
+    """The accepted list of a case."""
+    return written(members_of(text)[2])
+
+
+def members_of(text: bytes) -> Any:
+    """The members of a case, which are taken apart without looking at their types."""
+    return forms.read(text)
+
+
+def of_verifiers() -> Iterator[CallRow]:
+    """Evidence and decisions, by the case's own list and by other verifiers."""
+    right, none = delegation(row(C1, KA), KA), delegation("", KA)
+    other, shown = delegation(row(C1, KB), KB), by_hash(KA)
+    differs = by_hash(KA, is_changed=True)
+    for name, call, text, rows, wanted in [
+        ("hash-issuer: shown", "judge", shown, rows_of(shown), b"1"),
+        ("hash-issuer: not shown", "judge", by_hash(""), rows_of(shown), b"1 KeyNotShown"),
+        ("hash-issuer: another digest", "judge", differs, rows_of(differs), b"1 DigestDiffers"),
+        ("hash-issuer: another digest, all accepted", "judge", differs, b"all", b"1 DigestDiffers"),
+        ("not-accepted: no row", "judge", none, NO_ROWS, b"1 NotAccepted"),
+        ("not-accepted: another signer", "judge", other, rows_of(other), b"1 SignerDiffers"),
+        ("not-accepted: another signer, all accepted", "judge", other, b"all", b"1 SignerDiffers"),
+        ("not-accepted: none accepted", "judge", right, NO_ROWS, b"1 NotAccepted"),
+        ("first-run", "decide", first_run(), NO_ROWS, b"Yes(1)"),
+        ("first-run, broken", "decide", first_run(), b"broken", b"Yes(1)"),
+        ("delegation, none accepted", "decide", none, NO_ROWS, b"No"),
+        ("delegation, all accepted", "decide", none, b"all", b"Yes(1)"),
+        ("delegation, another signer", "decide", delegation("", KB), b"all", b"No"),
+        ("shorter-request", "explain", case(HOST, asks=KA), NO_ROWS, b"[TagLacks]"),
+        ("shorter-request, whole", "explain", case(HOST, asks=KA, request="(ftp host dir)"), NO_ROWS, b"[Grants]"),
+        ("second-entry", "explain", case(entry("c", "(tag (*))") + ALL, row(C1, KA), signed(C1, KA), KA), canonical(f"(accepted {row(C1, KA)})"),
+         b"[Stopped { item: 1, cause: NotIssuer }, NotTheKey]"),
+        ("not-accepted", "explain", none, NO_ROWS, b"1 NotAccepted"),
+        ("not-accepted", "reduce_case", none, NO_ROWS, b"1 NotAccepted"),
+        ("reduced-sets", "reduce_case", *reduced_sets("(* set write (* prefix re))"),
+         b"(4:five(7:subject(10:public-key(4:test1:b)))(3:tag(1:*3:set4:read5:write)))\n"),
+        ("reduced-sets, other tag", "reduce_case", *reduced_sets("x"), b"1 NoTag\n"),
+    ]:
+        yield CallRow(f"calls/cases:{name}", call, (text, rows), wanted)
+    for name, text, verifier, wanted in [
+        ("first-run, none accepted", first_run(), NO_ROWS, b"Yes(1)"), ("first-run, broken", first_run(), b"broken", b"Yes(1)"),
+        ("delegation, none accepted", none, NO_ROWS, b"No"), ("delegation, all accepted", none, b"all", b"Yes(1)"),
+        ("delegation, broken", none, b"broken", b"refused Memory"), ("delegation, another signer", delegation("", KB), b"all", b"No"),
+    ]:
+        parts = parts_of(text)
+        for call in ("PreparedQuestion::decide", "PreparedQuestion::grant"):
+            yield CallRow(f"calls/cases:{name}: {call}", call, (parts[0], parts[5], b"", b"", *parts[1:5], verifier), wanted)
+    for call in ("decide", "explain", "reduce_case"):
+        yield CallRow(f"calls/cases:broken: {call}", call, (none, b"broken"), b"refused Memory")
+    yield CallRow("calls/cases:first-run", "Case::read", (first_run(),), b"1 0")
+
+
+def reduced_sets(tag: str) -> tuple[bytes, bytes]:
+    """A case of an entry for a set and a certificate for a tag, and its rows."""
+    certificate = cert(KA, KB, f"(tag {tag})")
+    text = case(entry("a", "(propagate) (tag (* set read write))"), row(certificate, KA), signed(certificate, KA))
+    return text, rows_of(text)
+
+
+def of_separate_rows() -> Iterator[CallRow]:
+    """Decisions by separate rows. A fault of the case is said before one of the rows."""
+    text, rows = delegation(row(C1, KA), KA), canonical(f"(accepted {row(C1, KA)})")
+    for name, given, listed, wanted in [
+        ("row", text, rows, b"Done yes entry 1\n"), ("no row", text, b"(accepted)", b"No no\n"),
+        ("no case, no rows", b"(", b")", b"Refused refused form Short\n"), ("another case", b"(a)", b")", b"Refused refused case Shape\n"),
+        ("no rows", first_run(), b")", b"Refused refused rows Bad 0\n"), ("other rows", first_run(), b"(a)", b"Refused refused rows Shape\n"),
+    ]:
+        yield CallRow(f"calls/rows:{name}", "check_accepted", (given, listed), wanted)
+
+
+# ---- callers that accept no signature of a revoked key
+
+
+def of_revoked_keys() -> Iterator[CallRow]:
+    """What `test_callers` decides of a case in which KA delegates its right to KB, while some keys are revoked."""
+    text = case(entry("a"), row(C1, KA), signed(C1, KA))
+    parts, rows = parts_of(text)[:5], rows_of(text)
+    ka, kb = canonical(KA), canonical(KB)
+    for revoked, wanted in (((), b"Yes(1)"), ((kb,), b"Yes(1)"), ((kb, ka), b"No")):
+        yield CallRow(f"calls/callers:decide_unrevoked {len(revoked)}", "decide_unrevoked", (*parts, rows, *revoked), wanted)
+    for revoked, wanted in (((), b"(Yes(1), No)"), ((ka,), b"(No, No)")):
+        yield CallRow(f"calls/callers:answer_both {len(revoked)}", "answer_both", (*parts[:2], kb, ka, rows, *revoked), wanted)
+
+
+# ---- the questions of cases
+
+
+def parts_of(text: bytes) -> list[bytes]:
+    """The texts of a case's list, sequence, key, request and moment, and its policy."""
+    value = members_of(text)
+    parts = [value[1], value[3], *(part[1] for part in value[4:7])]
+    return [*map(written, parts), b"strict" if len(value) > 7 else b"open"]
+
+
+def answer_of(wish: str, parts: list[bytes], rows: bytes) -> tuple[guard.Answer, list[guard.Signed]]:
+    """What the model answers to the parts of a case, and the signatures that it lists."""
+    asked = guard.Parts(*parts[1:5])
+    said, listed = guard.answer(wish, parts[0], asked, cases.read_rows(forms.read(rows)), int(parts[5] == b"open"), guard.USUAL, "")
+    return said, listed
+
+
+def in_debug(wish: str, said: bytes) -> bytes:
+    """An answer's lines as `test_one_call` writes what the calls return."""
+    if wish == "decide":
+        return b"No" if said == b"no\n" else b"Yes(%s)" % said.split()[2]
+    if said.startswith(b"item "):
+        return said[len(b"item "):-1]
+    lines = [ENTRY.sub(b"", line, count=1) for line in said.split(b"\n")[:-1] if line != b"no entries"]
+    if wish == "reduce":
+        return b"".join((written(forms.read(line)) if line.startswith(b"(") else line.removeprefix(b"item ")) + b"\n" for line in lines)
+    return b"[%s]" % b", ".join(reason(line) for line in lines)
+
+
+def reason(line: bytes) -> bytes:
+    """A line of an explanation as the value of its entry."""
+    found = re.fullmatch(rb"item (\d+) (\w+)", line)
+    return b"Stopped { item: %s, cause: %s }" % found.groups() if found else line.replace(b"grants", b"Grants")
+
+
+def questions() -> Iterator[tuple[str, bytes]]:
+    """The worked examples of cases."""
+    yield "first-run", first_run()
+    for request in ("(ftp)", "(ftp host dir)", "(ftp host)", "ftp", "(http host)"):
+        yield f"shorter-request {request}", case(HOST, asks=KA, request=request)
+    other = "(entry (name (public-key (test a)) x) (propagate) (tag (*)))"
+    lists = ["", entry("c", "(tag (*))") + ALL, entry("a", "(propagate) (tag (ftp))") + ALL, entry("b") + other,
+             entry("a", "(tag (*))") + entry("a", "(propagate) (tag http)")]
+    for place, entries in enumerate(lists):
+        for asks in (KA, KB):
+            yield f"second-entry {place} {asks}", case(entries, row(C1, KA), signed(C1, KA), asks)
+            yield f"second-entry {place} {asks} alone", case(entries, asks=asks)
+    for signer in (KA, KB):
+        for listed in (KA, KB):
+            yield f"not-accepted {signer} {listed}", delegation(row(C1, listed), signer)
+        yield f"not-accepted {signer}", delegation("", signer)
+    for behind in (KA, KB, ""):
+        yield f"hash-issuer {behind or 'not shown'}", by_hash(behind)
+
+
+def of_questions() -> Iterator[CallRow]:
+    """Each worked example, as a case and as a question to a guard of its list, whose parts are in each form."""
+    for name, text in questions():
+        rows, parts = rows_of(text), parts_of(text)
+        for wish, call in (("decide", "decide"), ("explain", "explain"), ("reduce", "reduce_case")):
+            (status, said), listed = answer_of(wish, parts, rows)
+            yield CallRow(f"calls/questions:{name}: {call}", call, (text, rows), in_debug(wish, said))
+            for form, spelled in SHAPES.items():
+                given = [*map(spelled, parts[:5])]
+                yield from of_question(f"calls/questions:{name}: {form}", wish, [*given, parts[5]], rows, said, listed)
+
+
+def of_question(place: str, wish: str, parts: list[bytes], rows: bytes, said: bytes, listed: list[guard.Signed]) -> Iterator[CallRow]:
+    """One question, in each way in which it is asked."""
+    at, asked = (parts[0], parts[5], b"", b""), tuple(parts[1:5])
+    marks = marks_of(rows, listed)
+    yield CallRow(f"{place} {wish}", f"PreparedQuestion::{wish}", (*at, *asked, rows), in_debug(wish, said))
+    yield CallRow(f"{place} {wish}_by", f"PreparedQuestion::{wish}_by", (*at, *asked, marks), in_debug(wish, said))
+    if wish == "reduce":
+        yield CallRow(f"{place} reduce_into", "PreparedQuestion::reduce_into", (*at, *asked, marks), in_debug(wish, said))
+    verdict = b"Done" if is_done(said) else b"No"
+    yield CallRow(f"{place} {wish} in lines", "answer_opened", (*at, wish.encode(), *asked, marks), verdict + b" " + said)
+    if wish == "decide":
+        is_possible = guard.is_possible(parts[0], guard.Parts(*asked), int(parts[5] == b"open"), guard.USUAL)
+        for call in ("PreparedQuestion::is_possible", "OwnedQuestion::is_possible"):
+            for given in sorted({marks, b""}):
+                yield CallRow(f"{place} {call}, {len(given)} marks", call, (*at, *asked, given), b"yes" if is_possible else b"no")
+        yield CallRow(f"{place} other marks", "answer_opened", (*at, b"decide", *asked, marks + b"1"), b"other marks")
+        yield CallRow(f"{place} opened", "OwnedQuestion::decide_by", (*at, *asked, marks), in_debug(wish, said))
+        yield CallRow(f"{place} signed", "OwnedQuestion::signed", (*at, *asked), b"".join(part + b"\n" for one in listed for part in one))
+
+
+def is_done(said: bytes) -> bool:
+    """Whether an entry grants, or becomes an authorization."""
+    return re.search(rb"^(yes entry \d+|entry \d+ grants|entry \d+ \(five .*)$", said, re.MULTILINE) is not None
+
+
+def marks_of(rows: bytes, listed: list[guard.Signed]) -> bytes:
+    """1 for each signature that a row accepts, 0 for each other."""
+    accepted = {(it.key.octets, it.digest, it.value) for it in cases.read_rows(forms.read(rows))}
+    return b"".join(b"1" if (one, hashlib.sha256(message).digest(), value) in accepted else b"0" for one, message, value in listed)

@@ -1,0 +1,150 @@
+"""Texts at the limits from both sides, with the answers that docs/FORMATS.md has for them."""
+from harness.support import braced
+from rows import chains
+from rows.chains import NO, YES, case, cert, entry, key, refused, row, signed
+
+MOST_OCTETS = 1048576
+MOST_DEPTH = 64
+MOST_NODES = 1024
+FORMS = ("canonical", "advanced", "braces")
+CONVERSIONS = ("canonical", "advanced", "transport")
+STRUCTURES = {"intersect": "intersect Shape", "check": "case Shape", "reduce": "case Shape", "explain": "case Shape"}
+
+
+def strings(count, each="a"):
+    return " ".join([each] * count)
+
+
+def numbered(count):
+    return " ".join(f"n{place}" for place in range(count))
+
+
+def one_string(size, form):
+    """A text of `size` octets that is a string, in a form, and its canonical form."""
+    room = {"canonical": size - len(f"{size}:"), "advanced": size - 2, "braces": (size - 2) // 4 * 3 - len(f"{size}:")}[form]
+    octets = b"x" * room
+    canonical = b"%d:%s" % (room, octets)
+    text = {"canonical": canonical, "advanced": b'"' + octets + b'"', "braces": braced(canonical)}[form]
+    return text + b" " * (size - len(text)), canonical
+
+
+def lengths():
+    """A string, and a case with whitespace behind it, of 1,048,576 octets; and one octet more, two, or as many again."""
+    for form in FORMS:
+        text, canonical = one_string(MOST_OCTETS, form)
+        name = f"{len(text)} octets in {form} form"
+        yield name, "canonical", text, (0, canonical)
+        yield name, "advanced", text, (0, b"x" * len(canonical.split(b":")[1]) + b"\n")
+        yield name, "transport", text, (0, braced(canonical) + b"\n")
+        for command, shape in STRUCTURES.items():
+            yield name, command, text, refused(shape if len(canonical) <= MOST_OCTETS else "form TooLong")
+        for more in (1, 2, MOST_OCTETS):
+            text = one_string(MOST_OCTETS + more, form)[0]
+            for command in (*CONVERSIONS, *STRUCTURES):
+                yield f"{len(text)} octets in {form} form", command, text, refused("form TooLong")
+    whole = case(entry("a"), asks=key("a")).encode()
+    for text in (whole, braced(chains.canonical(whole.decode()))):
+        yield "a case of all octets", "check", text.ljust(MOST_OCTETS), YES
+        yield "a case and one octet too many", "check", text.ljust(MOST_OCTETS + 1), refused("form TooLong")
+
+
+def longer_in_canonical_form():
+    """A text of fewer octets than may be, whose canonical form has more."""
+    text = b"(" + b"a " * 400000 + b")"
+    yield "400,000 tokens", "canonical", text, (0, b"(" + b"1:a" * 400000 + b")")
+    for command in STRUCTURES:
+        yield "400,000 tokens", command, text, refused("form TooLong")
+
+
+def lists_in_lists():
+    """As many lists open at once as may be, and one more, for each reader."""
+    for depth in (MOST_DEPTH, MOST_DEPTH + 1):
+        canonical = b"(" * depth + b")" * depth
+        for form, text in zip(FORMS, (canonical, b"( " * depth + b") " * depth, braced(canonical))):
+            fits = depth == MOST_DEPTH
+            answers = {"canonical": canonical, "advanced": canonical + b"\n", "transport": braced(canonical) + b"\n"}
+            for command, answer in answers.items():
+                yield f"{depth} lists in {form} form", command, text, (0, answer) if fits else refused("form TooDeep")
+            for command, shape in STRUCTURES.items():
+                yield f"{depth} lists in {form} form", command, text, refused(shape if fits else "form TooDeep")
+
+
+def deep_parts():
+    """Requests and tags as deep as may be, and deeper by one list."""
+    def nested(depth):
+        return "(f " * depth + "f" + ")" * depth
+
+    for depth, answer in ((62, YES), (63, refused("form TooDeep"))):
+        yield f"a request of {depth} lists", "check", case(entry("a"), asks=key("a"), request=nested(depth)), answer
+    for depth, answer in ((60, YES), (61, refused("form TooDeep"))):
+        c, other = cert(key("a"), key("d"), f"(tag {nested(depth)})"), entry("a", f"(tag {nested(depth)})")
+        yield f"an entry's tag of {depth} lists", "check", case(other, asks=key("a"), request=nested(depth)), answer
+        yield f"a certificate's tag of {depth} lists", "check", case(entry("a"), row(c, key("a")), signed(c, key("a")), request=nested(depth)), answer
+    for depth, answer in ((63, (0, nested(63) + "\n")), (64, refused("form TooDeep"))):
+        yield f"two tags of {depth} lists", "intersect", f"(intersect {nested(depth)} {nested(depth)})", answer
+
+
+def nodes():
+    """Tags of 1,024 nodes, and of one more, wherever a tag stands."""
+    for how in ("* set", "x"):
+        fits, larger = (f"({how} {strings(MOST_NODES - 1 - (how == 'x') + more)})" for more in (0, 1))
+        yield "the first tag", "intersect", f"(intersect {fits} (*))", (0, fits + "\n")
+        yield "the second tag", "intersect", f"(intersect (*) {fits})", (0, fits + "\n")
+        yield "the first tag", "intersect", f"(intersect {larger} (*))", refused("tag 1 TooManyNodes")
+        yield "the second tag", "intersect", f"(intersect (*) {larger})", refused("tag 2 TooManyNodes")
+        request = "a" if how == "* set" else fits
+        for tag, in_entry, in_certificate in ((fits, YES, YES), (larger, refused("acl 1 Tag TooManyNodes"), refused("sequence 1 Tag TooManyNodes"))):
+            c = cert(key("a"), key("d"), f"(tag {tag})")
+            yield "an entry's tag", "check", case(entry("a", f"(tag {tag})"), asks=key("a"), request=request), in_entry
+            yield "a certificate's tag", "check", case(entry("a"), row(c, key("a")), signed(c, key("a")), request=request), in_certificate
+
+
+def products():
+    """Products of two tags' nodes around 1,000,000."""
+    def sets(one, other):
+        return f"(intersect (* set {one}) (* set {other}))"
+
+    yield "1,024 nodes and 976", "intersect", sets(strings(1023), strings(975)), (0, f"(* set {strings(1023 * 975)})\n")
+    yield "1,024 nodes and 977", "intersect", sets(strings(1023), strings(976)), refused("TooLarge")
+    yield "1,000 nodes twice", "intersect", sets(numbered(999), numbered(999)), (0, f"(* set {numbered(999)})\n")
+    yield "1,001 nodes and 1,000", "intersect", sets(numbered(1000), numbered(999)), refused("TooLarge")
+    yield "1,001 nodes twice", "intersect", sets(numbered(1000), numbered(1000)), refused("TooLarge")
+
+    def list_of(count):
+        return f"({strings(count, 'x')})"
+
+    yield "lists of 1,000 nodes", "intersect", f"(intersect {list_of(999)} {list_of(999)})", (0, list_of(999) + "\n")
+    yield "lists of 1,001 nodes", "intersect", f"(intersect {list_of(1000)} {list_of(1000)})", refused("TooLarge")
+    for name, text, answer in chains.sizes():
+        yield name, "check", text, answer
+
+
+def work():
+    """Entries and certificates whose work is 3,000,000,000, and more. Each of 30 entries has 1,000 nodes, each of which costs 15 times the 4 nodes of
+    the first certificate, its 4 tags and its 99,936 octets. Then nothing is left of the tags. The second certificate has 336 nodes, so that the
+    product of all is over 1,000,000."""
+    def chain_of(more, *tags):
+        first = cert(key("a"), key("b"), f"(propagate) (tag (* set r {'x' * 49_967} {'y' * (49_968 + more)}))")
+        shown = [(first, "a")] + [(cert(key("b"), key("b"), f"(propagate) (tag {tag})"), "b") for tag in tags]
+        return "".join(row(it, key(by)) for it, by in shown), "".join(signed(it, key(by)) for it, by in shown)
+
+    each, grants = entry("a", f"(propagate) (tag (* set {numbered(999)}))"), entry("a", "(propagate) (tag (*))")
+    second = f"(* set r {numbered(334)})"
+    asked = {"asks": key("b"), "request": "r"}
+    for more, answer in ((0, NO), (1, refused("TooLarge"))):
+        yield f"the work of 30 entries, {more} octets more", "check", case(each * 30, *chain_of(more, second), **asked), answer
+        yield f"an entry that grants before, {more} octets more", "check", case(grants + each * 30, *chain_of(more, second), **asked), YES
+    for command in ("explain", "reduce"):
+        yield "the work of 30 entries, 1 octet more", command, case(each * 30, *chain_of(1, second), **asked), refused("TooLarge")
+    yield "31 entries whose product of nodes is 4,000", "check", case(each * 31, *chain_of(1), **asked), NO
+    yield "31 entries and a certificate for all requests", "check", case(each * 31, *chain_of(1, "(*)"), **asked), NO
+
+
+def octets(words):
+    return words if isinstance(words, bytes) else words.encode()
+
+
+def rows():
+    for rows_of in (lengths, longer_in_canonical_form, lists_in_lists, deep_parts, nodes, products, work):
+        for name, command, text, (status, answer) in rows_of():
+            yield f"limits: {name}", command, octets(text), status, octets(answer)

@@ -1,0 +1,197 @@
+"""Rows for `test_one_call` that are made here: parts of questions that are refused, requests by strings, moments in seconds, limits, lists with
+several entries for a key. The answers are worked out by hand from docs/FORMATS.md, the dates by `date -u -d @SECONDS +%F_%T`."""
+import hashlib
+from collections.abc import Iterator
+
+from harness.support import group, string
+from rows.call_rows import CallRow, number
+from rows.chains import cert, entry, row, signed
+from rows.guard_rows import KA, KB, KC, NOW, canonical, case, parts_of, rows_of
+
+A = canonical(KA)
+MANY = "(acl (entry (public-key (test a)) (tag (*))))"
+NOTHING = b"(8:sequence)"
+TEXT_OF = {
+    "Shape": "not of a form that is read", "UnknownVersion": "unknown version", "KeyUris": "a key with uris", "BadDate": "not a date",
+    "StraySignature": "a signature without certificate", "UnknownOp": "unknown operation", "EmptyList": "a list without members",
+    "StarInRequest": "a star in a request", "Hint": "a display hint", "Tag(EmptyList)": "tag: a list without members"}
+# The list, the sequence, the key, the request and the moment of a case; the part that is refused, its item and its fault.
+REFUSED = [
+    (("(acl x)", "(sequence)", KA, "a", NOW), "Acl", 1, "Shape"),
+    (("(acl (entry (public-key (test a)) (tag a)) (entry (public-key (test a)) (tag ())))", "(sequence)", KA, "a", NOW), "Acl", 2, "Tag(EmptyList)"),
+    (('(acl (version "1"))', "(sequence)", KA, "a", NOW), "Acl", 0, "UnknownVersion"),
+    ((MANY, "(sequence (signature))", "x", "(*)", "x"), "Sequence", 1, "StraySignature"),
+    ((MANY, "(sequence (public-key (test b)) (do now))", "x", "(*)", "x"), "Sequence", 2, "UnknownOp"),
+    ((MANY, "(sequence)", "x", "(*)", "x"), "Key", 0, "Shape"),
+    ((MANY, "(sequence)", "(public-key (test a) (uri x))", "(*)", "x"), "Key", 0, "KeyUris"),
+    ((MANY, "(sequence)", KA, "(*)", "x"), "Request", None, "StarInRequest"),
+    ((MANY, "(sequence)", KA, "()", "x"), "Request", None, "EmptyList"),
+    ((MANY, "(sequence)", KA, "(a [b]c)", "x"), "Request", None, "Hint"),
+    ((MANY, "(sequence)", KA, "a", "x"), "At", 0, "BadDate"),
+    ((MANY, "(sequence)", KA, "a", '"2024-13-01_00:00:00"'), "At", 0, "BadDate"),
+]
+PART = {"Acl": "access list", "Sequence": "sequence", "Key": "key", "Request": "request", "At": "moment"}
+
+
+def as_text(text: str | bytes) -> bytes:
+    return text.encode() if isinstance(text, str) else text
+
+
+def of_refused_parts() -> Iterator[CallRow]:
+    """A case and a guard refuse the same parts for the same faults (case-faults)."""
+    for place, (parts, part, item, kind) in enumerate(REFUSED, 1):
+        texts = [as_text(part) for part in parts]
+        text = canonical(b"(case %s (accepted) %s (key %s) (request %s) (at %s))" % tuple(texts))
+        fault = kind if item is None else f"CertFault {{ item: {item}, kind: {kind} }}"
+        said = TEXT_OF[kind] if item is None else f"item {item}: {TEXT_OF[kind]}"
+        yield CallRow(f"calls/parts:{place}: case", "Case::read", (text,), f"Case({part}({fault})): {PART[part]}: {said}".encode())
+        for form, given in (("advanced", texts), ("canonical", [*map(canonical, texts)])):
+            yield from of_refused_part(f"calls/parts:{place}: {form}", given, part, item, kind)
+
+
+def of_refused_part(place: str, texts: list[bytes], part: str, item: int | None, kind: str) -> Iterator[CallRow]:
+    """What a guard says of parts of which one is refused."""
+    fault, said = f"CertFault {{ item: {item}, kind: {kind} }}", f"item {item}: {TEXT_OF[kind]}"
+    at, words = (texts[0], b"open", b"", b""), kind.replace("(", " ").replace(")", "")
+    if part == "Acl":
+        yield CallRow(place, "Guard::read", at, f"Acl(Acl({fault})): access list: {said}".encode())
+        yield CallRow(f"{place}, line", "refused_list", at, f"Refused refused acl {item} {words}\n".encode())
+        return
+    name = "Moment" if part == "At" else part
+    fault, said = (fault, said) if part == "Sequence" else (kind, TEXT_OF[kind])
+    line = f"sequence {item}" if part == "Sequence" else part.lower()
+    yield CallRow(place, "PreparedQuestion::decide", (*at, *texts[1:], b"all"), f"Ask({name}({fault})): {PART[part]}: {said}".encode())
+    yield CallRow(f"{place}, line", "answer_opened", (*at, b"decide", *texts[1:], b""), f"Refused refused {line} {words}\n".encode())
+
+
+# ---- requests by strings, and moments in seconds
+
+
+def list_of(tag: bytes, fields: bytes = b"") -> bytes:
+    """The list of an entry for KA."""
+    return group(string("acl"), group(string("entry"), A, group(string("tag"), tag), fields))
+
+
+def asked(place: str, listed: bytes, seconds: int, words: tuple[bytes, ...], answer: bytes, octets: bytes = b"") -> CallRow:
+    """A row of a question by strings at a moment in seconds."""
+    return CallRow(f"calls/words:{place}", "Guard::ask", (listed, b"open", octets, b"", A, number(seconds), *words), answer)
+
+
+# Strings with octets that would end a list, a string, a text or a line elsewhere.
+STRINGS = [
+    (b"ftp", b'x) (at "2030-01-01_00:00:00") (a'), (b"ftp", b")"), (b"ftp", b"("), (b"ftp", b"3:dir"),
+    (b"ftp", b"a b", b'"', b"#61#", b"|YQ==|", b"{MTph}", b"[h]x"), (b"ftp", b""), (b"", b""), (b"ftp", b"*"), (b"ftp", b"\n; a\n"),
+    (b"ftp", b"\x00\xff\x80"), (b"(3:ftp)", b"(1:*)")]
+ONE = [(b"3:a)b", b"a)b", b"Yes(1)"), (b"(3:a)b)", b"a)b", b"No"), (b"1:*", b"*", b"Yes(1)"), (b"0:", b"", b"Yes(1)")]
+NO_REQUESTS = [((), "EmptyList"), ((b"*", b"x"), "StarInRequest"), ((b"*", b"set"), "StarInRequest")]
+
+
+def of_strings() -> Iterator[CallRow]:
+    """Strings are granted by their own list, and by no list with one more member. Each octet of a string stands for itself."""
+    for place, words in enumerate(STRINGS):
+        own = [*map(string, words)]
+        yield asked(f"strings {place}", list_of(group(*own)), 0, words, b"Yes(1)")
+        yield asked(f"strings {place} and more", list_of(group(*own, b"(1:*)")), 0, words, b"No")
+    for octet in range(256):
+        words = b"ftp", bytes([octet])
+        yield asked(f"octet {octet}", list_of(group(*map(string, words))), 0, words, b"Yes(1)")
+        yield asked(f"octet {octet}, another list", list_of(b"(3:ftp2:ab)"), 0, words, b"No")
+    for place, (tag, word, answer) in enumerate(ONE):
+        yield asked(f"one string {place}", list_of(tag), 0, (word,), answer)
+    for words, kind in NO_REQUESTS:
+        fault = f"Ask(Request({kind})): request: {TEXT_OF[kind]}".encode()
+        yield asked(f"no request {b' '.join(words).decode()}", list_of(b"(1:*)"), 0, words, fault)
+
+
+DATES = {
+    0: b"1970-01-01_00:00:00", 1: b"1970-01-01_00:00:01", 951_782_400: b"2000-02-29_00:00:00",
+    951_868_799: b"2000-02-29_23:59:59", 4_107_542_400: b"2100-03-01_00:00:00", 4_107_542_399: b"2100-02-28_23:59:59",
+    2_147_483_648: b"2038-01-19_03:14:08", 1_795_428_000: b"2026-11-23_10:00:00", 253_402_300_799: b"9999-12-31_23:59:59"}
+NO_DATES = (-1, 253_402_300_800, -62_167_219_200, -62_167_219_201, 2**63 - 1, -2**63, -377_705_116_800, 1_000_000_000_000)
+
+
+def of_seconds() -> Iterator[CallRow]:
+    """Seconds are the moment of their date. They are refused if they are negative, or after the year 9999."""
+    for seconds, date in DATES.items():
+        for limit, text, answer in ((date, string(date), b"Yes(1)"), (b"1971-01-01_00:00:00", string(date), b"No")):
+            listed = list_of(b"(1:*)", group(string("not-before"), string(limit)) + group(string("not-after"), string(limit)))
+            yield asked(f"seconds {seconds} {answer.decode()}", listed, seconds, (b"a",), answer)
+            yield CallRow(f"calls/words:text {seconds} {answer.decode()}", "PreparedQuestion::decide_by",
+                          (listed, b"open", b"", b"", NOTHING, A, b"1:a", text, b""), answer)
+    for seconds in NO_DATES:
+        yield asked(f"no date {seconds}", list_of(b"(1:*)"), seconds, (b"a",), b"Ask(Moment(BadDate)): moment: not a date")
+
+
+# ---- limits, and several entries
+
+# Requests as strings, and the number of octets of their canonical form. The sequence has 12 octets, the key 26, the date 22.
+TOO_LONG = b"Ask(TooLong): the texts are too long"
+LENGTHS = [((b"a",), 3), ((b"a", b"bc"), 9), ((b"0123456789",), 13), ((b"012345678", b"0123456789"), 26), ((b"", b"a"), 7)]
+
+
+def of_limits() -> Iterator[CallRow]:
+    """A question of as many octets as may be, and of more; and products of nodes, which do not limit a decision."""
+    for words, length in LENGTHS:
+        for octets, answer in ((60 + length, b"Yes(1)"), (59 + length, TOO_LONG), (0, TOO_LONG)):
+            yield asked(f"octets {length} {octets}", list_of(b"(1:*)"), 0, words, answer, number(octets))
+    text = sets_case()
+    yield CallRow("calls/limits:sets", "decide", (text, rows_of(text)), b"Yes(1)")
+    parts = parts_of(text)
+    # tags of 5 and of 4 nodes are intersected
+    for nodes, explained in ((1_000_000, b"[Grants]"), (20, b"[Grants]"), (19, b"Decision(TooLarge): the tags are too large"),
+                             (0, b"Decision(TooLarge): the tags are too large")):
+        given = (parts[0], b"open", b"", number(nodes), *parts[1:5], b"1")
+        yield CallRow(f"calls/limits:nodes {nodes}", "PreparedQuestion::explain_by", given, explained)
+        for call in ("PreparedQuestion::decide_by", "PreparedQuestion::grant_by"):
+            yield CallRow(f"calls/limits:nodes {nodes}: {call}", call, given, b"Yes(1)")
+    yield from of_strings_in_chains()
+    yield from of_counts()
+
+
+def of_counts() -> Iterator[CallRow]:
+    """By the default limits a question has 16 certificates and 64 strings, and without limits it may have more."""
+    listed, item = f"(acl (entry {KA} (propagate) (tag (*))))".encode(), signed(cert(KA, KB, "(tag (*))"), KA)
+    for count, strings, refusal in ((16, 64, None), (17, 64, "Certificates"), (17, 65, "Certificates"), (16, 65, "Words")):
+        asked_for = (f"(sequence {item * count})".encode(), KB.encode(), f"({'a ' * (strings - 2)}(a b))".encode(), NOW)
+        # (a second certificate of A is not one of B)
+        no = b"Refused refused question TooMany%s\n" % refusal.encode() if refusal else b"No no\n"
+        for octets, said in ((b"usual", no), (b"", b"No no\n")):
+            given = (listed, b"strict", octets, b"", b"decide", *asked_for, b"1" * count)
+            yield CallRow(f"calls/limits:{count} certificates, {strings} strings, {octets.decode()}", "answer_opened", given, said)
+
+
+def sets_case() -> bytes:
+    """A case for KB, in which a set of three members is delegated as one of two."""
+    certificate = cert(KA, KB, "(tag (* set (ftp) x))")
+    return case(entry("a", "(propagate) (tag (* set (ftp) x y))"), row(certificate, KA), signed(certificate, KA))
+
+
+def of_strings_in_chains() -> Iterator[CallRow]:
+    """A chain that a case refuses as TooLarge with 102 strings. A guard's decision intersects nothing (limits)."""
+    tag = f"(tag (* set{' a' * 99}))"
+    for third in (101, 102, 1_023):
+        first, second = cert(KA, KB, f"(propagate) {tag}"), cert(KB, KC, f"(tag (* set{' a' * third}))")
+        sequence = f"(sequence {signed(first, KA)} {signed(second, KB)})".encode()
+        for request, answer in ((b"a", b"Yes(1)"), (b"b", b"No")):
+            given = (f"(acl (entry {KA} (propagate) {tag}))".encode(), b"open", b"", b"", sequence, KC.encode(), request, NOW, b"11")
+            yield CallRow(f"calls/limits:{third} strings, {request.decode()}", "PreparedQuestion::decide_by", given, answer)
+
+
+# Strings that KA requests, and the first entry that grants each of them under the open and under the strict policy.
+FIRST = {b"a": (6, 6), b"b": (3, 4), b"c": (4, 4), b"d": (2, 2), b"e": (2, 2), b"f": (8, 8), b"g": (None, None)}
+
+
+def of_several_entries() -> Iterator[CallRow]:
+    """Entries for KA by its hashes, for KA itself, and for others. The tag of each is another set."""
+    def hashed(alg: str, tag: str) -> str:
+        return f"(entry (hash {alg} #{hashlib.new(alg, A).hexdigest()}#) (tag {tag}))"
+
+    every = "(* set a b c d e)"
+    entries = [f"(entry {KC} (tag {every}))", hashed("sha512", "(* set d e)"), hashed("sha1", "(* set b e)"), f"(entry {KA} (tag (* set c b)))",
+               f"(entry (name {KA} x) (tag {every}))", hashed("sha256", every), hashed("sha1", every), hashed("sha512", "f")]
+    listed = f"(acl {''.join(entries)})".encode()
+    yield CallRow("calls/several:entries", "Guard::read", (listed, b"open", b"", b""), b"8")
+    for word, numbers in FIRST.items():
+        for policy, first in zip((b"open", b"strict"), numbers):
+            answer = b"No" if first is None else b"Yes(%d)" % first
+            yield CallRow(f"calls/several:{word.decode()} {policy.decode()}", "Guard::ask", (listed, policy, b"", b"", A, b"0", word), answer)

@@ -1,0 +1,39 @@
+"""Until when a yes holds: chains whose windows end, and the last second that the library must say. The answers are worked out by hand from
+docs/FORMATS.md, the seconds by `date -u -d 'YYYY-MM-DD HH:MM:SS' +%s`."""
+from rows.chains import cert, entry, key, signed
+
+NO_END = 2**63 - 1
+GROUP = f"(name {key('a')} friends)"
+# Of each row: its name; the limits of the entry, of a certificate from a by b and of a definition of a's name, each a date or none; the moment;
+# and the last second.
+ROWS = [
+    ("nothing ends", "", "", "", "2024-01-01_00:00:00", NO_END),
+    ("the entry", "2024-06-30_12:00:00", "", "", "2024-01-01_00:00:00", 1719748800),
+    ("a certificate", "", "2024-06-30_12:00:00", "", "2024-01-01_00:00:00", 1719748800),
+    ("a definition of a name", "", "", "2024-06-30_12:00:00", "2024-01-01_00:00:00", 1719748800),
+    ("the entry first", "2024-03-01_00:00:00", "2024-06-30_12:00:00", "2024-05-05_05:05:05", "2024-01-01_00:00:00", 1709251200),
+    ("a certificate first", "2024-06-30_12:00:00", "2024-03-01_00:00:00", "2024-05-05_05:05:05", "2024-01-01_00:00:00", 1709251200),
+    ("a definition first", "2024-06-30_12:00:00", "2024-05-05_05:05:05", "2024-03-01_00:00:00", "2024-01-01_00:00:00", 1709251200),
+    ("all alike", *["2024-03-01_00:00:00"] * 3, "2024-01-01_00:00:00", 1709251200),
+    ("now", "", "2024-01-01_00:00:00", "", "2024-01-01_00:00:00", 1704067200),
+    ("a day that the month lacks", "2023-02-30_00:00:00", "", "", "2023-01-01_00:00:00", 1677628799),
+    ("a day that the month of a leap year lacks", "", "2024-02-31_07:00:00", "", "2024-01-01_00:00:00", 1709251199),
+    ("a leap second", "2016-12-31_23:59:60", "", "", "2016-01-01_00:00:00", 1483228799),
+    ("the last date", "", "9999-12-31_23:59:60", "", "2024-01-01_00:00:00", 253402300799),
+    ("before 1970", "", "1969-12-31_23:59:59", "", "1960-01-01_00:00:00", -1),
+    ("a leap day before 1970", "", "1960-02-29_00:00:01", "", "1960-01-01_00:00:00", -310521599),
+    ("the year 1", "0001-01-01_00:00:00", "", "", "0000-12-31_00:00:00", -62135596800),
+]
+
+
+def ends(limit):
+    """A window that ends."""
+    return f'(valid (not-after "{limit}"))' if limit else ""
+
+
+def parts_of(of_entry, of_certificate, of_definition):
+    """The list, the sequence and the key of a chain: an entry for a, whose certificate is for its friends, of whom c is one."""
+    right = cert(key("a"), GROUP, f"(tag (*)) {ends(of_certificate)}")
+    friend = f"(cert (issuer {GROUP}) (subject {key('c')}) {ends(of_definition)})"
+    acl = f"(acl {entry('a', f'(propagate) (tag (*)) {ends(of_entry)}')})"
+    return [acl, f"(sequence {signed(right, key('a'))} {signed(friend, key('a'))})", key("c")]

@@ -1,0 +1,76 @@
+"""The table of wrong uses: what happens where a call of the bindings is held wrong. Each row is the body of a function in a file of `wrong_uses/`,
+one for each language, behind what all rows there share. A row says that it does not compile, is refused, is denied, or is granted."""
+import os
+import re
+from collections.abc import Iterator
+from dataclasses import dataclass
+
+from harness.support import TESTS
+
+FOLDER = os.path.join(TESTS, "wrong_uses")
+HEAD = re.compile(r"^--- (does not compile|is refused|is denied|is granted)(?:, (.+?))?: (.*)$", re.MULTILINE)
+LANGUAGES = ("c", "cpp", "rust", "go", "python")
+# The head of the function of a row, what each line of it has in front, and its end.
+FUNCTIONS = {
+    "c": ("static const char *row_{}(void)\n{{", "    ", "}"), "cpp": ("static const char *row_{}()\n{{", "    ", "}"),
+    "rust": ("fn row_{}() -> Outcome {{", "    ", "}"), "go": ("func row_{}() string {{", "\t", "}"),
+    "python": ("\n\ndef row_{}() -> str:", "    ", "")}
+# The program behind the functions, and one of its calls: each writes the name of a row and what came of it.
+MAINS = {
+    "c": ("int main(void)\n{\n", '    printf("%d %s\\n", {0}, row_{0}());\n', "    return 0;\n}\n"),
+    "cpp": ("#include <cstdio>\nstatic void call(int place, const char *(*row)())\n{\n    const char *met = \"is refused\";\n    try {\n"
+            "        met = row();\n    } catch (const std::exception &) {\n    }\n    std::printf(\"%d %s\\n\", place, met);\n}\n"
+            "int main()\n{\n",
+            "    call({0}, row_{0});\n", "    return 0;\n}\n"),
+    "rust": ("fn main() {\n", '    println!("{0} {{}}", row_{0}().unwrap_or("is refused"));\n', "}\n"),
+    "go": ("func main() {\n", "\tfmt.Println({0}, row_{0}())\n", "}\n"),
+    "python": ("\n\nfor place, row in {\n", "    {0}: row_{0},\n", "}.items():\n    try:\n        print(place, row())\n"
+               "    except (TypeError, ValueError, spki.Refused, spki.NotProved):\n        print(place, 'is refused')\n")}
+
+
+@dataclass(frozen=True)
+class Row:
+    """A wrong use: its language and place in the file, what comes of it, the word of the compiler's that says so, its name and its code."""
+
+    language: str
+    place: int
+    outcome: str
+    said: str
+    name: str
+    code: str
+
+    def function(self) -> str:
+        """The function of this row."""
+        head, front, end = FUNCTIONS[self.language]
+        return "\n".join([head.format(self.place), *(front + line for line in self.code.splitlines()), end, ""])
+
+
+def parts_of(language: str) -> tuple[str, list[Row]]:
+    """What the rows of a language share, and the rows."""
+    with open(os.path.join(FOLDER, language), encoding="utf-8") as file:
+        shared, _, rest = file.read().partition("ROWS\n")
+    heads = list(HEAD.finditer(rest))
+    ends = [*(head.start() for head in heads[1:]), len(rest)]
+    rows = enumerate(zip(heads, ends))
+    return shared, [Row(language, place, head[1], head[2] or "", head[3], rest[head.end() + 1:end]) for place, (head, end) in rows]
+
+
+def program_of(shared: str, rows: list[Row]) -> tuple[str, dict[int, Row]]:
+    """A program with these rows, and the row that each of its lines is of."""
+    text, lines = shared + "\n", {}
+    for row in rows:
+        first = text.count("\n") + 1
+        text += row.function()
+        lines.update(dict.fromkeys(range(first, text.count("\n") + 1), row))
+    begin, call, end = MAINS[rows[0].language]
+    return text + begin + "".join(call.format(row.place) for row in rows) + end, lines
+
+
+def faults_in(said: str, path: str, lines: dict[int, Row]) -> Iterator[tuple[Row, str]]:
+    """The rows that a compiler names by the lines of a file, and what it says there: up to where it names the next one."""
+    found = list(re.finditer(rf"{re.escape(os.path.basename(path))}:(\d+)", said))
+    for place, (at, end) in enumerate(zip(found, [*(it.start() for it in found[1:]), len(said)])):
+        if int(at[1]) in lines:
+            # (a fault in a template is told before the line that has asked for it)
+            before = found[place - 1].start() if place else 0
+            yield lines[int(at[1])], said[before:end]

@@ -1,0 +1,20 @@
+"""All that bench/, examples/ and docs/pictures/ use of the tests: they import nothing else of theirs."""
+from typing import Any
+
+from harness import golang
+from harness.support import BENCH, LIBRARY, PROGRAM, TOP, braced, canonical, given_program, group, read, run, string
+
+__all__ = ["BENCH", "LIBRARY", "PROGRAM", "TOP", "braced", "canonical", "given_program", "golang", "group", "page_tests", "read", "run", "servers",
+           "string"]
+
+
+def servers() -> Any:
+    """The module that starts servers of PostgreSQL. It looks for all that the tests use, so only who needs it waits for that."""
+    from harness import databases
+    return databases
+
+
+def page_tests() -> Any:
+    """The module that opens the playground in a browser."""
+    from suite import test_playground
+    return test_playground

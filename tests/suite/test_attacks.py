@@ -1,0 +1,195 @@
+"""The table of attacks: each attack of attacks.py on each web server that asks spki-authd, among the error pages and caches of other sites, and while
+the daemon is stopped. A row passes if the status is one that must come, no file's content is sent, and no file is changed.
+
+The gate runs a tenth of the rows, always the same, and SPKI_TEST_LONG all of them."""
+import hashlib
+import os
+import re
+import unittest
+from collections.abc import Callable
+
+from harness import built, needs, served, web_servers
+from harness.support import output_of, text_of
+from rows import attackers, attacks
+
+COLUMNS = ("plain", "error pages", "a cache", "stopped", "stopped, error pages", "stopped, a cache")
+STOPPED = "stopped, "
+
+
+def is_chosen(row: str, share: int = 10) -> bool:
+    """Whether a row is run: in the gate each tenth, by the digest of its name."""
+    return built.IS_LONG or hashlib.sha256(row.encode()).digest()[0] % share == 0
+
+
+def columns_of(kind: type[web_servers.Behind]) -> list[str]:
+    """The columns of a server. Debian's Caddy has no cache."""
+    return [column for column in COLUMNS if column in ("plain", "stopped") or column.removeprefix(STOPPED) in kind.sites]
+
+
+def rows_of(kind: type[web_servers.Behind], column: str) -> list[tuple[str, attacks.Attack]]:
+    """The rows of a column, by name."""
+    return [(f"{kind.name}, {column}: {each.what}", each) for each in attacks.all_of_them() if (kind.name, each.what) not in attacks.GRANTED]
+
+
+class Pages(unittest.TestCase):
+    """The pages of the servers, and how large the table is."""
+
+    def test_lines(self) -> None:
+        """Each page has at most 40 lines to paste, and says how to probe the site and what the server cannot promise."""
+        pages = [os.path.join("apps", "spki-authd", "servers", f"{name}.md") for name in
+                 (*(kind.name for kind in web_servers.SERVERS), "traefik", "envoy")]
+        for page in pages:
+            text = text_of(page)
+            pasted = [line for line in text.splitlines() if line.startswith("    ")]
+            self.assertLessEqual(len(pasted), 40, page)
+            self.assertIn("README.md#probe-the-site", text)
+            self.assertIn("cannot promise.**", text)
+            self.assertIn(page.removeprefix("apps/spki-authd/"), text_of("apps/spki-authd/README.md"))
+
+    def test_rows(self) -> None:
+        for kind in web_servers.SERVERS:
+            names = [name for column in columns_of(kind) for name, _ in rows_of(kind, column)]
+            self.assertGreaterEqual(len(names), 600, kind.name)
+            self.assertEqual(len(names), len(set(names)))
+
+
+class Table(unittest.TestCase):
+    """The rows of a server."""
+
+    kind: type[web_servers.Behind]
+    site: web_servers.Behind
+    sender: attackers.Attackers
+
+    @classmethod
+    def setUpClass(cls) -> None:
+        cls.site = cls.kind()
+        cls.addClassCleanup(cls.site.end)
+        cls.sender = attackers.Attackers(cls.site, cls.site.form)
+        os.symlink("../secret", cls.site.at("files/web/link"))
+
+    def grants_ann(self) -> None:
+        self.assertEqual(self.site.status("ann", "GET", "/web/index.html"), 200)
+
+    def rows_pass(self, column: str) -> None:
+        """Each row of a column. Before them and behind them Ann is granted what she may do, unless the daemon is stopped."""
+        is_stopped = column.startswith("stopped")
+        self.site.becomes(self.kind.sites.get(column.removeprefix(STOPPED), []))
+        self.grants_ann()
+        if is_stopped:
+            self.site.stop_daemon()
+            self.addCleanup(self.site.start_daemon)
+        self.assertEqual(self.site.status(None, "GET", "/web/index.html") >= 500, is_stopped)
+        for name, each in rows_of(self.kind, column):
+            if is_chosen(name):
+                with self.subTest(name):
+                    self.fails(each, is_stopped)
+        if not is_stopped:
+            self.grants_ann()
+            self.assertNotIn('"answer":"failed"', self.site.text("log/authd.log"))
+
+    def fails(self, each: attacks.Attack, is_stopped: bool) -> None:
+        """What is sent must be answered as the table says, and leave all else as it is."""
+        answer = self.site.answer(each.who, self.sender.filled(each.octets))
+        must = (each.must | attacks.DENIED) - {401} | attacks.WITHOUT_DAEMON if is_stopped else each.must
+        self.assertLessEqual(set(attackers.statuses(answer) or [0]), must, answer)
+        self.assertEqual(list(attackers.changes_of(self.site, answer)), [])
+
+    def sites_pass(self) -> None:
+        """Among the lines of each other site, and there without the daemon, nobody gets what the daemon denies. The gate has a third of them."""
+        for name, more in self.kind.sites.items():
+            if not is_chosen(f"{self.kind.name}, {name}", 3):
+                continue
+            self.site.becomes(more)
+            with self.subTest(name):
+                if not name.endswith(" that fails"):
+                    self.grants_ann()
+                self.get_nothing(attackers.ASKED, attackers.DENIED | attackers.UNDECIDED)
+                self.site.stop_daemon()
+                try:
+                    self.get_nothing([*attackers.ASKED, *attackers.GRANTED], attackers.DENIED | attackers.UNDECIDED)
+                finally:
+                    self.site.start_daemon()
+
+    def probe_finds(self) -> None:
+        """`-probe` finds nothing with the daemon, nor `-stopped` without it, and finds a hole."""
+        self.site.becomes([])
+        self.probes(0, "nothing was granted")
+        self.site.becomes(self.kind.hole)
+        self.probes(1, "granted: ")
+        self.site.becomes([])
+        self.site.stop_daemon()
+        try:
+            self.probes(0, "nothing was granted", "-stopped")
+        finally:
+            self.site.start_daemon()
+
+    def probes(self, status: int, said: str, *more: str) -> None:
+        words = (self.site.program, "-probe", f"https://localhost:{self.site.port}/web/", *more)
+        met = output_of(*words, env={**self.site.settings, "SSL_CERT_FILE": self.site.at("ca/ca.crt")}, seconds=served.SECONDS)
+        self.assertEqual((met[0], said in met[1]), (status, True), met[1])
+        self.assertNotIn("left out", met[1])
+
+    def port_is_verified(self) -> None:
+        """On a port the server lets pass what the holder of the daemon's certificate says, and tells its secret to nobody else."""
+        make = ("openssl", "req", "-x509", "-newkey", "ed25519", "-nodes", "-days", "9", "-subj", "/CN=spki-authd", "-addext",
+                "subjectAltName=DNS:spki-authd,IP:127.0.0.1")
+        for name in ("authd", "other"):
+            self.site.sh(*make, "-keyout", f"etc/{name}.key", "-out", f"etc/{name}.crt")
+        for name, is_granted in (("authd", True), ("other", False)):
+            impostor = web_servers.Impostor(self.site.at(f"etc/{name}.crt"), self.site.at(f"etc/{name}.key"))
+            try:
+                self.site.asks_port(impostor.server_port)
+                self.assertEqual(self.site.status("eve", "GET", "/secret/plan.txt") == 200, is_granted)
+                self.assertEqual(impostor.secrets, ["THE-SECRET"] if is_granted else [])
+            finally:
+                impostor.shutdown()
+                impostor.server_close()
+
+    def get_nothing(self, asked: list[attackers.Asked], statuses: set[int]) -> None:
+        for each in asked:
+            self.assertEqual(attackers.faults_of(self.site, each, statuses), [])
+
+
+def table_of(kind: type[web_servers.Behind]) -> Callable[[type[Table]], type[Table]]:
+    """Gives a class the tests of a server: one for each column, and one for the other sites."""
+    def made(table: type[Table]) -> type[Table]:
+        table.kind = kind
+        for column in columns_of(kind):
+            setattr(table, f"test_{re.sub('[^a-z]+', '_', column)}", lambda self, column=column: self.rows_pass(column))
+        setattr(table, "test_other_sites", lambda self: self.sites_pass())
+        setattr(table, "test_probe", lambda self: self.probe_finds())
+        if kind.on_port:
+            setattr(table, "test_port", lambda self: self.port_is_verified())
+        return needs.needs(*served.NEEDS, *kind.needs, *needs.LIBRARY)(table)
+    return made
+
+
+@table_of(web_servers.Nginx)
+class Nginx(Table):
+    """nginx reads and writes files."""
+
+
+@table_of(web_servers.Caddy)
+class Caddy(Table):
+    """Caddy reads files."""
+
+    def test_without_certificate(self) -> None:
+        """Who has no certificate sends none: the placeholder's name would be refused as a malformed one."""
+        self.site.becomes([])
+        self.assertEqual(self.site.status(None, "GET", "/web/index.html"), 401)
+
+    def test_who_only_writes(self) -> None:
+        """PUT and DELETE are not answered as GET, also where the daemon grants them."""
+        self.site.becomes([])
+        for method in ("PUT", "DELETE"):
+            self.assertEqual(attackers.faults_of(self.site, ("robot", method, "/web/out/main.js"), {403}), [])
+
+
+@table_of(web_servers.HAProxy)
+class HAProxy(Table):
+    """HAProxy passes on what a server behind it reads and writes."""
+
+
+@table_of(web_servers.Apache)
+class Apache(Table):
+    """Apache reads and writes files."""

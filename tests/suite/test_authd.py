@@ -1,0 +1,523 @@
+"""The daemon `spki-authd` as a program among others: a service manager that hands it its socket and is told what it does, readers of its log that
+hang or are gone, a disk that is full, and the files of systemd that come with it."""
+import contextlib
+import json
+import os
+import shutil
+import socket
+import ssl
+import subprocess
+import sys
+import tempfile
+import threading
+import time
+import unittest
+import urllib.parse
+from collections.abc import Callable, Iterator
+
+from harness import built, golang, needs
+from harness.support import output_of, room_for, text_of, waits_for
+from suite import test_go
+from suite.test_go import Daemon, OverSocket, Person
+
+GRANTS, THREADS = (100_000, 4) if built.IS_LONG else (2_000, 4)
+RESTARTS = 20 if built.IS_LONG else 4
+UNITS = [os.path.join(golang.DAEMON, name) for name in ("spki-authd.service", "spki-authd.socket")]
+SECONDS = 600
+
+
+def listens(path: str) -> bool:
+    """Whether somebody listens at a socket."""
+    with socket.socket(socket.AF_UNIX) as client:
+        return client.connect_ex(path) == 0
+
+
+@contextlib.contextmanager
+def asked_by_many(asks: Callable[[], list[int]]) -> Iterator[list[object]]:
+    """The statuses of what several threads ask meanwhile, and the faults."""
+    ends, met = threading.Event(), list[object]()
+
+    def asks_on() -> None:
+        while not ends.is_set():
+            try:
+                met.extend(asks())
+            except OSError as why:
+                met.append(repr(why))
+
+    threads = [threading.Thread(target=asks_on) for _ in range(THREADS)]
+    for each in threads:
+        each.start()
+    try:
+        yield met
+    finally:
+        ends.set()
+        for each in threads:
+            each.join()
+
+
+class OfDaemon(test_go.OfGo):
+    """A test of the program, with Alice on its list."""
+
+    daemon_program: str
+    alice: Person
+    access_list: str
+
+    @classmethod
+    def setUpClass(cls) -> None:
+        super().setUpClass()
+        folder = room_for(cls)
+        cls.daemon_program = golang.build_daemon(cls.library, os.path.join(folder, "spki-authd"))
+        cls.alice = Person(folder, "alice", "ed25519")
+        cls.access_list = f"(acl (entry {cls.alice.key} (propagate) (tag (files read))))"
+
+    @contextlib.contextmanager
+    def daemon(self, *before: str, **more: object) -> Iterator[Daemon]:
+        """A daemon, which ends well."""
+        with tempfile.TemporaryDirectory() as room:
+            made = Daemon(room, self.daemon_program, self.access_list, *before, **more)
+            try:
+                self.assertEqual(made.event["event"], "started")
+                yield made
+                made.process.terminate()
+                self.assertEqual(made.process.wait(SECONDS), 0)
+            finally:
+                made.process.kill()
+                made.process.communicate()
+
+    def headers(self, target: str = "/web/a") -> dict[str, str]:
+        """What the web server sends for Alice."""
+        return {"X-Original-Method": "GET", "X-Original-URI": target, "X-Client-Cert": urllib.parse.quote(self.alice.certificate)}
+
+    def ask_often(self, path: str, times: int, headers: dict[str, str], target: str = "/") -> list[int]:
+        """The statuses of requests on one connection."""
+        connection = OverSocket(path)
+        found = []
+        try:
+            for _ in range(times):
+                connection.request("GET", target, headers=headers)
+                response = connection.getresponse()
+                response.read()
+                found.append(response.status)
+        finally:
+            connection.close()
+        return found
+
+    @staticmethod
+    def lines(path: str) -> list[str]:
+        with open(path, encoding="utf-8") as file:
+            return file.read().split("\n")[:-1]
+
+
+@needs.needs("openssl", "import cryptography")
+class Log(OfDaemon):
+    """A grant has its line in the log of grants, and nothing else is needed for an answer."""
+
+    def test_each_grant_has_its_line(self) -> None:
+        with self.daemon() as daemon:
+            found: list[int] = []
+            threads = [threading.Thread(target=lambda: found.extend(self.ask_often(daemon.socket, GRANTS // THREADS, self.headers())))
+                       for _ in range(THREADS)]
+            for each in threads:
+                each.start()
+            for each in threads:
+                each.join()
+            self.assertEqual((len(found), set(found)), (GRANTS, {200}))
+            lines = [json.loads(line) for line in self.lines(daemon.grants)]
+            self.assertEqual((len(lines), {line["answer"] for line in lines}), (GRANTS, {"yes"}))
+            self.assertEqual(self.lines(daemon.log), [])
+
+    @needs.needs("prlimit")
+    def test_full_disk(self) -> None:
+        """Where the file takes no more, nothing is granted, and each line in it is whole."""
+        with self.daemon("prlimit", "--fsize=5000") as daemon:
+            found = self.ask_often(daemon.socket, 40, self.headers())
+            granted = found.count(200)
+            self.assertEqual(found, [200] * granted + [503] * (40 - granted))
+            self.assertTrue(0 < granted < 40)
+            with open(daemon.grants, encoding="utf-8") as file:
+                text = file.read()
+            self.assertEqual((text[-1], len([json.loads(line) for line in text.splitlines()])), ("\n", granted))
+            status, _, said = daemon.does("-health")
+            self.assertEqual((status, "takes no lines" in said), (1, True))
+            os.truncate(daemon.grants, 0)
+            self.assertEqual(self.ask_often(daemon.socket, 1, self.headers()), [200])
+
+    def test_reader_that_hangs(self) -> None:
+        """Nobody reads what is denied, and the pipe is full. Each answer comes, and the grants have their lines."""
+        with self.daemon() as daemon:
+            daemon.process.terminate()
+            daemon.process.wait()
+            reader, writer = os.pipe()
+            hung = subprocess.Popen([self.daemon_program, "-config", daemon.config], stdout=writer, stderr=writer)
+            os.close(writer)
+            try:
+                waits_for("the daemon listens", lambda: listens(daemon.socket))
+                self.assertEqual(set(self.ask_often(daemon.socket, 300, self.headers("/web/" + "a" * 500))), {200})
+                self.assertEqual(set(self.ask_often(daemon.socket, 3000, self.headers("//" + "a" * 500))), {400})
+                self.assertEqual(self.ask_often(daemon.socket, 5, self.headers()), [200] * 5)
+                self.assertEqual(len(self.lines(daemon.grants)), 305)
+                self.assertEqual(daemon.does("-reload")[0], 0)
+                self.assertRegex(daemon.does("-metrics")[1], r"\nspki_authd_lines_lost_total [1-9]\d+\n")
+                os.close(reader)
+                self.assertEqual(self.ask_often(daemon.socket, 5, self.headers("//")), [400] * 5)
+                self.assertEqual(self.ask_often(daemon.socket, 5, self.headers()), [200] * 5)
+                hung.terminate()
+                self.assertEqual(hung.wait(SECONDS), 0)
+            finally:
+                hung.kill()
+                hung.wait()
+            daemon.process = subprocess.Popen([self.daemon_program, "-config", daemon.config], stdout=subprocess.DEVNULL, stderr=subprocess.PIPE)
+            self.assertEqual(daemon.message()["event"], "started")
+
+    def test_readers_that_are_gone(self) -> None:
+        """A broken pipe ends nothing."""
+        with self.daemon() as daemon:
+            assert daemon.process.stderr is not None
+            daemon.process.stderr.close()
+            self.assertEqual(daemon.does("-reload")[0], 0)
+            self.assertEqual(self.ask_often(daemon.socket, 2, self.headers()), [200, 200])
+            daemon.process.stderr = None
+
+    def test_two_daemons_with_one_log(self) -> None:
+        with self.daemon() as daemon:
+            other = f"{daemon.config}.other"
+            Daemon.write(other, text_of(daemon.config).replace(daemon.socket, f"{daemon.socket}2"))
+            status, said = output_of(self.daemon_program, "-config", other, seconds=SECONDS)
+            self.assertEqual((status, "another daemon writes this log" in said), (1, True), said)
+
+    def test_fifo(self) -> None:
+        """A FIFO as a file is refused, at the start and at a reload, and hangs nothing."""
+        with self.daemon() as daemon:
+            fifo = os.path.join(os.path.dirname(daemon.config), "fifo")
+            os.mkfifo(fifo)
+            os.replace(fifo, daemon.ended)
+            status, _, said = daemon.does("-reload")
+            self.assertEqual((status, "no ordinary file" in said), (1, True))
+            self.assertEqual(self.ask_often(daemon.socket, 1, self.headers()), [200])
+            status, _, said = daemon.does("-test")
+            self.assertEqual((status, "no ordinary file" in said), (1, True))
+
+    def test_query_strings(self) -> None:
+        """What a client writes behind a `?` may be a password, and is in no log."""
+        with self.daemon() as daemon:
+            for target in ("/web/a?key=hunter2", "//?key=hunter2", "/web/../a?key=hunter2", "/web/\\?hunter2", "/none?hunter2", "/web/a b?hunter2"):
+                self.ask_often(daemon.socket, 1, self.headers(target))
+            self.assertNotIn("hunter2", "".join([*self.lines(daemon.grants), *self.lines(daemon.log)]))
+
+
+class Manager:
+    """What a service manager does for a daemon: it opens the socket, hands it over, and is told what the daemon does."""
+
+    def __init__(self, daemon: Daemon) -> None:
+        self.daemon = daemon
+        self.socket = socket.socket(socket.AF_UNIX)
+        self.socket.bind(daemon.socket)
+        os.chmod(daemon.socket, 0o600)
+        self.socket.listen(4096)
+        self.told = socket.socket(socket.AF_UNIX, socket.SOCK_DGRAM)
+        self.told.bind(f"{daemon.socket}.notify")
+        self.told.settimeout(SECONDS)
+
+    def start(self) -> subprocess.Popen[bytes]:
+        """Starts the daemon, and waits until it says that it is ready."""
+        code = ("import os, sys\nos.dup2(int(sys.argv[1]), 3)\nos.environ.update(LISTEN_PID=str(os.getpid()), LISTEN_FDS='1')\n"
+                "os.set_inheritable(3, True)\nos.execv(sys.argv[2], sys.argv[2:])")
+        words = [sys.executable, "-c", code, str(self.socket.fileno()), self.daemon.program, "-config", self.daemon.config]
+        process = subprocess.Popen(words, stdout=subprocess.DEVNULL, stderr=subprocess.DEVNULL, pass_fds=[self.socket.fileno()],
+                                   env={**os.environ, "NOTIFY_SOCKET": f"{self.daemon.socket}.notify"})
+        while "READY=1" not in self.message():
+            pass
+        return process
+
+    def message(self) -> str:
+        """What the daemon says next."""
+        return self.told.recv(4096).decode()
+
+    def close(self) -> None:
+        self.socket.close()
+        self.told.close()
+
+
+@contextlib.contextmanager
+def managed(program: str, access_list: str) -> Iterator[Manager]:
+    """A manager, where a daemon has run before."""
+    with tempfile.TemporaryDirectory() as room:
+        daemon = Daemon(room, program, access_list)
+        daemon.process.terminate()
+        daemon.process.communicate()
+        manager = Manager(daemon)
+        try:
+            yield manager
+        finally:
+            manager.close()
+
+
+@needs.needs("openssl", "import cryptography")
+class Started(OfDaemon):
+    """The daemon under a service manager."""
+
+    def test_what_the_manager_is_told(self) -> None:
+        with managed(self.daemon_program, self.access_list) as manager:
+            process = manager.start()
+            try:
+                self.assertEqual(manager.daemon.does("-reload")[0], 0)
+                self.assertEqual([manager.message(), manager.message()], ["RELOADING=1", "STATUS=1 entries, 0 ended certificates\nREADY=1"])
+                Daemon.write(manager.daemon.list, "(acl (entry))")
+                self.assertEqual(manager.daemon.does("-reload")[0], 1)
+                self.assertEqual(manager.message(), "RELOADING=1")
+                self.assertIn("the last reload was refused\nREADY=1", manager.message())
+            finally:
+                process.terminate()
+            self.assertEqual((process.wait(SECONDS), manager.message()), (0, "STOPPING=1"))
+            self.assertTrue(os.path.exists(manager.daemon.socket), "the socket is the manager's")
+
+    def test_restarts_lose_nothing(self) -> None:
+        """While clients ask, each request on a connection of its own, the daemon is started again and again."""
+        with managed(self.daemon_program, self.access_list) as manager:
+            process = manager.start()
+            with asked_by_many(lambda: self.ask_often(manager.daemon.socket, 1, self.headers())) as met:
+                for _ in range(RESTARTS):
+                    process.terminate()
+                    self.assertEqual(process.wait(SECONDS), 0)
+                    process = manager.start()
+            process.terminate()
+            process.wait()
+            self.assertEqual(set(met), {200})
+            self.assertEqual(len(self.lines(manager.daemon.grants)), len(met))
+
+    def test_another_socket(self) -> None:
+        """A socket that the configuration does not name, or that everyone may write to, is not taken."""
+        for change, said in ((lambda path: os.chmod(path, 0o666), "everyone may write"), (None, "hands over")):
+            with managed(self.daemon_program, self.access_list) as manager:
+                if change:
+                    change(manager.daemon.socket)
+                else:
+                    text = text_of(manager.daemon.config).replace(manager.daemon.socket, f"{manager.daemon.socket}2")
+                    Daemon.write(manager.daemon.config, text)
+                words = ["sh", "-c", 'exec 3<&0; LISTEN_PID=$$ LISTEN_FDS=1 exec "$@"', "sh", self.daemon_program, "-config", manager.daemon.config]
+                done = subprocess.run(words, stdin=manager.socket.fileno(), stdout=subprocess.DEVNULL, stderr=subprocess.PIPE, text=True,
+                                      timeout=SECONDS)
+                self.assertEqual((done.returncode, said in done.stderr), (1, True), done.stderr)
+
+    @needs.needs("systemd-socket-activate")
+    def test_socket_activation(self) -> None:
+        """systemd's own program starts the daemon at the first request, which is answered."""
+        with tempfile.TemporaryDirectory() as room:
+            daemon = Daemon(room, self.daemon_program, self.access_list)
+            daemon.process.terminate()
+            daemon.process.communicate()
+            words = ["systemd-socket-activate", "-l", daemon.socket, self.daemon_program, "-config", daemon.config]
+            with open(daemon.log, "ab") as log:
+                process = subprocess.Popen(words, stdout=log, stderr=log)
+            try:
+                # (the socket has its name a moment before anybody listens there)
+                while not any("Listening on" in line for line in self.lines(daemon.log)):
+                    self.assertIsNone(process.poll())
+                    time.sleep(0.02)
+                # (a unit sets SocketMode)
+                os.chmod(daemon.socket, 0o600)
+                self.assertEqual(self.ask_often(daemon.socket, 2, self.headers()), [200, 200])
+                self.assertEqual(daemon.does("-health")[0], 0)
+            except OSError:
+                self.fail("\n".join(self.lines(daemon.log)))
+            finally:
+                process.terminate()
+                process.wait()
+
+    @needs.needs("unshare", "ss")
+    def test_queue(self) -> None:
+        """Where /proc has no /proc/sys, as under ProcSubset=pid, as many connections wait in the system's queue as elsewhere."""
+        with self.daemon() as daemon:
+            other = os.path.join(os.path.dirname(daemon.config), "other")
+            text = text_of(daemon.config).replace(daemon.socket, other).replace(daemon.grants, f"{other}.log")
+            Daemon.write(f"{other}.json", text)
+            words = [*needs.APART, "sh", "-c", f"{needs.HIDES} && exec {self.daemon_program} -config {other}.json"]
+            process = subprocess.Popen(words, stdout=subprocess.DEVNULL, stderr=subprocess.PIPE)
+            try:
+                assert process.stderr is not None
+                self.assertIn(b"started", process.stderr.readline())
+                self.assertEqual(self.queue(other), self.queue(daemon.socket))
+                with open("/proc/sys/net/core/somaxconn", encoding="ascii") as file:
+                    self.assertEqual(self.queue(other), min(4096, int(file.read())))
+            finally:
+                process.kill()
+                process.communicate()
+
+    @staticmethod
+    def queue(path: str) -> int:
+        """How many connections may wait at a socket."""
+        said = subprocess.run(["ss", "-xl"], stdout=subprocess.PIPE, text=True, check=True).stdout
+        return next(int(line.split()[3]) for line in said.splitlines() if f" {path} " in line)
+
+    @needs.needs("setpriv")
+    def test_group_of_the_socket(self) -> None:
+        """A group that the daemon's user is not in is refused before the start."""
+        with tempfile.TemporaryDirectory() as room:
+            daemon = Daemon(room, self.daemon_program, self.access_list)
+            daemon.process.terminate()
+            daemon.process.communicate()
+            for path, mode in ((room, 0o777), (daemon.config, 0o644), (daemon.list, 0o644), (daemon.ended, 0o644), (daemon.grants, 0o666)):
+                os.chmod(path, mode)
+            program = shutil.copy(self.daemon_program, os.path.join(room, "program"))
+            as_other = ["setpriv", "--reuid=65534", "--regid=65534", "--clear-groups"] if os.getuid() == 0 else []
+            for group, wanted in (("root", 1), (None, 0)):
+                text = json.loads(text_of(daemon.config))
+                Daemon.write(daemon.config, json.dumps({**text, "socket_group": group} if group else {**text, "socket_group": ""}))
+                words = [*as_other, program, "-test", "-config", daemon.config]
+                done = subprocess.run(words, stdout=subprocess.PIPE, stderr=subprocess.PIPE, text=True)
+                self.assertEqual((done.returncode, "is not in it" in done.stderr), (wanted, bool(wanted)), done.stderr)
+
+
+NGINX = """daemon off; error_log {room}/error.log; pid {room}/nginx.pid; worker_processes 2; {user}
+events {{ worker_connections 256; }}
+http {{
+    access_log off;
+    client_body_temp_path {room}/b; proxy_temp_path {room}/p; fastcgi_temp_path {room}/f; uwsgi_temp_path {room}/u; scgi_temp_path {room}/s;
+    upstream authd {{ server {at}; keepalive 16; }}
+    server {{
+        listen unix:{room}/http;
+        location / {{ auth_request /auth; return 204; }}
+        location /web/ {{ auth_request /auth; root {room}; }}
+        location = /auth {{
+            internal; proxy_pass {scheme}://authd; proxy_http_version 1.1; proxy_set_header Connection ""; proxy_pass_request_body off;
+            proxy_ssl_verify on; proxy_ssl_trusted_certificate {room}/crt; proxy_ssl_name spki-authd; proxy_ssl_session_reuse off;
+            proxy_set_header Content-Length ""; proxy_set_header X-Original-Method $request_method; proxy_set_header X-Original-URI $request_uri;
+            proxy_set_header X-Spki-Secret {secret}; proxy_set_header X-Client-Cert "{certificate}";
+        }}
+    }}
+}}
+"""
+SECRET = "0123456789abcdef" * 2
+
+
+@needs.needs("nginx", "openssl", "import cryptography")
+class BehindNginx(OfDaemon):
+    """The daemon and a real web server between it and the clients."""
+
+    @contextlib.contextmanager
+    def nginx(self, room: str, at: str, scheme: str) -> Iterator[str]:
+        """The socket of nginx, which asks at a place."""
+        user = "user root;" if os.getuid() == 0 else ""
+        certificate = urllib.parse.quote(self.alice.certificate)
+        settings = {"room": room, "at": at, "scheme": scheme, "secret": SECRET, "certificate": certificate, "user": user}
+        os.makedirs(os.path.join(room, "web"))
+        Daemon.write(os.path.join(room, "web", "a"), "a file")
+        Daemon.write(os.path.join(room, "nginx.conf"), NGINX.format(**settings))
+        path = f"{os.environ['PATH']}:/usr/sbin"
+        words = ["nginx", "-p", room, "-c", os.path.join(room, "nginx.conf"), "-e", os.path.join(room, "error.log")]
+        process = subprocess.Popen(words, env={**os.environ, "PATH": path}, stderr=subprocess.DEVNULL)
+        try:
+            waits_for("the web server listens", lambda: listens(os.path.join(room, "http")))
+            yield os.path.join(room, "http")
+        finally:
+            process.terminate()
+            process.wait()
+
+    @staticmethod
+    def certificate(room: str, name: str) -> None:
+        """Writes a certificate of a daemon, with another key each time."""
+        words = ["openssl", "req", "-x509", "-newkey", "ed25519", "-nodes", "-subj", "/CN=spki-authd", "-addext", "subjectAltName=DNS:spki-authd",
+                 "-keyout", os.path.join(room, f"{name}.key"), "-out", os.path.join(room, name)]
+        subprocess.run(words, check=True, stderr=subprocess.DEVNULL)
+
+    def test_another_program_at_the_port(self) -> None:
+        """nginx asks the daemon by TLS. Another program at the same port, which says 200 to all, is asked nothing."""
+        with tempfile.TemporaryDirectory() as room, socket.socket() as taken:
+            os.chmod(room, 0o755)
+            for name in ("crt", "other"):
+                self.certificate(room, name)
+            taken.bind(("127.0.0.1", 0))
+            at = f"127.0.0.1:{taken.getsockname()[1]}"
+            taken.close()
+            Daemon.write(os.path.join(room, "secret"), SECRET)
+            os.chmod(os.path.join(room, "secret"), 0o600)
+            files = {"certificate": os.path.join(room, "crt"), "key": os.path.join(room, "crt.key")}
+            with self.daemon(listen=f"tls:{at}", tls=files, secret_file=os.path.join(room, "secret"), control=f"unix:{room}/control") as daemon:
+                with self.nginx(room, at, "https") as web:
+                    self.assertEqual(self.ask_often(web, 2, {}, "/web/a"), [200, 200])
+                    self.assertEqual(daemon.does("-health")[0], 0)
+                    daemon.process.terminate()
+                    daemon.process.wait()
+                    self.assertEqual(self.ask_often(web, 1, {}, "/web/a"), [500])
+                    with self.impostor(room, at) as heard:
+                        self.assertEqual(self.ask_often(web, 3, {}, "/web/a"), [500] * 3)
+                    self.assertNotIn(SECRET.encode(), b"".join(heard))
+                daemon.process = subprocess.Popen([self.daemon_program, "-config", daemon.config], stdout=subprocess.DEVNULL, stderr=subprocess.PIPE)
+                self.assertEqual(daemon.message()["event"], "started")
+
+    @contextlib.contextmanager
+    def impostor(self, room: str, at: str) -> Iterator[list[bytes]]:
+        """A program that shows another certificate, answers 200 to all, and keeps what it hears."""
+        context = ssl.SSLContext(ssl.PROTOCOL_TLS_SERVER)
+        context.load_cert_chain(os.path.join(room, "other"), os.path.join(room, "other.key"))
+        heard: list[bytes] = []
+        host, _, port = at.rpartition(":")
+        listener = socket.create_server((host, int(port)))
+
+        def serves() -> None:
+            with contextlib.suppress(OSError):
+                while True:
+                    client = listener.accept()[0]
+                    with contextlib.suppress(OSError), context.wrap_socket(client, server_side=True) as spoken:
+                        heard.append(spoken.recv(65536))
+                        spoken.sendall(b"HTTP/1.1 200 OK\r\nContent-Length: 0\r\n\r\n")
+
+        thread = threading.Thread(target=serves)
+        thread.start()
+        try:
+            yield heard
+        finally:
+            listener.shutdown(socket.SHUT_RDWR)
+            listener.close()
+            thread.join()
+
+    def test_restarts_behind_nginx(self) -> None:
+        """While clients ask nginx, which keeps connections to the daemon, that is started again and again. No request fails."""
+        with tempfile.TemporaryDirectory() as room, managed(self.daemon_program, self.access_list) as manager:
+            os.chmod(room, 0o755)
+            self.certificate(room, "crt")
+            process = manager.start()
+            with self.nginx(room, f"unix:{manager.daemon.socket}", "http") as web:
+                with asked_by_many(lambda: self.ask_often(web, 20, {}, "/web/a")) as met:
+                    for _ in range(RESTARTS):
+                        process.terminate()
+                        self.assertEqual(process.wait(SECONDS), 0)
+                        process = manager.start()
+            process.terminate()
+            process.wait()
+            self.assertEqual(set(met), {200})
+
+
+class Units(unittest.TestCase):
+    """The files of systemd."""
+
+    @needs.needs("systemd-analyze")
+    def test_verified(self) -> None:
+        """systemd has no objection, with a program that is there in the place of the daemon's."""
+        with tempfile.TemporaryDirectory() as room:
+            for path in UNITS:
+                with open(os.path.join(room, os.path.basename(path)), "w", encoding="utf-8") as file:
+                    file.write(text_of(path).replace("/usr/local/bin/spki-authd", "/bin/true"))
+            names = [os.path.join(room, os.path.basename(path)) for path in UNITS]
+            done = subprocess.run(["systemd-analyze", "verify", *names], stdout=subprocess.PIPE, stderr=subprocess.STDOUT, text=True)
+            self.assertEqual((done.returncode, done.stdout), (0, ""))
+
+    @needs.needs("systemd-analyze")
+    def test_exposure(self) -> None:
+        """What the daemon may do beyond its work, as systemd counts it from 0 to 100."""
+        done = subprocess.run(["systemd-analyze", "security", "--offline=yes", "--threshold=6", UNITS[0]], stdout=subprocess.PIPE,
+                              stderr=subprocess.STDOUT, text=True)
+        self.assertEqual(done.returncode, 0, done.stdout[-300:])
+
+    def test_what_must_be_set(self) -> None:
+        """What was wrong once: a start limit that needs hands, a reload that cannot fail, a runtime folder that is removed with the socket in it."""
+        service, unit = (text_of(path).splitlines() for path in UNITS)
+        for line in ("StartLimitIntervalSec=0", "Type=notify", "ExecReload=/usr/local/bin/spki-authd -reload -config /etc/spki-authd/config.json",
+                     "RuntimeDirectoryPreserve=yes", "LogRateLimitIntervalSec=30s", "LogRateLimitBurst=30000", "Requires=spki-authd.socket"):
+            self.assertIn(line, service)
+        for line in ("Backlog=4096", "SocketMode=0660", "IPAddressAllow=localhost"):
+            self.assertIn(line, unit)
+
+
+if __name__ == "__main__":
+    unittest.main()

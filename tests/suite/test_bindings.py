@@ -1,0 +1,522 @@
+"""Asks the bindings of bindings/, in Rust and in Python, what the program is asked, and compares the lines.
+
+Each case of the tables and of `chains.py` is taken apart, into the access list, the sequence, the key, the request and the
+moment. A guard is asked of them in two ways: as texts, and, where the request and the moment allow it, with the request by its strings
+and the moment in seconds. The verifier accepts what the case's rows do. `decide`, `explain` and `reduce` must give the lines of `check`,
+`explain` and `reduce` on the case. A case that is refused is asked without its rows: a guard takes none, so it has no fault of them.
+
+Runs the tests of the Python module, mypy over its types, and of the crate its tests, those in its documents, clippy and the formatter. The
+examples `decide.c`, `decide.rs` and `decide.py`, which docs/GUIDE.md quotes, must grant and deny, by real keys and signatures. The header
+for C++ is called by `owned.cpp`. Threads in C++ and Rust run under helgrind. The module is installed by pip with the library inside. The
+crate must refuse a folder without a library. All must have the version of the file VERSION."""
+import functools
+import glob
+import hashlib
+import importlib
+import os
+import re
+import shutil
+import subprocess
+import sys
+import tempfile
+import unittest
+import zipfile
+from collections.abc import Iterator
+from concurrent.futures import ThreadPoolExecutor
+from datetime import datetime, timezone
+from typing import NamedTuple
+
+from harness import built, needs
+from harness.support import EXAMPLES, TESTS, TOP, canonical, on_one_line, output_of, read, run, string, tables_here, text_of
+from model import answers as model
+from rows import chains, rows_of
+
+CRATE, RUST, PYTHON = (os.path.join(TOP, *words) for words in (["crates", "spki_c"], ["bindings", "rust"], ["bindings", "python"]))
+COMMANDS = {"decide": "check", "explain": "explain", "reduce": "reduce"}
+NO_CASE = (b"refused form", b"refused case")
+TOO_LARGE = b"refused TooLarge\n"
+SECONDS = 1800
+HELGRIND = ("valgrind", "--tool=helgrind", "--quiet", "--error-exitcode=98")
+
+
+class Asked(NamedTuple):
+    """A question to a guard, and the lines that are wanted."""
+
+    name: str
+    command: str
+    is_strict: bool
+    access_list: bytes
+    sequence: bytes
+    key: bytes
+    request: bytes | tuple[bytes, ...]
+    moment: bytes | int
+    accepted: tuple[tuple[bytes, bytes, bytes], ...]
+    wanted: bytes
+    limits: str = "highest"
+
+
+# ---- the questions
+
+
+def questions(program) -> list[Asked]:
+    """The questions of all cases, each with the place of the first row that has the case."""
+    rows = [row for table in tables_here() for row in rows_of(table)] + list(chains.rows())
+    rows = [row for row in rows if row[1] in COMMANDS.values() and not row[4].startswith(NO_CASE)]
+    with ThreadPoolExecutor(os.cpu_count()) as pool:
+        texts = pool.map(lambda row: run(program, "canonical", row[2])[1], rows)
+        cases = {text: row[0] for text, row in reversed(list(zip(texts, rows)))}
+        found = pool.map(lambda case: list(questions_of(program, *case)), cases.items())
+        return [asked for of_case in found for asked in of_case]
+
+
+def accepted_by(rows, sequence):
+    """What the rows of a case accept: keys, messages and values. The messages are the certificates that have their digests."""
+    certificates = [canonical(item) for item in sequence if isinstance(item, list) and item[:1] == [b"cert"]]
+    messages = {hashlib.sha256(text).digest(): text for text in certificates}
+    return tuple((canonical(key), messages[digest[2]], canonical(value)) for _, key, digest, value in rows if digest[2] in messages)
+
+
+def words_of(request):
+    """The strings of a request that a guard takes by its strings, or None."""
+    if isinstance(request, bytes):
+        return (request,)
+    return tuple(request) if isinstance(request, list) and len(request) > 1 and all(isinstance(it, bytes) for it in request) else None
+
+
+def seconds_of(moment):
+    """The seconds of a moment that the calendar has, from 1970 on, or None."""
+    try:
+        date = datetime.strptime(moment.decode(), "%Y-%m-%d_%H:%M:%S")
+        seconds = int(date.replace(tzinfo=timezone.utc).timestamp())
+        return seconds if seconds >= 0 else None
+    except (AttributeError, UnicodeDecodeError, ValueError):
+        return None
+
+
+def questions_of(program, text, name) -> Iterator[Asked]:
+    """The questions of a case, by texts, and by strings and seconds where that can be."""
+    case, line = read(text), run(program, "check", text)[1]
+    if line.startswith(b"refused") and line != TOO_LARGE:
+        case[2] = [b"accepted"]
+    access_list, rows, sequence, (_, key), (_, request), (_, moment) = case[1:7]
+    texts = canonical(access_list), canonical(sequence), canonical(key)
+    accepted = accepted_by(rows[1:], sequence[1:])
+    words, seconds = words_of(request), seconds_of(moment)
+    for command, wanted in COMMANDS.items():
+        line = run(program, wanted, canonical(case))[1]
+        if command == "decide" and line == TOO_LARGE:
+            line = decided(canonical(case))
+        yield Asked(name, command, len(case) == 8, *texts, canonical(request), canonical(moment), accepted, line)
+        if words or seconds is not None:
+            yield Asked(f"{name}, by strings or seconds", command, len(case) == 8, *texts, words or canonical(request),
+                        canonical(moment) if seconds is None else seconds, accepted, line)
+
+
+def decided(text):
+    """What the model decides of a case that is too large for `check`: a guard decides it."""
+    case = model.read_case(text)
+    return model.decide(case, case.rows)[1]
+
+
+def otherwise(asked, answers):
+    """What is wrong with the answers to questions, or nothing."""
+    if len(answers) != len(asked):
+        return f"{len(answers)} answers to {len(asked)} questions"
+    faults = [(each, met) for each, met in zip(asked, answers) if met != each.wanted]
+    return "\n".join(f"{each.command}, {each.name}\ntext   {each.access_list[:300]!r} {each.sequence[:500]!r} {each.key[:200]!r} {each.request!r} "
+                     f"{each.moment!r}\nwanted {each.wanted[:300]!r}\ncame   {met[:300]!r}" for each, met in faults)
+
+
+# ---- Python
+
+
+def spelled(reasons):
+    """The text of an explanation, from its lines taken apart."""
+    lines = [f"{f'entry {entry} ' if entry else ''}{f'item {item} ' if item else ''}{word}" for entry, item, word in reasons]
+    return "\n".join(lines or ["no entries"])
+
+
+def answered_by_python(spki, asked):
+    """What the module answers, as the program's lines."""
+    def verify(it):
+        return (it.key, it.message, it.value) in asked.accepted
+
+    request = {"text" if isinstance(asked.request, bytes) else "words": asked.request}
+    moment = asked.moment if isinstance(asked.moment, bytes) else datetime.fromtimestamp(asked.moment, timezone.utc)
+    question = spki.Question(asked.sequence, spki.ProvenKey.assume(asked.key), moment=moment, **request)
+    policy = spki.Policy.STRICT if asked.is_strict else spki.Policy.ALLOW_SHA1
+    try:
+        with spki.Guard(asked.access_list, policy, spki.Limits.highest() if asked.limits == "highest" else spki.Limits()) as guard:
+            answer = getattr(guard, asked.command)(question, verify)
+    except spki.Refused as refused:
+        return f"{refused.line}\n".encode()
+    if asked.command == "decide":
+        return f"yes entry {answer.entry}\n".encode() if answer else b"no\n"
+    return f"{spelled(answer.reasons()) if asked.command == 'explain' else answer}\n".encode()
+
+
+# ---- Rust
+
+
+def listed(strings):
+    """A list as `asked.rs` reads it."""
+    return string(str(len(strings))) + b"".join(map(string, strings))
+
+
+def framed(asked):
+    """A question as `asked.rs` reads it."""
+    is_text, is_date = isinstance(asked.request, bytes), isinstance(asked.moment, bytes)
+    fields = [asked.command, "strict" if asked.is_strict else "open", asked.limits, asked.access_list, asked.sequence, asked.key]
+    request = string("text" if is_text else "words") + listed([asked.request] if is_text else asked.request)
+    moment = string("text" if is_date else "seconds") + string(asked.moment if is_date else str(asked.moment))
+    return b"".join(map(string, fields)) + request + moment + listed([text for row in asked.accepted for text in row])
+
+
+def strings_in(octets):
+    """The strings that stand one behind the other in a text."""
+    at = 0
+    while at < len(octets):
+        colon = octets.index(b":", at)
+        at = colon + 1 + int(octets[at:colon])
+        yield octets[colon + 1:at]
+
+
+def cargo(folder, words, given=None):
+    """What cargo does in the crate, offline and with the libraries of a folder."""
+    settings = {**os.environ, "SPKI_LIB_DIR": folder, "RUSTDOCFLAGS": "-D warnings", "CARGO_NET_OFFLINE": "true"}
+    return subprocess.run(["cargo", *words], cwd=RUST, input=given, capture_output=True, env=settings, timeout=SECONDS)
+
+
+# ---- the tests
+
+
+class Version(unittest.TestCase):
+    """The version of the bindings."""
+
+    def test_version(self):
+        """The crate, the module and the header have the version of the file VERSION."""
+        line = r'^version = "(.*)"$'
+        met = {"bindings/rust/Cargo.toml": line, "bindings/rust/spki-sys/Cargo.toml": line, "bindings/python/pyproject.toml": line,
+               "bindings/rust/spki-serde/Cargo.toml": line, "bindings/python/spki/__init__.py": r'^__version__ = "(.*)"$',
+               "bindings/go/guard/guard.go": r'^const Version = "(.*)"$',
+               "crates/spki_c/spki.h": r'^#define SPKI_VERSION "(.*)"$'}
+        found = {path: re.search(line, text_of(path), re.MULTILINE)[1] for path, line in met.items()}
+        self.assertEqual(found, dict.fromkeys(met, text_of("VERSION").strip()))
+        called = {"bindings/rust/spki-sys/src/lib.rs": r'VERSION: &str = "(.*)";$', "bindings/python/spki/_library.py": r'^VERSION = "(.*)"$',
+                  "bindings/rust/spki-sys/build.rs": r'^const FIRST: &str = "(.*)";$'}
+        found = {path: re.search(line, text_of(path), re.MULTILINE)[1] for path, line in called.items()}
+        self.assertEqual(found, dict.fromkeys(called, text_of("VERSION").rpartition(".")[0]))
+
+
+class Words(unittest.TestCase):
+    """The words and numbers that the bindings have of the library."""
+
+    def test_words(self):
+        """The crate and the package know the same words."""
+        rust, python = text_of("bindings/rust/src/words.rs"), text_of("bindings/python/spki/_words.py")
+        kinds = re.findall(r"^    (Cause|Fault|Part) \{\n(.*?)^    \}$", rust, re.MULTILINE | re.DOTALL)
+        found = {kind: re.findall(r"^        (\w+),$", members, re.MULTILINE) for kind, members in kinds}
+        self.assertEqual(len(found), 3)
+        for kind, words in found.items():
+            members = re.search(rf"^class {kind}\(_Word\):\n(.*?)(?=^class|\Z)", python, re.MULTILINE | re.DOTALL)[1]
+            self.assertEqual([word.lower() for word in re.findall(r'^    [A-Z_0-9]+ = "(\w+)"$', members, re.MULTILINE)],
+                             [word.lower() for word in [*words, "Other"]], kind)
+
+    def test_names_of_the_guide(self):
+        """Each name of the guide's table of calls is one of its language."""
+        sources = (["crates/spki_c/spki.h"], glob.glob("bindings/rust/src/*.rs", root_dir=TOP),
+                   glob.glob("bindings/python/spki/*.py", root_dir=TOP), glob.glob("bindings/go/**/*.go", root_dir=TOP, recursive=True))
+        texts = ["".join(map(text_of, paths)) for paths in sources]
+        rows = re.search(r"^\| What \| C \| Rust \| Python \| Go \|\n\|[-|]*\n((?:\|.*\n)+)", text_of("docs/GUIDE.md"), re.MULTILINE)[1]
+        missing = [(name, row) for row in rows.splitlines() for text, cell in zip(texts, row.split("|")[2:])
+                   for name in re.findall(r"\w+", " ".join(re.findall(r"`([^`]*)`", cell))) if name != "true" and not re.search(rf"{name}\b", text)]
+        self.assertEqual(missing, [])
+        self.assertGreater(rows.count("\n"), 15)
+
+    def test_highest_limits(self):
+        """The most that limits may set is what the header has, and no binding writes the usual limits."""
+        header = dict(re.findall(r"^#define SPKI_((?:MOST_|USUAL_ANSWER)\w*) (\d+)$", text_of("crates/spki_c/spki.h"), re.MULTILINE))
+        for path, line in (("bindings/rust/spki-sys/src/lib.rs", r"^pub const (MOST_\w+|USUAL_\w+): usize = ([\d_]+);$"),
+                           ("bindings/python/spki/_library.py", r"^(MOST_\w+|USUAL_\w+) = ([\d_]+)$")):
+            met = re.findall(line, text_of(path), re.MULTILINE)
+            self.assertEqual({name: number.replace("_", "") for name, number in met}, header, path)
+        for path in glob.glob(os.path.join(TOP, "bindings", "**", "*.[prg][yso]*"), recursive=True):
+            if not any(part in path for part in ("/out/", "test", "/examples/", "http")):
+                self.assertNotRegex(text_of(path), r"\b(65_?536|2_?000_?000)\b", path)
+
+
+@functools.cache
+def asked_of(program):
+    """The questions, which two tests ask."""
+    return questions(program)
+
+
+@needs.needs(*needs.LIBRARY)
+class Binding(built.OfLibrary):
+    """A test of a binding, which finds the library by its folder."""
+
+    @classmethod
+    def setUpClass(cls):
+        super().setUpClass()
+        os.environ["SPKI_LIBRARY"] = cls.shared
+        cls.folder = os.path.dirname(cls.library)
+
+    def decides(self, *words):
+        """An example must grant the request to Bob, to whom Alice's certificate gives it, and to nobody else. It must deny it to Bob if a bit
+        of the signature is changed."""
+        from spki_cert_tool import keys
+        for kind in keys.KINDS:
+            alice, bob, carol = (keys.FileSigner(keys.new_private(it)) for it in (kind, keys.P256, keys.ED25519))
+            issuer = keys.principal_of(alice.key)
+            access_list = [b"acl", [b"entry", issuer, [b"propagate"], [b"tag", [b"ftp"]]]]
+            certificate = [b"cert", [b"issuer", issuer], [b"subject", bob.key], [b"tag", [b"ftp"]]]
+            value = alice.sign(canonical(certificate))
+            other = alice.sign(canonical([*certificate, [b"propagate"]]))
+            for holder, shown, wanted in ((bob, value, "granted\n"), (carol, value, "denied\n"), (bob, other, "denied\n")):
+                signature = [b"signature", keys.hash_of(certificate), issuer, shown]
+                self.answers(words, (access_list, [b"sequence", alice.key, certificate, signature], holder.key), wanted)
+
+    def answers(self, words, parts, wanted):
+        """An example must answer what is wanted to a list, a sequence and a key."""
+        with tempfile.TemporaryDirectory() as room:
+            paths = [os.path.join(room, name) for name in ("acl", "sequence", "key")]
+            for path, value in zip(paths, parts):
+                with open(path, "wb") as file:
+                    file.write(canonical(value))
+            done = subprocess.run([*words, *paths, "ftp", "host"], capture_output=True, text=True, timeout=SECONDS,
+                                  env={**os.environ, "PYTHONPATH": PYTHON})
+            self.assertEqual(done.stdout, wanted, f"{on_one_line(parts[2])}: {done.stderr[-500:]}")
+
+
+class InPython(Binding):
+    """The module in Python."""
+
+    def test_module(self):
+        """The tests of the module pass."""
+        done = subprocess.run([sys.executable, "-m", "unittest", "--quiet"], cwd=PYTHON, timeout=SECONDS, capture_output=True, text=True)
+        self.assertEqual(done.returncode, 0, done.stderr)
+
+    @needs.needs("mypy")
+    def test_types(self):
+        words = ["mypy", "--strict", "--cache-dir", os.devnull, "spki", "spki_http", "spki_verify",
+                 *(os.path.join("examples", name) for name in ("decide.py", "asynchronous.py"))]
+        done = subprocess.run(words, cwd=PYTHON, timeout=SECONDS, capture_output=True, text=True)
+        self.assertEqual(done.returncode, 0, done.stdout)
+
+    def test_questions(self):
+        sys.path.append(PYTHON)
+        spki = importlib.import_module("spki")
+        asked = asked_of(self.program)
+        fault = otherwise(asked, [answered_by_python(spki, each) for each in asked])
+        self.assertEqual(fault, "", fault)
+
+    @needs.needs("import cryptography")
+    def test_example(self):
+        self.decides(sys.executable, os.path.join(PYTHON, "examples", "decide.py"))
+
+    @needs.needs("import cryptography")
+    def test_asynchronous_example(self):
+        self.decides(sys.executable, os.path.join(PYTHON, "examples", "asynchronous.py"))
+
+    @needs.needs("import pip", "import setuptools", "import wheel")
+    def test_pip(self):
+        """pip installs the folder without a network, and the module takes the library that is inside."""
+        with tempfile.TemporaryDirectory() as room:
+            source, target = os.path.join(room, "source"), os.path.join(room, "target")
+            shutil.copytree(PYTHON, source, ignore=shutil.ignore_patterns("build", "*.egg-info", "__pycache__"))
+            words = ["-m", "pip", "install", "-q", "--no-build-isolation", "--no-index", "--target", target, source]
+            status, said = output_of(sys.executable, *words, seconds=SECONDS, env={**os.environ, "SPKI_LIBRARY": self.shared})
+            self.assertEqual(status, 0, said)
+            settings = {name: value for name, value in os.environ.items() if name != "SPKI_LIBRARY"}
+            answer = output_of(sys.executable, "-c", "import spki; print(spki.__file__, spki.Guard(b'(acl)').entries, spki._library.found())",
+                               cwd=room, env={**settings, "PYTHONPATH": target})
+            folder = os.path.join(target, "spki")
+            self.assertEqual(answer, (0, f"{folder}/__init__.py 0 {folder}/libspki_c.so\n"))
+            status, said = output_of(sys.executable, *words[:-1], source, seconds=SECONDS, env={**settings, "SPKI_LIBRARY": "/nowhere.so"})
+            self.assertEqual((status != 0, "/nowhere.so is not there" in said), (True, True), said)
+
+    @needs.needs("import pip", "import setuptools", "import wheel")
+    def test_wheel_of_an_sdist(self):
+        """An sdist is made without `wheel`. pip makes a wheel of it, with the library that a variable names by its whole path."""
+        with tempfile.TemporaryDirectory() as room:
+            source = os.path.join(room, "source")
+            shutil.copytree(PYTHON, source, ignore=shutil.ignore_patterns("build", "*.egg-info", "__pycache__"))
+            hidden = "import runpy, sys; sys.modules['wheel'] = sys.modules['wheel.bdist_wheel'] = None; sys.argv = ['setup.py', '-q', 'sdist']"
+            status, said = output_of(sys.executable, "-W", "ignore", "-c", f"{hidden}; runpy.run_path('setup.py')", cwd=source, seconds=SECONDS)
+            self.assertEqual(status, 0, said)
+            sdist, = glob.glob(os.path.join(source, "dist", "*.tar.gz"))
+            words = ["-m", "pip", "wheel", "-q", "--no-build-isolation", "--no-index", "--no-deps", "--wheel-dir", room, sdist]
+            for library, is_made, line in ((self.shared, True, ""), (os.path.relpath(self.shared), False, "SPKI_LIBRARY must be a whole path"),
+                                           ("/nowhere.so", False, "/nowhere.so is not there")):
+                status, said = output_of(sys.executable, *words, seconds=SECONDS, env={**os.environ, "SPKI_LIBRARY": library})
+                self.assertEqual((status == 0, line in said), (is_made, True), said)
+            wheel, = glob.glob(os.path.join(room, "*.whl"))
+            with zipfile.ZipFile(wheel) as file, open(self.shared, "rb") as library:
+                self.assertEqual(file.read("spki/libspki_c.so"), library.read())
+                about, = (name for name in file.namelist() if name.endswith("METADATA"))
+                self.assertIn("License: none yet", file.read(about).decode())
+
+
+@needs.needs("import cryptography")
+class InC(Binding):
+    """The example in C, with each verifier."""
+
+    def decides_by(self, verifier, library):
+        with tempfile.TemporaryDirectory() as room:
+            to, sources = os.path.join(room, "decide"), [os.path.join(EXAMPLES, "c", name) for name in ("decide.c", f"{verifier}.c")]
+            flags = ["-std=c11", "-Wall", "-Wextra", "-Wpedantic", "-Werror", "-I", CRATE]
+            subprocess.run(["cc", *flags, "-o", to, *sources, self.library, library], timeout=SECONDS, check=True)
+            self.decides(to)
+
+    @needs.needs("/usr/include/gcrypt.h")
+    def test_example_by_gcrypt(self):
+        self.decides_by("verify_gcrypt", "-lgcrypt")
+
+    @needs.needs("openssl/evp.h")
+    def test_example_by_openssl(self):
+        self.decides_by("verify_openssl", "-lcrypto")
+
+
+@needs.needs("g++")
+class InCpp(Binding):
+    """The header for C++."""
+
+    def owns(self, flags, *by):
+        """`owned.cpp` must compile with these flags and find nothing wrong."""
+        with tempfile.TemporaryDirectory() as room:
+            to, source = os.path.join(room, "owned"), os.path.join(TESTS, "programs", "owned.cpp")
+            words = ["-std=c++17", "-Wall", "-Wextra", "-Wpedantic", "-Werror", "-g", "-pthread", *flags, "-I", CRATE]
+            self.assertEqual(output_of("g++", *words, "-o", to, source, self.library, seconds=SECONDS), (0, ""))
+            self.assertEqual(output_of(*by, to, seconds=SECONDS), (0, ""))
+
+    def test_owners(self):
+        self.owns(["-fsanitize=address,undefined"])
+
+    @needs.needs("valgrind")
+    def test_owners_under_helgrind(self):
+        self.owns([], *HELGRIND)
+
+    def test_answers_that_are_no_bool(self):
+        """A verifier that returns a number is not compiled."""
+        for answer, is_compiled in (("true", True), ("-1", False), ('"no"', False)):
+            text = f"""#include <spki.hpp>
+                       void asks(spki::asked &asked) {{ asked.verify([](const spki::signature &) {{ return {answer}; }}); }}"""
+            status, _ = output_of("g++", "-std=c++17", "-fsyntax-only", "-I", CRATE, "-x", "c++", "-", text=text, seconds=SECONDS)
+            self.assertEqual(status == 0, is_compiled, answer)
+
+
+@needs.needs("cargo")
+class InRust(Binding):
+    """The crate in Rust."""
+
+    def does(self, *words, given=None):
+        """What cargo writes, which must end well."""
+        done = cargo(self.folder, words, given)
+        self.assertEqual(done.returncode, 0, f"cargo {' '.join(words)}: {(done.stdout + done.stderr).decode(errors='replace')[-4000:]}")
+        return done.stdout
+
+    def test_crate(self):
+        """The tests of the crate pass."""
+        self.does("test", "--quiet", "--workspace")
+
+    def test_package(self):
+        """Both crates are packed and built from their packages, without a network."""
+        with tempfile.TemporaryDirectory() as room:
+            for name, *words in (["spki-sys"], ["spki", "--config", 'patch.crates-io.spki-sys.path="spki-sys"']):
+                self.does("package", "--quiet", "--allow-dirty", "--target-dir", room, "-p", name, *words)
+            packed = {os.path.basename(path) for path in glob.glob(os.path.join(room, "package", "*.crate"))}
+            self.assertEqual(packed, {f"{name}-{text_of('VERSION').strip()}.crate" for name in ("spki", "spki-sys")})
+
+    def test_documents(self):
+        self.does("doc", "--quiet", "--workspace", "--no-deps")
+
+    @needs.needs("cargo-clippy")
+    def test_lints(self):
+        self.does("clippy", "--quiet", "--workspace", "--all-targets", "--", "-D", "warnings")
+
+    @needs.needs("cargo-fmt")
+    def test_layout(self):
+        self.does("fmt", "--all", "--check")
+        self.does("fmt", "--check", "--manifest-path", os.path.join("spki-serde", "Cargo.toml"))
+
+    def test_questions(self):
+        asked = asked_of(self.program)
+        lines = strings_in(self.does("run", "--quiet", "--example", "asked", given=b"".join(map(framed, asked))))
+        fault = otherwise(asked, [line + b"\n" for line in lines])
+        self.assertEqual(fault, "", fault)
+
+    @needs.needs("/usr/share/cargo/registry/serde_json-1.*")
+    def test_serde(self):
+        """The tests of the crate for serde pass, with the crates that Debian has."""
+        with tempfile.TemporaryDirectory() as room:
+            crates = shutil.copytree(RUST, os.path.join(room, "rust"), ignore=shutil.ignore_patterns("out", ".cargo"))
+            with open(os.path.join(room, "config.toml"), "w", encoding="ascii") as file:
+                file.write('net.offline = true\n[source]\ncrates-io.replace-with = "debian"\ndebian.directory = "/usr/share/cargo/registry"\n')
+            settings = {**os.environ, "CARGO_HOME": room, "CARGO_INCREMENTAL": "0", "CARGO_PROFILE_DEV_DEBUG": "0", "SPKI_LIB_DIR": self.folder}
+            status, said = output_of("cargo", "test", "--quiet", cwd=os.path.join(crates, "spki-serde"), env=settings, seconds=SECONDS)
+            self.assertEqual(status, 0, said)
+
+    @needs.needs("valgrind")
+    def test_threads_under_helgrind(self):
+        """Threads that decide by one guard and one question, and end them, do not meet in memory without order."""
+        self.does("build", "--quiet", "--example", "threads")
+        words = [*HELGRIND, f"--suppressions={TESTS}/programs/rust.supp", os.path.join(RUST, "out", "debug", "examples", "threads")]
+        met = output_of(*words, seconds=SECONDS)
+        self.assertEqual(met, (0, "400 granted\n"))
+
+    @needs.needs("openssl", "import cryptography")
+    def test_example(self):
+        self.does("build", "--quiet", "--example", "decide")
+        self.decides(os.path.join(RUST, "out", "debug", "examples", "decide"))
+
+    def builds(self, room, **settings):
+        """Whether the part that links the library is built with these settings, and what is said."""
+        whole = {name: value for name, value in os.environ.items() if not name.startswith(("SPKI_", "PKG_CONFIG"))}
+        return output_of("cargo", "build", "--quiet", "-p", "spki-sys", cwd=RUST, seconds=SECONDS,
+                         env={**whole, "CARGO_TARGET_DIR": room, "CARGO_NET_OFFLINE": "true", **settings})
+
+    def test_folders_without_a_library(self):
+        """A folder without a library, and a library that pkg-config does not know, end the build."""
+        with tempfile.TemporaryDirectory() as room, tempfile.TemporaryDirectory() as empty:
+            for settings, words in (({"SPKI_LIB_DIR": empty}, f"there is no libspki_c.a or libspki_c.so in {empty}"),
+                                    ({"SPKI_LIB_DIR": empty, "SPKI_SHARED": "1"}, f"there is no libspki_c.so in {empty}"),
+                                    ({"SPKI_LIB_DIR": "."}, "SPKI_LIB_DIR must be a whole path"),
+                                    ({"PKG_CONFIG_LIBDIR": empty}, "libspki_c is not found"), ({"PKG_CONFIG": "/nowhere"}, "/nowhere")):
+                status, said = self.builds(room, **settings)
+                self.assertEqual((status != 0, words in said), (True, True), f"{settings}: {said}")
+            self.assertEqual(self.builds(room, SPKI_LIB_DIR=self.folder), (0, ""))
+            for name in ("libspki_c.a", "libspki_c.so"):
+                os.symlink(os.path.join(self.folder, name), os.path.join(empty, name))
+            self.assertEqual(self.builds(room, SPKI_LIB_DIR=empty, SPKI_SHARED="1"), (0, ""))
+
+    @needs.needs("pkg-config")
+    def test_versions_of_pkg_config(self):
+        """A library that pkg-config knows is linked if it has the version of the crate, and not if it has another one."""
+        with tempfile.TemporaryDirectory() as room:
+            for version, is_built in ((text_of("VERSION").strip(), True), ("0.1.0", False), ("0.3.0", False), ("0.0.9", False)):
+                folder = os.path.join(room, version)
+                os.mkdir(folder)
+                with open(os.path.join(folder, "spki.pc"), "w", encoding="ascii") as file:
+                    file.write(f"Name: spki\nDescription: spki\nVersion: {version}\nLibs: -L{self.folder} -lspki_c\n")
+                status, said = self.builds(room, PKG_CONFIG_PATH=folder)
+                self.assertEqual(status == 0, is_built, f"{version}: {said}")
+
+    @needs.needs("pkg-config")
+    def test_another_target(self):
+        """For another target a library of its system is linked, and none of the host."""
+        with tempfile.TemporaryDirectory() as room:
+            self.assertEqual(self.builds(room, SPKI_LIB_DIR=self.folder), (0, ""))
+            script, = glob.glob(os.path.join(room, "debug", "build", "spki-sys-*", "build-script-build"))
+            system = os.path.join(room, "system")
+            folder = os.path.join(system, "usr", "lib")
+            os.makedirs(folder)
+            shutil.copy(self.library, os.path.join(folder, "libspki_c.a"))
+            with open(os.path.join(folder, "spki.pc"), "w", encoding="ascii") as file:
+                file.write(f"Name: spki\nDescription: spki\nVersion: {text_of('VERSION').strip()}\nLibs: -L/usr/lib -lspki_c\n")
+            for end in ("", "_armv7-unknown-linux-gnu", "_armv7_unknown_linux_gnu"):
+                settings = {f"PKG_CONFIG_SYSROOT_DIR{end}": system, f"PKG_CONFIG_LIBDIR{end}": folder}
+                for target, more, is_linked in (("armv7-unknown-linux-gnu", settings, True), ("armv7-unknown-linux-gnu", {}, False)):
+                    whole = {"PATH": os.environ["PATH"], "HOST": "x86_64-unknown-linux-gnu", "TARGET": target, **more}
+                    status, said = output_of(script, env=whole)
+                    met = (status == 0, f"rustc-link-search=native={folder}\n" in said)
+                    self.assertEqual(met, (is_linked, is_linked), said)

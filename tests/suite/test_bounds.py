@@ -1,0 +1,51 @@
+"""The bounds that `bench/slowest.py` measures are those of docs/PERFORMANCE.md, its named texts are as large as they say, and its search makes the
+same texts from the same seed."""
+import os
+import random
+import sys
+import unittest
+from typing import Any
+
+from harness.support import BENCH, loaded, text_of
+
+sys.path.append(BENCH)
+
+
+class Bounds(unittest.TestCase):
+    """The table of bounds, and the texts."""
+
+    slowest: Any
+
+    @classmethod
+    def setUpClass(cls) -> None:
+        cls.slowest = loaded(os.path.join(BENCH, "slowest.py"))
+
+    def test_table(self) -> None:
+        """The page has exactly the bounds of the bench."""
+        section = text_of("docs/PERFORMANCE.md").split("## The texts that take longest\n")[1].split("\n## ")[0]
+        table = [line for line in section.splitlines() if line.startswith("| ")]
+        self.assertEqual(table, ["| Call | Time | Memory |", *self.slowest.rows()])
+        self.assertIn(f"For each GB that is written a command takes {self.slowest.SECONDS_AN_OCTET * 1e9:g} s more.", section)
+
+    def test_named_texts(self) -> None:
+        """Each named text is one of a call, and none is larger than the call allows."""
+        for named in self.slowest.NAMED:
+            calls = [call for call in self.slowest.CALLS if call.what.startswith(named.words)]
+            self.assertGreaterEqual(len(calls), len(named.words), named.what)
+            for call in calls[:1]:
+                listed = min(named.listed, call.listed if call.word == "intersect" else 4096)
+                made = self.slowest.sized(call, named.recipe, listed, named.asked)
+                self.assertLessEqual(len(made.list_text()), listed, named.what)
+                self.assertLessEqual(sum(map(len, made.parts()[1:])), min(call.asked, named.asked), named.what)
+
+    def test_the_search_is_repeated(self) -> None:
+        """The same seed changes a recipe in the same way."""
+        recipes = sys.modules["recipes"]
+        met = []
+        for _ in range(2):
+            chance, recipe = random.Random("seed"), self.slowest.NAMED[0].recipe
+            for _ in range(50):
+                recipe = recipes.changed(chance, recipe)
+            met.append(recipe)
+        self.assertEqual(met[0], met[1])
+        self.assertNotEqual(met[0], self.slowest.NAMED[0].recipe)

@@ -1,0 +1,106 @@
+"""The build cache of docs/GUIDE.md in C, Rust, Python and Go: each serves Bob, to whom Alice's certificate gives a part of her right, and answers the
+same lines. The lines of each are counted without empty ones."""
+import os
+import subprocess
+import sys
+import unittest
+from typing import TYPE_CHECKING
+
+from harness import built, golang, needs
+from harness.support import EXAMPLES, TOP, canonical, room_for
+
+if TYPE_CHECKING:
+    from spki_cert_tool.sexp import Value
+
+SECONDS = 1800
+CRATE, RUST, PYTHON = (os.path.join(TOP, *words) for words in (["crates", "spki_c"], ["bindings", "rust"], ["bindings", "python"]))
+# The files, and the most lines that each may have.
+FILES = {os.path.join(EXAMPLES, "c", "cache.c"): 80, os.path.join(RUST, "examples", "cache.rs"): 60, os.path.join(PYTHON, "examples", "cache.py"): 25,
+         os.path.join(golang.MODULE, "examples", "cache", "main.go"): 45}
+# What Bob sends and is answered. His right ends at /builds/, for reading and writing; a path that has two names is no request.
+LINES = [("read /builds/a", "nothing is there"), ("write /builds/a octets of a", "written 11"), ("read /builds/a", "octets of a"),
+         ("read /other", "denied"), ("write /secret x", "denied"), ("read /builds/../secret", "denied"), ("read /builds/./a", "denied"),
+         ("read //builds/a", "denied"), ("read /builds/", "denied"), ("read builds/a", "denied"), ("delete /builds/a", "denied"), ("", "denied"),
+         ("read", "denied"), ("read /builds/a", "octets of a")]
+
+
+@needs.needs(*needs.LIBRARY, "import cryptography")
+class Caches(built.OfLibrary):
+    """Each cache."""
+
+    def setUp(self) -> None:
+        self.room = room_for(self)
+
+    def serves(self, *words: str) -> None:
+        """A cache answers Bob's lines, denies all to Carol, and all to Bob if the signature is another one."""
+        from spki_cert_tool import keys
+        alice, bob, carol = (keys.FileSigner(keys.new_private(kind)) for kind in (keys.P256, keys.ED25519, keys.ED25519))
+        issuer = keys.principal_of(alice.key)
+        prefix: "Value" = [b"*", b"prefix", b"/builds/"]
+        acl: "Value" = [b"acl", [b"entry", issuer, [b"propagate"], [b"tag", [b"cache"]]]]
+        tag: "Value" = [b"tag", [b"cache", [b"*", b"set", b"read", b"write"], prefix]]
+        certificate: list["Value"] = [b"cert", [b"issuer", issuer], [b"subject", bob.key], tag]
+        value, other = alice.sign(canonical(certificate)), alice.sign(canonical([*certificate, [b"propagate"]]))
+        for name, holder, shown in (("bob", bob, value), ("carol", carol, value), ("forged", bob, other)):
+            signature: "Value" = [b"signature", keys.hash_of(certificate), issuer, shown]
+            sequence: "Value" = [b"sequence", alice.key, certificate, signature]
+            met = self.answers(words, name, acl, holder.key, sequence)
+            self.assertEqual(met, [wanted if name == "bob" else "denied" for _, wanted in LINES], name)
+
+    def answers(self, words: tuple[str, ...], name: str, *parts: "Value") -> list[str]:
+        """What a cache in a folder of its own answers, of a list, a key and a sequence."""
+        folder = os.path.join(self.room, name)
+        os.makedirs(os.path.join(folder, "files", "builds"))
+        paths = [os.path.join(folder, part) for part in ("acl", "key", "sequence")]
+        for path, part in zip(paths, parts):
+            with open(path, "wb") as file:
+                file.write(canonical(part))
+        with open(os.path.join(folder, "files", "secret"), "w", encoding="ascii") as file:
+            file.write("nobody's")
+        given = [*words, paths[0], os.path.join(folder, "files"), *paths[1:]]
+        done = subprocess.run(given, input="".join(f"{line}\n" for line, _ in LINES), capture_output=True, text=True, timeout=SECONDS,
+                              env={**os.environ, "PYTHONPATH": PYTHON, "SPKI_LIBRARY": self.shared})
+        self.assertEqual((done.returncode, done.stderr), (0, ""))
+        return done.stdout.splitlines()
+
+    def made(self, *words: str, folder: str = TOP, **more: str) -> None:
+        """Runs a compiler."""
+        done = subprocess.run(words, cwd=folder, stdout=subprocess.PIPE, stderr=subprocess.STDOUT, text=True, timeout=SECONDS,
+                              env={**os.environ, **more})
+        self.assertEqual(done.returncode, 0, done.stdout)
+
+    @needs.needs("openssl/evp.h")
+    def test_c(self) -> None:
+        made, folder = os.path.join(self.room, "cache"), os.path.join(EXAMPLES, "c")
+        sources = [os.path.join(folder, name) for name in ("cache.c", "verify_openssl.c")]
+        self.made("cc", "-std=c11", "-Wall", "-Wextra", "-Wpedantic", "-Werror", "-I", CRATE, "-o", made, *sources, self.library, "-lcrypto")
+        self.serves(made)
+
+    @needs.needs("cargo", "openssl")
+    def test_rust(self) -> None:
+        folder = os.path.dirname(self.library)
+        self.made("cargo", "build", "--quiet", "--example", "cache", folder=RUST, SPKI_LIB_DIR=folder, CARGO_NET_OFFLINE="true")
+        self.serves(os.path.join(RUST, "out", "debug", "examples", "cache"))
+
+    def test_python(self) -> None:
+        self.serves(sys.executable, os.path.join(PYTHON, "examples", "cache.py"))
+
+    @needs.needs("go")
+    def test_go(self) -> None:
+        made = os.path.join(self.room, "cache")
+        self.made("go", "build", "-o", made, "./examples/cache", folder=golang.MODULE, **golang.settings(self.library))
+        self.serves(made)
+
+
+class Lengths(unittest.TestCase):
+    """The lines of each cache."""
+
+    def test_lines(self) -> None:
+        for path, most in FILES.items():
+            with open(path, encoding="utf-8") as file:
+                count = sum(bool(line.strip()) for line in file)
+            self.assertLessEqual(count, most, path)
+
+
+if __name__ == "__main__":
+    unittest.main()

@@ -1,0 +1,126 @@
+"""Compares the pages for callers, crates/*/CALLING.md, with the sources.
+
+The paragraph before a block of code ends with the block's file: the block stands word for word in that file of crates/test_callers, which
+the gate proves. Each call that the library's lib.rt passes on is named in the row of its file in the table of calls, or is a law of a file
+that has a row. Nothing else is named in a row. Each block and each call is a test."""
+import functools
+import glob
+import os
+import re
+import unittest
+from collections.abc import Callable
+
+from harness.support import TOP as ROOT, text_of
+
+CRATES = os.listdir(os.path.join(ROOT, "crates"))
+BLOCK = re.compile(r"`([\w./]+\.(?:rt|antt))`[^`\n]*\n\n```(?:rust|antt)\n(.*?)^```$", re.MULTILINE | re.DOTALL)
+ROW = re.compile(r"^\| `([\w./]+\.rt)` \| (.*) \|$", re.MULTILINE)
+HEAD = re.compile(r"(?:impl|pub trait)\b.*\{$")
+
+
+def page_of(crate):
+    path = f"crates/{crate}/CALLING.md"
+    return text_of(path) if os.path.exists(os.path.join(ROOT, path)) else ""
+
+
+def path_in(crate, path):
+    """The path of a file that a crate's page names."""
+    return f"crates/{crate}/{path}" if path.startswith("src/") else f"crates/{path}"
+
+
+# ---- the calls that a library passes on
+
+
+def owner_of(head):
+    """The type of an `impl`, or the trait."""
+    return re.match(r"(?:impl(?:<.*?>)?(?: \w+ for)?|pub trait) (\w+)", head)[1]
+
+
+def calls_in(source):
+    """The public calls of a source: each one's type or trait, where it has one, and its name."""
+    owner, is_trait = None, False
+    for line in source.splitlines():
+        if HEAD.match(line):
+            owner, is_trait = owner_of(line), line.startswith("pub trait")
+        elif line == "}":
+            owner, is_trait = None, False
+        found = re.match(r" *pub fn (\w+)" if not is_trait else r" *fn (\w+)", line)
+        if found:
+            yield owner, found[1]
+
+
+@functools.cache
+def calls_at(crate):
+    """The public calls of a crate's sources: each one's file, its type or trait, where it has one, and its name."""
+    paths = [os.path.relpath(file, ROOT) for file in glob.glob(os.path.join(ROOT, "crates", crate, "src", "*.rt"))]
+    return [(path, owner, name) for path in paths for owner, name in calls_in(text_of(path))]
+
+
+def calls_of(crate, item):
+    """The calls of an item of a crate: those of a type or a trait, wherever they stand, or the function."""
+    for path, owner, name in calls_at(crate):
+        if owner == item:
+            yield path, f"{owner}::{name}", f"{owner}::{name}"
+        elif owner is None and name == item:
+            yield path, name, name
+
+
+def calls(crate, module="lib"):
+    """The calls that a module passes on: each one's file, its name there, and its name as callers write it."""
+    path = f"crates/{crate}/src/{module}.rt"
+    source = text_of(path)
+    for origin, items in re.findall(r"^pub use ([\w:]+)::(\{[^}]*\}|\w+);", source, re.MULTILINE):
+        for item in re.findall(r"\w+", items):
+            if origin in CRATES:
+                yield from (call for call in calls(origin) if call[2].split("::")[0] == item)
+            else:
+                yield from calls_of(crate, item)
+    if module != "lib":
+        yield from ((path, name, name) for owner, name in calls_in(source) if owner is None)
+    for inner in re.findall(r"^pub mod (\w+);", source, re.MULTILINE):
+        for file, name, shown in calls(crate, inner):
+            yield file, name, shown if "::" in shown else f"{inner}::{shown}"
+
+
+def is_law(name):
+    """Whether a call is a law on definitions: its module, as callers write it, is one of laws."""
+    return re.match(r"\w*laws::", name) is not None
+
+
+# ---- a page
+
+
+def checks(crate):
+    """The checks of a page: what each is about, and what is wrong or None."""
+    page = page_of(crate)
+    blocks = BLOCK.findall(page)
+    yield "the blocks", None if 2 * len(blocks) == len(re.findall(r"^```", page, re.MULTILINE)) else "one of them has no file"
+    for path, block in blocks:
+        stands = path.startswith("crates/test_callers/") and f"\n{block}" in text_of(path)
+        yield f"the block of {path}", None if stands else "does not stand in the file"
+    rows = {path_in(crate, path): set(re.findall(r"`([^`]+)`", named)) for path, named in ROW.findall(page)}
+    passed_on = {(path, shown) for path, _, shown in calls(crate)}
+    for path, shown in sorted(passed_on):
+        is_there = path in rows and (is_law(shown) or shown in rows[path])
+        yield f"{path}: {shown}", None if is_there else "is not on the page"
+    for path, shown in sorted((path, shown) for path, named in rows.items() for shown in named):
+        yield f"{path}: {shown}", None if (path, shown) in passed_on else "is not passed on"
+
+
+class Pages(unittest.TestCase):
+    """The pages for callers."""
+
+
+def made_test(crate: str, about: str, fault: str | None) -> Callable[[Pages], None]:
+    """The test of something on a page."""
+    return lambda self: self.assertIsNone(fault, f"crates/{crate}/CALLING.md: {about} {fault}")
+
+
+def add_tests() -> None:
+    """Adds the tests of all pages."""
+    for crate in sorted(filter(page_of, CRATES)):
+        for number, (about, fault) in enumerate(checks(crate), 1):
+            setattr(Pages, f"test_calling:{crate}:{number}:{about}", made_test(crate, about, fault))
+
+
+add_tests()

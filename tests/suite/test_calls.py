@@ -1,0 +1,97 @@
+"""Runs `test_one_call`, the program that does calls of the libraries, on the rows of the tables in `calls/` and on those that
+`call_rows.py`, `guard_rows.py` and `question_rows.py` make. Each row is a test, which `tests/run calls/tags:12` runs alone; all rows of a
+class are given to one process. Where the second compiler's program is there too, which `rt ci` makes, it must answer the same."""
+import os
+import re
+import unittest
+from collections.abc import Callable, Iterable, Iterator
+
+from harness import built
+from rows import call_rows, guard_rows, question_rows, shown
+from rows.call_rows import CallRow
+
+MADE: dict[str, Callable[[], Iterator[CallRow]]] = {
+    "CutShort": call_rows.cut_short, "FailingEnds": call_rows.failing_ends, "Verifiers": guard_rows.of_verifiers,
+    "SeparateRows": guard_rows.of_separate_rows, "RevokedKeys": guard_rows.of_revoked_keys, "Questions": guard_rows.of_questions,
+    "RefusedParts": question_rows.of_refused_parts, "Strings": question_rows.of_strings, "Seconds": question_rows.of_seconds,
+    "Limits": question_rows.of_limits, "SeveralEntries": question_rows.of_several_entries}
+
+
+FAULT = re.compile(rb"\w+\(.*\): ")
+MOST_OCTETS = 1000
+# The second of two entries grants, by a certificate.
+BY_CERTIFICATE = "calls/questions:second-entry 1 (public-key (test b)):"
+
+
+def all_rows() -> dict[str, list[CallRow]]:
+    """The rows of each class."""
+    return {name.capitalize(): rows for name, rows in call_rows.tables().items()} | {name: list(make()) for name, make in MADE.items()}
+
+
+def examples() -> list[CallRow]:
+    """Of each call a row whose texts are read, and one whose texts are refused: that with the longest answer, or a grant by a certificate."""
+    found: dict[tuple[str, bool], CallRow] = {}
+    for row in (row for rows in all_rows().values() for row in rows if is_example(row)):
+        kind = row.call, FAULT.match(row.answer) is not None
+        if kind not in found or rank(row) > rank(found[kind]):
+            found[kind] = row
+    return [*found.values()]
+
+
+def rank(row: CallRow) -> tuple[bool, int]:
+    """Which of two rows is the better example."""
+    return row.place.startswith(BY_CERTIFICATE), len(row.answer)
+
+
+def is_example(row: CallRow) -> bool:
+    """Whether a row may be an example: it is short, it is not about depth, and no end or verifier of it fails by itself. The writer of `run`
+    allocates what it keeps, so a request that is refused there is a fault of writing."""
+    texts = b" ".join(row.texts)
+    is_short = row.call != "run" and len(texts) <= MOST_OCTETS
+    return is_short and not any(word in texts for word in (b"((((", b"( ( (", b"broken", b"interrupted", b"fails"))
+
+
+class OfCalls(unittest.TestCase):
+    """Tests of calls: the rows, and what the program answers to all of them."""
+
+    path = built.ONE_CALL
+    rows: dict[str, CallRow] = {}
+    answers: dict[str, bytes]
+
+    @classmethod
+    def setUpClass(cls) -> None:
+        said = call_rows.answers(built.there(cls.path), cls.rows.values())
+        cls.answers = dict(zip(cls.rows, said))
+
+    def is_answered(self, name: str) -> None:
+        """The answer to a row is the one that is wanted."""
+        row, came = self.rows[name], self.answers.get(name, b"no answer")
+        if came != row.answer:
+            texts = "\n".join(f"text   {shown(text)}" for text in row.texts)
+            self.fail(f"{row.place}: {row.call}\n{texts}\nwanted {shown(row.answer)}\ncame   {shown(came)}")
+
+
+def made_test(name: str) -> Callable[[OfCalls], None]:
+    """The test of a row."""
+    return lambda self: self.is_answered(name)
+
+
+def made_class(name: str, rows: Iterable[CallRow], path: str) -> type:
+    """The class of the tests of some rows, by the program at a path."""
+    named = {f"test_{row.place}:{row.call}": row for row in rows}
+    tests = {each: made_test(each) for each in named}
+    return type(name, (OfCalls,), {"path": path, "rows": named} | tests)
+
+
+def add_classes() -> None:
+    """Adds the classes to this module, those of the second compiler's program where it is there."""
+    rows = all_rows()
+    for ending, path in (("", built.ONE_CALL), ("BySecondCompiler", built.ONE_CALL_BY_RATTLE)):
+        if ending and not os.path.exists(path):
+            continue
+        for name, found in rows.items():
+            globals()[name + ending] = made_class(name + ending, found, path)
+            globals()[name + ending].__module__ = __name__
+
+
+add_classes()

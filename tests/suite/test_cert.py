@@ -1,0 +1,724 @@
+"""Tests `spki-cert`, the command of apps/spki-cert/: keys of ssh-keygen and openssl, signatures by files and by ssh-agent, warnings, answers,
+pictures, what is written where, and how it is installed.
+
+What is not there is skipped, with the Debian package that has it."""
+import base64
+import collections
+import contextlib
+import io
+import json
+import os
+import pty
+import random
+import re
+import shutil
+import stat
+import subprocess
+import sys
+import tempfile
+import unittest
+from unittest import mock
+
+from generators import tags as made_tags
+from generators.questions import question
+from harness import built, needs
+from harness.support import TESTS, TOP, output_of, room_for, text_of
+from model import answers, guard, tags as model_tags, values as model_values
+from rows.mistakes import MISTAKES
+from suite import test_guide
+from spki_cert_tool import arguments, asking, commands, keys, sexp, tag_words
+from spki_cert_tool.certificates import Keys, certificates_in, fault_of_signature, keys_in
+from spki_cert_tool.checking import remarks_on
+from spki_cert_tool.showing import Labels
+from spki_cert_tool.places import read_text, value_in
+
+sys.path.append(os.path.join(TOP, "bindings", "python"))
+COMMAND = os.path.join(TOP, "apps", "spki-cert", "spki-cert")
+NOW = b"2026-03-01_12:00:00"
+TYPES = {"ed25519": ["-t", "ed25519"], "rsa": ["-t", "rsa", "-b", "2048"], "p256": ["-t", "ecdsa", "-b", "256"], "p384": ["-t", "ecdsa", "-b", "384"]}
+PEM_TYPES = {"ed25519": ["ed25519"], "rsa": ["RSA", "-pkeyopt", "rsa_keygen_bits:2048"], "p256": ["EC", "-pkeyopt", "ec_paramgen_curve:P-256"],
+             "p384": ["EC", "-pkeyopt", "ec_paramgen_curve:P-384"]}
+TAG = "(packages (* set read write) (* prefix /web/))"
+Reason = collections.namedtuple("Reason", "entry item word")
+FILES, SECONDS_TO_CHECK, SECONDS_TO_START = 1000, 5, 0.25
+# What a program takes that hangs.
+SECONDS = 1800
+MANUAL = text_of("docs/spki-cert.1")
+
+
+needs_ssh = needs.needs("ssh-keygen")
+
+
+def quiet(*words, **settings):
+    return subprocess.run(words, check=True, stdout=subprocess.PIPE, stderr=subprocess.PIPE, **settings).stdout
+
+
+def ended_by(call):
+    """The status with which a call ends the program."""
+    try:
+        return call()
+    except SystemExit as end:
+        return end.code
+
+
+def text_in(path):
+    with open(path, "rb") as file:
+        return file.read()
+
+
+@needs.needs("import cryptography")
+class Case(unittest.TestCase):
+    """A test in an empty folder."""
+
+    def setUp(self):
+        self.room = self.enterContext(tempfile.TemporaryDirectory()) if sys.version_info >= (3, 11) else self.entered()
+        self.settings = dict(os.environ)
+        for name in ("SSH_AUTH_SOCK", "SPKI_LABELS"):
+            self.settings.pop(name, None)
+
+    def entered(self):
+        return room_for(self)
+
+    def at(self, name):
+        return os.path.join(self.room, name)
+
+    def write(self, name, text):
+        with open(self.at(name), "wb") as file:
+            file.write(text.encode() if isinstance(text, str) else text)
+
+    def done(self, *words, wanted=0, **more):
+        """What the command writes on both streams in the folder. It must end with a status. It runs in this process, which takes less time."""
+        said, before = io.TextIOWrapper(io.BytesIO(), write_through=True), os.getcwd()
+        os.chdir(self.room)
+        try:
+            with mock.patch.dict(os.environ, {**self.settings, **more}, clear=True), mock.patch.object(sys, "argv", ["spki-cert", *words]), \
+                    contextlib.redirect_stdout(said), contextlib.redirect_stderr(said):
+                status = ended_by(commands.main)
+        finally:
+            os.chdir(before)
+        text = said.buffer.getvalue().decode()
+        self.assertEqual(status, wanted, text)
+        return text
+
+    def ssh_key(self, name, kind="ed25519", passphrase=""):
+        quiet("ssh-keygen", "-q", *TYPES[kind], "-N", passphrase, "-C", name, "-f", self.at(name))
+
+    def pem_key(self, name, kind, *encryption):
+        quiet("openssl", "genpkey", "-algorithm", *PEM_TYPES[kind], *encryption, "-out", self.at(name))
+
+    def verified(self, name):
+        """The certificates of a sequence. Each must be signed by its issuer, as `cryptography` verifies."""
+        sequence = value_in(text_in(self.at(name))).value
+        found = certificates_in(sequence)
+        for each in found:
+            self.assertIsNone(fault_of_signature(each, Keys(keys_in(sequence))), name)
+        return found
+
+
+class OfKeys(Case):
+    @needs_ssh
+    def test_keys_of_openssh_are_read_and_written(self):
+        for kind in TYPES:
+            self.ssh_key(kind, kind)
+            public = self.done("key", f"{kind}.pub")
+            self.assertEqual(public, self.done("key", kind))
+            self.write("key.sexp", public)
+            self.assertEqual(public, self.done("key", "key.sexp"))
+            self.write("back.pub", keys.openssh_line(keys.public_of(value_in(public.encode()).value)))
+            shown = [quiet("ssh-keygen", "-l", "-f", self.at(name)).split()[:2] for name in (f"{kind}.pub", "back.pub")]
+            self.assertEqual(*shown)
+
+    @needs.needs("openssl")
+    def test_keys_of_pem_are_read_and_written(self):
+        from cryptography.hazmat.primitives.serialization import Encoding, PublicFormat
+        for kind in PEM_TYPES:
+            self.pem_key("key.pem", kind)
+            public_pem = quiet("openssl", "pkey", "-in", self.at("key.pem"), "-pubout")
+            self.write("public.pem", public_pem)
+            public = self.done("key", "public.pem")
+            self.assertEqual(public, self.done("key", "key.pem"))
+            back = keys.public_of(value_in(public.encode()).value).public_bytes(Encoding.PEM, PublicFormat.SubjectPublicKeyInfo)
+            self.assertEqual(back, public_pem)
+
+    @needs.needs("openssl")
+    def test_pkcs1_is_read(self):
+        self.pem_key("key.pem", "rsa")
+        quiet("openssl", "rsa", "-traditional", "-in", self.at("key.pem"), "-out", self.at("old.pem"))
+        self.assertIn(b"BEGIN RSA PRIVATE KEY", text_in(self.at("old.pem")))
+        self.assertEqual(self.done("key", "old.pem"), self.done("key", "key.pem"))
+
+    def test_private_keys_of_libgcrypt_are_read(self):
+        from spki_verify import number
+        secret = keys.new_private("p256")
+        public = keys.key_of(secret.public_key())
+        private = [b"private-key", [*public[1], [b"d", number(secret.private_numbers().private_value)]]]
+        self.write("key", sexp.laid_out(private))
+        self.assertEqual(value_in(self.done("key", "key").encode()).value, public)
+
+    @needs_ssh
+    def test_numbers_have_the_form_of_libgcrypt(self):
+        self.ssh_key("key", "rsa")
+        key = value_in(self.done("key", "key.pub").encode()).value
+        self.assertEqual([it[0] for it in key[1][1:]], [b"n", b"e"])
+        self.assertEqual((len(key[1][1][1]), key[1][1][1][0], key[1][2][1]), (257, 0, b"\1\0\1"))
+
+    def test_keys_that_are_not_used_are_named(self):
+        for pem, words in {"rsa": "1024 bits", "p521": "P-256 or P-384"}.items():
+            self.write("key.pem", self.weak(pem))
+            self.assertIn(words, self.done("key", "key.pem", wanted=2))
+        self.write("key.pem", "nothing")
+        self.assertIn("must be `(public-key ..)`", self.done("key", "key.pem", wanted=2))
+
+    def weak(self, kind):
+        from cryptography.hazmat.primitives.asymmetric import ec, rsa
+        from cryptography.hazmat.primitives.serialization import Encoding, PublicFormat
+        made = rsa.generate_private_key(65537, 1024) if kind == "rsa" else ec.generate_private_key(ec.SECP521R1())
+        return made.public_key().public_bytes(Encoding.PEM, PublicFormat.SubjectPublicKeyInfo)
+
+    def test_another_form_of_a_key_does_not_verify(self):
+        signer = keys.FileSigner(keys.new_private(keys.RSA))
+        value, key = signer.sign(b"x"), signer.key
+        self.assertTrue(keys.verifies(key, b"x", value))
+        shorter = [key[0], [key[1][0], [b"n", key[1][1][1][1:]], key[1][2]]]
+        self.assertFalse(keys.verifies(shorter, b"x", value))
+        for wrong in (b"", [b"sig-val"], [b"sig-val", [b"rsa", [b"s", b""]]], [b"sig-val", [b"eddsa", [b"r", bytes(32)], [b"s", bytes(32)]]]):
+            self.assertFalse(keys.verifies(key, b"x", wrong))
+
+    @needs_ssh
+    def test_a_new_key_is_read_by_ssh_keygen(self):
+        for kind in keys.KINDS:
+            self.done("key", "new", "--no-passphrase", "--type", kind, kind)
+            self.assertEqual(stat.S_IMODE(os.stat(self.at(kind)).st_mode), 0o600)
+            public = quiet("ssh-keygen", "-y", "-f", self.at(kind)).split()[:2]
+            self.assertEqual(public, text_in(self.at(f"{kind}.pub")).split()[:2])
+        self.done("key", "new", "--no-passphrase", "--pem", "pem")
+        self.assertEqual(self.done("key", "pem"), self.done("key", "pem.pub"))
+        self.assertIn(b"BEGIN PRIVATE KEY", text_in(self.at("pem")))
+        before = text_in(self.at("rsa"))
+        self.assertIn("there already", self.done("key", "new", "--no-passphrase", "rsa", wanted=2))
+        self.assertEqual(text_in(self.at("rsa")), before)
+
+    @needs_ssh
+    def test_json(self):
+        self.ssh_key("a")
+        row, = json.loads(self.done("key", "--json", "a.pub"))
+        self.assertEqual((row["algorithm"], row["hash"]), ("Ed25519", self.done("key", "--hash", "a").strip()))
+
+
+class OfPassphrases(Case):
+    def on_a_terminal(self, words, typed):
+        """What the command writes on a terminal, where a passphrase is typed as often as it is asked for."""
+        child, terminal = pty.fork()
+        if child == 0:
+            os.chdir(self.room)
+            os.execve(sys.executable, [sys.executable, COMMAND, *words], self.settings)
+        said, asked = b"", 0
+        with contextlib.suppress(OSError):
+            while octets := os.read(terminal, 4096):
+                said += octets
+                if said.count(b"Passphrase") > asked and said.rstrip().endswith(b":"):
+                    asked += 1
+                    os.write(terminal, typed + b"\n")
+        os.close(terminal)
+        return os.waitstatus_to_exitcode(os.waitpid(child, 0)[1]), said.decode()
+
+    @needs.needs("openssl")
+    def test_an_encrypted_key_is_asked_for(self):
+        self.pem_key("key.pem", "ed25519", "-aes-256-cbc", "-pass", "pass:sesame")
+        self.write("b.sexp", sexp.laid_out(keys.FileSigner(keys.new_private("ed25519")).key))
+        words = ("sign", "--by", "key.pem", "--to", "b.sexp", "--tag", TAG, "--days", "30", "-o", "c.sexp")
+        status, said = self.on_a_terminal(words, b"open")
+        self.assertEqual((status, os.path.exists(self.at("c.sexp"))), (2, False), said)
+        self.assertIn("this is not the passphrase of the key", said)
+        status, said = self.on_a_terminal(words, b"sesame")
+        self.assertEqual((status, "sesame" in said), (0, False), said)
+        self.verified("c.sexp")
+
+    @needs.needs("openssl")
+    def test_without_a_terminal_it_is_refused(self):
+        self.pem_key("key.pem", "ed25519", "-aes-256-cbc", "-pass", "pass:sesame")
+        done = subprocess.run([sys.executable, COMMAND, "key", "key.pem"], cwd=self.room, stdin=subprocess.DEVNULL, capture_output=True,
+                              text=True, start_new_session=True)
+        self.assertEqual((done.returncode, done.stdout), (2, ""))
+        self.assertIn("there is no terminal", done.stderr)
+        done = subprocess.run([sys.executable, COMMAND, "key", "new", "new"], cwd=self.room, capture_output=True, text=True, start_new_session=True)
+        self.assertIn("for a new key --no-passphrase", done.stderr)
+
+    @needs_ssh
+    @needs.needs("import bcrypt")
+    def test_encrypted_keys_of_openssh(self):
+        status, said = self.on_a_terminal(("key", "new", "made"), b"sesame")
+        self.assertEqual(status, 0, said)
+        self.assertTrue(quiet("ssh-keygen", "-y", "-P", "sesame", "-f", self.at("made")).startswith(b"ssh-ed25519"))
+        self.ssh_key("theirs", passphrase="sesame")
+        status, said = self.on_a_terminal(("key", "theirs"), b"sesame")
+        self.assertIn("(public-key", said)
+
+
+@needs_ssh
+class OfCertificates(Case):
+    def setUp(self):
+        super().setUp()
+        self.ssh_key("alice")
+        self.ssh_key("bob")
+
+    def sign(self, *words, by="alice", to="bob.pub", tag=TAG, wanted=0, **more):
+        return self.done("sign", "--by", by, "--to", to, "--tag", tag, *words, wanted=wanted, **more)
+
+    def test_each_kind_of_key_signs(self):
+        for kind in TYPES:
+            self.ssh_key(kind, kind)
+            self.sign("--days", "30", "--force", "-o", "c.sexp", by=kind)
+            each, = self.verified("c.sexp")
+            self.assertEqual(each.terms.tag, value_in(TAG.encode()).value)
+
+    def test_the_agent_signs(self):
+        agent = quiet("ssh-agent", "-s").decode()
+        agent_settings = dict(part.split("=", 1) for part in agent.replace(";", "\n").splitlines() if "=" in part)
+        self.addCleanup(os.kill, int(agent_settings["SSH_AGENT_PID"]), 15)
+        socket = {"SSH_AUTH_SOCK": agent_settings["SSH_AUTH_SOCK"]}
+        self.assertIn("does not hold it", self.sign("--days", "30", by="alice.pub", wanted=2, **socket))
+        for kind in TYPES:
+            self.ssh_key(kind, kind)
+            quiet("ssh-add", "-q", self.at(kind), env={**os.environ, **socket})
+            os.remove(self.at(kind))
+            self.sign("--days", "30", "--force", "-o", "c.sexp", by=f"{kind}.pub", **socket)
+            self.assertEqual(len(self.verified("c.sexp")), 1)
+        self.assertIn("SSH_AUTH_SOCK is not set", self.sign("--days", "30", by="alice.pub", wanted=2))
+
+    def test_subjects(self):
+        digest = self.done("key", "--hash", "bob.pub").strip()
+        self.sign("--days", "1", "-o", "hash.sexp", to=digest)
+        self.sign("--days", "1", "--named", "team", "-o", "name.sexp")
+        self.done("sign", "--by", "alice", "--named", "builders", "--tag", TAG, "--days", "1", "-o", "own.sexp")
+        subjects = [sexp.on_one_line(self.verified(name)[0].terms.subject) for name in ("hash.sexp", "name.sexp", "own.sexp")]
+        bob, alice = (self.done("key", name).strip() for name in ("bob.pub", "alice.pub"))
+        self.assertEqual(subjects, [digest, f"(name {bob} team)", f"(name {alice} builders)"])
+        self.assertIn("needs --to", self.done("sign", "--by", "alice", "--tag", TAG, "--days", "1", wanted=2))
+
+    def test_names_are_defined(self):
+        self.done("name", "--by", "alice", "--name", "builders", "--to", "bob.pub", "--days", "30", "-o", "c.sexp")
+        each, = self.verified("c.sexp")
+        self.assertEqual((each.terms.name, each.terms.tag), (b"builders", None))
+
+    def test_what_is_probably_a_mistake_needs_yes(self):
+        for words, tag, said in [
+                ((), TAG, "it has no end"), (("--days", "1"), "(*)", "every request"),
+                (("--days", "1"), "(packages (read write))", "(* set read write)"),
+                (("--days", "1"), "(packages read /web/*)", "(* prefix /web/)"), (("--until", "2020-01-01"), TAG, "it ended on 2020"),
+                (("--from", "2099-01-02", "--until", "2099-01-01"), TAG, "never valid"),
+                (("--days", "1", "--try", "packages", "delete", "/web/x"), TAG, "member 2 of the request is `delete`")]:
+            with self.subTest(said):
+                self.assertIn(said, self.sign(*words, "-o", "c.sexp", tag=tag, wanted=4))
+                self.assertFalse(os.path.exists(self.at("c.sexp")))
+                self.sign(*words, "--yes", "-o", "c.sexp", tag=tag)
+                self.verified("c.sexp")
+                os.remove(self.at("c.sexp"))
+
+    def test_what_a_service_refuses_is_refused(self):
+        for tag, said in [("(* prefx a)", "line 1, column 4"), ("(packages ()", "a `)` is missing"), ("(packages ())", "EmptyList"), ("~", "Bad")]:
+            self.assertIn(said, self.sign("--days", "1", tag=tag, wanted=2))
+        for words in (("--until", "2026"), ("--until", "2026-02-31"), ("--until", "2026-1-1_0:0:0"), ("--days", "9999999")):
+            self.assertIn("spki-cert: ", self.sign(*words, wanted=2))
+        self.assertIn("No such file", self.sign("--days", "1", to="nobody.pub", wanted=2))
+
+    def test_entries_are_written(self):
+        """An entry alone, in a new list, and at the end of one whose text stays."""
+        self.assertTrue(self.done("entry", "--to", "bob.pub", "--tag", TAG).startswith("(entry"))
+        said = self.done("entry", "--to", "alice.pub", "--tag", TAG, "--propagate", "--acl", "acl.sexp")
+        self.assertEqual(said, "made acl.sexp\nentries added: 1\n")
+        before = text_in(self.at("acl.sexp")).replace(b"(tag", b"\n\n  (tag")
+        self.write("acl.sexp", before)
+        self.done("entry", "--to", "bob.pub", "--named", "team", "--tag", TAG, "--days", "9", "--comment", "the team", "--acl", "acl.sexp")
+        self.assertTrue(text_in(self.at("acl.sexp")).startswith(before.rstrip()[:-1]))
+        self.done("check", "acl.sexp")
+        os.chmod(self.at("acl.sexp"), 0o640)
+        os.symlink("acl.sexp", self.at("link.sexp"))
+        self.done("entry", "--to", "bob.pub", "--tag", TAG, "--acl", "link.sexp")
+        self.assertEqual((os.path.islink(self.at("link.sexp")), stat.S_IMODE(os.stat(self.at("acl.sexp")).st_mode)), (True, 0o640))
+        said = self.done("show", "--labels", ".", "acl.sexp")
+        for words in ("entry 1  the list -> alice, may delegate", "entry 2  the list -> team of bob, may not delegate", "comment: 'the team'"):
+            self.assertIn(words, said)
+        self.write("acl.tsexp", "{" + base64.b64encode(sexp.canonical(value_in(before).value)).decode() + "}")
+        self.done("entry", "--to", self.done("key", "--hash", "bob.pub"), "--tag", TAG, "--acl", "acl.tsexp")
+        self.assertEqual(len(value_in(text_in(self.at("acl.tsexp"))).value), 3)
+
+    def test_entries_are_removed(self):
+        """The entries for a subject, by its key or its hash, and no other: what is around them stays."""
+        for words in (("alice.pub",), ("bob.pub",), ("bob.pub", "--named", "team"), ("bob.pub",), ("alice.pub",)):
+            self.done("entry", "--to", *words, "--tag", TAG, "--yes", "--acl", "acl.sexp")
+        said = self.done("entry", "--remove", "--to", self.done("key", "--hash", "bob.pub"), "--acl", "acl.sexp")
+        self.assertEqual(said, f"entry 2, {TAG}: removed\nentry 4, {TAG}: removed\nentries removed: 2\n")
+        said = self.done("show", "--labels", ".", "acl.sexp")
+        self.assertEqual(re.findall(r"-> ([\w ]+)", said), ["alice", "team of bob", "alice"])
+        self.assertIn("entries removed: 0", self.done("entry", "--remove", "--to", "bob.pub", "--acl", "acl.sexp", wanted=1))
+        self.done("entry", "--remove", "--to", "bob.pub", "--named", "team", "--acl", "acl.sexp")
+        self.assertIn("goes with no --tag", self.done("entry", "--remove", "--to", "bob.pub", "--tag", TAG, "--acl", "acl.sexp", wanted=2))
+        self.assertIn("needs --tag", self.done("entry", "--to", "bob.pub", wanted=2))
+
+    def test_entries_need_yes_and_are_refused(self):
+        self.write("acl.sexp", "(acl)")
+        to, into = ("entry", "--to", "bob.pub"), ("--acl", "acl.sexp")
+        sha1 = f"(hash sha1 #{'00' * 20}#)"
+        for words, status, said in [
+                ((*to, "--tag", "(*)"), 4, "every request"), ((*to, "--tag", "(packages /web/*)"), 4, "(* prefix /web/)"),
+                ((*to, "--tag", TAG, "--until", "2020-01-01"), 4, "it ended on 2020"),
+                ((*to, "--tag", TAG, "--try", "packages", "delete", "x"), 4, "does not contain"),
+                (("entry", "--to", sha1, "--tag", TAG), 4, "names no key"),
+                (("entry", "--to", "(name team)", "--tag", TAG), 2, "--to KEY --named NAME"), ((*to, "--tag", "(a"), 2, "a `)` is missing")]:
+            with self.subTest(said):
+                self.assertIn(said, self.done(*words, *into, wanted=status))
+                self.assertEqual(text_in(self.at("acl.sexp")), b"(acl)")
+        self.done(*to, "--tag", "(*)", "--yes", *into)
+        self.write("acl.sexp", "(acl")
+        self.assertIn("acl.sexp: refused", self.done(*to, "--tag", TAG, *into, wanted=2))
+
+    def test_no_file_is_half_written(self):
+        self.write("c.sexp", "before")
+        os.mkdir(self.at("folder"))
+        self.assertIn("nothing was written", self.sign("--days", "1", "-o", "folder", wanted=2))
+        self.assertIn("nothing was written", self.sign("--days", "1", "-o", "none/c.sexp", wanted=2))
+        self.sign("-o", "c.sexp", wanted=4)
+        self.assertEqual(text_in(self.at("c.sexp")), b"before")
+        self.assertEqual([name for name in os.listdir(self.room) if name.startswith(".spki")], [])
+
+    def test_show_says_who_and_until_when(self):
+        self.sign("--yes", "--until", "2026-06-30", "--propagate", "--comment", "the web", "-o", "c.sexp")
+        said = self.done("show", "--labels", ".", "--at", "2026-03-01", "c.sexp")
+        for words in ("alice -> bob", "may delegate", "until 2026-06-30_23:59:59: valid now", f"may {TAG}", "the web", "the signature is valid"):
+            self.assertIn(words, said)
+        self.assertIn("ENDED", self.done("show", "--at", "2027-01-01", "c.sexp"))
+        row, = json.loads(self.done("show", "--json", "--labels", "bob.pub", "c.sexp"))[0]["shows"]
+        self.assertEqual((row["subject"], row["delegates"], row["fault"]), ("bob", True, None))
+        changed = text_in(self.at("c.sexp")).replace(b"(propagate)", b"")
+        self.write("changed.sexp", changed)
+        self.assertIn("DigestDiffers", self.done("show", "changed.sexp"))
+        self.write("c.tsexp", self.done("show", "--braces", "c.sexp"))
+        self.assertEqual(*(value_in(text_in(self.at(name))).value for name in ("c.sexp", "c.tsexp")))
+        self.done("show", "--svg", "c.svg", "c.sexp")
+        self.assertIn(b"(* prefix /web/))", text_in(self.at("c.svg")))
+
+
+class OfMistakes(Case):
+    def test_each_leads_to_its_place(self):
+        self.assertGreaterEqual(len(MISTAKES), 75)
+        for what, name, text, place, is_refused, words in MISTAKES:
+            with self.subTest(what):
+                self.write(name, text)
+                said = remarks_on(self.at(name), NOW)[1]
+                self.assertEqual([(it.line, it.column, it.is_refused) for it in said[:1]], [(*place, is_refused)], said)
+                self.assertIn(words, said[0].text)
+
+    def test_what_is_refused_is_what_the_model_refuses(self):
+        for what, name, text, _, is_refused, _ in MISTAKES:
+            if name == "acl.sexp":
+                with self.subTest(what), self.assertRaises(guard.Refused) if is_refused else contextlib.nullcontext():
+                    guard.open_guard(text.encode() if isinstance(text, str) else text, True, guard.USUAL)
+
+    def test_a_folder(self):
+        os.mkdir(self.at("folder"))
+        self.write("folder/acl.sexp", "(acl)")
+        self.write("folder/notes.txt", "(acl")
+        self.write("folder/private.pem", self.private())
+        os.chmod(self.at("folder/private.pem"), 0o644)
+        said = self.done("check", "folder", wanted=1)
+        self.assertIn("folder/private.pem:1:1: a private key that others may read: its mode is 644", said)
+        self.assertIn("2 files, 0 refused, 1 remarks; 1 other files left out", said)
+        os.chmod(self.at("folder/private.pem"), 0o600)
+        self.done("check", "folder")
+        self.write("folder/acl.sexp", "(acl")
+        self.assertIn("folder/acl.sexp:1:5: refused: form Short", self.done("check", "folder", wanted=2))
+        self.assertTrue(json.loads(self.done("check", "--json", "folder/acl.sexp", wanted=2))["remarks"][0]["refused"])
+
+    def private(self):
+        from cryptography.hazmat.primitives.serialization import Encoding, NoEncryption, PrivateFormat
+        return keys.new_private("ed25519").private_bytes(Encoding.PEM, PrivateFormat.PKCS8, NoEncryption())
+
+    def test_a_thousand_files_are_checked_in_time(self):
+        signer = keys.FileSigner(keys.new_private("ed25519"))
+        self.write("key.sexp", sexp.laid_out(signer.key))
+        self.write("signer", keys.file_of(signer.private, b""))
+        os.chmod(self.at("signer"), 0o600)
+        self.done("sign", "--by", "signer", "--to", "key.sexp", "--tag", TAG, "--days", "30", "--yes", "-o", "c.sexp")
+        os.mkdir(self.at("folder"))
+        for number in range(FILES):
+            shutil.copy(self.at("c.sexp"), self.at(f"folder/{number}.sexp"))
+        before = os.times()
+        quiet(sys.executable, COMMAND, "check", self.at("folder"))
+        self.assertLess(used_since(before), SECONDS_TO_CHECK)
+
+
+def used_since(before):
+    """The processor's seconds of the programs that were run since then."""
+    after = os.times()
+    return after.children_user + after.children_system - before.children_user - before.children_system
+
+
+class OfTags(Case):
+    def test_the_difference_is_that_of_the_model(self):
+        rng, met = random.Random("spki-cert"), {True: 0, False: 0}
+        for _ in range(3000):
+            request = made_tags.request(rng)
+            tag = made_tags.tag_for(request, rng)
+            try:
+                wanted = model_tags.contains(model_tags.read(tag), request)
+            except model_tags.TagFault:
+                continue
+            met[wanted] += 1
+            lacks = tag_words.lacks(sexp.read(model_values.canonical(tag)), sexp.read(model_values.canonical(request)))
+            self.assertEqual(lacks is None, wanted, f"{tag} {request} {lacks}")
+        self.assertGreater(min(met.values()), 200, met)
+
+    def test_the_first_member_that_differs_is_named(self):
+        for tag, request, words in [("(a b c)", "(a b)", "has 2 members, and the tag at least 3"), ("(a (* set b c))", "(a d)", "no member of"),
+                                    ("(a (b c))", "(a (b d))", "member 2 of member 2 of the request is `d`"), ("(a)", "a", "is the string `a`"),
+                                    ("(* range date ge \"2026-01-01_00:00:00\")", "x", "the tag has `(* range")]:
+            said = tag_words.lacks(value_in(tag.encode()).value, value_in(request.encode()).value)
+            self.assertIn(words, said)
+
+
+class OfWords(Case):
+    def test_each_reason_of_the_model_has_words(self):
+        met = set()
+        for asked in (question("spki-cert", number) for number in range(1500)):
+            if asked.command not in ("check", "explain", "reduce"):
+                continue
+            found, node = read_text(asked.text, "refused case")
+            if found[0] is None and node.head == b"case" and len(asked.text) < 20000:
+                met.update(self.word_of(asked.text, node.value))
+        self.assertLessEqual({"grants", "TagLacks", "NotTheKey", "NotIssuer", "NotAccepted"}, met)
+
+    def word_of(self, text, case):
+        """The word that is chosen for a case of the model, which must have words, and a picture."""
+        lines = answers.answer("explain", text)[1].decode().splitlines()
+        found = [re.fullmatch(r"(?:entry (\d+) )?(?:item (\d+) )?(\w+)", line) for line in lines]
+        if None in found:
+            return []
+        reasons = [Reason(*(int(it) if it else None for it in each.groups()[:2]), each[3]) for each in found]
+        answer = asking.Answer(case[3], None, reasons, answers.answer("reduce", text)[1].decode().splitlines())
+        said = list(asking.Words(asking.asked_of_case(case, Labels()), answer).lines())
+        self.assertGreaterEqual(len(said), 2, text)
+        return [answer.chosen.word]
+
+
+@needs.needs("ssh-keygen", *needs.LIBRARY)
+class OfAnswers(Case):
+    def setUp(self):
+        super().setUp()
+        self.settings["SPKI_LIBRARY"] = built.shared()
+
+    def in_the_path(self):
+        """The settings with which `spki-cert` is in the path."""
+        os.mkdir(self.at("bin"))
+        self.write("bin/spki-cert", f"#!/bin/sh\nexec '{sys.executable}' '{COMMAND}' \"$@\"\n")
+        os.chmod(self.at("bin/spki-cert"), 0o755)
+        return {**self.settings, "PATH": f"{self.at('bin')}:{os.environ['PATH']}"}
+
+    def test_the_first_certificate_of_a_page(self):
+        """From a clone, by somebody who has a key of OpenSSH. The library is the one that is tested."""
+        os.mkdir(self.at(".ssh"))
+        self.ssh_key(".ssh/id_ed25519")
+        for page in ("docs/CERTIFICATES.md", "README.md"):
+            lines = test_guide.lines_of_first_certificate(text_of(page))
+            with self.subTest(page):
+                os.makedirs(self.at(f"{page}/apps"))
+                os.symlink(os.path.join(TOP, "apps", "spki-cert"), self.at(f"{page}/apps/spki-cert"))
+                settings = {**self.settings, "HOME": self.room}
+                status, said = output_of("sh", "-e", text="\n".join(lines), cwd=self.at(page), env=settings, seconds=SECONDS)
+                self.assertEqual((status, "so entry 1 grants it" in said), (0, bool(lines)), said)
+
+    def test_the_examples_of_the_manual(self):
+        """Each command writes what the manual says."""
+        steps = list(test_guide.steps_of_manual(MANUAL.replace("\\(ga", "`")))
+        settings = {**self.in_the_path(), "PS1": ""}
+        said = output_of("sh", text="".join(test_guide.script(steps)), cwd=self.room, env=settings, seconds=SECONDS)[1]
+        met = [each.strip("\n") for each in said.split(f"{test_guide.END}\n")]
+        self.assertEqual(met, [*(answer.strip("\n") for _, _, answer in steps), ""])
+
+    def test_the_story_of_three_teams(self):
+        folder = self.at("story")
+        os.mkdir(folder)
+        path = os.path.join(TOP, "examples", "builds", "story.sh")
+        self.assertLessEqual(len(text_in(path).splitlines()), 40)
+        status, said = output_of(path, folder, env=self.in_the_path(), seconds=SECONDS)
+        self.assertEqual(status, 0, said)
+        answers = [line.split(":")[0] for line in said.splitlines() if line.startswith(("yes:", "no:"))]
+        self.assertEqual(answers, ["yes", "yes", "no", "yes", "no", "no"], said)
+        for words in ("item 3: ada calls ann developers", "member 2 of the request is `read`, and the tag has `write` (TagLacks)",
+                      "of the 12 certificates at hand, no chain leads from an entry to ian"):
+            self.assertIn(words, said)
+        made = os.listdir(os.path.join(folder, "certs"))
+        self.assertEqual(len(made), 12)
+        for name in made:
+            self.verified(os.path.join("story", "certs", name))
+
+    def test_each_reason_in_words(self):
+        for name in ("alice", "bob", "carol"):
+            self.ssh_key(name)
+        self.write("acl.sexp", f"(acl (entry {self.done('key', 'alice.pub')} (propagate) (tag {TAG})))")
+        asks = ("ask", "--acl", "acl.sexp", "--key", "carol.pub", "--labels", ".", "--cert", "chain.sexp")
+        request = ("--", "packages", "read", "/web/x")
+        for delegates, tag, words, more in [
+                (True, "(packages read)", "so entry 1 grants it", ()),
+                (False, "(packages read)", "bob may not delegate the right: what comes before it has no (propagate) (NoDelegation)", ()),
+                (True, "(packages write)", "the tag of item 3 does not contain the request: member 2", ()),
+                (True, "(mail read)", "have no request in common", ()),
+                (True, "(packages read)", "ended on", ("--at", "2099-01-01"))]:
+            self.done("sign", "--by", "alice", "--to", "bob.pub", "--tag", TAG, "--days", "30", *into("first.sexp"), *["--propagate"] * delegates)
+            self.done("sign", "--by", "bob", "--to", "carol.pub", "--tag", tag, "--days", "20", "--chain", "first.sexp", "--yes", "--anyway",
+                      *into("chain.sexp"))
+            self.assertIn(words, self.done(*asks, *more, *request, wanted=0 if "grants" in words else 1))
+        self.done(*asks, "--save", "case.sexp", "--svg", "x.svg", *request)
+        self.assertIn("so entry 1 grants it", self.done("ask", "--case", "case.sexp"))
+        self.assertIn(b"yes entry 1", text_in(self.at("x.svg")))
+        self.assertEqual(json.loads(self.done(*asks, "--json", *request))["entry"], 1)
+        self.certificates_are_picked(asks[:-1], request)
+        changed = text_in(self.at("chain.sexp")).replace(b"(packages read)", b"(packages write)")
+        self.write("chain.sexp", changed)
+        self.assertIn("DigestDiffers", self.done(*asks, *request, wanted=1))
+        self.assertIn("NotTheKey", self.done("ask", "--acl", "acl.sexp", "--key", "bob.pub", *request[1:], wanted=1))
+
+    def certificates_are_picked(self, asks, request):
+        """The certificates of a chain that are given in another order, and with others, are picked. The sequence that is written grants too."""
+        self.done("sign", "--by", "bob", "--to", "carol.pub", "--tag", "(packages read)", "--days", "20", *into("second.sexp"))
+        self.done("sign", "--by", "carol", "--to", "alice.pub", "--tag", "(mail)", "--days", "20", *into("other.sexp"))
+        self.done("sign", "--by", "alice", "--to", "bob.pub", "--tag", TAG, "--days", "30", *into("first.sexp"), "--propagate")
+        said = self.done(*asks, "second.sexp", "other.sexp", "first.sexp", *request)
+        self.assertIn("--sequence FILE writes them", said)
+        self.done(*asks, "second.sexp", "other.sexp", "first.sexp", "--sequence", "picked.sexp", *request)
+        self.assertEqual(len(self.verified("picked.sexp")), 2)
+        self.assertNotIn("--sequence", self.done(*asks, "picked.sexp", *request))
+
+    def test_why_certificates_do_not_join(self):
+        for name in ("alice", "bob", "carol"):
+            self.ssh_key(name)
+        alice = self.done("key", "alice.pub")
+        self.write("acl.sexp", f"(acl (entry (name {alice} builders) (propagate) (tag {TAG}) (not-after \"2027-01-01_00:00:00\")))")
+        asks = ("ask", "--acl", "acl.sexp", "--key", "carol.pub", "--labels", ".", "--cert", "c.sexp", "--", "packages", "read", "/web/x")
+        self.done("name", "--by", "alice", "--name", "readers", "--to", "carol.pub", "--days", "30", *into("c.sexp"))
+        self.assertIn("it defines readers of alice, and the right is with builders of alice there (NotTheName)", self.done(*asks, wanted=1))
+        self.names_are_compared(asks)
+        self.done("sign", "--by", "bob", "--to", "carol.pub", "--tag", TAG, "--days", "30", *into("c.sexp"))
+        self.assertIn("bob issues it, and the right is with builders of alice there (NotIssuer)", self.done(*asks, wanted=1))
+        window = ("--from", "2098-01-01", "--until", "2099-01-01")
+        self.done("name", "--by", "alice", "--name", "builders", "--to", "carol.pub", *window, *into("c.sexp"))
+        self.assertIn("no moment of that is in the windows before it (NoValidity)", self.done(*asks, wanted=1))
+
+    def names_are_compared(self, asks):
+        """A name that is misspelt, and one that another issuer defines."""
+        defines, more = ("name", "--to", "carol.pub", "--days", "30"), (*asks[:-5], "c.sexp", "d.sexp", *asks[-4:])
+        self.done(*defines, "--by", "alice", "--name", "bilders", *into("c.sexp"))
+        self.assertIn("the right is with builders of alice there; is `builders` meant? (NotTheName)", self.done(*asks, wanted=1))
+        self.done(*defines, "--by", "alice", "--name", "writers", *into("d.sexp"))
+        self.assertIn("no certificate says who it is; there is bilders of alice, which is another name", self.done(*more, wanted=1))
+        self.done(*defines, "--by", "bob", "--name", "builders", *into("d.sexp"))
+        said = self.done(*more[:-6], *more[-5:], wanted=1)
+        self.assertIn("it defines builders of bob, and the right is with builders of alice there", said)
+
+
+class OfOtherPrograms(Case):
+    GCRYPT = r"""
+#include <gcrypt.h>
+#include <stdio.h>
+
+/* Whether libgcrypt verifies: files with a key, data and a signature value, each an S-expression. */
+static gcry_sexp_t value(const char *path)
+{
+    static char octets[65536];
+    gcry_sexp_t made = NULL;
+    FILE *file = fopen(path, "rb");
+    size_t length = file ? fread(octets, 1, sizeof octets, file) : 0;
+    if (file)
+        fclose(file);
+    return gcry_sexp_new(&made, octets, length, 1) ? NULL : made;
+}
+
+int main(int count, char **words)
+{
+    gcry_check_version(NULL);
+    gcry_sexp_t key = value(words[1]), data = value(words[2]), signature = value(words[3]);
+    return count == 4 && key && data && signature && gcry_pk_testkey != NULL && gcry_pk_verify(signature, data, key) == 0 ? 0 : 1;
+}
+"""
+
+    @needs.needs("cc", "/usr/include/gcrypt.h")
+    def test_libgcrypt_verifies(self):
+        self.write("verify.c", self.GCRYPT)
+        quiet("cc", "-o", self.at("verify"), self.at("verify.c"), "-lgcrypt")
+        message = b"(4:cert)"
+        for kind in keys.KINDS:
+            signer = keys.FileSigner(keys.new_private(kind))
+            self.write("key", sexp.canonical(signer.key))
+            for signed, status in ((message, 0), (b"(4:cers)", 1)):
+                self.write("data", sexp.canonical(data_for_libgcrypt(kind, message)))
+                self.write("value", sexp.canonical(signer.sign(signed)))
+                done = subprocess.run([self.at("verify"), *map(self.at, ("key", "data", "value"))])
+                self.assertEqual(done.returncode, status, kind)
+
+    def test_it_starts_in_time(self):
+        used = []
+        for _ in range(5):
+            before = os.times()
+            quiet(sys.executable, COMMAND, "--version")
+            used.append(used_since(before))
+        self.assertLess(min(used), SECONDS_TO_START)
+
+    def test_help_and_completion(self):
+        for command in ("", "key", "sign", "name", "entry", "show", "ask", "check", "request"):
+            self.assertIn("example" if command else "exit status", self.done(*filter(None, [command]), "--help"))
+        self.assertIn("--propagate", self.done("completion"))
+        self.done("nothing", wanted=2)
+
+    def test_the_manual_has_each_option(self):
+        commands_of, plain = arguments.commands_with_options(), MANUAL.replace("\\-", "-")
+        self.assertEqual([word for name, options in commands_of.items() for word in (f".B {name}\n", *options)
+                          if word not in ("-h", "--help") and word not in plain], [])
+
+    @needs.needs("mypy")
+    def test_types(self):
+        words = ("mypy", "--strict", "-p", "spki_cert_tool", "--cache-dir", os.path.join(TESTS, "out", "mypy-strict"))
+        self.assertEqual(output_of(*words, cwd=os.path.join(TOP, "apps", "spki-cert"), seconds=SECONDS)[0], 0)
+
+    def test_it_is_installed(self):
+        for name in ("prog", "lib.a", "lib.so"):
+            self.write(name, "")
+        before = set(os.listdir(self.room))
+        script = os.path.join(TOP, "install.sh")
+        quiet(script, self.at("prefix"), self.at("prog"), self.at("lib.a"))
+        status, said = output_of(sys.executable, self.at("prefix/bin/spki-cert"), "--version")
+        self.assertEqual((status, said), (0, f"spki-cert {version()}\n"))
+        quiet(script, "--uninstall", self.at("prefix"))
+        left = [name for _, _, names in os.walk(self.at("prefix")) for name in names]
+        self.assertEqual((left, before), ([], set(os.listdir(self.room)) - {"prefix"}))
+
+    @needs.needs("import pip", "import setuptools", "import wheel")
+    def test_pip_installs_it_offline(self):
+        for folder in ("apps/spki-cert", "bindings/python"):
+            shutil.copytree(os.path.join(TOP, folder), self.at(folder), ignore=shutil.ignore_patterns("build", "*.egg-info"))
+        words = ("-m", "pip", "install", "-q", "--no-build-isolation", "--no-deps", "--no-index", "--target", self.at("target"))
+        quiet(sys.executable, *words, self.at("bindings/python"), self.at("apps/spki-cert"), env={**self.settings, "SPKI_LIBRARY": "none"})
+        status, said = output_of(sys.executable, "-m", "spki_cert_tool", "--version", env={**self.settings, "PYTHONPATH": self.at("target")})
+        self.assertEqual((status, said), (0, f"spki-cert {version()}\n"))
+        for name in ("spki/py.typed", "spki_verify/py.typed"):
+            self.assertTrue(os.path.exists(self.at(f"target/{name}")), name)
+
+    def test_it_has_one_version(self):
+        self.assertIn(f'version = "{version()}"', text_in(os.path.join(TOP, "apps", "spki-cert", "pyproject.toml")).decode())
+
+
+def into(name):
+    """The words that write a file which may be there."""
+    return "--force", "-o", name
+
+
+def version():
+    return text_in(os.path.join(TOP, "VERSION")).decode().strip()
+
+
+def data_for_libgcrypt(kind, message):
+    """What libgcrypt verifies a signature of."""
+    import hashlib
+    digest, longer = [b"hash", b"sha256", hashlib.sha256(message).digest()], [b"hash", b"sha384", hashlib.sha384(message).digest()]
+    return {"ed25519": [b"data", [b"flags", b"eddsa"], [b"hash-algo", b"sha512"], [b"value", message]],
+            "rsa": [b"data", [b"flags", b"pkcs1"], digest], "p256": [b"data", [b"flags", b"raw"], digest],
+            "p384": [b"data", [b"flags", b"raw"], longer]}[kind]

@@ -1,0 +1,246 @@
+"""What `spki-cert` does grows as its texts do. Counts steps, and no time: lines of Python that are run, octets of a text that are looked through,
+and octets that are made canonical. A text with four times the parts takes at most five times the steps. Beyond that are bounds: the answer says
+which one ended it, and what to do."""
+import hashlib
+import os
+import sys
+import tempfile
+import unittest
+from collections.abc import Callable, Iterator
+from contextlib import ExitStack, contextmanager
+from typing import Any
+from unittest import mock
+
+from harness import needs
+from harness.support import canonical
+
+FEW, TIMES, MOST_TIMES = 40, 4, 5.0
+NOW = b"2026-03-01_12:00:00"
+SEEN: list[int] = [0]
+
+
+class Text(bytes):
+    """Octets that count how many of them are looked through."""
+
+    def seen(self, octets: int) -> None:
+        SEEN[0] += octets
+
+    def rfind(self, part: bytes, begin: int = 0, end: int | None = None) -> int:  # type: ignore[override]
+        found = super().rfind(part, begin, end)
+        self.seen((len(self) if end is None else end) - max(found, begin))
+        return found
+
+    def find(self, part: bytes, begin: int = 0, end: int | None = None) -> int:  # type: ignore[override]
+        found = super().find(part, begin, end)
+        self.seen((len(self) if found < 0 else found) - begin)
+        return found
+
+    def count(self, part: bytes, begin: int = 0, end: int | None = None) -> int:  # type: ignore[override]
+        self.seen((len(self) if end is None else end) - begin)
+        return super().count(part, begin, end)
+
+    def __getitem__(self, place):
+        found = super().__getitem__(place)
+        self.seen(len(found) if isinstance(found, bytes) else 1)
+        return found
+
+
+@contextmanager
+def counted() -> Iterator[None]:
+    """Counts steps in SEEN meanwhile."""
+    from spki_cert_tool import asking, certificates, checking, making, sexp
+
+    def trace(frame, event, _):
+        if "spki_cert_tool" in frame.f_code.co_filename:
+            SEEN[0] += 1
+            return trace
+        return None
+
+    def made(value):
+        octets = sexp.canonical(value)
+        SEEN[0] += len(octets)
+        return octets
+
+    SEEN[0] = 0
+    with ExitStack() as stack:
+        for module in (asking, certificates, checking, making):
+            stack.enter_context(mock.patch.object(module, "canonical", made))
+        before = sys.gettrace()
+        sys.settrace(trace)
+        try:
+            yield
+        finally:
+            sys.settrace(before)
+
+
+def key(name: str, octets: int = 1) -> Any:
+    return [b"public-key", [b"test", name.encode() * octets]]
+
+
+def hash_of(one: Any) -> Any:
+    return [b"hash", b"sha256", hashlib.sha256(canonical(one)).digest()]
+
+
+def certificate(issuer: Any, subject: Any, *more: Any) -> Any:
+    return [b"cert", [b"issuer", issuer], [b"subject", subject], [b"tag", [b"ftp"]], *more]
+
+
+def signed(one: Any) -> Any:
+    return [one, [b"signature", hash_of(one), one[1][1], b"sig"]]
+
+
+# ---- the texts, by how many parts they have
+
+
+def members_behind_a_long_line(parts: int) -> bytes:
+    """A list that begins far right, whose members have lines of their own."""
+    return b"(" + b"a" * 40 * parts + b" (b" + b"\n" * 2 + b" c\n" * parts + b"))"
+
+
+def entries_that_ended(parts: int) -> bytes:
+    """A remark on each line."""
+    return b"(acl" + b"".join(b'\n (entry (public-key (test k%d)) (tag (ftp)) (not-after "2020-01-01_00:00:00"))' % at for at in range(parts)) + b")"
+
+
+def long_display(parts: int) -> bytes:
+    """A certificate with a field of many lists."""
+    return canonical([b"sequence", *signed(certificate(key("a"), key("b"), [b"display", *[[b"x"]] * 20 * parts]))])
+
+
+def hashes_of_a_long_key(parts: int) -> bytes:
+    """Certificates of one long key, which they name by its hash."""
+    long = key("k", 60 * parts)
+    return canonical([b"sequence", long, *[part for at in range(parts) for part in signed(certificate(hash_of(long), key(f"s{at}")))]])
+
+
+def entries_for_a_long_key(parts: int) -> bytes:
+    """An entry for a long key, and others for its hash."""
+    long = key("k", 60 * parts)
+    entries: Any = [[b"entry", it, [b"tag", [b"t%d" % at]]] for at, it in enumerate([long] + [hash_of(long)] * min(parts, 8))]
+    others: Any = [[b"entry", key(f"o{at}"), [b"tag", [b"ftp"]]] for at in range(parts)]
+    return canonical([b"acl", *entries, *others])
+
+
+def keys_in_lines(parts: int) -> bytes:
+    """Keys of OpenSSH that are none."""
+    return b"".join(b"ssh-ed25519 AAAA%06d comment\n" % at for at in range(parts))
+
+
+CHECKED = [members_behind_a_long_line, entries_that_ended, long_display, hashes_of_a_long_key, entries_for_a_long_key, keys_in_lines]
+
+
+@needs.needs("import cryptography")
+class OfCheck(unittest.TestCase):
+    """`check`, which reads a text, says what is probably a mistake, and verifies."""
+
+    def steps(self, work: Callable[[int], None]) -> None:
+        """The steps of a work with four times the parts must be at most five times as many."""
+        met = []
+        for parts in (FEW, FEW * TIMES):
+            with counted():
+                work(parts)
+            met.append(SEEN[0])
+        self.assertLess(met[1] / met[0], MOST_TIMES, met)
+
+    def test_texts(self) -> None:
+        from spki_cert_tool import checking
+        checking.remarks_on("/dev/null", NOW)
+        for make in CHECKED:
+            texts = {parts: Text(make(parts)) for parts in (FEW, FEW * TIMES)}
+            read = checking.of_key_file if make is keys_in_lines else lambda path, octets: checking.of_text(path, octets, NOW)
+            with self.subTest(make.__name__):
+                self.steps(lambda parts: read("text", texts[parts]) and None)
+
+    def test_removed_entries(self) -> None:
+        """The entries of a list are removed in one pass."""
+        from spki_cert_tool import making
+        entry, other = (b"\n (entry %s (tag (ftp)))" % canonical(key(name)) for name in "ab")
+        lists = {parts: Text(b"(acl" + (entry + other) * parts + b")") for parts in (FEW, FEW * TIMES)}
+        self.steps(lambda parts: making.list_without(key("a"), lists[parts]) and None)
+        text, gone = making.list_without(key("a"), lists[FEW])
+        self.assertEqual((text, len(gone)), (b"(acl" + other * FEW + b")", FEW))
+
+    def test_compared_entries(self) -> None:
+        """The tags of entries are compared up to a bound."""
+        from spki_cert_tool import certificates, making, tag_words
+        wide: Any = [b"*", b"set", *[b"%03d" % at for at in range(60)]]
+        listed = canonical([b"acl", *[[b"entry", key("a"), [b"tag", wide]]] * 30])
+        made: Any = [b"entry", key("a"), [b"tag", [*wide[:-1], b"x"]]]
+        for most, least_calls in ((10**9, 30 * 60), (0, 0)):
+            with mock.patch.object(making, "MOST_PRODUCTS", most), mock.patch.object(tag_words, "covers", wraps=tag_words.covers) as covers:
+                self.assertEqual(list(making.warnings_of_list(made, listed)), [])
+                self.assertGreaterEqual(covers.call_count, least_calls)
+                self.assertTrue(most or covers.call_count == 0)
+        self.assertEqual(certificates.Keys().are_one(key("a"), key("b")), False)
+
+
+class OfMessages(unittest.TestCase):
+    """What is said of a long request or name."""
+
+    def test_long_requests(self) -> None:
+        """A request is shown cut off, and a set that lacks it makes one message."""
+        from spki_cert_tool import tag_words
+        long = b"m" * 100_000
+        wide: Any = [b"*", b"set", *[b"%03d" % at for at in range(900)]]
+        with mock.patch.object(tag_words, "in_short", wraps=tag_words.in_short) as in_short:
+            said = tag_words.lacks([b"ftp", wide], [b"ftp", long]) or ""
+        self.assertLessEqual(in_short.call_count, 2)
+        self.assertLess(len(said), 900 * 8 + 1000)
+        self.assertEqual(tag_words.lacks(b"a", long), f"the request is `{'m' * 400}..`, and the tag has `a`")
+        self.assertIsNone(tag_words.lacks([b"*", b"range", b"alpha", b"ge", b"a"], long))
+
+    def test_long_words(self) -> None:
+        """No word is looked for that is near a long one."""
+        from spki_cert_tool import forms
+        self.assertEqual([forms.meant(b"tah" * times, [b"tag" * times]) != "" for times in (1, 20, 21)], [True, True, False])
+
+
+@needs.needs("import cryptography")
+class OfAsk(unittest.TestCase):
+    """The search for chains."""
+
+    def found(self, pairs, entries, holder, most=20_000):
+        """The chains of certificates for pairs of issuers and subjects, and the steps."""
+        from spki_cert_tool import certificates
+        given = [certificates.Signed(certificates.terms_of(certificate(*pair)), b"", 1) for pair in pairs]
+        steps = certificates.Steps(most)
+        listed = [certificates.terms_of([b"entry", it, [b"tag", [b"*"]]]) for it in entries]
+        return list(certificates.chains(listed, given, certificates.Keys(), holder, steps)), steps
+
+    def test_steps(self) -> None:
+        """A chain of 16 certificates takes 16 steps, equal entries none, and a name as many as it has strings."""
+        line = [key(f"k{at}") for at in range(17)]
+        named = [b"name", key("k1"), *[b""] * 30]
+        for pairs, entries, holder, chains, taken in [
+                (list(zip(line, line[1:])), [line[0]] * 500, line[16], 1, 16), (list(zip(line, line[1:])), [line[0]], key("x"), 0, 16),
+                ([(line[0], named)], [line[0]], line[1], 0, 31)]:
+            found, steps = self.found(pairs, entries, holder)
+            self.assertEqual((len(found), steps.most - steps.left, steps.is_cut), (chains, taken, False))
+
+    def test_bound(self) -> None:
+        """Keys that all name each other, and long names, end the search."""
+        net = [key(f"k{at}") for at in range(40)]
+        long = [b"name", key("k1"), *[b""] * 25_000]
+        for pairs in ([(one, other) for one in net for other in net], [(net[0], long)]):
+            found, steps = self.found(pairs, [net[0]], key("x"))
+            self.assertEqual((found, steps.is_cut, steps.left < 0), ([], True, True))
+
+    def test_long_keys(self) -> None:
+        """A chain is known by digests, whatever the keys are."""
+        from spki_cert_tool import certificates
+        long, known = key("k", 10_000), certificates.Keys()
+        known.add(long)
+        self.assertEqual([len(it) for it in certificates.holder_of(hash_of(long), [b"n"], known)], [32, 3])
+        self.assertEqual(certificates.holder_of(hash_of(long), [], known), certificates.holder_of(long, [], known))
+        self.assertIs(known.text_of(hash_of(long)), known.text_of(hash_of(long)))
+
+    def test_many_keys_of_a_file(self) -> None:
+        """Past 1,000 keys of a file a remark says what to do."""
+        from spki_cert_tool import checking
+        with tempfile.TemporaryDirectory() as room, mock.patch.object(checking, "MOST_KEYS", 3):
+            path = os.path.join(room, "keys.pub")
+            with open(path, "wb") as file:
+                file.write(keys_in_lines(5))
+            kind, said = checking.remarks_on(path, NOW)
+        self.assertEqual((kind, len(said), said[-1].text), ("5 public keys", 4, "only the first 3 of these keys are looked at: split the file"))
+        self.assertEqual([(it.line, it.column) for it in said], [(1, 1), (2, 1), (3, 1), (3, 23)])

@@ -1,0 +1,531 @@
+"""Asks the libraries for C what the program is asked, and compares the answers octet by octet.
+
+`clibrary.c` asks each question with no buffer, with one of no octets, with one octet too few, with enough and with more, between
+canaries, with failing allocations, and then from several threads with 256 KiB of stack each: every command on each file of
+`examples/`, the rows of the tables, and cases whose rows of accepted signatures stand apart. It asks the static
+library and the shared one, each also under AddressSanitizer and under valgrind.
+`cguard.c` opens guards and asks them: right and wrong marks, buffers that are too small, requests by strings, failing
+allocations, and one guard from several threads. `misuse.c` makes each call with each argument wrong. They too use each library, also under
+AddressSanitizer, valgrind and helgrind. No allocation of the shared library fails, since it calls the C library itself.
+
+`until.c` asks until when a decision holds.
+`later.c` gives spki.c structures of older and newer headers. `swapped.c` changes a guard under threads.
+
+`fuzz/calls.c` makes the parts of questions from fuzzed octets and compares the answers: from the files of `fuzz/corpus/`, and in `.ci/deep` for
+ten minutes. There spki.c is under AddressSanitizer too.
+
+The libraries for ARM are asked short questions and open guards too, in an emulator.
+
+The symbols of both libraries must be the calls that the header declares and no others, and what they need a few functions of the C
+library. `linked.c` is compiled as C11 and as C++17, with all warnings, and linked with either library; and with two copies of the static
+one."""
+import functools
+import os
+import re
+import shutil
+import subprocess
+import tempfile
+import unittest
+from concurrent.futures import ThreadPoolExecutor
+
+from harness import built, needs
+from harness.support import COMMANDS, EXAMPLES, ON_ARM, TESTS, TOP, canonical, is_compiled, read, room_for, run, tables_here, text_of
+from rows import rows_of
+from rows.until import ROWS, parts_of
+
+CRATE = os.path.join(TOP, "crates", "spki_c")
+CHECK_ACCEPTED = 7
+YES, NO, DONE, GRANTED = 0, 1, 6, 9
+THREADS = 8
+REFUSALS = 40
+SHORT = 20_000
+SECONDS = 900
+WARNINGS = ["-Wall", "-Wextra", "-Wpedantic", "-Werror"]
+STRICT = ["-std=c11", *WARNINGS, "-O1", "-g", "-pthread"]
+REFUSING = ["-Wl,--wrap=malloc,--wrap=realloc"]
+SANITIZED = ["-fsanitize=address,undefined", "-fno-sanitize-recover=all", "-fno-omit-frame-pointer"]
+CALL = re.compile(r"^\w[\w *]*\b(spki_\w+)\(", re.MULTILINE)
+WEAK = ("_ITM_", "__cxa_finalize", "__gmon_start__")
+NEEDED = {"malloc", "realloc", "free", "memcpy", "memmove", "memset", "memcmp"}
+VALGRIND = ["valgrind", "--quiet", "--leak-check=full", "--show-leak-kinds=all", "--error-exitcode=98"]
+HELGRIND = ["valgrind", "--tool=helgrind", "--quiet", "--error-exitcode=98"]
+FUZZED = ["clang", "-g", "-O1", "-Wall", "-Wextra", "-Werror", "-fsanitize=fuzzer,address,undefined", "-fno-sanitize-recover=all", "-D_GNU_SOURCE"]
+FUZZ_SECONDS = 600
+MOMENT = "2024-01-01_00:00:00"
+NO_ROWS = b"(accepted)"
+
+
+def as_library(command, answer):
+    """What the library answers where the program answers so: yes and no are answered by decisions alone."""
+    status, octets = answer
+    if status > NO:
+        return answer
+    return (DONE if COMMANDS[command] != "check" else GRANTED if status == YES else NO, octets)
+
+
+def questions_of_files(program):
+    """Each command on each file of the examples, with what the program answers."""
+    texts = {}
+    for folder, _, names in os.walk(EXAMPLES):
+        for name in names:
+            if name.endswith("sexp"):
+                with open(os.path.join(folder, name), "rb") as file:
+                    texts[name] = file.read()
+    asked = [(f"{command} {name}", number, text, b"") for name, text in sorted(texts.items()) for number, command in enumerate(COMMANDS)]
+    with ThreadPoolExecutor(os.cpu_count()) as pool:
+        wanted = pool.map(lambda each: as_library(each[1], run(program, COMMANDS[each[1]], each[2])), asked)
+        return list(zip(asked, wanted))
+
+
+def questions_of_tables():
+    """The rows of the tables, with what is wanted."""
+    for table in tables_here():
+        for place, command, text, status, answer in rows_of(table):
+            number = COMMANDS.index(command)
+            yield (place, number, text, b""), as_library(number, (status, answer))
+
+
+def rows_apart(program, answered):
+    """Of each case that the program decides: its rows apart, beside a case without rows and beside the case with its own; and no
+    rows beside the case with its own, which are not to be asked then."""
+    cases = {text for (_, command, text, _), (status, _) in answered if COMMANDS[command] == "check" and status in (NO, GRANTED)}
+    for text in sorted(cases, key=lambda each: (len(each), each)):
+        whole = read(run(program, "canonical", text)[1])
+        rows = canonical(whole[2])
+        bare = canonical([*whole[:2], [b"accepted"], *whole[3:]])
+        with_rows, without = (as_library(COMMANDS.index("check"), run(program, "check", it)) for it in (text, bare))
+        name = text[:60]
+        yield (f"rows apart of {name}", CHECK_ACCEPTED, bare, rows), with_rows
+        yield (f"own rows beside rows apart of {name}", CHECK_ACCEPTED, text, rows), with_rows
+        yield (f"own rows alone of {name}", CHECK_ACCEPTED, text, NO_ROWS), without
+
+
+def worked_rows():
+    """The case of the first certificate, with its rows apart, changed and not readable."""
+    with open(os.path.join(EXAMPLES, "delegation.sexp"), "rb") as file:
+        case = file.read()
+    at, end = case.index(b"(accepted"), case.index(b"\n (sequence")
+    rows, bare = case[at:end], case[:at] + NO_ROWS + case[end:]
+    first = rows[len(b"(accepted "):-1]
+    long = b"(accepted " + b" " * 1048576 + b")"
+    yes, no = (GRANTED, b"yes entry 1\n"), (NO, b"no\n")
+    for name, text, listed, answer in [
+        ("the row", bare, rows, yes),
+        ("no row", bare, NO_ROWS, no),
+        ("the requester's own row", case, NO_ROWS, no),
+        ("two rows", bare, b"(accepted (by (public-key (test c)) (hash sha256 #%s#) s) %s)" % (b"00" * 32, first), yes),
+        ("a certificate that was changed", bare.replace(b"(subject (public-key (test b)))", b"(subject (public-key (test c)))"), rows, no),
+        ("another digest", bare, rows.replace(b"#d7", b"#d8"), no),
+        ("another value", bare, rows.replace(b"sig)", b"sih)"), no),
+        ("another signer", bare, rows.replace(b"test a", b"test b"), no),
+        ("rows that are a case", bare, case, (2, b"refused rows Shape\n")),
+        ("a row alone", bare, first, (2, b"refused rows Shape\n")),
+        ("a second row that is none", bare, rows[:-1] + b" (by))", (2, b"refused rows 2 Shape\n")),
+        ("a digest by SHA-1", bare, b"(accepted (by (public-key (test a)) (hash sha1 #%s#) s))" % (b"00" * 20), (2, b"refused rows 1 HashAlg\n")),
+        ("rows without an end", bare, rows[:-1], (2, b"refused rows Short\n")),
+        ("no text of rows", bare, b"", (2, b"refused rows Short\n")),
+        ("rows and more", bare, b"(accepted) x", (2, b"refused rows Trailing 11\n")),
+        ("rows with a tilde", bare, b"(accepted ~)", (2, b"refused rows Bad 10\n")),
+        ("too many octets of rows", bare, long, (2, b"refused rows TooLong\n")),
+        ("rows too deep", bare, b"(" * 65 + b")" * 65, (2, b"refused rows TooDeep\n")),
+        ("rows in braces", bare, b"{KDg6YWNjZXB0ZWQp}", no),
+        ("a text that is no case", b"(case)", rows, (2, b"refused case Shape\n")),
+        ("no text", b"", rows, (2, b"refused form Short\n")),
+        ("a case too long", bare + b" " * 1048576, rows, (2, b"refused form TooLong\n")),
+        ("own rows that are none", bare.replace(NO_ROWS, b"(accepted (by))"), rows, (2, b"refused accepted 1 Shape\n")),
+    ]:
+        yield (name, CHECK_ACCEPTED, text, listed), answer
+
+
+def answers_of(words, questions):
+    """The status of `clibrary.c`, what it says, and its answers."""
+    given = b"".join(b"%d %d %d\n%s%s" % (command, len(text), len(rows), text, rows) for (_, command, text, rows), _ in questions)
+    done = subprocess.run(words, input=given, capture_output=True, timeout=SECONDS)
+    answers, at = [], 0
+    while at < len(done.stdout):
+        line = done.stdout.index(b"\n", at)
+        status, length = map(int, done.stdout[at:line].split())
+        at = line + 1 + length
+        answers.append((status, done.stdout[line + 1:at]))
+    return done.returncode, done.stderr.decode(errors="replace"), answers
+
+
+def otherwise(words, questions):
+    """What is wrong with the answers of `clibrary.c`, or nothing."""
+    status, said, answers = answers_of(words, questions)
+    if status or len(answers) != len(questions):
+        return f"status {status} after {len(answers)} of {len(questions)} answers: {said[-2000:]}"
+    faults = [(asked, met, wanted) for (asked, wanted), met in zip(questions, answers) if met != wanted]
+    return "\n".join(f"{place}\ntext   {text[:1000]!r} {rows[:500]!r}\nwanted {wanted[0]} {wanted[1][:300]!r}\ncame   {met[0]} {met[1][:300]!r}"
+                     for (place, _, text, rows), met, wanted in faults)
+
+
+def symbols(library, *words, nm="nm"):
+    """The symbols of a library that `nm` lists with these words, without their versions."""
+    listed = subprocess.run([nm, "--format=just-symbols", *words, library], stdout=subprocess.PIPE, text=True, check=True).stdout
+    return {line.split("@")[0] for line in listed.splitlines() if line and not line.endswith(":")}
+
+
+def soname_of(shared):
+    """The name by which programs ask the loader for a shared object."""
+    said = subprocess.run(["readelf", "--dynamic", shared], stdout=subprocess.PIPE, text=True, check=True).stdout
+    return re.search(r"\(SONAME\).*\[(.*)\]", said)[1]
+
+
+def calls_of_header():
+    """The calls that the header declares."""
+    with open(os.path.join(CRATE, "spki.h"), encoding="ascii") as header:
+        return set(CALL.findall(header.read()))
+
+
+def worked_question():
+    """The list, the sequence and the key of the case of the first certificate."""
+    with open(os.path.join(EXAMPLES, "delegation.sexp"), encoding="ascii") as file:
+        case = file.read()
+    at = [case.index(f"({part}") for part in ("acl", "accepted", "sequence", "key", "request")]
+    return [case[at[0]:at[1]].strip(), case[at[2]:at[3]].strip(), case[at[3]:at[4]].strip()[len("(key "):-1]]
+
+
+def beside(shared):
+    """The word for the linker that lets a program find a shared object in its folder."""
+    return f"-Wl,-rpath,{os.path.dirname(shared)}"
+
+
+@functools.cache
+def asked_of(program):
+    """The questions of the files, of the tables and of rows apart, each with what is wanted."""
+    files, tables = questions_of_files(program), list(questions_of_tables())
+    return files, tables, list(rows_apart(program, files + tables))
+
+
+def short_of(program):
+    """The short questions, which slow ways are asked."""
+    files, _, apart = asked_of(program)
+    return [each for each in files + apart if len(each[0][2]) + len(each[0][3]) <= SHORT] + list(worked_rows())[:8]
+
+
+# ---- the tests
+
+
+@needs.needs(*needs.LIBRARY)
+class OfC(built.OfLibrary):
+    """A test of the libraries for C, in a folder of its own. Programs ask for the shared one by its own name."""
+
+    # How the names of the tools begin, and the words before a program that run it.
+    prefix = ""
+    by: list[str] = []
+
+    @classmethod
+    def libraries(cls):
+        """The libraries that are tested."""
+        return cls.library, cls.shared
+
+    @classmethod
+    def setUpClass(cls):
+        super().setUpClass()
+        cls.library, cls.shared = cls.libraries()
+        room = room_for(cls)
+        cls.room, link = room, os.path.join(room, os.path.basename(cls.shared))
+        shutil.copy(cls.shared, link)
+        os.symlink(link, os.path.join(cls.room, soname_of(cls.shared)))
+        cls.shared = link
+        cls.linking = {"static": [cls.library], "shared": [cls.shared, beside(cls.shared)]}
+
+    def compiled(self, source, library, *more):
+        """A program in C, compiled with a library."""
+        to = os.path.join(self.room, f"{source}-{library}-{len(more)}")
+        if not os.path.exists(to):
+            words = [f"{self.prefix}gcc" if self.prefix else "cc", *STRICT, *more, "-o", to, os.path.join(TESTS, "programs", source)]
+            words += [*self.linking[library], *REFUSING]
+            self.assertTrue(is_compiled(*words), f"{source} is not compiled")
+        return to
+
+    def answers(self, questions, library, *more, by=(), threads=2, refusals=0):
+        """The answers to questions must be those that are wanted."""
+        print(f"{len(questions)} questions")
+        fault = otherwise([*self.by, *by, self.compiled("clibrary.c", library, *more), str(threads), str(refusals)], questions)
+        self.assertEqual(fault, "", fault)
+
+    def has_its_symbols(self, library, *words):
+        """A library must give the calls of the header and no other symbol, and need only what is known."""
+        nm = f"{self.prefix}nm"
+        # (the version of the calls is a symbol too)
+        given = {name for name in symbols(library, *words, "--defined-only", "--extern-only", nm=nm) if not name.startswith("SPKI_")}
+        self.assertEqual(given, calls_of_header())
+        # (the weak ones are those that the C compiler puts into each shared object)
+        needed = {name for name in symbols(library, *words, "--undefined-only", nm=nm) if not name.startswith(WEAK)}
+        self.assertLessEqual(needed, NEEDED)
+
+    def holds(self, source, library, *more, by=(), words=()):
+        """A program that asks as the header says must find nothing wrong, with a library."""
+        words = [*self.by, *by, self.compiled(source, library, *more), *words]
+        done = subprocess.run(words, capture_output=True, text=True, timeout=SECONDS)
+        self.assertEqual(done.returncode, 0, f"{' '.join(words)[:300]}: {done.stderr[-2000:]}")
+
+    def holds_guards(self, library, *more, by=(), threads=THREADS, refusals=0):
+        """Guards must do as the header says, and misuse must be seen."""
+        self.holds("cguard.c", library, *more, by=by, words=[str(threads), str(refusals), *worked_question()])
+        self.holds("misuse.c", library, *more, by=by)
+
+
+class Links(OfC):
+    """The symbols, and how programs link."""
+
+    def test_symbols_of_the_archive(self):
+        self.has_its_symbols(self.library)
+
+    def test_symbols_of_the_shared_object(self):
+        self.has_its_symbols(self.shared, "--dynamic")
+
+    def links(self, *words):
+        """`linked.c` must be compiled and linked in each way, and end with 0."""
+        other, to = os.path.join(self.room, "libother.a"), os.path.join(self.room, "linked")
+        renamed = [f"--redefine-sym={name}=other_{name}" for name in calls_of_header()]
+        subprocess.run(["objcopy", *renamed, self.library, other], check=True)
+        by_name = ["-L", os.path.dirname(self.shared), "-lspki_c", beside(self.shared)]
+        for way, flags, more in (("static", [], [self.library]), ("shared", [], by_name), ("two archives", ["-DOTHER"], [self.library, other])):
+            with self.subTest(way):
+                made = is_compiled(*words, *WARNINGS, *flags, "-o", to, os.path.join(TESTS, "programs", "linked.c"), "-x", "none", *more)
+                self.assertTrue(made and subprocess.run([to], timeout=SECONDS).returncode == 0)
+
+    def test_c11(self):
+        self.links("cc", "-std=c11")
+
+    @needs.needs("g++")
+    def test_cpp17(self):
+        self.links("g++", "-std=c++17", "-x", "c++")
+
+
+class Answers(OfC):
+    """`clibrary.c`: the answers to texts."""
+
+    def test_files(self):
+        self.answers(asked_of(self.program)[0], "static", threads=THREADS, refusals=REFUSALS)
+
+    def test_tables(self):
+        self.answers(asked_of(self.program)[1], "static", threads=THREADS, refusals=REFUSALS)
+
+    def test_rows_apart(self):
+        self.answers(asked_of(self.program)[2], "static", threads=THREADS, refusals=REFUSALS)
+
+    def test_worked_rows(self):
+        self.answers(list(worked_rows()), "static", threads=THREADS, refusals=REFUSALS)
+
+    def test_shared(self):
+        self.answers(short_of(self.program), "shared")
+
+
+class UnderAddressSanitizer(OfC):
+    """The answers to short questions of each library, under AddressSanitizer."""
+
+    def test_static(self):
+        self.answers(short_of(self.program), "static", *SANITIZED, threads=0, refusals=REFUSALS)
+
+    def test_shared(self):
+        self.answers(short_of(self.program), "shared", *SANITIZED, threads=0)
+
+
+@needs.needs("valgrind")
+class StaticUnderValgrind(OfC):
+    """The answers of the static library to short questions, under valgrind."""
+
+    def test_answers(self):
+        self.answers(short_of(self.program), "static", by=VALGRIND, refusals=REFUSALS)
+
+
+@needs.needs("valgrind")
+class SharedUnderValgrind(OfC):
+    """The answers of the shared library to short questions, under valgrind."""
+
+    def test_answers(self):
+        self.answers(short_of(self.program), "shared", by=VALGRIND)
+
+
+class Guards(OfC):
+    """`cguard.c` and `misuse.c`, with each library and under what looks for faults of memory."""
+
+
+class Head(OfC):
+    """The sample at the head of spki.h, with a list and a question of 40 certificates, more than the usual limits take."""
+
+    SAMPLE = re.compile(r"^ \*\n((?: \*     .*\n)+) \*\n", re.MULTILINE)
+    PROGRAM = """
+#include <spki.h>
+#include <stdio.h>
+
+static bool is_signed(const struct spki_signed *it)
+{
+    return it->value.length == 5;
+}
+
+int main(void)
+{
+    static const char list[] = "(acl (entry (public-key (test a)) (propagate) (tag (*))))", shown[] = SHOWN;
+    const size_t list_length = sizeof list - 1;
+    const struct spki_limits limits = SPKI_HIGHEST_LIMITS;
+    const int64_t now = 1704067200;
+    const struct spki_text words[] = {SPKI_LITERAL("ftp"), SPKI_LITERAL("host")}, sequence = {shown, sizeof shown - 1};
+    SAMPLE
+    spki_guard_close(guard);
+    return 0;
+}
+"""
+    # What is put for the points of each line.
+    PARTS = {"question.sequence = ...": "question.sequence = sequence;", "question.seconds = ...": "question.seconds = &now;",
+             "question.key = spki_assume_key(...)": 'question.key = spki_assume_key(SPKI_LITERAL("(public-key (test b))"));',
+             "question.words = ...": "question.words = words, question.word_count = 2;", "SPKI_STRICT, NULL,": "SPKI_STRICT, &limits,",
+             "!= SPKI_DONE) ...": "!= SPKI_DONE) return 1;", "(spki_asked_granted(asked)) ...": '(spki_asked_granted(asked)) puts("granted");'}
+    CERT = ("(cert (issuer (public-key (test a))) (subject (public-key (test {}))) {}(tag (*)))"
+            "(signature (hash sha256 #{}#) (public-key (test a)) sig)")
+
+    def test_sample(self):
+        lines = self.SAMPLE.search(text_of("crates/spki_c/spki.h"))[1].splitlines()
+        sample = "\n".join(re.sub(r"(\.\.\.\)?|;) {2,}\w.*", r"\1", line[7:]) for line in lines)
+        for old, new in self.PARTS.items():
+            self.assertIn(old, sample)
+            sample = sample.replace(old, new)
+        own, last = (self.CERT.format(*words) for words in (
+            ("a", "(propagate) ", "b26a73c3cdcb26bbb71fa21531b5b6a1745fc316ddfcf53862a174f5dccebfb6"),
+            ("b", "", "d71ecfb335b8e4b04cb035426566a94e817a12cfcfa4dbf5b704b6cd670c7ad2")))
+        text = self.PROGRAM.replace("SHOWN", f'"(sequence {39 * own}{last})"').replace("SAMPLE", sample)
+        to = os.path.join(self.room, "sample")
+        words = ["cc", *STRICT, *SANITIZED, "-Wno-overlength-strings", "-I", CRATE, "-x", "c", "-", "-x", "none", "-o", to, self.library]
+        done = subprocess.run(words, input=text, stderr=subprocess.PIPE, text=True, timeout=SECONDS)
+        self.assertEqual((done.returncode, done.stderr), (0, ""), text)
+        done = subprocess.run([to], stdout=subprocess.PIPE, stderr=subprocess.STDOUT, text=True, timeout=SECONDS)
+        self.assertEqual((done.returncode, done.stdout), (0, "granted\n"))
+
+
+class Until(OfC):
+    """`until.c`: a decision says the last second at which the same question is a yes."""
+
+    # The seconds that a question can be asked at, with a later one.
+    ASKED = range(253_402_300_799)
+
+    def test_rows(self):
+        to = os.path.join(self.room, "until")
+        self.assertTrue(is_compiled("cc", *STRICT, "-o", to, os.path.join(TESTS, "programs", "until.c"), self.library), "until.c is not compiled")
+        for name, *limits, moment, until in ROWS:
+            with self.subTest(name):
+                done = subprocess.run([to, *parts_of(*limits), moment], capture_output=True, text=True, timeout=SECONDS)
+                at_the_end = ["1", "0"] if until in self.ASKED else []
+                self.assertEqual((done.returncode, done.stdout.split()), (0, ["9", str(until), *at_the_end]))
+
+
+class Swapped(OfC):
+    """`swapped.c`: a guard is changed while threads ask it, by a lock for reading and writing."""
+
+    def is_swapped(self, *by):
+        to = os.path.join(self.room, "swapped")
+        self.assertTrue(is_compiled("cc", *STRICT, "-o", to, os.path.join(TESTS, "programs", "swapped.c"), self.library), "swapped.c is not compiled")
+        done = subprocess.run([*by, to], stdout=subprocess.PIPE, stderr=subprocess.STDOUT, text=True, timeout=SECONDS)
+        self.assertEqual((done.returncode, done.stdout), (0, ""))
+
+    def test_threads(self):
+        self.is_swapped()
+
+    @needs.needs("valgrind")
+    def test_threads_under_helgrind(self):
+        self.is_swapped(*HELGRIND)
+
+
+@needs.needs(*needs.LIBRARY)
+class Structures(unittest.TestCase):
+    """`later.c`: an spki.c that is given structures of other headers, and one of a later header."""
+
+    # What that header adds at the ends of two structures.
+    LATER = ((", SPKI_USUAL_ANSWER}", ", SPKI_USUAL_ANSWER, 0}"), (", SPKI_MOST_ANSWER}", ", SPKI_MOST_ANSWER, 0}"),
+             ("the most octets of the answer */\n", "the most octets of the answer */\n    size_t later;\n"),
+             ("past the year 9999 */\n};", "past the year 9999 */\n    const void *later;\n};"))
+
+    def reads(self, *changes):
+        """spki.c with a header that is changed reads what it should."""
+        with tempfile.TemporaryDirectory() as room:
+            header = text_of(os.path.join("crates", "spki_c", "spki.h"))
+            for old, new in changes:
+                self.assertEqual(header.count(old), 1, old)
+                header = header.replace(old, new)
+            for name in ("spki.c", "structures.h"):
+                shutil.copy(os.path.join(CRATE, name), room)
+            with open(os.path.join(room, "spki.h"), "w", encoding="ascii") as file:
+                file.write(header)
+            words = ["cc", *STRICT, *SANITIZED, f"-DLATER={int(bool(changes))}", "-I", room, "-o", os.path.join(room, "later")]
+            self.assertTrue(is_compiled(*words, os.path.join(TESTS, "programs", "later.c")), "later.c is not compiled")
+            done = subprocess.run([os.path.join(room, "later")], stdout=subprocess.PIPE, text=True, timeout=SECONDS)
+            self.assertEqual((done.returncode, done.stdout), (0, ""))
+
+    def test_of_other_headers(self):
+        self.reads()
+
+    def test_by_a_later_library(self):
+        self.reads(*self.LATER)
+
+
+@needs.needs(*needs.FUZZER)
+class Fuzzed(OfC):
+    """`fuzz/calls.c`: the answers to fuzzed parts, through an spki.c that is checked as well."""
+
+    def is_fuzzed(self, *flags):
+        """Fuzzing must find nothing. What it finds is kept in tests/out/."""
+        to, folder, kept = (os.path.join(*words) for words in ((self.room, "fuzz"), (TESTS, "fuzz"), (TESTS, "out")))
+        sources = [os.path.join(folder, "calls.c"), *(os.path.join(CRATE, name) for name in ("spki.c", "heap.c"))]
+        proved = os.path.join(os.path.dirname(built.library()), "proved", "libspki_c.a")
+        self.assertTrue(is_compiled(*FUZZED, *REFUSING, "-o", to, *sources, proved, "-lcrypto"), "calls.c is not compiled")
+        corpus = shutil.copytree(os.path.join(folder, "corpus"), os.path.join(self.room, "corpus"), dirs_exist_ok=True)
+        os.makedirs(kept, exist_ok=True)
+        words = [to, "-max_len=1500", "-len_control=0", "-timeout=120", f"-artifact_prefix={kept}/fuzzed-", *flags, corpus]
+        done = subprocess.run(words, stdout=subprocess.PIPE, stderr=subprocess.STDOUT, text=True, errors="replace", timeout=2 * SECONDS)
+        self.assertEqual(done.returncode, 0, done.stdout[-4000:])
+
+    def test_corpus(self):
+        self.is_fuzzed("-runs=0")
+
+    def test_for_ten_minutes(self):
+        self.is_fuzzed(f"-max_total_time={FUZZ_SECONDS}", "-rss_limit_mb=2048")
+
+
+if not built.IS_LONG:
+    del Fuzzed.test_for_ten_minutes
+
+
+@needs.needs(*needs.ARM, "qemu-aarch64")
+class OnArm(OfC):
+    """The libraries for ARM, in an emulator."""
+
+    prefix, by = "aarch64-linux-gnu-", ON_ARM
+
+    @classmethod
+    def libraries(cls):
+        return built.arm(), built.arm().removesuffix(".a") + ".so"
+
+    def test_symbols(self):
+        self.has_its_symbols(self.library)
+        self.has_its_symbols(self.shared, "--dynamic")
+
+    def test_static(self):
+        self.answers(short_of(self.program), "static", refusals=REFUSALS)
+
+    def test_shared(self):
+        self.answers(short_of(self.program), "shared")
+
+    def test_guards_of_static(self):
+        self.holds_guards("static", refusals=REFUSALS)
+
+    def test_guards_of_shared(self):
+        self.holds_guards("shared")
+
+
+def add_ways():
+    """Adds the tests of guards with each library in each way. Of the shared library no request for memory is refused: it calls the C
+    library itself."""
+    valgrind = needs.needs("valgrind")
+    for library, refused in (("static", REFUSALS), ("shared", 0)):
+        ways = {"": lambda self, it=library, most=refused: self.holds_guards(it, refusals=most),
+                "_under_address_sanitizer": lambda self, it=library, most=refused: self.holds_guards(it, *SANITIZED, refusals=most),
+                "_under_valgrind": valgrind(lambda self, it=library, most=refused: self.holds_guards(it, by=VALGRIND, threads=2, refusals=most)),
+                "_under_helgrind": valgrind(lambda self, it=library: self.holds_guards(it, by=HELGRIND))}
+        for way, test in ways.items():
+            setattr(Guards, f"test_{library}{way}", test)
+
+
+add_ways()

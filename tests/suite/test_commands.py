@@ -1,0 +1,226 @@
+"""Runs the commands of pages and helps that no other test runs: page_commands.py says which.
+
+They run in a copy of the repository with what is built at its place, an empty home, and no environment but a path. In the long tests each page of
+MACHINES runs on a machine of its own, a chroot that Debian's mmdebstrap makes (machines.py). It has the packages that the page names, and no other.
+"""
+from __future__ import annotations
+
+import os
+import re
+import shutil
+import subprocess
+import sys
+import tempfile
+import unittest
+from collections.abc import Callable, Iterable
+from typing import NamedTuple
+
+from harness import built, machines, needs, page_commands
+from harness.page_commands import NOT_RUN, Command, tracked
+from harness.support import LIBRARY, PROGRAM, TOP, output_of, text_of
+from suite import test_guide
+
+SECONDS = 600
+END = "---- end of command, status"
+STATUS = re.compile(END + r" (\d+)\n")
+REMARK = re.compile(r" {2,}# (.*)$")
+# Commands that end with another status than 0, because the answer is no or a refusal.
+STATUSES = {"crates/spki/out/spki explain < examples/signed/cases/too-wide.sexp": 1,
+            "printf '4\"abc\"' | crates/spki/out/spki canonical                            # refused form Bad 5": 2,
+            "timeout 2 ./service acl.sexp packages.example": 124}
+# A command that serves until it is ended, and those that need proofs or a server.
+SERVES = re.compile(r"\./service .*")
+NOT_ON_MACHINES = re.compile(r".*archive\.py|examples/database/story\.py .*")
+# What the commands of a page take as there, which a page says in words: in the folder of the commands.
+KEYS = "for who in lead member robot alice bob; do spki-cert key new --no-passphrase $who; done\n"
+BEFORE = {
+    "docs/PEERS.md": KEYS,
+    "help": KEYS + "spki-cert entry --to alice.pub --tag '(packages)' --propagate --acl acl.sexp\n"
+    "spki-cert sign --by alice --to bob.pub --tag '(packages read)' --days 30 -o to-bob.sexp\nmkdir certificates && cp to-bob.sexp certificates\n"
+    "spki-cert end --ended ended\n"}
+
+
+def copied(folder: str, files: Iterable[str]) -> None:
+    """Copies files of the repository into a folder."""
+    for path in files:
+        os.makedirs(os.path.dirname(os.path.join(folder, path)), exist_ok=True)
+        shutil.copy(os.path.join(TOP, path), os.path.join(folder, path))
+
+
+def put_built(folder: str) -> None:
+    """Puts the program and the library where `rt run` and `archive.py` leave them."""
+    for path, made in ((built.program(), PROGRAM), (built.library(), LIBRARY), (built.shared(), LIBRARY.removesuffix(".a") + ".so")):
+        place = os.path.join(folder, os.path.relpath(made, TOP))
+        os.makedirs(os.path.dirname(place), exist_ok=True)
+        shutil.copy(path, place)
+
+
+def statuses_of(lines: Iterable[str]) -> str:
+    """A script of commands, with a line after each that has its status."""
+    return "".join(f"{line}\nstatus=$?; echo; echo '{END}' $status\n" for line in lines)
+
+
+def faults_in(lines: list[str], said: str) -> list[str]:
+    """The commands that ended otherwise than they must, by what a script of `statuses_of` wrote. A remark at the end of one is its answer."""
+    parts = STATUS.split(said)
+    found = dict(zip(range(len(lines)), zip(parts[::2], map(int, parts[1::2]))))
+    faults = []
+    for number, line in enumerate(lines):
+        answer, status = found.get(number, (parts[-1], -1))
+        remark = REMARK.search(line)
+        if status != STATUSES.get(line, 0) or remark and remark[1] != answer.strip():
+            faults.append(f"$ {line}\nended with {status}, and wrote\n{answer}")
+    return faults
+
+
+# ---- the commands that no other test runs
+
+
+@needs.needs("import cryptography", "ssh-keygen", "openssl/evp.h", "dot", *needs.LIBRARY)
+class InACopy(built.OfLibrary):
+    """Commands in a copy of the repository, with an empty home."""
+
+    room: str
+
+    @classmethod
+    def setUpClass(cls) -> None:
+        super().setUpClass()
+        cls.room = tempfile.mkdtemp(prefix="commands-")
+        cls.addClassCleanup(shutil.rmtree, cls.room)
+        copied(os.path.join(cls.room, "clone"), (it for it in tracked() if it.startswith(("apps", "bindings/python", "examples", "crates/spki_c"))))
+        put_built(os.path.join(cls.room, "clone"))
+
+    def said(self, folder: str, script: str) -> str:
+        """What a shell writes in a folder."""
+        home = tempfile.mkdtemp(dir=self.room)
+        commands = [os.path.dirname(sys.executable), os.path.join(self.room, "clone", "apps", "spki-cert"), "/usr/bin", "/bin"]
+        return output_of("sh", text=script, cwd=folder, env={"HOME": home, "PATH": ":".join(commands)}, seconds=SECONDS)[1]
+
+    def is_right(self, folder: str, page: str, lines: list[str]) -> None:
+        """Commands must end as they are to, after what their page takes as there."""
+        said = self.said(folder, BEFORE.get(page, "") + f"echo '{END}' 0\n" + statuses_of(lines))
+        self.assertEqual(faults_in(lines, STATUS.split(said, maxsplit=1)[-1]), [])
+
+    def test_examples(self) -> None:
+        """Those of examples/README.md that no list leaves out, each block in a shell of its own."""
+        for block in page_commands.indented_blocks(text_of("examples/README.md")):
+            each = [Command("examples/README.md", "indented", line) for line in block.splitlines()]
+            lines = [it.line for it in each if not any(page_commands.is_about(row, it) for row in NOT_RUN)]
+            with self.subTest(block):
+                self.is_right(os.path.join(self.room, "clone"), "examples/README.md", lines)
+
+    def test_peers(self) -> None:
+        """Those of docs/PEERS.md."""
+        lines = [line for block in page_commands.indented_blocks(text_of("docs/PEERS.md")) for line in block.splitlines()]
+        self.is_right(tempfile.mkdtemp(dir=self.room), "docs/PEERS.md", lines)
+
+    def test_help(self) -> None:
+        """The examples of the help, each where what it reads is there, and what it writes is not."""
+        made = os.path.join(self.room, "made")
+        os.mkdir(made)
+        self.is_right(made, "help", [])
+        for number, it in enumerate(page_commands.commands_of_help()):
+            with self.subTest(it.line):
+                folder, written = os.path.join(self.room, f"help-{number}"), re.search(r" (?:-o|entry .* --acl) (\S+)", it.line)
+                shutil.copytree(made, folder)
+                before = "mkdir ~/.ssh; ssh-keygen -q -t ed25519 -N '' -f ~/.ssh/id_ed25519" + (f"; rm -f {written[1]}" if written else "")
+                self.is_right(folder, "", [before, it.line])
+
+
+# ---- on machines that have what a page names
+
+
+class Machine(NamedTuple):
+    """A page whose commands run on a machine of its own: what root and the user did before by the words of the page, and what its package needs."""
+
+    page: str
+    by_root: str = ""
+    before: str = ""
+    packages: tuple[str, ...] = ()
+    blocks: str = ""
+    """How its indented blocks are run: each in the clone (`apart`), or where the one before it ends (`on`)."""
+
+
+INSTALL = "./install.sh /usr/local crates/spki/out/spki crates/spki_c/out/libspki_c.a > /dev/null\n"
+MACHINES = [
+    Machine("README.md", INSTALL), Machine("docs/spki.1", INSTALL), Machine("docs/spki-cert.1", INSTALL, packages=("python3-cryptography",)),
+    Machine("docs/GUIDE.md", INSTALL, "export PYTHONPATH=~/clone/bindings/python PATH=$PATH:~/bin\nmkdir ~/bin && ln -s ~/clone/apps/locate ~/bin\n"),
+    Machine("docs/CERTIFICATES.md", blocks="on"), Machine("examples/README.md", INSTALL, "mkdir ~/clone/FOLDER\n", blocks="apart"),
+    Machine("apps/spki-authd/README.md")]
+# The commands that root runs, and the others in backticks that run in the clone.
+OF_ROOT = re.compile(r"(useradd|usermod|install -d) .*|cd apps/spki-authd && go build .*")
+IN_CLONE = re.compile(r"python3 -m venv .*")
+
+
+def put_key(room: str) -> str:
+    """The commands that put a new key of OpenSSH where people have theirs."""
+    path = os.path.join(room, "id_ed25519")
+    subprocess.run(["ssh-keygen", "-q", "-t", "ed25519", "-N", "", "-f", path], check=True)
+    lines = ["mkdir -m 700 ~/.ssh", "umask 077"]
+    for name in ("id_ed25519", "id_ed25519.pub"):
+        with open(os.path.join(room, name), encoding="utf-8") as file:
+            lines.append(f"cat > ~/.ssh/{name} << 'end'\n{file.read()}end")
+    return "\n".join(lines) + "\n"
+
+
+@needs.needs("mmdebstrap", "ssh-keygen", *needs.LIBRARY)
+class OnMachines(built.OfLibrary):
+    """The commands of a page where there is what the page names, and nothing else."""
+
+    def said(self, machine: Machine, by_root: str, script: str) -> str:
+        """What the commands of a page write on a machine of its own."""
+        packages = sorted({*machines.packages_of(text_of(machine.page)), *machine.packages})
+        with tempfile.TemporaryDirectory() as room:
+            clone = os.path.join(room, "clone")
+            copied(clone, tracked())
+            put_built(clone)
+            before = put_key(room) if "~/.ssh" in script else ""
+            return machines.said_on_machine(packages, clone, machine.by_root + by_root,
+                                            f"echo {machine.page}\n{machine.before}{before}echo '{END}' 0\n{script}")
+
+    def is_right(self, machine: Machine) -> None:
+        """Commands must write what the page says, or where it says nothing end with 0."""
+        found = list(page_commands.commands_of(machine.page))
+        if any(it.kind == "console" for it in found):
+            steps = list((test_guide.steps_of_manual if machine.page.endswith(".1") else test_guide.steps_of_markdown)(text_of(machine.page)))
+            said = STATUS.split(self.said(machine, "", "".join(test_guide.script(steps))), maxsplit=1)[-1]
+            met = [each.strip("\n") for each in said.split(f"{test_guide.END}\n")]
+            self.assertEqual(met, [*(answer.strip("\n") for kind, _, answer in steps if kind == "command"), ""])
+        by_root = [f"({it.line})" for it in found if it.kind == "inline" and OF_ROOT.fullmatch(it.line)]
+        blocks = page_commands.indented_blocks(text_of(machine.page)) if machine.blocks else ()
+        by_user = [[f"timeout 2 {line}" if SERVES.fullmatch(line) else line for line in block.splitlines() if not NOT_ON_MACHINES.fullmatch(line)]
+                   for block in blocks]
+        by_user += [[it.line] for it in found if it.kind == "inline" and IN_CLONE.fullmatch(it.line)]
+        if by_root or by_user:
+            self.ends_right(machine, by_root, by_user)
+
+    def ends_right(self, machine: Machine, by_root: list[str], by_user: list[list[str]]) -> None:
+        """Commands of root, and then blocks of the user, must end as they are to."""
+        begin = "cd ~/clone\n" * (machine.blocks != "on")
+        script = "cd ~/clone\n" + "".join(begin + statuses_of(lines) for lines in by_user)
+        said = self.said(machine, f"echo '{END}' 0\n" + statuses_of(by_root), script)
+        of_root, of_user = STATUS.split(said, maxsplit=1)[-1].split(machine.page + "\n", maxsplit=1)
+        self.assertEqual(faults_in(by_root, of_root), [])
+        self.assertEqual(faults_in([line for lines in by_user for line in lines], STATUS.split(of_user, maxsplit=1)[-1]), [])
+
+
+def made_test(machine: Machine) -> Callable[[OnMachines], None]:
+    """The test of a page."""
+    return lambda self: self.is_right(machine)
+
+
+class OfToolchain(unittest.TestCase):
+    """What the toolchain does that a page begins with."""
+
+    def first_command(self) -> None:
+        """The first command of README compiles the program, which takes more than a minute, and prints the answer that the page says."""
+        line = next(it.line for it in page_commands.commands_of("README.md") if it.kind == "indented")
+        status, said = output_of("sh", "-c", line, cwd=TOP, seconds=3 * SECONDS)
+        self.assertEqual((status, "yes entry 1" in said.splitlines()), (0, True), said)
+        self.assertIn("prints `yes entry 1`", text_of("README.md"))
+
+
+if built.IS_LONG:
+    for each in MACHINES:
+        setattr(OnMachines, f"test_machine:{each.page}", made_test(each))
+    setattr(OfToolchain, "test_first_command", OfToolchain.first_command)

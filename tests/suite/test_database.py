@@ -1,0 +1,225 @@
+"""Compares decisions by entries in a store, as examples/database/ makes them, with those of a guard of all entries.
+
+- Random lists with entries for keys, hashes and names, and questions with up to three certificates: the answer, the number of the entry
+  and each refusal must be those of the guard of the whole list.
+- Several clients add and remove entries at the same time, and each asks in between: an entry that was added grants, and one that was removed
+  does not.
+
+The store is on a server in a temporary folder. `tests/suite/test_store.py` asks the same of the daemon, and kills servers."""
+import hashlib
+import os
+import random
+import secrets
+import sys
+from concurrent.futures import ThreadPoolExecutor
+
+from harness import built, databases, needs
+from harness.support import EXAMPLES, canonical
+
+needs.required(*needs.LIBRARY, *databases.NEEDED)
+os.environ["SPKI_LIBRARY"] = built.shared()
+sys.path.insert(1, os.path.join(EXAMPLES, "database"))
+import entries  # noqa: E402
+import spki  # noqa: E402
+from spki_store_tool.tables import Store  # noqa: E402
+
+KEYS, ENTRIES, QUESTIONS = 12, 150, 1500
+CLIENTS, ROUNDS = 4, 25
+NOON = b"19:2026-03-01_12:00:00"
+TAG = b"(tag (packages read))"
+REQUEST = (b"packages", b"read", b"/a")
+
+
+def key_of(name):
+    return [b"public-key", [b"test", name]]
+
+
+def hash_of(value, algorithm="sha256"):
+    return [b"hash", algorithm.encode(), hashlib.new(algorithm, canonical(value)).digest()]
+
+
+def is_right(signature):
+    """The verifier of these tests."""
+    return signature.value == b"3:sig"
+
+
+def question(sequence, asker, request=REQUEST, moment=NOON):
+    key = spki.ProvenKey.assume(canonical(asker))
+    return spki.Question(sequence if isinstance(sequence, bytes) else canonical(sequence), key, words=request, moment=moment)
+
+
+# ---- random lists and questions
+
+
+class Maker:
+    """Makes entries and questions about a few keys."""
+
+    def __init__(self, seed):
+        self.random = random.Random(seed)
+        self.keys = [key_of(b"k%d" % place) for place in range(KEYS)]
+
+    def principal(self, key):
+        return self.random.choice([key, key, hash_of(key), hash_of(key), hash_of(key, "sha512"), hash_of(key, "sha1")])
+
+    def tag(self):
+        return [b"tag", self.random.choice([[b"*"], [b"packages"], [b"packages", b"read"], [b"packages", [b"*", b"set", b"read", b"write"]],
+                                            [b"packages", b"write"]])]
+
+    def validity(self):
+        return self.random.choice([[], [], [], [[b"not-after", b"2026-02-01_00:00:00"]], [[b"not-before", b"2026-02-01_00:00:00"]]])
+
+    def entry(self):
+        """What `entries.entry` is called with."""
+        propagate = [[b"propagate"]] if self.random.random() < 0.8 else []
+        names = self.random.choice([(), (), (), (b"friends",), (b"friends", b"bob")])
+        fields = [canonical(field) for field in [*propagate, self.tag(), *self.validity()]]
+        return canonical(self.principal(self.random.choice(self.keys))), fields, names
+
+    def certificate(self, issuer, subject):
+        """A certificate from one key to another, of an authorization or of a name."""
+        owner = self.principal(issuer)
+        if self.random.random() < 0.25:
+            return [b"cert", [b"issuer", [b"name", owner, b"friends"]], [b"subject", self.principal(subject)], *self.validity()]
+        propagate = [[b"propagate"]] if self.random.random() < 0.8 else []
+        return [b"cert", [b"issuer", owner], [b"subject", self.principal(subject)], *propagate, self.tag(), *self.validity()]
+
+    def question(self):
+        """A question with up to three certificates, of which some are wrong, and some of whose parts cannot be read."""
+        chain = [self.random.choice(self.keys) for _ in range(self.random.randrange(4) + 1)]
+        items = [key for key in chain if self.random.random() < 0.95]
+        for issuer, subject in zip(chain, chain[1:]):
+            certificate = self.certificate(issuer, subject)
+            value = b"sig" if self.random.random() < 0.95 else b"wrong"
+            items += [certificate, [b"signature", hash_of(certificate), issuer, value]]
+        asker = chain[-1] if self.random.random() < 0.9 else self.random.choice(self.keys)
+        if self.random.random() < 0.03:
+            return question(b"(sequence) (key)", asker)
+        return question([b"sequence", *items], asker if self.random.random() < 0.97 else [b"public-key"],
+                        self.random.choice([*[REQUEST] * 20, *[REQUEST[:2]] * 5, *[(b"packages", b"write")] * 4, ()]))
+
+
+def outcome(decide, asked):
+    """The number of the entry, None, or the line of the refusal."""
+    try:
+        return decide(asked)
+    except spki.Refused as refusal:
+        return refusal.line
+
+
+def whole(store, policy):
+    """Decides by a guard of all rows of the store, and names the row that grants."""
+    rows = list(store.all())
+    guard = entries.list_of([row.text for row in rows], policy, entries.LIMITS)
+
+    def decide(asked):
+        decision = guard.decide(asked, is_right)
+        return rows[decision.entry - 1].number if decision else None
+    return decide
+
+
+def is_that_of_the_whole(store, seed, policy):
+    """Whether random questions have the answers of the whole list, before and after some entries are removed."""
+    maker, met = Maker(seed), {"yes": 0, "no": 0, "refused": 0}
+    numbers = []
+    for _ in range(ENTRIES):
+        principal, fields, names = maker.entry()
+        numbers.append(store.add(entries.entry(principal, *fields, names=names)))
+    service = entries.Service(store, policy)
+    for _ in range(2):
+        decide = whole(store, policy)
+        for _ in range(QUESTIONS // 2):
+            asked = maker.question()
+            wanted, found = outcome(decide, asked), outcome(lambda it: service.decide(it, is_right), asked)
+            if wanted != found:
+                print(f"seed {seed}: {asked}: {found}, and of the whole list {wanted}")
+                return False
+            met["no" if found is None else "yes" if isinstance(found, int) else "refused"] += 1
+        for number in maker.random.sample(numbers, ENTRIES // 3):
+            store.remove(number)
+    print(f"seed {seed}: {met}")
+    return min(met.values()) > 10
+
+
+# ---- several clients at the same time
+
+
+def client(opened, place):
+    """Adds and removes entries of a key of its own, and asks in between. Returns what was wrong."""
+    store, own = opened(), key_of(b"client%d" % place)
+    service, asked = entries.Service(store), question(b"(sequence)", own)
+    for turn in range(ROUNDS):
+        principal = canonical(own if turn % 2 else hash_of(own))
+        if service.decide(asked, is_right) is not None:
+            return f"client {place}: a yes before entry {turn} is added"
+        useless = store.add(entries.entry(principal, b"(tag (packages write))"))
+        number = store.add(entries.entry(principal, TAG))
+        if service.decide(asked, is_right) != number:
+            return f"client {place}: no yes by entry {number}"
+        if not store.remove(number) or service.decide(asked, is_right) is not None:
+            return f"client {place}: a yes after entry {number} was removed"
+        store.remove(useless)
+    store.close()
+    return None
+
+
+def clients_agree(opened):
+    with ThreadPoolExecutor(CLIENTS) as pool:
+        wrong = list(filter(None, pool.map(lambda place: client(opened, place), range(CLIENTS))))
+    print("".join(f"{each}\n" for each in wrong), end="")
+    return not wrong
+
+
+def is_refused(call, *given, **more):
+    try:
+        call(*given, **more)
+    except (spki.Refused, ValueError):
+        return True
+    return False
+
+
+def entries_refused():
+    """By name, whether what makes no entry is refused before it is in the table."""
+    own = canonical(key_of(b"k"))
+    return {"an entry without a tag": is_refused(entries.entry, own), "an entry for a tag": is_refused(entries.entry, TAG, TAG),
+            "two principals": is_refused(entries.entry, own + own, TAG),
+            "a name as a principal": is_refused(entries.entry, b"(name %s n)" % own, TAG),
+            "a field that ends the entry": is_refused(entries.entry, own, b"(tag (*))) (entry x)"),
+            "a digest of another length": is_refused(entries.entry, b"(hash sha256 abc)", TAG)}
+
+
+class Entries(built.OfLibrary):
+    """What makes no entry is refused before it is in a table."""
+
+    def test_entries_refused(self):
+        for name, is_right_so in entries_refused().items():
+            with self.subTest(name):
+                self.assertTrue(is_right_so)
+
+
+class Stores(built.OfLibrary):
+    """Entries in PostgreSQL. Each test has a schema of its own."""
+
+    @classmethod
+    def setUpClass(cls):
+        super().setUpClass()
+        cls.server = databases.Server().__enter__()
+        cls.addClassCleanup(cls.server.__exit__, None, None, None)
+
+    def setUp(self):
+        self.schema = f"spki_{secrets.token_hex(6)}"
+        self.opened().make()
+
+    def opened(self):
+        """The store, by a connection of its own."""
+        store = Store(self.server.address, self.schema)
+        self.addCleanup(store.close)
+        return store
+
+    def test_strict(self):
+        self.assertTrue(is_that_of_the_whole(self.opened(), 0, spki.Policy.STRICT))
+
+    def test_open(self):
+        self.assertTrue(is_that_of_the_whole(self.opened(), 1, spki.Policy.ALLOW_SHA1))
+
+    def test_several_clients(self):
+        self.assertTrue(clients_agree(self.opened))

@@ -1,0 +1,166 @@
+"""Tests that what the documents name is there: each relative link and its heading, each path of a file or folder of this repository in
+backticks, in a block of commands and in a table, the versions of the manual and of README.md, which are that of the file VERSION, and
+the logic of the toolchain that README.md names, which `rt --version` prints; each definition of docs/DEFINITIONS.md, in the file of its
+row; and each clause that a row of docs/PROOFS.md names, in the function of that row (`claims.py`). The pages have at most the octets that are meant
+for them.
+
+A path is what begins with a name at the top of the repository, or in the folder of the document, or with `src`, `specs` or `proofs` in the
+page of a crate; and each word in backticks that ends as a file of a kind that is here. A word in capitals stands for any name, and so
+does `*`. What is built, in `out/`, is left out. Each page is a test."""
+import glob
+import os
+import re
+import unittest
+from collections.abc import Callable, Iterator
+
+from harness import claims
+from harness.support import TOP, output_of, text_of
+
+PAGES = ["*.md", "docs/*.md", "examples/*.md", "apps/**/*.md", "crates/*/CALLING.md"]
+# The octets that README.md may have, and all pages of docs/ with the pages CALLING.md.
+MOST_OF_README, MOST_OF_PAGES = 16_384, 245_760
+LINK = re.compile(r"\]\(([^)\s]+)\)")
+TICKS = re.compile(r"`([^`\n]+)`")
+FENCED = re.compile(r"^```(\w*) ?(\S*)\n(.*?)^```$", re.MULTILINE | re.DOTALL)
+HEADING = re.compile(r"^#+ (.*)$", re.MULTILINE)
+PATH = re.compile(r"^(?:\.ci|[\w*+-][\w.*+-]*)(?:/[\w.*+-]+)*/?$")
+KINDS = (".md", ".py", ".sexp", ".csexp", ".tsexp", ".rt", ".antt", ".h", ".c", ".sh", ".svg")
+LOGIC = re.compile(r"rattle-kit-\w+ (logic [0-9a-f]+)")
+ANY = re.compile(r"\b[A-Z]{2,}(?![A-Za-z.])")
+# What pages name that is made by a command, by the reader, or by another program, and the page of each.
+MADE = {"ask.py", "builders.sexp", "to-bob.sexp", "to-carol.sexp", "case.sexp", "chain.svg", "chain.sexp", "wrong.sexp", "x.edit", "locate"}
+
+
+def names_here():
+    """The names of all files of the repository, without what is built."""
+    found = set()
+    for _, folders, names in os.walk(TOP):
+        folders[:] = set(folders) - {".git", "out", "__pycache__"}
+        found.update(names)
+    return found
+
+
+def anchor(heading):
+    """The anchor of a heading, as pages on the web have it."""
+    bare = re.sub(r"[^\w\- ]", "", heading.replace("`", "")).strip().lower()
+    return bare.replace(" ", "-")
+
+
+def dead_links(page):
+    """The relative links of a page that lead nowhere."""
+    for target in LINK.findall(TICKS.sub("", FENCED.sub("", text_of(page)))):
+        if re.match(r"[a-z]+:", target):
+            continue
+        path, _, part = target.partition("#")
+        file = os.path.normpath(os.path.join(os.path.dirname(page), path)) if path else page
+        if not os.path.exists(os.path.join(TOP, file)):
+            yield f"the link to {target}"
+        elif part and part not in map(anchor, HEADING.findall(text_of(file))):
+            yield f"the heading of the link to {target}"
+
+
+def words_of(page):
+    """The words of a page that may be paths: in backticks, and in indented lines of commands."""
+    text = text_of(page)
+    plain = FENCED.sub("", text)
+    for quoted in TICKS.findall(plain):
+        yield from quoted.split()
+    for line in re.findall(r"^    (.*)$", plain, re.MULTILINE):
+        yield from (word for word in line.split("#")[0].split() if "/" in word)
+
+
+def bases(page):
+    """The folders that the paths of a page may begin in."""
+    folder = os.path.dirname(page)
+    return [it for it in (TOP, os.path.join(TOP, folder)) if os.path.isdir(it)]
+
+
+def dead_paths(page, names):
+    """The paths that a page names and that are not there."""
+    written = {name for _, name, _ in FENCED.findall(text_of(page)) if name}
+    for word in words_of(page):
+        word = re.sub(r"^(?:\.\./|\./)+", "", word.rstrip(".,;:)"))
+        if not PATH.match(word) or "out/" in f"{word}/" or ANY.search(word) or word in MADE | written:
+            continue
+        first, is_file = word.split("/")[0], word.endswith(KINDS)
+        is_path = "/" in word and any(os.path.exists(os.path.join(base, first)) for base in bases(page))
+        is_there = any(glob.glob(os.path.join(base, word)) for base in bases(page))
+        if is_path and not is_there or is_file and "/" not in word and not is_there and word not in names:
+            yield f"the path {word}"
+
+
+# ---- names in the sources
+
+DEFINED = re.compile(r"^\| ([A-Z]\w+(?:, [A-Z]\w+)*) \| ((?:`[\w-]+`(?:, )?)+) \|", re.MULTILINE)
+# The definitions of a specification: also fields and constructors.
+OF_SPECS = re.compile(r"^ *(?:(?:abbrev|pub|record|data|unfoldable) )*([\w-]+)\b|\(pub ([\w-]+)", re.MULTILINE)
+
+
+def names_in(pattern: re.Pattern[str], paths: list[str]) -> set[str]:
+    """The names that a pattern finds in files."""
+    return {name for path in paths for found in pattern.findall(text_of(path)) for name in ([found] if isinstance(found, str) else found)}
+
+
+def below_crates(part: str) -> list[str]:
+    """The files of all crates that a pattern names, without what is built."""
+    return glob.glob(os.path.join("crates", "*", part), root_dir=TOP, recursive=True)
+
+
+def undefined() -> Iterator[str]:
+    """The definitions of docs/DEFINITIONS.md that are not in the files of their rows."""
+    for head, rows in claims.SECTION.findall(text_of("docs/DEFINITIONS.md")):
+        for files, names in DEFINED.findall(rows):
+            paths = [f"crates/{crate}/specs/{file}.antt" for crate in re.findall(r"`(\w+)`", head) for file in files.split(", ")]
+            there = names_in(OF_SPECS, [path for path in paths if os.path.exists(os.path.join(TOP, path))])
+            yield from (f"{files}: {name}" for name in re.findall(r"`([\w-]+)`", names) if name not in there)
+
+
+class Documents(unittest.TestCase):
+    """What the documents name."""
+
+    def test_versions(self) -> None:
+        version = text_of("VERSION").strip()
+        for page in ("docs/spki.1", "docs/spki-cert.1", "docs/spki-authd.8"):
+            self.assertIn(f'"Conguraki {version}"', text_of(page).splitlines()[0])
+        self.assertIn(f"The version is {version}.", text_of("README.md"))
+
+    def test_paths_of_tests(self) -> None:
+        """What scripts and programs name of tests/ is there too."""
+        named = re.findall(r"tests/.*", output_of("git", "grep", "-ohE", r"(^|[^A-Za-z0-9_/.-])tests/[a-z][A-Za-z0-9_/.*]*[a-z/]", cwd=TOP)[1])
+        self.assertEqual({path for path in named if "/out/" not in path and not glob.glob(os.path.join(TOP, path))}, set())
+
+    def test_lengths(self) -> None:
+        """A page that grows is read by nobody."""
+        lengths = {path: os.path.getsize(path) for pattern in PAGES for path in glob.glob(os.path.join(TOP, pattern), recursive=True)}
+        self.assertLessEqual(lengths[os.path.join(TOP, "README.md")], MOST_OF_README)
+        self.assertLess(sum(size for path, size in lengths.items() if "/docs/" in path or path.endswith("CALLING.md")), MOST_OF_PAGES)
+
+    def test_toolchain(self) -> None:
+        """README.md names a toolchain of the logic that `rt --version` prints. Kits of one logic prove the same."""
+        self.assertEqual(set(LOGIC.findall(text_of("README.md"))), set(LOGIC.findall(output_of("rt", "--version")[1])))
+
+    def test_definitions(self) -> None:
+        self.assertEqual(list(undefined()), [])
+
+    def test_claims(self) -> None:
+        sources = claims.Sources(below_crates("src/**/*.rt"), below_crates("specs/**/*.antt"))
+        self.assertEqual(list(claims.faults("docs/PROOFS.md", sources)), [])
+
+    def test_calls_for_c(self) -> None:
+        self.assertEqual(list(claims.unclaimed("docs/PROOFS.md", "crates/spki_c/spki.h", "crates/spki_c/spki.c")), [])
+
+    def is_whole(self, page: str) -> None:
+        """All that a page names must be there."""
+        missing = sorted({*dead_links(page), *dead_paths(page, NAMES)})
+        self.assertEqual(missing, [], f"{page}: these are not there")
+
+
+def made_test(page: str) -> Callable[[Documents], None]:
+    """The test of a page."""
+    return lambda self: self.is_whole(page)
+
+
+NAMES = names_here()
+for path in sorted(path for pattern in PAGES for path in glob.glob(os.path.join(TOP, pattern), recursive=True)):
+    each = os.path.relpath(path, TOP)
+    setattr(Documents, f"test_page:{each}", made_test(each))

@@ -1,0 +1,423 @@
+"""Tests `spki-cert end`, which writes the file of the certificates that no longer count: what gets into it, what is refused, and what is left
+unchanged then.
+
+The digests come from elsewhere: from the model's canonical form, and from the messages that the library lists to be verified. What the last line
+must be is worked out here."""
+import contextlib
+import fcntl
+import hashlib
+import io
+import itertools
+import os
+import re
+import stat
+import subprocess
+import sys
+import tempfile
+import unittest
+from unittest import mock
+
+from harness import built, needs
+from harness.support import TOP, output_of, room_for, text_of
+from model import advanced, values
+from suite import test_guide
+from spki_cert_tool import commands, ending, files
+
+COMMAND = os.path.join(TOP, "apps", "spki-cert", "spki-cert")
+A, B, C = (letter * 64 for letter in "abc")
+ENDED = "etc ended"
+# The comment that made a line of its own in the file, and the one that named somebody else's certificate.
+COMMENTS = ("see sha256 of the release", f"sha256 {A} #")
+WRITERS = 6
+
+
+def whole(*lines: str) -> bytes:
+    """The file of these lines, with its last line."""
+    text = "".join(f"{line}\n" for line in lines).encode("utf-8", "surrogateescape")
+    count = len([line for line in lines if re.match("[0-9a-f]{64}", line)])
+    return text + f"end {count} {hashlib.sha256(text).hexdigest()}\n".encode()
+
+
+def digests_by_model(text: bytes) -> list[str]:
+    """The digests of the certificates of a sequence, by the model."""
+    items = advanced.read(text)
+    assert isinstance(items, tuple)
+    return [hashlib.sha256(values.canonical(item)).hexdigest() for item in items if values.head_of(item) == b"cert"]
+
+
+def place(kind: str, path: str) -> None:
+    """Puts something of a kind where the file is expected."""
+    if kind == "fifo":
+        os.mkfifo(path)
+    elif kind == "folder":
+        os.mkdir(path)
+    elif kind in ("device", "nowhere"):
+        os.symlink("/dev/null" if kind == "device" else "not-there", path)
+    else:
+        with open(path, "xb") as file:
+            file.write(b"#" * (ending.MOST_ENDED + 1) if kind == "long" else whole(A))
+    if kind == "read-only":
+        os.chmod(path, 0o444)
+    elif kind == "two names":
+        os.link(path, f"{path}2")
+
+
+def what_is(path: str) -> list[int]:
+    """What a file is, but for the time when it was read."""
+    about = os.lstat(path)
+    return [about.st_ino, about.st_mode, about.st_size, about.st_nlink, about.st_mtime_ns, about.st_ctime_ns]
+
+
+@needs.needs("import cryptography")
+class Case(unittest.TestCase):
+    """A test in a folder with the keys `ann` and `ben`, `first`, a sequence of one certificate, and `second`, which has two."""
+
+    room: str
+    digests: list[str]
+
+    @classmethod
+    def setUpClass(cls) -> None:
+        cls.room = room_for(cls)
+        for who in ("ann", "ben"):
+            cls.run_here("key", "new", "--no-passphrase", who)
+        signs = ("sign", "--tag", "(files)", "--days", "9")
+        cls.run_here(*signs, "--by", "ann", "--to", "ben.pub", "--propagate", "--comment", COMMENTS[0], "-o", "first")
+        cls.run_here(*signs, "--by", "ben", "--to", "ann.pub", "--comment", COMMENTS[1], "-o", "own")
+        first, own = advanced.read(cls.octets("first")), advanced.read(cls.octets("own"))
+        assert isinstance(first, tuple) and isinstance(own, tuple)
+        cls.write("second", values.canonical((*first, *own[1:])))
+        cls.write("cert", values.canonical(first[1]))
+        cls.digests = digests_by_model(cls.octets("first")) + digests_by_model(cls.octets("own"))
+
+    @classmethod
+    def at(cls, name: str) -> str:
+        return os.path.join(cls.room, name)
+
+    @classmethod
+    def octets(cls, name: str) -> bytes:
+        with open(cls.at(name), "rb") as file:
+            return file.read()
+
+    @classmethod
+    def write(cls, name: str, octets: bytes) -> None:
+        with contextlib.suppress(FileNotFoundError):
+            os.unlink(cls.at(name))
+        with open(cls.at(name), "xb") as file:
+            file.write(octets)
+
+    @classmethod
+    def run_here(cls, *words: str) -> tuple[int, str]:
+        """The status of the command in the folder, and what it writes on both streams."""
+        said, before = io.TextIOWrapper(io.BytesIO(), "ascii", write_through=True), os.getcwd()
+        os.chdir(cls.room)
+        try:
+            with mock.patch.object(sys, "argv", ["spki-cert", *words]), contextlib.redirect_stdout(said), contextlib.redirect_stderr(said):
+                return commands.main(), said.buffer.getvalue().decode()  # type: ignore[attr-defined]
+        finally:
+            os.chdir(before)
+
+    def ended(self, *words: str, wanted: int = 0) -> str:
+        """What `spki-cert end` writes. It must end with a status."""
+        status, said = self.run_here("end", "--ended", ENDED, *words)
+        self.assertEqual(status, wanted, said)
+        return said
+
+    def rows(self) -> list[str]:
+        """The digests of the file. Its last line must be right."""
+        lines = self.octets(ENDED).decode().splitlines()
+        self.assertEqual(self.octets(ENDED), whole(*lines[:-1]))
+        return [line[:64] for line in lines if re.match("[0-9a-f]{64}", line)]
+
+    def is_unchanged(self, before: bytes, said: str) -> None:
+        self.assertEqual(self.octets(ENDED), before, said)
+        self.assertEqual([name for name in os.listdir(self.room) if name.startswith(".")], [], said)
+
+
+class Ends(Case):
+    """What gets into the file."""
+
+    def setUp(self) -> None:
+        self.write(ENDED, whole())
+
+    def test_which_certificate(self) -> None:
+        """The last certificate of a file, that at a place, the one that is alone, or a digest. Comments of certificates do nothing."""
+        first, second = self.digests
+        for words, wanted in ((["second"], [second]), (["first"], [first]), (["cert"], [first]), (["second", "--place", "1"], [first]),
+                              (["second", "--place", "2"], [second]), (["first", "second"], [first, second]), (["--digest", B], [B]),
+                              (["--digest", B.upper()], [B]), (["first", "--digest", B, "--digest", C], [first, B, C]), (["first", "cert"], [first])):
+            with self.subTest(words=words):
+                self.write(ENDED, whole())
+                said = self.ended(*words)
+                self.assertEqual((self.rows(), f"digests added: {len(wanted)};" in said), (wanted, True), said)
+                self.assertEqual("--digest is compared with no certificate" in said, "--digest" in words)
+
+    def test_forms(self) -> None:
+        """A file in another form of the same value has the same digest."""
+        for name, octets in (("advanced", self.octets("own")), ("braces", self.run_here("show", "--braces", "second")[1].encode())):
+            with self.subTest(name=name):
+                self.write(ENDED, whole())
+                self.write("form", octets)
+                self.ended("form")
+                self.assertEqual(self.rows(), [self.digests[1]])
+
+    def test_reasons(self) -> None:
+        """A reason is one line of visible ASCII behind the digest and the date, whatever is given."""
+        for reason, wanted in (("laptop stolen", " laptop stolen"), ("", ""), (f"x\n{A}\nend 0 {B}", f" x {A} end 0 {B}"),
+                               ("a\rb\x1b[2Jc\x85d\0e", " a b [2Jc\\x85d e"),
+                               ("Schl\xfcssel", " Schl\\xfcssel"), ("\udcff", " \\udcff"), ("# \\ '", " # \\ '"), ("x" * 999, " " + "x" * 200)):
+            with self.subTest(reason=reason):
+                self.write(ENDED, whole())
+                self.ended("second", "--reason", reason)
+                line = self.octets(ENDED).decode().splitlines()[0]
+                self.assertRegex(line, rf"^{self.digests[1]} # \d{{4}}-\d\d-\d\d{re.escape(wanted)}$")
+                self.assertEqual(self.rows(), [self.digests[1]])
+
+    def test_twice(self) -> None:
+        """What has ended is said, and not written again."""
+        self.ended("first")
+        before = self.octets(ENDED)
+        said = self.ended("first", "--reason", "again")
+        self.assertIn("it had ended before\ndigests added: 0", said)
+        self.is_unchanged(before, said)
+        self.assertIn("digests added: 1;", self.ended("first", "second"))
+        self.assertEqual(self.rows(), self.digests)
+
+    def test_undo(self) -> None:
+        """All that are named are taken out, or none is."""
+        kept = ["# M\xfcller", "", f"{A} # 2026-01-01", f"{B}"]
+        self.write(ENDED, whole(*kept, self.digests[1]))
+        before = self.octets(ENDED)
+        for words in (["first"], ["second", "first"], ["--digest", C]):
+            said = self.ended("--undo", *words, wanted=1)
+            self.assertIn("it has not ended; nothing was written", said)
+            self.is_unchanged(before, said)
+        self.assertIn("-reload -fewer", self.ended("--undo", "second"))
+        self.assertEqual(self.octets(ENDED), whole(*kept))
+
+    def test_list(self) -> None:
+        """Digest, date and reason, and the last line as the file has it. Nothing that a terminal would obey."""
+        text = whole("# a comment", "", f"{A} # 2026-01-02 stolen", f"{B} # 2026-01-03", f"{C} # M\xfcller \x1b[2J 2026-01-04", "d" * 64)
+        self.write(ENDED, text)
+        self.assertEqual(self.ended("--list"), f"{A} 2026-01-02 stolen\n{B} 2026-01-03\n{C} - M\\xfcller [2J 2026-01-04\n{'d' * 64} -\n"
+                         + text.decode().splitlines()[-1] + "\n")
+        self.is_unchanged(text, "--list")
+
+    def test_made(self) -> None:
+        """Without anything else the file is made once, and is looked at then."""
+        os.unlink(self.at(ENDED))
+        self.assertIn("made; digests: 0", self.ended())
+        self.assertEqual((self.rows(), stat.S_IMODE(os.stat(self.at(ENDED)).st_mode)), ([], 0o644))
+        self.ended("first")
+        before = self.octets(ENDED)
+        self.assertIn("whole; digests: 1", self.ended())
+        self.is_unchanged(before, "the file is there")
+
+    def test_mode_owner_and_comments_stay(self) -> None:
+        self.write(ENDED, whole("# M\xfcller \udcff", f"{A} # \x01 \xe9"))
+        os.chmod(self.at(ENDED), 0o640)
+        if os.geteuid() == 0:
+            os.chown(self.at(ENDED), 1, 2)
+        before = os.stat(self.at(ENDED))
+        self.ended("first")
+        after = os.stat(self.at(ENDED))
+        self.assertEqual((after.st_mode, after.st_uid, after.st_gid), (before.st_mode, before.st_uid, before.st_gid))
+        self.assertTrue(self.octets(ENDED).startswith("# M\xfcller \udcff\n".encode("utf-8", "surrogateescape") + f"{A} # \x01 \xe9\n".encode()))
+        self.assertEqual(self.octets(ENDED).count(b"\n"), 4)
+
+    def test_link(self) -> None:
+        """A symbolic link stays, and what it names is replaced."""
+        self.write("real", whole())
+        os.unlink(self.at(ENDED))
+        os.symlink("real", self.at(ENDED))
+        self.ended("first")
+        self.assertTrue(os.path.islink(self.at(ENDED)))
+        self.assertEqual(self.rows(), [self.digests[0]])
+
+    def test_writers_at_once(self) -> None:
+        """Each of several writers adds its digest, and none is lost."""
+        running = [subprocess.Popen([sys.executable, COMMAND, "end", "--ended", ENDED, "--digest", f"{number:064x}"], cwd=self.room,
+                                    stdout=subprocess.DEVNULL) for number in range(WRITERS)]
+        self.assertEqual([each.wait() for each in running], [0] * WRITERS)
+        self.assertEqual(sorted(self.rows()), [f"{number:064x}" for number in range(WRITERS)])
+
+    def test_changed_before_the_lock(self) -> None:
+        """What another writer puts there between opening and locking is kept."""
+        def changes_and_locks(handle: int, how: int) -> None:
+            if self.rows() == []:
+                self.write(ENDED, whole(A))
+            flock(handle, how)
+
+        flock = fcntl.flock
+        with mock.patch("fcntl.flock", changes_and_locks):
+            self.ended("first")
+        self.assertEqual(self.rows(), [A, self.digests[0]])
+
+    def test_locked(self) -> None:
+        """A writer that holds the file for long does not hang the next one."""
+        with files.locked(self.at(ENDED)), mock.patch.object(files, "SECONDS_TO_LOCK", 0):
+            said = self.ended("first", wanted=2)
+        self.assertIn("another program has locked it", said)
+        self.is_unchanged(whole(), said)
+
+    def test_full_disk(self) -> None:
+        """If the new file cannot be written, the old one stays, and no other file is left."""
+        for name in ("os.fsync", "os.replace", "os.fchown", "shutil.copystat"):
+            with self.subTest(name=name), mock.patch(name, side_effect=OSError(28, "No space left on device")):
+                said = self.ended("first", wanted=3)
+                self.assertIn("No space left on device; the file is as before", said)
+                self.is_unchanged(whole(), said)
+
+    def test_full_output(self) -> None:
+        """If only the output cannot be written, the status says so, and nothing denies that the file is written."""
+        class Full(io.StringIO):
+            def flush(self) -> None:
+                raise OSError(28, "No space left on device")
+
+        said, before = io.StringIO(), os.getcwd()
+        os.chdir(self.room)
+        self.addCleanup(os.chdir, before)
+        with mock.patch.object(sys, "argv", ["spki-cert", "end", "first", "--ended", ENDED]), contextlib.redirect_stdout(Full()), \
+                contextlib.redirect_stderr(said):
+            self.assertEqual(commands.main(), 3)
+        self.assertNotIn("nothing was written", said.getvalue())
+        self.assertEqual(self.rows(), self.digests[:1])
+
+
+class Refuses(Case):
+    """What ends with a status that is not 0, and changes nothing."""
+
+    def test_what_is_meant(self) -> None:
+        self.write(ENDED, whole(A))
+        self.write("none", b"(sequence)")
+        self.write("list", b"(acl)")
+        self.write("half", self.octets("second")[:-9])
+        for words, text in ((["nothere"], "No such file"), (["."], "a folder, and a file is wanted"), (["first", "nothere"], "No such file"),
+                            (["half"], "refused form"), (["none"], "no certificate; it has 0"), (["list"], "only a certificate"),
+                            (["ann.pub"], "refused form"), (["ann"], "refused"), (["second", "--place", "3"], "no certificate 3; it has 2"),
+                            (["second", "--place", "0"], "no certificate 0"),
+                            (["second", "--place", "-1"], "no certificate -1"), (["first", "second", "--place", "1"], "goes with one FILE"),
+                            (["--digest", A, "--place", "1"], "goes with one FILE"), (["--digest", A[1:]], "64 hexadecimal digits"),
+                            (["--digest", A + "a"], "64 hexadecimal digits"), (["--digest", A[1:] + "g"], "64 hexadecimal digits"),
+                            (["--digest", A + "\n"], "64 hexadecimal digits"), (["--digest", ""], "64 hexadecimal digits"),
+                            (["--undo"], "--undo needs"), (["--list", "first"], "about all digests"), (["--adopt", "first"], "about all digests"),
+                            (["--reason", "x"], "--reason goes with"), (["--undo", "first", "--reason", "x"], "--reason goes with"),
+                            (["first", "--yes"], "--yes goes with --adopt"), ([ENDED], "refused form")):
+            with self.subTest(words=words):
+                said = self.ended(*words, wanted=2)
+                self.assertIn(text, said)
+                self.is_unchanged(whole(A), said)
+
+    def test_files(self) -> None:
+        """A file that is not as it was written is refused by each command, with what differs and what to do."""
+        good = whole("# M\xfcller", f"{A} # 2026-01-01 x", "", B)
+        lines = good.split(b"\n")
+        rows = [("empty", b"", "not `end COUNT"), ("cut in a line", good[:99], "not `end COUNT"),
+                ("cut in the last line", good[:-9], "not `end COUNT"),
+                ("cut before the last line", good[:good.index(b"end ")], "not `end COUNT"), ("no end of line", good[:-1], "not `end COUNT"),
+                ("a line less", b"\n".join(lines[:1] + lines[2:]), "says 2 digests, and there are 1"),
+                ("a line more", b"\n".join([C.encode(), *lines]), "says 2 digests, and there are 3"),
+                ("another digest", good.replace(B.encode(), C.encode()), "has another SHA-256"),
+                ("another comment", good.replace(b"x", b"y"), "has another SHA-256"),
+                ("an empty line behind", good + b"\n", "not `end COUNT"), ("a comment behind", good + b"# x\n", "not `end COUNT"),
+                ("twice", good + good, "line 5 is no digest"), ("capitals", whole(A.upper()), "line 1 is no digest"),
+                ("a space in front", whole("", f" {A}"), "line 2 is no digest"), ("no space", whole(f"{A}# x"), "line 1 is no digest"),
+                ("no space behind", whole(f"{A} #x"), "line 1 is no digest"), ("two spaces", whole(f"{A}  # x"), "line 1 is no digest"),
+                ("words", whole(f"{A} x"), "line 1 is no digest"), ("long", whole(A + "a"), "line 1 is no digest"),
+                ("spaces", whole(" "), "line 1 is no digest"),
+                ("returns", good.replace(b"\n", b"\r\n"), "not `end COUNT"), ("a wrong count", re.sub(b"end 2", b"end 02", good), "not `end COUNT"),
+                ("the sequence", self.octets("second"), "not `end COUNT")]
+        words_of: list[list[str]] = [["first"], [], ["--list"], ["--undo", "--digest", A]]
+        for (name, octets, text), words in itertools.product(rows, words_of):
+            with self.subTest(name=name, words=words):
+                self.write(ENDED, octets)
+                said = self.ended(*words, wanted=2)
+                self.assertIn(text, said)
+                self.assertIn("--adopt", said)
+                self.is_unchanged(octets, said)
+
+    def test_places(self) -> None:
+        """What is no ordinary file that can be written is left alone. None of these waits for anybody."""
+        rows = [("fifo", "no ordinary file"), ("device", "no ordinary file"), ("folder", "no ordinary file"), ("read-only", "its mode 444"),
+                ("two names", "2 names"), ("long", "more than 16777216 octets"), ("nowhere", "not there; `spki-cert end --ended")]
+        for (kind, text), words in itertools.product(rows, (["first"], ["--undo", "--digest", A], ["--adopt"])):
+            with self.subTest(kind=kind, words=words), tempfile.TemporaryDirectory(dir=self.room) as room:
+                path = os.path.join(room, "ended")
+                place(kind, path)
+                before = what_is(path)
+                status, said = self.run_here("end", "--ended", path, *words)
+                self.assertEqual((status, text in said), (2, True), said)
+                self.assertEqual((what_is(path), [name for name in os.listdir(room) if name.startswith(".")]), (before, []))
+
+    def test_gone(self) -> None:
+        """A wrong name of the file makes no new one, which no daemon would read."""
+        for words in (["first"], ["--list"], ["--adopt"], ["--undo", "first"]):
+            status, said = self.run_here("end", "--ended", "other", *words)
+            self.assertEqual((status, os.path.exists(self.at("other"))), (2, False), said)
+        self.assertEqual(self.run_here("end", "--ended", "no/folder")[0], 2)
+
+
+class Adopts(Case):
+    """How a file that people have written or changed becomes whole."""
+
+    def test_taken(self) -> None:
+        for name, octets, lines in (
+                ("old", f"#old\n\n{A.upper()}\n {B} #  x\n{C}#\xfc\n".encode(), ["#old", "", A, f"{B} # x", f"{C} # \xfc"]),
+                ("nothing in a comment", f"{A} #\n#\n{B}\t# \n".encode(), [A, "#", B]),
+                ("no end of line", A.encode(), [A]), ("returns", f"{A}\r\n# x\r\n".encode(), [A, "# x"]),
+                ("another comment", whole(f"{A} # x").replace(b"x", b"y"), [f"{A} # y"]), ("whole", whole(A, "# x"), [A, "# x"]),
+                ("no last line", whole(A, B)[:130], [A, B])):
+            with self.subTest(name=name):
+                self.write(ENDED, octets)
+                said = self.ended("--adopt")
+                self.assertEqual((self.octets(ENDED), f"digests: {len(self.rows())}\n" in said), (whole(*lines), True), said)
+
+    def test_doubtful(self) -> None:
+        """What was probably cut is taken with `--yes` alone."""
+        rows: list[tuple[str, bytes, list[str]]] = [
+            ("empty", b"", []), ("comments", b"# x\n", ["# x"]), ("a line less", whole(A, B)[65:], [B]),
+            ("a line more", A.encode() + b"\n" + whole(B), [A, B]), ("a cut last line", whole(A, B)[:-9], [A, B])]
+        for name, octets, lines in rows:
+            with self.subTest(name=name):
+                self.write(ENDED, octets)
+                said = self.ended("--adopt", wanted=4)
+                self.assertIn("was it cut?", said)
+                self.is_unchanged(octets, said)
+                self.ended("--adopt", "--yes")
+                self.assertEqual(self.octets(ENDED), whole(*lines))
+
+    def test_refused(self) -> None:
+        """A line that is none is never guessed at."""
+        for octets in (A.encode() + b"\n" + B[:30].encode(), b"see sha256 of the release\n", whole(A) + whole(B), b"\x00", A.encode() + b" x\n"):
+            with self.subTest(octets=octets):
+                self.write(ENDED, octets)
+                said = self.ended("--adopt", "--yes", wanted=2)
+                self.assertIn("remove or mend it", said)
+                self.is_unchanged(octets, said)
+
+
+@needs.needs(*needs.LIBRARY, "import cryptography")
+class OfLibrary(Case):
+    """The digests are those of what the library lists to be verified, which the daemon looks up."""
+
+    def test_messages(self) -> None:
+        asks = ("import hashlib, sys, spki; guard = spki.Guard(b'(acl)');"
+                "key = spki.ProvenKey.assume(spki.canonical(open(sys.argv[2], 'rb').read()));"
+                "asked = guard.ask(spki.Question(open(sys.argv[1], 'rb').read(), key, words=(b'files',), moment=b'\"2026-03-01_12:00:00\"'));"
+                "print(*(hashlib.sha256(it.message).hexdigest() for it in asked.signatures()), sep='\\n')")
+        self.write("key", self.run_here("key", "ann.pub")[1].encode())
+        settings = {**os.environ, "SPKI_LIBRARY": built.shared(), "PYTHONPATH": os.path.join(TOP, "bindings", "python")}
+        status, said = output_of(sys.executable, "-c", asks, "second", "key", cwd=self.room, env=settings)
+        self.assertEqual((status, said.split()), (0, self.digests))
+        self.write(ENDED, whole())
+        self.ended("first", "second")
+        self.assertEqual(self.rows(), said.split())
+
+
+class Page(unittest.TestCase):
+    """What the operator's page says."""
+
+    def test_no_digest_is_cut_out_of_text(self) -> None:
+        """Certificates are ended by the command, and never by a text that their issuers wrote."""
+        commands_of = [first for kind, first, _ in test_guide.steps_of_markdown(text_of("docs/OPERATING.md")) if kind == "command"]
+        self.assertEqual([it for it in commands_of if re.search(r">+ *etc/ended|sed .*sha256", it)], [])
+        self.assertTrue(any("spki-cert end " in it for it in commands_of))

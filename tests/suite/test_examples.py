@@ -1,0 +1,40 @@
+"""Runs the examples that are programs: those with real keys and signatures, those with a database, and those with keys of lsh. Each ends
+with a line 'N passed, M failed', and must pass."""
+import os
+import unittest
+
+from harness import built, databases, needs
+from harness.support import EXAMPLES, output_of
+
+SECONDS = 1800
+
+
+class Example(unittest.TestCase):
+    """A test of an example."""
+
+    def passes(self, *words: str, **settings: str) -> None:
+        """An example must end with status 0, and its last line must count no failure."""
+        status, said = output_of(os.path.join(EXAMPLES, words[0]), *words[1:], seconds=SECONDS, env={**os.environ, **settings})
+        self.assertRegex(said, r"(?:^|\n)[1-9]\d* passed, 0 failed\n$", said[-3000:])
+        self.assertEqual(status, 0, said[-3000:])
+
+
+class OfProgram(Example):
+    """The examples that need the program alone."""
+
+    @needs.needs("import cryptography")
+    def test_signed(self) -> None:
+        self.passes("signed/run.py", built.program())
+
+    @needs.needs("lsh-keygen", "sexp-conv")
+    def test_lsh(self) -> None:
+        self.passes("lsh.py", built.program())
+
+
+@needs.needs("import cryptography", *needs.LIBRARY, *databases.NEEDED)
+class OfDatabase(Example):
+    """The story of a service with a database."""
+
+    def test_story(self) -> None:
+        with databases.Server() as server:
+            self.passes("database/story.py", server.address, SPKI_LIBRARY=built.shared())

@@ -1,0 +1,148 @@
+"""The parts of the gate: which functions a wrong body changes, what a check must say to refuse it, how logs are counted, that what is shown of a
+command is all that it says, and that one which takes too long is ended. The texts of the toolchain are those that it printed in runs."""
+import contextlib
+import io
+import os
+import tempfile
+import unittest
+from unittest import mock
+
+from harness.support import TOP, text_of, waits_for
+from merge_gate import bodies, plan, run, toolchain
+from merge_gate.report import Counts
+
+SOURCE = """use std::alloc::Global;
+
+const MOST: usize = 3;
+
+/// Whether it is.
+#[cycle(same)]
+fn is_it(n: usize) -> bool
+    ensures { result }
+{
+    n < MOST
+}
+
+impl<'a> Display for Name<'a> {
+    /// Its length.
+    pub(crate) fn length(&self) -> usize {
+        self.octets.len()
+    }
+}
+"""
+
+
+def changed(old: str, new: str, file: str = "src/names.rt") -> set[str | None]:
+    """The functions that an edit of the source changes."""
+    assert SOURCE.count(old) == 1
+    return bodies.functions_changed(file, SOURCE, SOURCE.replace(old, new))
+
+
+def is_gone(process: str) -> bool:
+    """Whether a process has ended."""
+    with contextlib.suppress(FileNotFoundError, ProcessLookupError):
+        return ") Z " in text_of(f"/proc/{process}/stat")
+    return True
+
+
+class Bodies(unittest.TestCase):
+    """The functions that wrong bodies change."""
+
+    def test_function(self) -> None:
+        self.assertEqual(changed("n < MOST", "n <= MOST"), {"names::is_it"})
+        self.assertEqual(changed("n < MOST", "n <= MOST", "src/lib.rt"), {"is_it"})
+
+    def test_method(self) -> None:
+        self.assertEqual(changed("self.octets.len()", "0"), {"NameDisplay::length"})
+
+    def test_no_function(self) -> None:
+        self.assertEqual(changed("usize = 3", "usize = 4"), {None})
+
+    def test_table(self) -> None:
+        """Each wrong body that the gate tries changes functions alone."""
+        for crate, name in ((crate, name) for crate in plan.TRIED for name in plan.TRIED[crate]):
+            folder = os.path.join(TOP, "crates", crate)
+            texts, why = toolchain.applied(os.path.join(folder, "wrong", f"{name}.edit"), folder)
+            self.assertTrue(bodies.functions_of(folder, texts), f"{crate}/{name}: {why}")
+
+
+class Verdicts(unittest.TestCase):
+    """What a check must say to refuse a wrong body."""
+
+    def is_refused(self, *lines: str) -> bool:
+        return bodies.refuses("low", "names::tried", "\n".join(lines))
+
+    def test_refused(self) -> None:
+        self.assertTrue(self.is_refused("fn low::names::other: proved", "fn low::names::tried: not proved"))
+        self.assertTrue(self.is_refused("./proofs/names/tried/Answers.antt:10:29: error: `returns-then`: `search`: no proof of `⊥`",
+                                        "fn low::names::tried: not proved"))
+
+    def test_another_function(self) -> None:
+        self.assertFalse(self.is_refused("fn low::names::tried: proved", "fn low::names::other: not proved"))
+        self.assertFalse(self.is_refused("fn low::names::tried: needs other, which is not proved"))
+
+    def test_names_gone(self) -> None:
+        gone = "./proofs/names/tried/Answers.antt:4:1: error: `c` has no field `push-2`"
+        self.assertFalse(self.is_refused(gone, "fn low::names::tried: not proved"))
+        self.assertTrue(self.is_refused(gone, gone.replace("`c` has no field `push-2`", "`search`: no proof"), "fn low::names::tried: not proved"))
+
+
+class Logs(unittest.TestCase):
+    """How logs are counted."""
+
+    def counts(self, said: str, status: int, has_counts: bool = True) -> tuple[int, int, list[str]]:
+        counts = Counts()
+        counts.add_log(said, status, has_counts)
+        return counts.passed, counts.failed, counts.left_out
+
+    def test_counts(self) -> None:
+        for said, status, wanted in [
+                ("a\n3 passed, 0 failed\n", 0, (3, 0)), ("3 passed, 2 failed", 1, (3, 2)), ("3 passed, 0 failed (ok)\n", 0, (3, 0)),
+                ("3 passed, 0 failed\n", 1, (3, 1)), ("3 passed, 0 failed\nand more\n", 0, (0, 1)), ("", 0, (0, 1)), ("", -9, (0, 1))]:
+            self.assertEqual(self.counts(said, status)[:2], wanted, said)
+        self.assertEqual([self.counts("none", status, False)[:2] for status in (0, 1)], [(1, 0), (0, 1)])
+
+    def test_left_out(self) -> None:
+        said = "skipped: the page (Debian: chromium)\nthe pages in Chromium are left out\n1 passed, 0 failed\n"
+        self.assertEqual(self.counts(said, 0)[2], ["the page (Debian: chromium)", "the pages in Chromium"])
+
+
+class Commands(unittest.TestCase):
+    """Commands that run."""
+
+    def shown(self, *words: str, minutes: float = 1.0) -> tuple[str, int, str]:
+        """What a command says, its status, and what is printed of it."""
+        with contextlib.redirect_stdout(io.StringIO()) as printed, run.Parts(1) as parts:
+            said, status = parts.shown(parts.begin(*words), minutes)
+        return said, status, printed.getvalue()
+
+    def test_shown(self) -> None:
+        self.assertEqual(self.shown("sh", "-c", "echo one; sleep 0.1; echo two >&2; exit 3"), ("one\ntwo\n", 3, "one\ntwo\n"))
+
+    def test_late(self) -> None:
+        """A command that takes too long has failed, and is ended with all that it began, also in a session of its own."""
+        said, status, printed = self.shown("sh", "-c", "sleep 99 & echo $!; setsid sleep 98 & echo $!; wait", minutes=0.01)
+        self.assertRegex(printed, r"ended: sh -c, for 0 minutes\. Its last lines:\n\d+\n\d+\n\nsh -c, for 0 minutes: failed")
+        waits_for("what it began has ended", lambda: all(map(is_gone, said.split("\n")[:2])))
+        counts = Counts()
+        counts.add_log(said, status)
+        self.assertEqual((counts.passed, counts.failed), (0, 1))
+
+    def test_still_running(self) -> None:
+        with mock.patch.object(run, "SECONDS_BETWEEN_LINES", 0.1):
+            self.assertIn("still running:\n    sleep 1, for 0 minutes\n", self.shown("sleep", "1")[2])
+
+    def test_ended(self) -> None:
+        with contextlib.redirect_stdout(io.StringIO()), run.Parts(1) as parts:
+            part = parts.begin("sleep", "1000")
+        self.assertIsNotNone(part.process.poll())
+
+    def test_wait(self) -> None:
+        """It waits for crates that are proved, and no longer than `rt ci` runs."""
+        with tempfile.NamedTemporaryFile("w") as log:
+            log.write("rt: low proved\nrt: high is kept: an earlier run proved it\n")
+            log.flush()
+            self.assertEqual(run.wait_until_proved({"low", "high"}, log.name), set())
+            log.write("1 passed, 1 failed (first: above)\n")
+            log.flush()
+            self.assertEqual(run.wait_until_proved({"low", "top"}, log.name), {"top"})

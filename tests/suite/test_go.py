@@ -1,0 +1,319 @@
+"""Tests the Go module of bindings/go and the daemon spki-authd: their own tests with the race detector, gofmt and go vet. The module is asked
+what the program is asked, as `test_bindings.py` asks the other bindings. The daemon is asked with keys and certificates that `spki-cert` and
+OpenSSL made. Among the long tests, headers, signatures and signed requests are fuzzed for two minutes each."""
+import contextlib
+import hashlib
+import http.client
+import json
+import os
+import shutil
+import signal
+import socket
+import subprocess
+import tempfile
+import unittest
+import urllib.parse
+from collections.abc import Iterator
+from typing import Any
+
+from harness import built, golang, needs
+from harness.support import TESTS, TOP, canonical, read
+from suite import test_bindings
+
+SPKI_CERT = os.path.join(TOP, "apps", "spki-cert", "spki-cert")
+# What is fuzzed, and for how many seconds: the fields of signed requests for ten minutes.
+FUZZED = [(golang.MODULE, "./verify", "FuzzSignature", 120), (golang.MODULE, "./httpsig", "FuzzFields", 300),
+          (golang.MODULE, "./httpsig", "FuzzSigned", 300),
+          *((golang.DAEMON, ".", name, 120) for name in ("FuzzConnection", "FuzzHeaders", "FuzzSequence", "FuzzLeft", "FuzzPath"))]
+KINDS = {"ed25519": ["ed25519"], "rsa": ["RSA", "-pkeyopt", "rsa_keygen_bits:2048"], "p256": ["EC", "-pkeyopt", "ec_paramgen_curve:P-256"],
+         "p384": ["EC", "-pkeyopt", "ec_paramgen_curve:P-384"]}
+
+
+@needs.needs("go", *needs.LIBRARY)
+class OfGo(test_bindings.Binding):
+    """A test of what is written in Go."""
+
+    def does(self, folder: str, *words: str, given: bytes | None = None, **more: str) -> bytes:
+        """What a command of Go writes, which must end well."""
+        done = golang.go(folder, list(words), self.library, given, **more)
+        said = (done.stdout + done.stderr).decode(errors="replace")
+        self.assertEqual(done.returncode, 0, f"go {' '.join(words)}: {said[-4000:]}")
+        return done.stdout
+
+
+class InGo(OfGo):
+    """The module."""
+
+    def test_layout(self) -> None:
+        for folder in (golang.MODULE, golang.DAEMON):
+            done = subprocess.run(["gofmt", "-l", "."], cwd=folder, stdout=subprocess.PIPE, text=True, timeout=golang.SECONDS)
+            self.assertEqual((done.returncode, done.stdout), (0, ""))
+
+    def test_vet(self) -> None:
+        for folder in (golang.MODULE, golang.DAEMON):
+            self.does(folder, "vet", "./...")
+
+    @needs.needs("go-staticcheck")
+    def test_lints(self) -> None:
+        settings = {**golang.settings(self.library), "XDG_CACHE_HOME": os.path.join(TESTS, "out", "staticcheck")}
+        for folder in (golang.MODULE, golang.DAEMON):
+            done = subprocess.run(["go-staticcheck", "./..."], cwd=folder, stdout=subprocess.PIPE, stderr=subprocess.STDOUT, text=True, env=settings,
+                                  timeout=golang.SECONDS)
+            self.assertEqual((done.returncode, done.stdout), (0, ""))
+
+    def test_packages(self) -> None:
+        """The module has its path and its packages, and needs no other module."""
+        self.assertEqual(self.does(golang.MODULE, "list", "-m", "all"), b"conguraki/spki\n")
+        names = set(self.does(golang.MODULE, "list", "./...").decode().split())
+        self.assertLessEqual({"conguraki/spki", "conguraki/spki/guard", "conguraki/spki/verify"}, names)
+
+    def test_module(self) -> None:
+        """The tests of the module pass, with the race detector and the strict checks of what is passed to C."""
+        self.does(golang.MODULE, "test", "-race", "./...", GODEBUG="cgocheck=2")
+
+    def test_questions(self) -> None:
+        asked = test_bindings.asked_of(self.program)
+        lines = self.does(golang.MODULE, "run", "./examples/asked", given=b"".join(map(test_bindings.framed, asked)))
+        fault = test_bindings.otherwise(asked, [line + b"\n" for line in test_bindings.strings_in(lines)])
+        self.assertEqual(fault, "", fault)
+
+    def test_example(self) -> None:
+        with tempfile.TemporaryDirectory() as room:
+            to = os.path.join(room, "decide")
+            self.does(golang.MODULE, "build", "-o", to, "./examples/decide")
+            self.decides(to)
+
+    @needs.needs("pkg-config")
+    def test_shared(self) -> None:
+        """With the tag spki_shared the library is the one that pkg-config knows."""
+        with tempfile.TemporaryDirectory() as room:
+            subprocess.run([os.path.join(TOP, "install.sh"), room, self.program, self.library], check=True, stdout=subprocess.DEVNULL,
+                           timeout=golang.SECONDS)
+            self.does(golang.MODULE, "test", "-tags", "spki_shared", "./guard", PKG_CONFIG_PATH=os.path.join(room, "lib", "pkgconfig"),
+                      LD_LIBRARY_PATH=os.path.join(room, "lib"), CGO_LDFLAGS="")
+
+
+class Authd(OfGo):
+    """The tests of the daemon."""
+
+    def test_daemon(self) -> None:
+        self.does(golang.DAEMON, "test", "-race", "./...")
+
+
+class Fuzzed(OfGo):
+    """The fuzzed tests."""
+
+    def test_fuzz(self) -> None:
+        for folder, package, name, seconds in FUZZED:
+            with self.subTest(name):
+                # (Go 1.19 may lose its worker while it makes an input smaller that is only new)
+                times = ("-fuzztime", f"{seconds}s", "-fuzzminimizetime", "1x")
+                self.does(folder, "test", "-run", "^$", "-fuzz", f"^{name}$", *times, package)
+
+
+if not built.IS_LONG:
+    del Fuzzed
+
+
+class OverSocket(http.client.HTTPConnection):
+    """A connection to a Unix socket."""
+
+    def __init__(self, path: str) -> None:
+        super().__init__("daemon", timeout=60)
+        self.path = path
+
+    def connect(self) -> None:
+        self.sock = socket.socket(socket.AF_UNIX, socket.SOCK_STREAM)
+        self.sock.settimeout(60)
+        self.sock.connect(self.path)
+
+
+class Person:
+    """A person with a key of OpenSSL, its SPKI key, and a TLS certificate that the person has signed."""
+
+    def __init__(self, room: str, name: str, kind: str) -> None:
+        self.path = os.path.join(room, name)
+        words = ["openssl", "genpkey", "-algorithm", *KINDS[kind], "-out", self.path]
+        subprocess.run(words, check=True, stderr=subprocess.DEVNULL)
+        words = ["openssl", "req", "-x509", "-key", self.path, "-subj", f"/CN={name}", "-days", "1"]
+        self.certificate = subprocess.run(words, check=True, stdout=subprocess.PIPE, text=True).stdout
+        self.public = f"{self.path}.pub"
+        subprocess.run(["openssl", "pkey", "-in", self.path, "-pubout", "-out", self.public], check=True)
+        self.key = spki_cert("key", self.public).decode()
+        self.digest = value_of(spki_cert("key", "--hash", self.public))[2].hex()
+
+    def gives(self, to: "Person", tag: str, *more: str) -> bytes:
+        """The sequence of a certificate by which the person gives a right to another one."""
+        return spki_cert("sign", "--by", self.path, "--to", to.public, "--tag", tag, "--days", "1", *more)
+
+
+def sealed(lines: str) -> str:
+    """The lines of a file of ended certificates, with their last line."""
+    count = sum(bool(line) and not line.startswith("#") for line in lines.splitlines())
+    return f"{lines}end {count} {hashlib.sha256(lines.encode()).hexdigest()}\n"
+
+
+def spki_cert(*words: str) -> bytes:
+    """What `spki-cert` writes."""
+    return subprocess.run([SPKI_CERT, *words], check=True, stdout=subprocess.PIPE, stdin=subprocess.DEVNULL).stdout
+
+
+class Daemon:
+    """A daemon that runs."""
+
+    def __init__(self, room: str, program: str, access_list: str, *before: str, **more: object) -> None:
+        self.program = program
+        self.list, self.ended, self.socket, self.log, self.grants = (os.path.join(room, name) for name in ("acl", "ended", "socket", "log", "grants"))
+        self.write(self.list, access_list)
+        self.write(self.ended, sealed("# none yet\n"))
+        rules = [{"prefix": "/", "methods": {"GET": "read", "PUT": "write"}, "request": ["files", "{method}", "{path}"]}]
+        config: dict[str, object] = {"listen": f"unix:{self.socket}", "socket_mode": "0600", "server": "nginx", "list": self.list,
+                                     "ended": self.ended, "log": self.grants, "requests": rules, **more}
+        self.config = os.path.join(room, "config.json")
+        self.write(self.config, json.dumps(config))
+        with open(self.log, "ab") as log:
+            self.process = subprocess.Popen([*before, program, "-config", self.config], stdout=log, stderr=subprocess.PIPE)
+        self.event = self.message()
+
+    @staticmethod
+    def write(path: str, text: str) -> None:
+        with open(path, "w", encoding="utf-8") as file:
+            file.write(text)
+
+    def message(self) -> dict[str, object]:
+        """The next message of the daemon itself."""
+        assert self.process.stderr is not None
+        return dict(json.loads(self.process.stderr.readline()))
+
+    def reload(self) -> dict[str, object]:
+        """Has the list read again."""
+        self.process.send_signal(signal.SIGHUP)
+        return self.message()
+
+    def does(self, *words: str) -> tuple[int, str, str]:
+        """The status of the program with these words, and what it writes."""
+        done = subprocess.run([self.program, *words, "-config", self.config], stdout=subprocess.PIPE, stderr=subprocess.PIPE, text=True, timeout=600)
+        return done.returncode, done.stdout, done.stderr
+
+    def ask(self, who: Person, method: str, target: str, sequence: bytes = b"", door: str = "") -> http.client.HTTPResponse:
+        """The answer to a request, at another socket if one is given."""
+        headers = {"X-Original-Method": method, "X-Original-URI": target, "X-Client-Cert": urllib.parse.quote(who.certificate)}
+        if sequence:
+            shown = subprocess.run([built.program(), "transport"], input=sequence, stdout=subprocess.PIPE, check=True).stdout
+            headers["Authorization"] = f"SPKI {shown.decode().strip()}"
+        connection = OverSocket(door or self.socket)
+        try:
+            connection.request("GET", "/", headers=headers)
+            response = connection.getresponse()
+            response.read()
+            return response
+        finally:
+            connection.close()
+
+    def last(self) -> dict[str, object]:
+        """The last line of the log of grants."""
+        with open(self.grants, encoding="utf-8") as log:
+            return dict(json.loads(log.readlines()[-1]))
+
+
+@needs.needs("openssl", "import cryptography")
+class Served(OfGo):
+    """The daemon as a program, with keys and certificates that other programs made."""
+
+    @contextlib.contextmanager
+    def served(self, access_list: str, room: str) -> Iterator[Daemon]:
+        """A daemon, which ends by SIGTERM with status 0."""
+        daemon = Daemon(room, golang.build_daemon(self.library, os.path.join(room, "spki-authd")), access_list)
+        try:
+            self.assertEqual(daemon.event["event"], "started")
+            yield daemon
+            daemon.process.terminate()
+            self.assertEqual((daemon.message()["event"], daemon.process.wait(60)), ("ended", 0))
+            self.assertFalse(os.path.exists(daemon.socket))
+        finally:
+            daemon.process.kill()
+            daemon.process.communicate()
+
+    def test_keys_of_each_kind(self) -> None:
+        """Alice of each kind of key gives Bob of each kind a right."""
+        with tempfile.TemporaryDirectory() as room:
+            alices = [Person(room, f"alice-{kind}", kind) for kind in KINDS]
+            bobs = [Person(room, f"bob-{kind}", kind) for kind in KINDS]
+            entries = "".join(f"(entry {alice.key} (propagate) (tag (files)))" for alice in alices)
+            with self.served(f"(acl {entries})", room) as daemon:
+                for number, alice in enumerate(alices, 1):
+                    for bob in bobs:
+                        shown = alice.gives(bob, "(files read (* prefix /web/))")
+                        met = daemon.ask(bob, "GET", "/web/a", shown)
+                        self.assertEqual((met.status, met.headers["X-Spki-Entry"], met.headers["X-Spki-Key"]), (200, str(number), bob.digest))
+                        self.assertEqual(daemon.ask(bob, "PUT", "/web/a", shown).status, 403)
+                        self.assertEqual(daemon.ask(bob, "GET", "/web/../a", shown).status, 400)
+                        self.assertEqual(daemon.ask(alice, "GET", "/web/a", shown).status, 403)
+                        self.assertEqual(daemon.ask(bob, "GET", "/web/a").status, 401)
+                        self.assertEqual(daemon.ask(bob, "GET", "/web/a", self.changed(shown)).status, 403)
+
+    @staticmethod
+    def changed(sequence: bytes) -> bytes:
+        """A sequence whose signature has another octet at its end."""
+        items = value_of(sequence)
+        value = items[-1][3][1][-1]
+        value[1] = value[1][:-1] + bytes([value[1][-1] ^ 1])
+        return canonical(items)
+
+    def test_reload(self) -> None:
+        """A list and the digests of ended certificates are read again. What is refused changes nothing."""
+        with tempfile.TemporaryDirectory() as room:
+            alice, bob = (Person(room, name, "ed25519") for name in ("alice", "bob"))
+            text = f"(acl (entry {alice.key} (propagate) (tag (files read))))"
+            with self.served(text, room) as daemon:
+                shown = alice.gives(bob, "(files read (* prefix /web/))")
+                self.assertEqual(daemon.ask(bob, "GET", "/web/a", shown).status, 200)
+                digests = daemon.last()["certificates"]
+                assert isinstance(digests, list)
+                daemon.write(daemon.ended, sealed(f"{digests[0]} # Bob has left\n"))
+                daemon.write(daemon.list, "(acl (entry))")
+                message = daemon.reload()
+                self.assertEqual(message["event"], "reloaded not")
+                self.assertIn("refused acl 1 Shape", str(message["detail"]))
+                self.assertEqual(daemon.ask(bob, "GET", "/web/a", shown).status, 200)
+                daemon.write(daemon.list, text)
+                self.assertEqual(daemon.reload()["event"], "reloaded")
+                self.assertEqual(daemon.ask(bob, "GET", "/web/a", shown).status, 403)
+                self.assertEqual(daemon.ask(alice, "GET", "/web/a").status, 200)
+                daemon.write(daemon.list, "(acl)")
+                self.assertEqual(daemon.reload()["event"], "reloaded")
+                self.assertEqual(daemon.ask(alice, "GET", "/web/a").status, 401)
+
+    def test_killed_and_started_again(self) -> None:
+        """A daemon that was killed leaves its socket, and the next one takes the place."""
+        with tempfile.TemporaryDirectory() as room:
+            alice = Person(room, "alice", "ed25519")
+            text = f"(acl (entry {alice.key} (tag (files read))))"
+            with self.served(text, room) as daemon:
+                first = shutil.copy(os.path.join(room, "spki-authd"), os.path.join(room, "other"))
+                daemon.process.kill()
+                daemon.process.communicate()
+                self.assertTrue(os.path.exists(daemon.socket))
+                again = Daemon(room, first, text)
+                daemon.process, daemon.event = again.process, again.event
+                self.assertEqual(daemon.ask(alice, "GET", "/web/a").status, 200)
+
+    def test_words(self) -> None:
+        """The unit's program says what is wrong in a list."""
+        with tempfile.TemporaryDirectory() as room:
+            program = golang.build_daemon(self.library, os.path.join(room, "spki-authd"))
+            for text, status, said in [("(acl)", 0, "0 entries"), ("(acl (entry))", 1, "refused acl 1 Shape"), ("", 1, "refused form Short")]:
+                path = os.path.join(room, "acl")
+                Daemon.write(path, text)
+                done = subprocess.run([program, "-check", path], stdout=subprocess.PIPE, stderr=subprocess.STDOUT, text=True, timeout=60)
+                self.assertEqual(done.returncode, status)
+                self.assertIn(said, done.stdout)
+
+
+def value_of(text: bytes) -> Any:
+    """The value of a text in any form."""
+    return read(subprocess.run([built.program(), "canonical"], input=text, stdout=subprocess.PIPE, check=True).stdout)
+
+
+if __name__ == "__main__":
+    unittest.main()

@@ -1,0 +1,244 @@
+"""Does what README.md, docs/GUIDE.md and the examples of docs/spki.1 say, each in an empty folder, and compares the answers.
+
+A fenced block `sexp NAME`, `sh NAME` or `python NAME` of README.md and the guide is a file. It is written at its place on the page, and
+cannot be run until a command permits it. If examples/ has a file of this name, it must be the same. A block `c NAME`, `rust NAME` or
+`python NAME` that an example of this name in PROGRAMS has is a quotation: it must be a part of it.
+
+In a block `console`, and in the manual's blocks, a line that begins with `$ ` is a command of the shell. A line with `> ` continues it.
+The lines up to the next command are what it should write. The commands of a page run unchanged, one after the other in one shell, with
+the program as `spki`, apps/locate as `locate` and apps/spki-cert/spki-cert as `spki-cert`, which has the built library. They run once in `sh`, and
+once in `bash`.
+
+An indented block below a paragraph that begins with `**C.**`, `**Rust.**`, `**Python.**` or `**Go.**` is a snippet: snippets.py compiles it and runs
+it. The indented command `rt try` of README.md runs in this repository, where it takes about a minute. It is not run again while the crates below the
+program, the toolchain and what it reads are the same.
+
+tests/harness/page_commands.py says which test runs the other commands and pages, and which commands no test runs."""
+import itertools
+import os
+import re
+import shlex
+import subprocess
+import tempfile
+import textwrap
+import unittest
+from collections.abc import Callable, Iterable
+
+from harness import building, built, needs, snippets
+from harness.support import TOP, text_of
+
+BLOCK = re.compile(r"^```(\w+)(?: (\S+))?\n(.*?)^```$", re.MULTILINE | re.DOTALL)
+SECONDS = 900
+END = "---- end of command ----"
+# The folders of the examples that pages quote. tests/suite/test_bindings.py runs them.
+PROGRAMS = ("examples/c", "bindings/rust/examples", "bindings/python/examples")
+FENCED = re.compile(r"^```.*?^```$", re.MULTILINE | re.DOTALL)
+SNIPPET_BELOW = re.compile(r"\*\*(C|Rust|Python|Go)\.\*\*")
+# The commands of the toolchain, and what each prints.
+OF_TOOLCHAIN = {"(cd crates/spki && rt try -- check < ../../examples/delegation.sexp)": "yes entry 1\n"}
+SECONDS_OF_TOOLCHAIN = 1200
+PAGES = ("README.md", "docs/GUIDE.md", "docs/spki.1")
+SHELLS = ("sh", "bash")
+
+
+def commands(text):
+    """The commands of a block, each with what it should write."""
+    for part in re.split(r"^\$ ", text, flags=re.MULTILINE)[1:]:
+        first, *rest = part.splitlines()
+        more = list(itertools.takewhile(lambda line: line.startswith("> "), rest))
+        yield "command", "\n".join([first] + [line[2:] for line in more]), "\n".join(rest[len(more):])
+
+
+def steps_of_markdown(page):
+    """The page's files and commands, in order: a file's name and text, or a command and what it should write."""
+    for kind, name, text in BLOCK.findall(page):
+        if kind in ("c", "rust", "python") and name and program_of(name):
+            yield "quotation", name, text
+        elif kind in ("sexp", "sh", "python") and name:
+            yield "file", name, text
+        elif kind == "console":
+            yield from commands(text)
+        else:
+            raise ValueError(f"a block of kind {kind} without a name is neither a file nor commands")
+
+
+def program_of(name):
+    """The example of this name that a page may quote, or None."""
+    paths = [os.path.join(TOP, folder, name) for folder in PROGRAMS]
+    return next(filter(os.path.exists, paths), None)
+
+
+def steps_of_manual(page):
+    """The manual's commands, from its blocks without filling."""
+    for block in re.findall(r"^\.nf\n(.*?)^\.fi$", page, re.MULTILINE | re.DOTALL):
+        yield from commands(textwrap.dedent(block).replace("\\-", "-").replace("\\(aq", "'").replace("\\(ga", "`"))
+
+
+def script(found):
+    """The files and the commands as one script, which writes a mark after each command."""
+    for kind, first, second in found:
+        if kind == "file":
+            yield f"printf %s {shlex.quote(second)} > {shlex.quote(first)}\n"
+        elif kind == "command":
+            yield f"{first}\necho\necho '{END}'\n"
+
+
+def outputs_of(shell, found, program):
+    """What the shell writes, command by command."""
+    with tempfile.TemporaryDirectory() as room:
+        for folder in ("bin", "work"):
+            os.mkdir(os.path.join(room, folder))
+        os.symlink(program, os.path.join(room, "bin", "spki"))
+        for folder, name in (("apps", "locate"), ("apps/spki-cert", "spki-cert")):
+            os.symlink(os.path.abspath(os.path.join(TOP, folder, name)), os.path.join(room, "bin", name))
+        path = os.path.join(room, "bin") + os.pathsep + os.environ["PATH"]
+        done = subprocess.run([shell], input="".join(script(found)), cwd=os.path.join(room, "work"),
+                              env={**os.environ, **of_library(found), "PATH": path},
+                              text=True, stdout=subprocess.PIPE, stderr=subprocess.STDOUT, timeout=SECONDS)
+    return done.stdout.split(f"{END}\n")
+
+
+def needs_library(commands_of_page: Iterable[str]) -> bool:
+    """Whether commands make certificates and ask the library."""
+    return any("spki-cert" in command for command in commands_of_page)
+
+
+def of_library(found: Iterable[tuple[str, str, str]]) -> dict[str, str]:
+    """The settings by which the commands of a page find the library and its module."""
+    if not needs_library(first for kind, first, _ in found if kind == "command"):
+        return {}
+    return {"SPKI_LIBRARY": built.shared(), "PYTHONPATH": os.path.join(TOP, "bindings", "python")}
+
+
+def is_as_in_examples(kind, name, text):
+    """Whether examples/ has no file of this name, or one with this text; of a quotation whether its program has it."""
+    path = program_of(name) if kind == "quotation" else os.path.join(TOP, "examples", name)
+    if not os.path.exists(path):
+        return True
+    with open(path, encoding="utf-8") as file:
+        whole = file.read()
+    return text in whole if kind == "quotation" else text == whole
+
+
+# ---- indented blocks
+
+
+def indented(page):
+    """The indented blocks of a page, each with the paragraph above it."""
+    parts = re.split(r"\n{2,}", FENCED.sub("", page))
+    for above, block in zip(parts, parts[1:]):
+        if all(line.startswith("    ") for line in block.splitlines()):
+            yield above, textwrap.dedent(block)
+
+
+def snippets_of(page):
+    """The snippets of a page, each with its language."""
+    return [(found[1], block) for above, block in indented(page) if (found := SNIPPET_BELOW.match(above))]
+
+
+def commands_of(page):
+    """The indented commands of a page, without those of the first certificate, which tests/suite/test_cert.py runs."""
+    return [line for above, block in indented(page) if not SNIPPET_BELOW.match(above) and "spki-cert" not in block for line in block.splitlines()]
+
+
+def lines_of_first_certificate(page: str) -> list[str]:
+    """The indented commands of a page that make the first certificate."""
+    return [line for _, block in indented(page) if "spki-cert" in block for line in block.splitlines()]
+
+
+def sum_of_tried() -> str:
+    """The checksum of all that `rt try` reads for the command of README.md, and of the command."""
+    of_crates = building.checksum([*building.sources("spki", ("src", "specs")), os.path.join("examples", "delegation.sexp")])
+    return f"{of_crates} {sorted(OF_TOOLCHAIN.items())}"
+
+
+# ---- the pages
+
+
+class Pages(built.OfProgram):
+    """The commands, files and quotations of the pages."""
+
+    def steps(self, page: str) -> list[tuple[str, str, str]]:
+        """The steps of a page."""
+        return list((steps_of_manual if page.endswith(".1") else steps_of_markdown)(text_of(page)))
+
+    def is_run(self, page: str, shell: str) -> None:
+        """Each command of a page must write what the page says."""
+        found = self.steps(page)
+        wanted = [(command, answer) for kind, command, answer in found if kind == "command"]
+        answers = outputs_of(shell, found, self.program)
+        answers += ["nothing"] * (len(wanted) + 1 - len(answers))
+        faults = [f"$ {command}\nwanted\n{answer}\ncame\n{met}" for (command, answer), met in zip(wanted, answers)
+                  if met.strip("\n") != answer.strip("\n")]
+        self.assertEqual(faults, [], f"{page}, {shell}:\n" + "\n".join(faults))
+
+    def is_quoted(self, page: str) -> None:
+        """The files of a page must be those of examples/, and its quotations parts of programs."""
+        others = [file for kind, file, text in self.steps(page) if kind != "command" and not is_as_in_examples(kind, file, text)]
+        self.assertEqual(others, [], f"{page}: these are not as in examples/")
+
+
+def files_test(page: str) -> Callable[[Pages], None]:
+    """The test of a page's files and quotations."""
+    return lambda self: self.is_quoted(page)
+
+
+def commands_test(page: str, shell: str) -> Callable[[Pages], None]:
+    """The test of a page's commands in a shell."""
+    test: Callable[[Pages], None] = lambda self: self.is_run(page, shell)
+    text = text_of(page)
+    of_guide = ["import cryptography", "ssh-keygen", *needs.LIBRARY] if needs_library(re.findall(r"^[$] .*$", text, re.MULTILINE)) else []
+    return needs.needs(*(["openssl"] if "openssl" in text else []), *of_guide)(test)
+
+
+def add_pages() -> None:
+    """Adds the tests of each page in each shell."""
+    for page in PAGES:
+        setattr(Pages, f"test_guide:{page}:files", files_test(page))
+        for shell in SHELLS:
+            setattr(Pages, f"test_guide:{page}:{shell}", commands_test(page, shell))
+
+
+add_pages()
+
+
+class Indented(unittest.TestCase):
+    """The indented command of the toolchain in README.md."""
+
+    def test_toolchain(self) -> None:
+        """`rt try` prints what the page says. It is not run again on the same sources."""
+        if building.kept().get("README.md's rt try") == sum_of_tried() and not built.IS_ANEW:
+            return
+        for line in OF_TOOLCHAIN:
+            self.assertIn(line, commands_of(text_of("README.md")))
+            done = subprocess.run(["sh", "-c", line], cwd=TOP, text=True, stdout=subprocess.PIPE, stderr=subprocess.PIPE,
+                                  timeout=SECONDS_OF_TOOLCHAIN)
+            self.assertEqual(done.stdout, OF_TOOLCHAIN[line], f"$ {line}\n{done.stderr[-1000:]}")
+        building.keep("README.md's rt try", sum_of_tried())
+
+
+@needs.needs(*needs.LIBRARY)
+class Snippets(built.OfLibrary):
+    """The snippets of README.md and of the guide, by their languages."""
+
+    def is_right(self, language: str) -> None:
+        """Each snippet in a language must grant and deny."""
+        texts = [text for page in PAGES[:2] for kind, text in snippets_of(text_of(page)) if kind == language]
+        self.assertTrue(texts, f"the pages have no snippet in {language}")
+        with tempfile.TemporaryDirectory() as room:
+            for text in texts:
+                self.assertIsNone(snippets.otherwise(language, text, room, self.program, self.library))
+
+    def test_c(self) -> None:
+        self.is_right("C")
+
+    @needs.needs("cargo")
+    def test_rust(self) -> None:
+        self.is_right("Rust")
+
+    def test_python(self) -> None:
+        self.is_right("Python")
+
+    @needs.needs("go")
+    def test_go(self) -> None:
+        self.is_right("Go")

@@ -1,0 +1,458 @@
+"""Runs the program under hostile conditions: each allocation, each read and each write fails in turn, texts are cut short, ends
+fail, limits are tried from both sides, the stack is small, and texts need the most work. `test_one_call` does each call of the libraries by
+itself in the same way, on two rows of `calls/`.
+
+`refuse.c` is compiled by `cc` and preloaded, and lets the chosen calls fail. Each part is a test. It prints the examples,
+runs, failures that were met and faults. The longest parts are tests only of `tests/run --long`, which `.ci/deep` runs."""
+import os
+import resource
+import sys
+import tempfile
+import time
+from concurrent.futures import ProcessPoolExecutor
+from dataclasses import dataclass
+from errno import EINTR, EIO
+from itertools import count
+
+import rows
+from harness import built, needs
+from harness.refusing import PIPE, Program, compiled
+from harness.support import BENCH, COMMANDS, EXAMPLES, braced, group, loaded, string, tables_here
+from rows import chains, limits
+from rows.limits import MOST_OCTETS
+from suite import test_calls
+
+sys.path.append(BENCH)
+import memory  # noqa: E402
+
+MOST_REFUSED = 3000
+ALL_REQUESTS, SOME_REQUESTS = 1000, 100
+LIMITS = (12, 16, 24, 32, 64, 128)
+MOST_FAULTS = 20
+VALGRIND_STEP = 9
+MOST_ASKS = 2097152
+# What a service may take from a client.
+MOST_SECONDS, MOST_MEMORY = 10, 256
+STACK = 256 * 1024
+MEMORY = (2, b"refused Memory\n", b"")
+WORDS_REFUSED = "no-entries.csexp"
+SHORT = (2, b"refused form Short\n", b"")
+TOO_LONG = (2, b"refused form TooLong\n", b"")
+READ_FAULT = (3, b"", b"spki: read fault\n")
+WRITE_FAULT = (3, b"", b"spki: write fault\n")
+UNSAID_FAULT = (3, b"", b"")
+
+# What is written of the cases of examples/, and of some of chains.py: the status and the line. A command that the program does not
+# have is passed over.
+FILES = {
+    "first-run.csexp": {"check": "0 yes entry 1", "explain": "0 entry 1 grants",
+                        "reduce": "0 entry 1 (five (subject (public-key (test a))) (tag (ftp host)))"},
+    "shorter-request.csexp": {"check": "1 no", "explain": "1 entry 1 TagLacks"},
+    "second-entry.csexp": {"check": "0 yes entry 2"},
+    "no-entries.csexp": {"check": "1 no", "explain": "1 no entries", "reduce": "1 no entries"},
+    "bad-date.csexp": {"check": "2 refused at BadDate", "explain": "2 refused at BadDate", "reduce": "2 refused at BadDate"},
+    "delegation.sexp": {"check": "0 yes entry 1", "explain": "0 entry 1 grants",
+                        "reduce": "0 entry 1 (five (subject (public-key (test b))) (tag (*)))"},
+}
+CHAINS = {
+    "whole chain": {"explain": "0 entry 1 grants", "reduce": "0 entry 1 (five (subject (public-key (test d))) (propagate) (tag (*)))"},
+    "certificate 2: key not shown": {"explain": "1 item 3 KeyNotShown", "reduce": "1 item 3 KeyNotShown"},
+    "certificate 2: digest differs": {"explain": "1 item 3 DigestDiffers", "reduce": "1 item 3 DigestDiffers"},
+    "certificate 2: signer differs": {"explain": "1 item 3 SignerDiffers", "reduce": "1 item 3 SignerDiffers"},
+    "certificate 2: not accepted": {"explain": "1 item 3 NotAccepted", "reduce": "1 item 3 NotAccepted"},
+    "chain in another order": {"explain": "1 entry 1 item 1 NotIssuer", "reduce": "1 entry 1 item 1 NotIssuer"},
+    "entry that does not delegate": {"explain": "1 entry 1 item 1 NoDelegation", "reduce": "1 entry 1 item 1 NoDelegation"},
+    "windows: certificate from 2024-06-01_00:00:01": {"explain": "1 entry 1 item 1 NoValidity", "reduce": "1 entry 1 item 1 NoValidity"},
+    "too large": {"explain": "2 refused TooLarge", "reduce": "2 refused TooLarge"},
+}
+# Ends that the shell makes, and how a run on them ends. FILE has the text of a case.
+ENDS = [
+    ("< FILE > /dev/full", WRITE_FAULT), ("< FILE >&-", WRITE_FAULT), ("< FILE 1< /dev/null", WRITE_FAULT),
+    ("< FILE > /dev/full 2>&-", UNSAID_FAULT), ("< FILE > /dev/full 2> /dev/full", UNSAID_FAULT), ("< / 2>&-", UNSAID_FAULT),
+    ("< /", READ_FAULT), ("<&-", READ_FAULT), ("0> /dev/null", READ_FAULT), ("< / >&-", READ_FAULT), ("<&- >&-", READ_FAULT),
+    ("< /dev/null", SHORT), ("< /dev/zero", TOO_LONG),
+]
+
+
+@dataclass
+class Example:
+    """A command, a text and how a run on it ends; None where that is not known beforehand."""
+
+    name: str
+    command: str
+    text: bytes
+    answer: tuple
+
+    def __str__(self):
+        return f"{self.command} on {self.name}"
+
+
+def answered(line):
+    """How a run ends that has a status and a line."""
+    status, words = line.split(" ", 1)
+    return int(status), words.encode() + b"\n", b""
+
+
+# ---- examples
+
+def of_files():
+    """Each command on the cases of examples/."""
+    for name, lines in FILES.items():
+        with open(os.path.join(EXAMPLES, name), "rb") as file:
+            text = file.read()
+        canonical = text if name.endswith(".csexp") else chains.canonical(text.decode())
+        yield Example(name, "canonical", text, (0, canonical, b""))
+        yield Example(name, "transport", text, (0, braced(canonical) + b"\n", b""))
+        yield Example(name, "advanced", text, None)
+        yield Example(name, "intersect", text, answered("2 refused intersect Shape"))
+        for command, line in lines.items():
+            yield Example(name, command, text, answered(line))
+
+
+def of_chains():
+    """The cases with certificates, and what other commands write of some."""
+    for name, command, text, status, answer in chains.rows():
+        yield Example(name, command, text, (status, answer, b""))
+        for other, line in CHAINS.get(name.removeprefix("chains:"), {}).items():
+            yield Example(name, other, text, answered(line))
+
+
+def of_tables():
+    """The rows of the tables."""
+    for table in tables_here():
+        for place, command, text, status, answer in rows.rows_of(table):
+            yield Example(place, command, text, (status, answer, b""))
+
+
+def of_limits():
+    for name, command, text, status, answer in limits.rows():
+        yield Example(name, command, text, (status, answer, b""))
+
+
+def known(*sources, most=MOST_OCTETS * 2):
+    """The examples of some sources, of at most `most` octets, whose command the program has."""
+    return [example for source in sources for example in source() if example.command in COMMANDS and len(example.text) <= most]
+
+
+def three_certificates():
+    """A case with three certificates in the three forms."""
+    text = chains.case(chains.entry("a"), *chains.chain())
+    canonical = chains.canonical(text)
+    return canonical, text.encode(), braced(canonical)
+
+
+def first_run():
+    """The first case of examples/ in the three forms."""
+    with open(os.path.join(EXAMPLES, "first-run.csexp"), "rb") as file:
+        canonical = file.read()
+    with open(os.path.join(EXAMPLES, "texts", "case.sexp"), "rb") as file:
+        return canonical, file.read().rstrip(), braced(canonical)
+
+
+def most_work():
+    """The texts that ask for the most work known, each with what its answer begins with."""
+    scripts = (os.path.join(BENCH, f"{name}.py") for name in ("check", "convert", "intersect", "chains", "linear"))
+    check, convert, intersect, long, linear = map(loaded, scripts)
+    for make in (check.many_entries, check.many_structures, check.many_certificates, check.many_members, check.lists_in_lists,
+                 check.one_string, check.no_value):
+        text, answer = make(MOST_OCTETS)
+        yield make.__name__, "check", text, answer
+    for make in (long.by_keys, long.by_hashes, long.through_names):
+        yield make.__name__, "check", make(long.LENGTHS[-1]), b"yes entry 1\n"
+    for shape in linear.SHAPES:
+        yield shape.name, "check", shape.text(MOST_OCTETS)[1], b"no\n"
+    yield linear.large_tag_and_set.__name__, "check", linear.large_tag_and_set(1, linear.BEHIND_LARGE, linear.MEMBERS), b"no\n"
+    for what, text, answer in long.widest():
+        yield what, "check", text, answer
+        yield what, "explain", text, b"entry 1 "
+        yield what, "reduce", text, b"entry 1 "
+    for what, tag in (("(*)", check.STAR), ("a", check.string("a"))):
+        for command, answer in (("check", b"no\n"), ("explain", b"entry 1 NotTheKey\n"), ("reduce", b"entry 1 (five ")):
+            yield f"ten {what} behind a large tag", command, long.behind_a_large_tag(10, tag), answer
+    for what, text in long.large_tags():
+        for command, answer in (("check", b"no\n"), ("explain", b"entry 1 NotTheKey\n")):
+            yield what, command, text, answer
+    for make in convert.SHAPES:
+        for command in convert.FORMS:
+            yield make.__name__, command, make(MOST_OCTETS), b""
+    for make in (intersect.strings, intersect.long_strings, intersect.other_strings, intersect.prefixes):
+        yield make.__name__, "intersect", intersect.intersection(*make(999)), b"("
+    for what, make in intersect.WIDEST.items():
+        yield f"most {what}", "intersect", intersect.intersection(*make(332 if what == "lists" else 999)), b"("
+
+
+# ---- what is done with an example: each returns the number of runs, the number of refusals, and the faults
+
+def refused_in_turn(program, example, behind):
+    """The Nth request for memory is refused, and with `behind` all behind it, until no run meets it. Where there are very many
+    requests it is some of these. Those for the words of the command line, which are the same on each text, are refused on one
+    example of each command alone; clap may do without what it is refused there."""
+    whole = program.run(example.command, example.text)
+    answer = example.answer or whole.answer
+    asked, refusals, faults = whole.asked["memory"], 0, []
+    first = 1 if example.name == WORDS_REFUSED else whole.before_reads + 1
+    most = asked + 1 - first
+    numbers = [*range(first, asked + 1, 1 if most <= ALL_REQUESTS else most // SOME_REQUESTS), asked + 1]
+    for number in numbers:
+        ended = program.run(example.command, example.text, memory=f"{number}{behind}")
+        right = ended.answer == MEMORY or (number <= whole.before_reads and ended.answer == answer) if ended.refused else ended.answer == answer
+        if not right or bool(ended.refused) != (number <= asked):
+            faults.append(f"{example}: request {number}{behind} of {asked} refused: {ended}")
+        refusals += ended.refused
+    return len(numbers) + 1, refusals, faults
+
+
+def call_refused(program, row, behind):
+    """The same for a call by itself."""
+    one_call = Program(built.there(built.ONE_CALL), program.library)
+    answer = 0, row.answer.hex().encode() + b"\n", b""
+    return refused_in_turn(one_call, Example(row.place, row.call, row.line(), answer), behind)
+
+
+def cut_short(program, command, text, places):
+    """The text ends after each of these numbers of octets."""
+    faults = []
+    for length in places:
+        ended = program.run(command, text[:length])
+        if ended.answer != SHORT:
+            faults.append(f"{command} on {length} octets of {text[:16]!r}: {ended}")
+    return len(places), 0, faults
+
+
+def failing_in_turn(program, example, end, told, wanted):
+    """Each call reads or writes one octet, and the Nth call returns an error. `wanted` returns how a run with that error ends."""
+    refusals, faults = 0, []
+    for number in count(1):
+        ended = program.run(example.command, example.text, step=1, **{end: number, "with": told})
+        if ended.answer != (wanted(example, number) if ended.refused else example.answer):
+            faults.append(f"{example}: {end} {number} told {told}: {ended}")
+        if not ended.refused:
+            return number, refusals, faults
+        refusals += ended.refused
+    return None
+
+
+def read_fault(example, number):
+    return READ_FAULT
+
+
+def write_fault(example, number):
+    return 3, example.answer[1][:number - 1], WRITE_FAULT[2]
+
+
+def asked_again(example, number):
+    return example.answer
+
+
+def ended_early(example, number):
+    return SHORT if number <= len(example.text) else example.answer
+
+
+def interrupted_for_ever(program, example, end, asks, wanted):
+    """Each call returns that it was interrupted, until the program has called `asks` times."""
+    ended = program.run(example.command, example.text, step=1, **{end: "1..", "with": EINTR})
+    right = ended.answer == wanted and ended.asked[end] == asks
+    return 1, ended.refused, [] if right else [f"{example}: {end} interrupted for ever: {ended}, {ended.asked[end]} asks"]
+
+
+def ends_so(program, what, wanted, call, *words):
+    """One run, which ends as it should."""
+    ended = getattr(program, call)(*words)
+    return 1, 0, [] if ended.answer == wanted else [f"{what}: {ended}"]
+
+
+def stands(program, example):
+    """One run with a small stack, which ends as one with a large one does."""
+    wanted = example.answer or program.run(example.command, example.text).answer
+    return ends_so(program, f"{example} in {STACK} octets of stack", wanted, "limited", example.command, example.text, resource.RLIMIT_STACK, STACK)
+
+
+def in_less_memory(program, example):
+    """Runs that may take less and less memory in all: each answers as it should, or says that there was none."""
+    refusals, faults = 0, []
+    wanted = example.answer or program.run(example.command, example.text).answer
+    for mebibytes in LIMITS:
+        ended = program.limited(example.command, example.text, resource.RLIMIT_AS, mebibytes << 20)
+        refusals += ended.answer == MEMORY
+        if ended.answer not in (MEMORY, wanted):
+            faults.append(f"{example} in {mebibytes} MiB: {ended}")
+    return len(LIMITS), refusals, faults
+
+
+def fits(program, example):
+    """One run of much work, within the time and the memory that there is."""
+    ended = program.run(example.command, example.text)
+    seconds, mebibytes = memory.used(program.path, example.command, example.text)
+    print(f"{example.name:<40}{example.command:<10}{len(example.text):>9}{len(ended.out):>9}{seconds:>8.2f} s{mebibytes:>8.1f} MiB", flush=True)
+    right = ended.status in (0, 1, 2) and ended.out.startswith(example.answer)
+    within = seconds <= MOST_SECONDS and mebibytes <= MOST_MEMORY
+    return 1, 0, [] if right and within else [f"{example}: {ended}, {seconds:.2f} s, {mebibytes:.1f} MiB"]
+
+
+def checked(program, example, plan):
+    """One run under valgrind, which finds no memory lost, and no read or write where none may be."""
+    leaks = ["--leak-check=full", "--show-leak-kinds=definite", "--errors-for-leak-kinds=definite", "--error-exitcode=99"]
+    words = ["valgrind", "-q", "--soname-synonyms=somalloc=nouserintercepts", *leaks]
+    wanted = example.answer or program.run(example.command, example.text).answer
+    ended = program.run(example.command, example.text, before=words, **plan)
+    right = ended.answer in (MEMORY, wanted) if ended.refused else ended.answer == wanted
+    return 1, ended.refused, [] if right else [f"{example} under valgrind with {plan}: {ended}"]
+
+
+def attempted(do, program, *words):
+    """What a task gives; where it cannot go on that is a fault."""
+    try:
+        return do(program, *words)
+    except OSError as fault:
+        return 1, 0, [f"{words[0]}: {fault}"]
+
+
+# ---- the parts: the tasks of each, as functions and their words
+
+def memory_refused(behind):
+    for example in known(of_files, of_chains, of_tables, most=MOST_REFUSED):
+        yield refused_in_turn, example, behind
+
+
+def calls_refused():
+    for row in test_calls.examples():
+        for behind in ("", ".."):
+            yield call_refused, row, behind
+
+
+def truncation():
+    commands = [(command, text) for command in COMMANDS for text in first_run()]
+    for command, text in commands + [("check", text) for text in three_certificates()]:
+        for start in range(0, len(text), 100):
+            yield cut_short, command, text, range(start, min(start + 100, len(text)))
+    for text in three_certificates():
+        for more in (b"", b" ", b" \t\v\f\r\n"):
+            yield ends_so, "whitespace behind a case", answered("0 yes entry 1"), "run", "check", text + more
+
+
+def ends_failing():
+    whole = Example("first-run.csexp", "check", first_run()[0], answered("0 yes entry 1"))
+    short = Example("a short text", "canonical", b"(abc def)", (0, b"(3:abc3:def)", b""))
+    for example in (whole, short):
+        for told, wanted in ((EIO, read_fault), (EINTR, asked_again), (0, ended_early)):
+            yield failing_in_turn, example, "read", told, wanted
+        for told, wanted in ((EIO, write_fault), (EINTR, asked_again), (0, write_fault)):
+            yield failing_in_turn, example, "write", told, wanted
+    yield interrupted_for_ever, whole, "read", MOST_ASKS, READ_FAULT
+    yield interrupted_for_ever, whole, "write", MOST_ASKS + 12, WRITE_FAULT
+    for command in COMMANDS:
+        for words, wanted in ENDS:
+            words = words.replace("FILE", os.path.join(EXAMPLES, "first-run.csexp"))
+            yield ends_so, f"{command} {words}", wanted, "redirected", command, words
+
+
+def long_answer(members, octets):
+    """Two sets of equal strings, and the tag in which they meet: it has a member for each pair."""
+    tag = group(string("*"), string("set"), *[string("a" * octets)] * members)
+    return group(string("intersect"), tag, tag), b"(* set" + (b" " + b"a" * octets) * members ** 2 + b")\n"
+
+
+def long_answers():
+    """Answers that are longer than a page, to files that are full, and with less memory than they are long."""
+    text, whole = long_answer(100, 1)
+    for most in (0, 4095, 4096, 4097, 12288, len(whole) - 1):
+        wanted = 3, whole[:most], WRITE_FAULT[2]
+        yield ends_so, f"a file of at most {most} octets", wanted, "limited", "intersect", text, resource.RLIMIT_FSIZE, most
+    yield ends_so, "a long answer", (0, whole, b""), "run", "intersect", text
+    text, whole = long_answer(200, 1200)
+    yield ends_so, f"an answer of {len(whole)} octets in 24 MiB", (0, whole, b""), "limited", "intersect", text, resource.RLIMIT_AS, 24 << 20
+
+
+def pipes_and_files():
+    long = b"(" + b"3:abc" * 200000 + b")"
+    whole = first_run()[0]
+    for dies in (False, True):
+        for command in COMMANDS:
+            yield ends_so, f"{command} with no reader", WRITE_FAULT, "reader_gone", command, whole, 0, dies
+        yield ends_so, "a reader that leaves", (3, long[:5], WRITE_FAULT[2]), "reader_gone", "canonical", long, 5, dies
+    for text in (*first_run(), *three_certificates()):
+        yield ends_so, "one octet at a time", answered("0 yes entry 1"), "in_packets", "check", text
+    for most in range(12):
+        wanted = 3, b"yes entry 1\n"[:most], WRITE_FAULT[2]
+        yield ends_so, f"a file of at most {most} octets", wanted, "limited", "check", whole, resource.RLIMIT_FSIZE, most
+    yield ends_so, "a reader that cannot wait", READ_FAULT, "without_waiting", "check", b""
+    yield ends_so, "a writer that cannot wait", (3, long[:PIPE], WRITE_FAULT[2]), "without_waiting", "canonical", long
+
+
+def at_limits():
+    for example in known(of_limits):
+        yield ends_so, example, example.answer, "run", example.command, example.text
+
+
+def in_small_stack():
+    for example in known(of_limits) + [Example(what, command, text, None) for what, command, text, _ in most_work()]:
+        yield stands, example
+
+
+def less_memory():
+    for what, command, text, _ in most_work():
+        yield in_less_memory, Example(what, command, text, None)
+
+
+def work():
+    print(f"{'text':<40}{'command':<10}{'octets':>9}{'written':>9}{'time':>10}{'memory':>12}")
+    for what, command, text, begins in most_work():
+        yield fits, Example(what, command, text, begins)
+
+
+def under_valgrind():
+    for example in known(of_files, of_chains)[::VALGRIND_STEP]:
+        for number in ("0", "5", "40.."):
+            yield checked, example, {"memory": number}
+
+
+PARTS = {
+    "request_refused": lambda: memory_refused(""),
+    "all_requests_refused_from_one_on": lambda: memory_refused(".."),
+    "call_by_call": calls_refused,
+    "less_and_less_memory": less_memory,
+    "texts_cut_short": truncation,
+    "reads_and_writes_refused": ends_failing,
+    "pipes_and_files_that_fail": pipes_and_files,
+    "long_answers": long_answers,
+    "limits_from_both_sides": at_limits,
+    "small_stack": in_small_stack,
+    "under_valgrind": under_valgrind,
+    "most_work": work,
+}
+LONGEST = ("less_and_less_memory", "small_stack", "under_valgrind", "most_work")
+
+
+@needs.needs("cc")
+class Hostile(built.OfProgram):
+    """The parts, each with several processes."""
+
+    @classmethod
+    def setUpClass(cls):
+        super().setUpClass()
+        cls.room = tempfile.TemporaryDirectory()
+        cls.addClassCleanup(cls.room.cleanup)
+        cls.refusing = Program(cls.program, compiled(cls.room.name))
+
+    def is_met(self, part, tasks):
+        """No task of a part may find a fault."""
+        begun = time.perf_counter()
+        with ProcessPoolExecutor() as pool:
+            started = [pool.submit(attempted, do, self.refusing, *words) for do, *words in tasks()]
+            results = [task.result() for task in started]
+        faults = [fault for *_, found in results for fault in found]
+        runs, refusals = (sum(result[place] for result in results) for place in (0, 1))
+        print(f"{part:<36}{len(results):>9}{runs:>9}{refusals:>11}{len(faults):>8}{time.perf_counter() - begun:>9.1f} s")
+        if faults:
+            self.fail("\n".join(faults[:MOST_FAULTS]))
+
+
+def made_test(part):
+    """The test of a part."""
+    test = needs.needs("valgrind") if part == "under_valgrind" else lambda it: it
+    return test(lambda self: self.is_met(part, PARTS[part]))
+
+
+for name in PARTS:
+    if built.IS_LONG or name not in LONGEST:
+        setattr(Hostile, f"test_{name}", made_test(name))

@@ -1,0 +1,138 @@
+"""Installs into an empty folder, asks the installed program and the installed libraries, looks at the manual, and uninstalls.
+
+A C program is compiled as `pkg-config` and CMake say, and linked with the shared library and with the static one. The header, the manual, the README
+and `pkg-config` must have the version of the file VERSION. The manual must be shown without a warning, and name every fault that a refusal
+in the tables of `tables/` names. After uninstalling, the files that were there before must be left, and no others."""
+import os
+import re
+import subprocess
+import tempfile
+
+from harness import built, needs
+from harness.support import EXAMPLES, SECONDS, TESTS, TOP, output_of, tables_here, text_of
+
+REFUSAL = re.compile(r" refused ([A-Za-z0-9 ]+)%n$", re.MULTILINE)
+OTHERS = ("lib/libother.so", "bin/other")
+
+
+def files_below(folder: str) -> set[str]:
+    """The files below a folder."""
+    return {os.path.relpath(os.path.join(at, name), folder) for at, _, names in os.walk(folder) for name in names}
+
+
+def found(pattern: str, text: str) -> str:
+    """What a pattern finds in a text first, or nothing."""
+    match = re.search(pattern, text, re.MULTILINE)
+    return match[1] if match else ""
+
+
+def installed(program: str, library: str, **settings: str) -> tuple[tempfile.TemporaryDirectory, str]:
+    """A folder with other files, to which install.sh has installed, and what it said."""
+    prefix = tempfile.TemporaryDirectory()
+    for place in OTHERS:
+        os.makedirs(os.path.dirname(os.path.join(prefix.name, place)))
+        with open(os.path.join(prefix.name, place), "w", encoding="ascii"):
+            pass
+    status, said = output_of(os.path.join(TOP, "install.sh"), prefix.name, program, library, env={**os.environ, **settings})
+    if status:
+        raise AssertionError(f"install.sh ended with status {status}: {said}")
+    return prefix, said
+
+
+@needs.needs(*needs.LIBRARY)
+class Installed(built.OfLibrary):
+    """What is installed."""
+
+    prefix: str
+    page: str
+    said: str
+
+    @classmethod
+    def setUpClass(cls) -> None:
+        super().setUpClass()
+        room, cls.said = installed(cls.program, cls.library)
+        cls.addClassCleanup(room.cleanup)
+        cls.prefix, cls.page = room.name, os.path.join(room.name, "share", "man", "man1", "spki.1")
+
+    def links(self, *linking: str) -> None:
+        """`linked.c` must compile with what is installed, link by these words, and end with 0."""
+        with tempfile.TemporaryDirectory() as room:
+            linked = os.path.join(room, "linked")
+            words = ["cc", "-std=c11", "-Wall", "-Wextra", "-Werror", "-o", linked, os.path.join(TESTS, "programs", "linked.c"), *linking]
+            self.assertEqual(output_of(*words), (0, ""), " ".join(words))
+            settings = {**os.environ, "LD_LIBRARY_PATH": os.path.join(self.prefix, "lib")}
+            self.assertEqual(output_of(linked, env=settings), (0, ""))
+
+    def test_program(self) -> None:
+        answer = output_of(os.path.join(self.prefix, "bin", "spki"), "check", text=text_of(os.path.join(EXAMPLES, "delegation.sexp")))
+        self.assertEqual(answer, (0, "yes entry 1\n"))
+
+    def test_shared_library(self) -> None:
+        self.links(f"-I{self.prefix}/include", f"-L{self.prefix}/lib", "-lspki_c")
+
+    def test_static_library(self) -> None:
+        self.links(f"-I{self.prefix}/include", os.path.join(self.prefix, "lib", "libspki_c.a"))
+
+    @needs.needs("pkg-config")
+    def test_pkg_config(self) -> None:
+        settings = {**os.environ, "PKG_CONFIG_PATH": os.path.join(self.prefix, "lib", "pkgconfig")}
+        self.links(*output_of("pkg-config", "--cflags", "--libs", "spki", env=settings)[1].split())
+
+    @needs.needs("cmake")
+    def test_cmake(self) -> None:
+        """CMake finds both libraries, of this version and of none with other first numbers."""
+        for target, version, is_found in (("spki::spki", "", True), ("spki::spki", "0.2", True), ("spki::static", "0.2.0", True),
+                                          ("spki::spki", "0.3", False), ("spki::spki", "0.2.1", False), ("spki::spki", "0.1.9", False)):
+            with self.subTest(target=target, version=version), tempfile.TemporaryDirectory() as room:
+                with open(os.path.join(room, "CMakeLists.txt"), "w", encoding="ascii") as file:
+                    file.write(f"cmake_minimum_required(VERSION 3.13)\nproject(linked C)\nfind_package(spki {version} REQUIRED)\n"
+                               f"add_executable(linked {TESTS}/programs/linked.c)\ntarget_link_libraries(linked {target})\n")
+                words = ["cmake", "-S", room, "-B", room, f"-DCMAKE_PREFIX_PATH={self.prefix}"]
+                status, said = output_of(*words)
+                self.assertEqual(status == 0, is_found, said)
+                if is_found:
+                    self.assertEqual(output_of("cmake", "--build", room)[0], 0)
+                    self.assertEqual(output_of(os.path.join(room, "linked")), (0, ""))
+
+    def test_loader(self) -> None:
+        """The last line says how a program finds the shared library, if the loader does not look there."""
+        self.assertIn(f"the loader does not look into {self.prefix}/lib: name the folder in", self.said.splitlines()[-1])
+
+    def test_version(self) -> None:
+        """All that is installed, and the README, have the version of the file VERSION."""
+        header = text_of(os.path.join(self.prefix, "include", "spki.h"))
+        numbers = [found(rf"^#define SPKI_VERSION_{part} (\d+)$", header) for part in ("MAJOR", "MINOR", "PATCH")]
+        met = {"the header's numbers": ".".join(numbers), "the header": found(r'^#define SPKI_VERSION "(.*)"$', header),
+               "the manual": found(r'^\.TH SPKI 1 "[^"]*" "Conguraki (.*?)"', text_of(self.page)),
+               "the README": found(r"The version is\s+(\d+\.\d+\.\d+)\.", text_of("README.md")),
+               "spki.pc": found(r"^Version: (.*)$", text_of(os.path.join(self.prefix, "lib", "pkgconfig", "spki.pc")))}
+        self.assertEqual(met, dict.fromkeys(met, text_of("VERSION").strip()))
+
+    @needs.needs("man")
+    def test_warnings_of_the_manual(self) -> None:
+        settings = {**os.environ, "LC_ALL": "C.UTF-8", "MANPAGER": "cat", "MANWIDTH": "80"}
+        for page in (self.page, os.path.join(os.path.dirname(self.page), "spki-cert.1")):
+            done = subprocess.run(["man", "--warnings", "-l", page], stdout=subprocess.DEVNULL, stderr=subprocess.PIPE, text=True, env=settings,
+                                  timeout=SECONDS)
+            self.assertEqual((done.returncode, done.stderr), (0, ""), page)
+
+    def test_faults_in_the_manual(self) -> None:
+        """The manual names every fault that a refusal in the tables names."""
+        named, faults = set(re.findall(r"[A-Za-z]+", text_of(self.page))), set()
+        for table in tables_here():
+            with open(table, encoding="utf-8", errors="replace") as rows:
+                faults |= {word for line in REFUSAL.findall(rows.read()) for word in re.findall(r"[A-Za-z]+", line)}
+        self.assertTrue(faults)
+        self.assertEqual(sorted(faults - named), [], "the manual does not name these")
+
+
+@needs.needs(*needs.LIBRARY)
+class Uninstalled(built.OfLibrary):
+    """What is left when it was installed and uninstalled."""
+
+    def test_files_left(self) -> None:
+        for folder in ("lib", "lib/x86_64-linux-gnu"):
+            with self.subTest(folder=folder), installed(self.program, self.library, LIBDIR=folder)[0] as prefix:
+                self.assertTrue(os.path.exists(os.path.join(prefix, folder, "libspki_c.so")))
+                status, said = output_of(os.path.join(TOP, "install.sh"), "--uninstall", prefix, env={**os.environ, "LIBDIR": folder})
+                self.assertEqual((status, files_below(prefix)), (0, set(OTHERS)), said)

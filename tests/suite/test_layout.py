@@ -1,0 +1,82 @@
+"""Tests before anything is proved what else would fail late: that each source file is laid out as `rt fmt` lays it out, that each wrong
+body can be applied, that CONTRIBUTING.md lists those of must-fail/ and those of wrong/ that `.ci/run` tries, that no file is a link, and that
+CONTRIBUTING.md's line on the last run of `.ci/deep` names a commit of the history, no failure, and the seed of 1,000,000 texts or that only
+wrong bodies were tried."""
+import glob
+import os
+import re
+import shutil
+import subprocess
+import tempfile
+import unittest
+from collections.abc import Iterator
+
+from harness.support import output_of, text_of
+from harness.support import TOP as ROOT
+from merge_gate import plan, toolchain
+
+WRONG_BODIES = ("crates/*/wrong/*.edit", "crates/*/must-fail/*.edit")
+# A line of an edit that the toolchain reads.
+READ = re.compile(r"(file: |old: |new:|$)")
+LISTED = re.compile(r"^\| `(\w+)` \| (`[\w-]+`(?:, `[\w-]+`)*) \|$", re.MULTILINE)
+# The line that a run without names prints, or one on runs with names.
+LINE = re.compile(r"Last run of `\.ci/deep`: commit ([0-9a-f]{12,40}), \d+ passed, 0 failed, "
+                  r"(?:wrong bodies only, |(?:.|\n(?!\n))*\b1,000,000 (?:.|\n(?!\n))*\bseed [0-9a-f]{8}\b)")
+
+
+def misplaced(crate: str) -> str:
+    """The files of a crate that `rt fmt` lays out otherwise, in a copy, since it has no word with which it only looks."""
+    with tempfile.TemporaryDirectory() as room:
+        for part in filter(os.path.isdir, (os.path.join(crate, part) for part in ("src", "specs", "proofs"))):
+            shutil.copytree(part, os.path.join(room, os.path.basename(part)))
+        return output_of("rt", "fmt", cwd=room)[1]
+
+
+def unfit() -> Iterator[str]:
+    """The wrong bodies that cannot be applied, and those that `.ci/run` tries and CONTRIBUTING.md does not list, or the other way round."""
+    tried = {(crate, name) for crate, names in plan.TRIED.items() for name in names}
+    for crate in sorted(os.listdir(os.path.join(ROOT, "crates"))):
+        folder = os.path.join(ROOT, "crates", crate)
+        for path in (path for pattern in WRONG_BODIES for path in sorted(glob.glob(os.path.join(ROOT, pattern.replace("*", crate, 1))))):
+            why = toolchain.applied(path, folder)[1]
+            odd = [line for line in text_of(path).split("\n") if not READ.match(line)]
+            if why or odd:
+                yield f"{os.path.relpath(path, ROOT)}: {why or f'this line is not read: {odd[0]}'}"
+            if os.path.basename(os.path.dirname(path)) == "must-fail":
+                tried.add((crate, os.path.basename(path).removesuffix(".edit")))
+    listed = {(crate, name) for crate, names in LISTED.findall(text_of("CONTRIBUTING.md")) for name in re.findall(r"[\w-]+", names)}
+    for crate, name in sorted(tried ^ listed):
+        yield f"{crate}/{name}.edit: " + ("CONTRIBUTING.md does not list it" if (crate, name) in tried else "CONTRIBUTING.md lists it")
+
+
+def git(*words):
+    return subprocess.run(["git", *words], cwd=ROOT, stdout=subprocess.PIPE, stderr=subprocess.DEVNULL, text=True)
+
+
+class Layout(unittest.TestCase):
+    """The sources, the wrong bodies, and the line on the last run of `.ci/deep`."""
+
+    def test_sources(self) -> None:
+        crates = sorted(os.path.dirname(path) for path in glob.glob(os.path.join(ROOT, "crates", "*", "src")))
+        faults = {os.path.relpath(crate, ROOT): said for crate in crates if (said := misplaced(crate))}
+        self.assertEqual(faults, {}, f"run rt fmt in {', '.join(faults)}")
+
+    def test_wrong_bodies(self) -> None:
+        faults = list(unfit())
+        self.assertEqual(faults, [], "\n".join(faults))
+
+    def test_links(self) -> None:
+        """`rt ci` refuses links in the repository."""
+        self.assertEqual([line for line in git("ls-files", "-s").stdout.splitlines() if line.startswith("120000")], [])
+
+    def test_last_deep_run(self) -> None:
+        commits = LINE.findall(text_of("CONTRIBUTING.md"))
+        self.assertEqual(len(commits), 1, "CONTRIBUTING.md has not one line on the last run of .ci/deep, with 0 failed, and the seed of 1,000,000 "
+                                          "texts or 'wrong bodies only'")
+        if git("rev-parse", "--is-shallow-repository").stdout.strip() != "false":
+            print("note: this is no whole clone, so the commit of the last run of .ci/deep is not looked for")
+            return
+        is_known = not git("merge-base", "--is-ancestor", commits[0], "HEAD").returncode
+        self.assertTrue(is_known, f"the last run of .ci/deep was of {commits[0]}, which is not in the history")
+        added = git("diff", "--diff-filter=A", "--find-renames", "--name-only", commits[0], "--", *WRONG_BODIES).stdout.split()
+        print(f"note: {len(added)} wrong bodies were added since the last run of .ci/deep, of {commits[0]}")

@@ -1,0 +1,109 @@
+"""Counts the calls of the library that Go, Rust, Python and C++ make for long answers: one for each `explain` and each `reduce`, by the usual
+limits and by the highest. The library is that of `counted.c`, and the answers are those of the program."""
+import hashlib
+import os
+import pickle
+import subprocess
+import sys
+import tempfile
+
+from harness import golang, needs
+from harness.support import TESTS, canonical, output_of
+from suite import test_bindings
+from suite.test_bindings import CRATE, PYTHON, SECONDS, Asked
+
+NAMES = ("spki_asked_explain", "spki_asked_reduce", "spki_answer")
+ENTRIES, KEY_OCTETS, DONE = 900, 4000, 6
+ISSUER, AT = [b"public-key", [b"test", b"a"]], b"2024-01-01_00:00:00"
+BY_PYTHON = "import pickle, sys; sys.path.append(sys.argv[1]); import spki; from suite import test_bindings; sys.stdout.buffer.write(pickle.dumps(" \
+            "[test_bindings.answered_by_python(spki, each) for each in pickle.load(sys.stdin.buffer)]))"
+
+
+def case_of(subject, items, rows):
+    """A case of many entries for the request, and of some items, by which a subject asks."""
+    entry = [b"entry", ISSUER, [b"propagate"], [b"tag", [b"ftp"]]]
+    return canonical([b"case", [b"acl", *[entry] * ENTRIES], [b"accepted", *rows], [b"sequence", *items], [b"key", subject], [b"request", b"ftp"],
+                      [b"at", AT], [b"policy", b"strict"]])
+
+
+def long_key():
+    """A case whose key is printed again for each entry."""
+    subject = [b"public-key", [b"test", b"k" * KEY_OCTETS]]
+    certificate = [b"cert", [b"issuer", ISSUER], [b"subject", subject], [b"tag", [b"*"]]]
+    digest = [b"hash", b"sha256", hashlib.sha256(canonical(certificate)).digest()]
+    return case_of(subject, [certificate, [b"signature", digest, ISSUER, b"sig"]], [[b"by", ISSUER, digest, b"sig"]])
+
+
+@needs.needs("ld", "objcopy")
+class Counted(test_bindings.Binding):
+    """The bindings by a library that counts."""
+
+    @classmethod
+    def setUpClass(cls):
+        super().setUpClass()
+        cls.room = tempfile.mkdtemp()
+        cls.addClassCleanup(subprocess.run, ["rm", "-rf", cls.room], check=True)
+        renamed, own, whole, archive, cls.counting = (os.path.join(cls.room, name) for name in (
+            "renamed.a", "counted.o", "whole.o", "libspki_c.a", "libspki_c.so"))
+        for words in (["objcopy", *[f"--redefine-sym={name}=of_library_{name}" for name in NAMES], cls.library, renamed],
+                      ["cc", "-std=c11", "-O2", "-fPIC", "-Wall", "-Wextra", "-Werror", "-I", CRATE, "-c", "-o", own,
+                       os.path.join(TESTS, "programs", "counted.c")],
+                      ["ld", "-r", "-o", whole, own, "--whole-archive", renamed], ["ar", "rcsD", archive, whole],
+                      ["cc", "-shared", "-o", cls.counting, whole]):
+            subprocess.run(words, check=True, timeout=SECONDS)
+        few, many = case_of([b"public-key", [b"test", b"b"]], [], []), long_key()
+        cls.asked = [each._replace(limits=limits) for text, limits in ((few, "usual"), (few, "highest"), (many, "highest"))
+                     for each in test_bindings.questions_of(cls.program, text, limits) if each.command != "decide" and "by" not in each.name]
+        cls.archive = archive
+
+    def setUp(self):
+        self.counts = os.path.join(self.room, self.id())
+        self.settings = {**os.environ, "SPKI_COUNTED": self.counts, "SPKI_LIBRARY": self.counting}
+
+    def counted_once(self, asked: list[Asked], answers):
+        """The answers must be those that are wanted, with one call for each."""
+        fault = test_bindings.otherwise(asked, answers)
+        self.assertEqual(fault, "", fault)
+        with open(self.counts, encoding="ascii") as file:
+            self.assertEqual(file.read().splitlines(), [f"{each.command} {DONE} {len(each.wanted)}" for each in asked])
+
+    def test_the_answers_are_long(self):
+        """Those by the usual limits are longer than a small buffer, and one by the highest is longer than the usual limit of an answer."""
+        lengths = {limits: sorted(len(each.wanted) for each in self.asked if each.limits == limits) for limits in ("usual", "highest")}
+        self.assertGreater(lengths["usual"][0], 8192)
+        self.assertGreater(lengths["highest"][-1], 1 << 20)
+
+    def test_in_python(self):
+        done = subprocess.run([sys.executable, "-c", BY_PYTHON, PYTHON], input=pickle.dumps(self.asked), stdout=subprocess.PIPE, cwd=TESTS,
+                              env=self.settings, check=True, timeout=SECONDS)
+        self.counted_once(self.asked, pickle.loads(done.stdout))
+
+    @needs.needs("go")
+    def test_in_go(self):
+        given = b"".join(map(test_bindings.framed, self.asked))
+        done = golang.go(golang.MODULE, ["run", "./examples/asked"], self.archive, given, SPKI_COUNTED=self.counts)
+        self.assertEqual(done.returncode, 0, done.stderr)
+        self.counted_once(self.asked, [line + b"\n" for line in test_bindings.strings_in(done.stdout)])
+
+    @needs.needs("cargo")
+    def test_in_rust(self):
+        given, target = b"".join(map(test_bindings.framed, self.asked)), os.path.join(TESTS, "out", "counted")
+        settings = {**self.settings, "SPKI_LIB_DIR": self.room, "CARGO_TARGET_DIR": target, "CARGO_NET_OFFLINE": "true"}
+        done = subprocess.run(["cargo", "run", "--quiet", "--example", "asked"], cwd=test_bindings.RUST, input=given, stdout=subprocess.PIPE,
+                              env=settings, check=True, timeout=SECONDS)
+        self.counted_once(self.asked, [line + b"\n" for line in test_bindings.strings_in(done.stdout)])
+
+    @needs.needs("g++")
+    def test_in_cpp(self):
+        program, source = os.path.join(self.room, "long_answers"), os.path.join(TESTS, "programs", "long_answers.cpp")
+        words = ["-std=c++17", "-Wall", "-Wextra", "-Wpedantic", "-Werror", "-I", CRATE, "-o", program, source]
+        self.assertEqual(output_of("g++", *words, self.archive, seconds=SECONDS), (0, ""))
+        answers = []
+        for explained, reduced in zip(self.asked[::2], self.asked[1::2]):
+            paths = [os.path.join(self.room, name) for name in ("list", "sequence", "key")]
+            for path, octets in zip(paths, (explained.access_list, explained.sequence, explained.key)):
+                with open(path, "wb") as file:
+                    file.write(octets)
+            done = subprocess.run([program, explained.limits, *paths], stdout=subprocess.PIPE, env=self.settings, check=True, timeout=SECONDS)
+            answers += [done.stdout[:len(explained.wanted)], done.stdout[len(explained.wanted):]]
+        self.counted_once(self.asked, answers)

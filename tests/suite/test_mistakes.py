@@ -1,0 +1,678 @@
+"""Tests what `spki-cert` does with mistakes: no file is lost, nothing is signed that was not meant, each message leads to the place, and no stream,
+signal or random word ends it by a traceback."""
+import base64
+import contextlib
+import datetime
+import os
+import random
+import re
+import signal
+import stat
+import subprocess
+import sys
+import tempfile
+from unittest import mock
+
+from harness import built, needs
+from rows import mistakes
+from suite.test_cert import COMMAND, TAG, Case, text_in
+from spki_cert_tool import arguments, asking, certificates, commands, ending, files, keys, sexp
+from spki_cert_tool.places import value_in
+
+SECONDS = 600
+# How many runs there are at random: as children of one process, and as programs.
+RUNS, STARTS = (10_000, 300) if built.IS_LONG else (120, 3)
+SEED = "spki-cert"
+
+
+def key_pair(kind="ed25519"):
+    """The octets of a private key and of its public one."""
+    private = keys.new_private(kind)
+    return keys.file_of(private, b""), keys.openssh_line(private.public_key())
+
+
+class Room(Case):
+    """A folder with keys, a list and certificates."""
+
+    @classmethod
+    def setUpClass(cls):
+        super().setUpClass()
+        cls.pairs = {name: key_pair() for name in ("alice", "bob", "carol")}
+
+    def setUp(self):
+        super().setUp()
+        os.mkdir(self.at("folder"))
+        for name, (private, public) in self.pairs.items():
+            self.write(name, private)
+            os.chmod(self.at(name), 0o600)
+            self.write(f"{name}.pub", public + f" {name}\n".encode())
+        self.done("entry", "--to", "alice.pub", "--tag", "(packages)", "--propagate", "--acl", "acl.sexp")
+        self.sign("--propagate", "-o", "to-bob")
+
+    def sign(self, *words, by="alice", to="bob.pub", tag="(packages read)", wanted=0, days=("--days", "30")):
+        return self.done("sign", "--by", by, "--to", to, "--tag", tag, *days, *words, wanted=wanted)
+
+    def stays(self, *words, said="", wanted=2):
+        """A command ends with a status and changes no file."""
+        before = self.before()
+        with self.subTest(words):
+            self.assertIn(said, self.done(*words, wanted=wanted))
+            self.assertEqual(before, self.before())
+
+    def before(self):
+        """What each file of the folder has, by its name."""
+        return {name: text_in(self.at(name)) for name in os.listdir(self.room) if stat.S_ISREG(os.lstat(self.at(name)).st_mode)}
+
+
+class OfWriting(Room):
+    """What is there already stays."""
+
+    def test_no_key_and_no_input_is_written_over(self):
+        signs = ("sign", "--by", "alice", "--to", "bob.pub", "--tag", "(packages read)", "--days", "30")
+        os.link(self.at("acl.sexp"), self.at("hard"))
+        os.symlink("acl.sexp", self.at("soft"))
+        os.symlink("alice", self.at("to-key"))
+        for words, said in [
+                ((*signs, "-o", "alice"), "is not written over"), ((*signs, "--force", "-o", "alice"), "is not written over"),
+                ((*signs, "--force", "-o", "to-key"), "is not written over"), ((*signs, "--force", "-o", "carol"), "is not written over"),
+                ((*signs, "--force", "-o", "carol.pub"), "is not written over"), ((*signs, "--force", "-o", "bob.pub"), "reads this file"),
+                ((*signs, "-o", "acl.sexp"), "adds an entry to this list"), (("key", "alice", "-o", "alice"), "not written over"),
+                (("key", "alice", "--force", "-o", "alice"), "not written over"), (("key", "new", "--no-passphrase", "alice"), "is there already"),
+                (("key", "new", "--no-passphrase", "to-key"), "is there already"),
+                (("show", "--svg", "to-bob", "--force", "to-bob"), "reads this file"),
+                (("show", "--svg", "alice.pub", "--force", "--labels", ".", "to-bob"), "reads this file")]:
+            self.stays(*words, said=said)
+
+    def test_no_secret_is_written_over_or_shown(self):
+        """Private keys in forms that are not read, and one that is not whole. Nor is the file of ended certificates written over."""
+        from cryptography.hazmat.primitives import serialization
+        from cryptography.hazmat.primitives.serialization import pkcs12
+        # (a seed that begins with a digit is no text: `check` would refuse it)
+        seed = b"0"
+        while seed[:1].isdigit():
+            private = keys.new_private("ed25519")
+            octets = private.private_bytes(serialization.Encoding.Raw, serialization.PrivateFormat.Raw, serialization.NoEncryption())
+            seed = base64.b64encode(octets)
+        text = b"(private-key (ecc (curve Ed25519) (flags eddsa) (q #00#) (d #%s#)" % octets.hex().encode()
+        der = private.private_bytes(serialization.Encoding.DER, serialization.PrivateFormat.PKCS8, serialization.NoEncryption())
+        p12 = pkcs12.serialize_key_and_certificates(b"x", private, None, None, serialization.NoEncryption())
+        forms = {"der": der, "p12": p12, "jwk": b'{"kty": "OKP", "d": "%s"}' % seed, "utf-16": text.decode().encode("utf-16"),
+                 "ssh2": b"---- BEGIN SSH2 ENCRYPTED PRIVATE KEY ----\n%s\n" % seed, "sexp": text, "age": b"# made\nAGE-SECRET-KEY-1" + seed,
+                 "wireguard": b"[Interface]\nPrivateKey = " + seed, "wg": seed + b"\n", "braces": b"{%s" % base64.b64encode(text)}
+        for name, secret in forms.items():
+            self.write(name, secret)
+            for words in (("key", name), ("show", name), ("check", name), ("sign", "--by", name, "--to", "bob.pub", "--tag", TAG, "--days", "1"),
+                          ("entry", "--to", "bob.pub", "--tag", TAG, "--acl", name)):
+                with self.subTest(words):
+                    said = self.done(*words, wanted=0 if words == ("check", "wg") else 2)
+                    for shown in (seed.decode()[:20], octets.hex()[:20], "\\x", base64.b64encode(text).decode()[-20:]):
+                        self.assertNotIn(shown, said)
+            self.stays("key", "bob.pub", "--force", "-o", name, said="is not written over")
+            self.no_word_is_shown(secret.decode(errors="surrogateescape").strip("\0\n"), seed.decode()[:20], octets.hex()[:20])
+        for name, (whole, _) in self.pairs.items():
+            self.no_word_is_shown(whole.decode(), *whole.decode().split("\n")[1:-2])
+        self.done("end", "--ended", "ended")
+        self.stays("key", "bob.pub", "--force", "-o", "ended", said="the file of ended certificates is there already")
+
+    def no_word_is_shown(self, secret, *parts):
+        """Nothing of a secret that is given as a word is said. A seed alone is known only where a file is named."""
+        as_file = [("key", secret), ("show", secret), ("key", "alice.pub", secret), ("ask", "--acl", secret, "--key", "bob.pub", "--", "x"),
+                   ("sign", "--by", secret, "--to", "bob.pub", "--tag", TAG), ("sign", "--by", "alice", "--to", secret, "--tag", TAG, "--days", "1")]
+        as_word = [(secret,), ("entry", "--to", "bob.pub", "--tag", secret), ("entry", "--to", "bob.pub", "--tag", f"x {secret}"),
+                   ("show", f"--at={secret}", "to-bob"), ("check", secret), ("entry", "--to", "bob.pub", "--tag", TAG, "--acl", secret)]
+        for words in [*as_file, *(as_word if " " in secret or "{" in secret else [])] if "\0" not in secret else []:
+            with self.subTest(words):
+                said = self.done(*words, wanted=2)
+                self.assertEqual([it for it in parts if it in said], [])
+
+    def test_only_a_regular_file_is_written(self):
+        os.mkfifo(self.at("fifo"))
+        os.symlink("/dev/full", self.at("device"))
+        for name in ("fifo", "folder", "device", "/dev/null"):
+            for words in ((), ("--force",)):
+                self.assertIn("no regular file", self.sign(*words, "-o", name, wanted=2))
+        self.assertTrue(stat.S_ISFIFO(os.lstat(self.at("fifo")).st_mode))
+        self.assertIn("is not there", self.sign("-o", "none/c.sexp", wanted=2))
+
+    def test_a_file_that_is_there_needs_force(self):
+        self.write("c.sexp", "before")
+        os.chmod(self.at("c.sexp"), 0o640)
+        self.assertIn("--force writes over it", self.sign("-o", "c.sexp", wanted=2))
+        self.assertEqual(text_in(self.at("c.sexp")), b"before")
+        os.symlink("c.sexp", self.at("link"))
+        self.sign("-o", "link", "--force")
+        self.assertEqual((os.path.islink(self.at("link")), stat.S_IMODE(os.stat(self.at("c.sexp")).st_mode)), (True, 0o640))
+        self.verified("c.sexp")
+        for mode in (0o444, 0o400, 0o000):
+            os.chmod(self.at("c.sexp"), mode)
+            self.stays_closed("sign", "--by", "alice", "--to", "bob.pub", "--tag", TAG, "--days", "1", "--force", "-o", "c.sexp")
+
+    def stays_closed(self, *words):
+        before = os.stat(self.at("c.sexp"))
+        self.assertIn("is not to be written", self.done(*words, wanted=2))
+        self.assertEqual(before, os.stat(self.at("c.sexp")))
+
+    def test_a_list_is_edited_in_its_place(self):
+        adds = ("entry", "--to", "bob.pub", "--tag", "(packages read)", "--acl", "acl.sexp")
+        os.chmod(self.at("acl.sexp"), 0o640)
+        with contextlib.suppress(PermissionError):
+            os.chown(self.at("acl.sexp"), 12345, 12345)
+        before = os.stat(self.at("acl.sexp"))
+        self.assertEqual(self.done(*adds), "entries added: 1\n")
+        after = os.stat(self.at("acl.sexp"))
+        self.assertEqual([(it.st_mode, it.st_uid, it.st_gid) for it in (before, after)][0], (after.st_mode, after.st_uid, after.st_gid))
+        self.stays(*adds, said="entry 2 of the list gives all of this already", wanted=4)
+        os.chmod(self.at("acl.sexp"), 0o444)
+        for words in ((*adds, "--yes"), ("entry", "--remove", "--to", "bob.pub", "--acl", "acl.sexp")):
+            self.stays(*words, said="its mode 444")
+
+    def test_edits_at_the_same_time_are_all_kept(self):
+        """Each waits for the lock of the list."""
+        children = [subprocess.Popen([sys.executable, COMMAND, "entry", "--to", "bob.pub", "--tag", f"(packages a{number})", "--acl", "new.sexp"],
+                                     cwd=self.room, stdout=subprocess.DEVNULL) for number in range(4)]
+        self.assertEqual([child.wait(SECONDS) for child in children], [0] * 4)
+        self.assertEqual(len(value_in(text_in(self.at("new.sexp"))).value), 5)
+
+    def test_a_dash_is_a_stream(self):
+        for words, name in [(("key", "-"), "bob.pub"), (("show", "-"), "to-bob"), (("check", "-"), "acl.sexp"),
+                            (("key", "-o", "-", "bob.pub"), "bob.pub"),
+                            (("sign", "--by", "-", "--to", "bob.pub", "--tag", TAG, "--days", "1"), "alice"),
+                            (("entry", "--to", "bob.pub", "--tag", TAG, "--acl", "-"), "acl.sexp"), (("show", "--svg", "-", "-"), "to-bob")]:
+            with self.subTest(words), open(self.at(name), encoding="ascii") as stream, mock.patch.object(sys, "stdin", stream):
+                self.assertTrue(self.done(*words))
+        with open(self.at("alice"), encoding="ascii") as stream, mock.patch.object(sys, "stdin", stream):
+            self.assertIn("was read already", self.done("key", "-", "-", wanted=2))
+
+    def test_a_file_system_without_links_gets_a_file(self):
+        with mock.patch.object(os, "link", side_effect=PermissionError(1, "Operation not permitted")):
+            self.sign("-o", "c.sexp")
+            self.assertIn("is there already", self.sign("-o", "c.sexp", wanted=2))
+        self.verified("c.sexp")
+        self.assertEqual([it for it in os.listdir(self.room) if it.startswith(".")], [])
+
+    def test_a_disk_that_is_full_leaves_the_file(self):
+        self.write("c.sexp", "before")
+        for call in ("fsync", "fchmod", "replace"):
+            with self.subTest(call), mock.patch.object(os, call, side_effect=OSError(28, "No space left on device")):
+                self.assertIn("the file is as before", self.sign("--force", "-o", "c.sexp", wanted=3))
+            self.assertEqual((text_in(self.at("c.sexp")), [it for it in os.listdir(self.room) if it.startswith(".")]), (b"before", []))
+
+    def test_a_folder_that_is_not_on_the_disk_is_said(self):
+        """The file is there then. A file system that does not do this for folders is no fault."""
+        for number, (errors, status) in enumerate([((None, OSError(5, "Input/output error")), 3), ((None, OSError(22, "Invalid argument")), 0)]):
+            with mock.patch.object(os, "fsync", side_effect=errors):
+                said = self.sign("-o", f"{number}.sexp", wanted=status)
+            self.assertEqual("is written, but the system does not say" in said, status == 3)
+            self.verified(f"{number}.sexp")
+
+
+@needs.needs(*needs.LIBRARY)
+class OfTheLibrary(Room):
+    """The same of what the library answers."""
+
+    def setUp(self):
+        super().setUp()
+        self.settings["SPKI_LIBRARY"] = built.shared()
+
+    def test_no_answer_is_written_over_an_input(self):
+        os.link(self.at("acl.sexp"), self.at("hard"))
+        os.symlink("acl.sexp", self.at("soft"))
+        asks = ("ask", "--acl", "acl.sexp", "--key", "bob.pub", "--cert", "to-bob")
+        for option in ("--save", "--sequence", "--svg"):
+            for name in ("acl.sexp", "hard", "soft", "bob.pub", "to-bob"):
+                self.stays(*asks, "--force", option, name, "--", "packages", "read", said="reads this file")
+        self.stays(*asks, "--save", "new", "--svg", "./new", "--", "packages", "read", said="to one file")
+        signs = ("sign", "--by", "bob", "--to", "carol.pub", "--tag", "(packages read)", "--days", "1")
+        self.stays(*signs, "--chain", "to-bob", "--force", "-o", "to-bob", said="reads this file")
+
+
+class OfArguments(Room):
+    """The words of a command mean what is written, and nothing else."""
+
+    def test_no_option_is_abbreviated(self):
+        for name, options in arguments.commands_with_options().items():
+            for option in (it for it in options if it.startswith("--")):
+                for end in range(3, len(option)):
+                    if option[:end] not in options:
+                        self.assertIn("no such option", self.done(name, option[:end], "x", wanted=2))
+        self.assertIn("is `--named` meant?", self.sign("--name", "x", "-o", "c", wanted=2))
+
+    def test_a_set_of_whole_tags_is_right(self):
+        self.sign("-o", "c.sexp", tag="(* set (packages read) (packages write))")
+
+    def test_what_is_not_meant_is_not_made(self):
+        for row in mistakes.OF_WORDS:
+            self.write("authorized_keys", b"".join(public + b"\n" for _, public in self.pairs.values()))
+            self.write("braces", b"{%s}" % base64.b64encode(sexp.canonical(value_in(text_in(self.at("to-bob"))).value)))
+            with self.subTest(row.what):
+                said = self.done(*row.words, wanted=row.status)
+                self.assertIn(row.said, said)
+                self.assertNotIn("c.sexp", os.listdir(self.room))
+
+
+class OfKeyFiles(Room):
+    """Files of keys that people have."""
+
+    def test_one_of_several_is_chosen(self):
+        lines = [b"# alice's keys", b'from="10.0.0.0/8",command="echo #" ' + self.pairs["alice"][1] + b" alice", b"", self.pairs["bob"][1]]
+        self.write("authorized_keys", b"\n".join(lines))
+        for number, name in ((1, "alice"), (2, "bob")):
+            self.assertEqual(self.done("key", "--key", str(number), "authorized_keys"), self.done("key", f"{name}.pub"))
+            self.sign("--key", str(number), "--force", "-o", "c.sexp", by="carol", to="authorized_keys")
+            self.assertEqual(sexp.laid_out(self.verified("c.sexp")[0].terms.subject) + "\n", self.done("key", f"{name}.pub"))
+        self.assertIn("2 keys are in this file", self.done("ask", "--acl", "acl.sexp", "--key", "authorized_keys", "--", "packages", wanted=2))
+        self.assertIn("authorized_keys: 2 public keys", self.done("check", "authorized_keys"))
+
+    @needs.needs("ssh-keygen")
+    def test_the_public_part_needs_no_passphrase(self):
+        subprocess.run(["ssh-keygen", "-q", "-t", "ed25519", "-N", "sesame", "-f", self.at("locked")], check=True, stdin=subprocess.DEVNULL)
+        self.assertEqual(self.done("key", "locked"), self.done("key", "locked.pub"))
+        self.assertIn("locked: a private key, Ed25519", self.done("check", "locked"))
+        with mock.patch("importlib.util.find_spec", return_value=None):
+            self.assertIn("encrypted OpenSSH keys need python3-bcrypt", self.sign("-o", "c.sexp", by="locked", wanted=2))
+
+    def test_a_key_that_others_may_read_is_said(self):
+        os.chmod(self.at("alice"), 0o644)
+        self.assertIn("its mode is 644; chmod 600 alice", self.sign("-o", "c.sexp", wanted=4))
+        self.assertFalse(os.path.exists(self.at("c.sexp")))
+        parts = [[b"curve", b"Ed25519"], [b"flags", b"eddsa"], [b"q", b""], [b"d", bytes(32)]]
+        self.write("private.sexp", sexp.laid_out([b"private-key", [b"ecc", *parts]]))
+        os.chmod(self.at("private.sexp"), 0o640)
+        self.assertIn("its mode is 640", self.done("check", "private.sexp", wanted=1))
+
+    def test_another_curve_has_a_sentence(self):
+        from cryptography.hazmat.primitives.asymmetric import ec
+        private = ec.generate_private_key(ec.SECP521R1())
+        self.write("p521", keys.file_of(private, b""))
+        self.write("p521.pub", keys.openssh_line(private.public_key()))
+        for name in ("p521", "p521.pub"):
+            self.assertIn("ECDSA with the curve P-256 or P-384 are used", self.done("key", name, wanted=2))
+            self.assertIn("ECDSA with the curve P-256 or P-384 are used", self.sign(by=name, wanted=2))
+
+    def test_a_whole_key_of_dsa_has_a_sentence_alone(self):
+        """No library warns beside it."""
+        parts = [b"ssh-dss", *(number.to_bytes(number.bit_length() // 8 + 1, "big") for number in (2**1023 + 1, 2**159 + 1, 2, 4))]
+        octets = b"".join(len(part).to_bytes(4, "big") + part for part in parts)
+        self.write("dsa.pub", b"ssh-dss " + base64.b64encode(octets) + b" x\n")
+        for words in (("check", "dsa.pub"), ("key", "dsa.pub")):
+            done = subprocess.run([sys.executable, COMMAND, *words], cwd=self.room, capture_output=True, text=True)
+            self.assertIn("this is a key of DSA; only Ed25519", done.stdout + done.stderr)
+            self.assertEqual((done.returncode, "Warning" in done.stderr), (2, False), done.stderr)
+
+    def test_the_file_that_is_named_is_read(self):
+        self.write("acl.conf", "(acl")
+        self.assertIn("acl.conf:1:5: refused: form Short", self.done("check", "acl.conf", wanted=2))
+        self.write("acl.conf", "(acl)")
+        self.assertIn("acl.conf: an access list, entries: 0", self.done("check", "acl.conf"))
+        self.assertIn("no file that can be read", self.done("check", "none", wanted=2))
+        os.mkfifo(self.at("folder/fifo"))
+        self.done("check", "folder")
+        for name, kind in (("alice", "a private key, Ed25519"), ("bob.pub", "a public key, Ed25519"), ("to-bob", "a sequence, certificates: 1")):
+            self.assertIn(f"{name}: {kind}", self.done("check", name))
+
+
+class OfChains(Room):
+    """The search for chains, and what is left of one."""
+
+    def signed(self, count):
+        """A sequence of certificates of bob for himself, one for carol, and the one of alice for bob."""
+        made = [self.at_home("bob", "bob", number) for number in range(count)]
+        return [*made, self.at_home("bob", "carol", 0), value_in(text_in(self.at("to-bob"))).value]
+
+    def at_home(self, issuer, subject, number):
+        private, to = (keys.read_private(self.pairs[issuer][0], lambda: b""), keys.read_public(self.pairs[subject][1], lambda: b""))
+        signer = keys.FileSigner(private)
+        certificate = [b"cert", [b"issuer", signer.key], [b"subject", to], [b"propagate"], [b"tag", [b"packages"]], [b"comment", b"%d" % number]]
+        value = [b"signature", keys.hash_of(certificate), signer.key, signer.sign(sexp.canonical(certificate))]
+        return [b"sequence", certificate, value]
+
+    def test_the_search_is_bounded(self):
+        """Certificates that a key issues for itself lead nowhere, and a net of keys that all name each other ends at the bound."""
+        holder, found = keys.read_public(self.pairs["carol"][1], lambda: b""), self.signed(12)
+        entries = certificates.entries_of(value_in(text_in(self.at("acl.sexp"))).value)
+        given = [it for one in found for it in certificates.certificates_in(one)]
+        steps = certificates.Steps()
+        chains = list(certificates.chains(entries, given, certificates.Keys(), holder, steps))
+        self.assertEqual([[it.terms.comment for it in chain] for chain in chains], [["", "0"]])
+        self.assertLess(steps.most - steps.left, 100)
+        net = [[b"public-key", [b"test", b"%d" % number]] for number in range(40)]
+        knots = [certificates.Signed(certificates.terms_of([b"cert", [b"issuer", one], [b"subject", other], [b"tag", [b"*"]]]), b"", 1)
+                 for one in net for other in net]
+        entry = certificates.terms_of([b"entry", net[0], [b"tag", [b"*"]]])
+        steps = certificates.Steps()
+        self.assertEqual(list(certificates.chains([entry], knots, certificates.Keys(), holder, steps)), [])
+        self.assertLess(steps.left, 0)
+
+
+@needs.needs(*needs.LIBRARY)
+class OfTheRightOfAChain(OfChains):
+    """`sign --chain`, by the library that is tested."""
+
+    test_the_search_is_bounded = None
+
+    def setUp(self):
+        super().setUp()
+        self.settings["SPKI_LIBRARY"] = built.shared()
+
+    def chained(self, *words, by="bob", to="carol.pub", tag="(packages read)", chain="to-bob", wanted=0):
+        return self.sign("--chain", chain, "--force", "-o", "c.sexp", *words, by=by, to=to, tag=tag, wanted=wanted, days=("--days", "5"))
+
+    def test_what_the_issuer_has_is_signed(self):
+        for tag in ("(packages read)", "(packages read (* set b a))", "(packages read (* prefix /web/))"):
+            self.chained(tag=tag)
+            self.assertEqual(len(self.verified("c.sexp")), 2)
+        self.done("name", "--by", "alice", "--name", "team", "--to", "bob.pub", "--days", "9", "-o", "named")
+        self.done("sign", "--by", "alice", "--named", "team", "--tag", "(packages (* set write read))", "--propagate", "--days", "9", "-o", "to-team")
+        team, name = (value_in(text_in(self.at(it))).value for it in ("to-team", "named"))
+        self.write("both", sexp.laid_out([*team, *name[1:]]))
+        self.chained(chain="both", tag="(packages (* set read write))")
+
+    def test_what_the_issuer_cannot_give_is_not_signed(self):
+        text = text_in(self.at("to-bob"))
+        self.write("changed", text.replace(b"(packages read)", b"(packages)"))
+        self.write("tampered", re.sub(rb"\(s\s+#..", lambda it: it[0][:-2] + b"%02x" % (int(it[0][-2:], 16) ^ 1), text))
+        self.write("none", "(sequence)")
+        self.done("sign", "--by", "alice", "--to", "bob.pub", "--tag", "(packages read)", "--days", "30", "-o", "no-more")
+        for words, said in [
+                ({"chain": "changed"}, "DigestDiffers"), ({"chain": "tampered"}, "NotAccepted"), ({"chain": "none"}, "has no certificate"),
+                ({"by": "carol", "to": "alice.pub"}, "NotIssuer"), ({"chain": "no-more"}, "bob may not delegate"),
+                ({"tag": "(package read)"}, "NoTag"),
+                ({"tag": "(packages)"}, "the chain gives only `(packages read)`"), ({"tag": "(packages (* set read write))"}, "gives only")]:
+            with self.subTest(said):
+                for more in ((), ("--yes",)):
+                    self.assertIn(said, self.chained(*more, wanted=4, **words))
+                self.assertFalse(os.path.exists(self.at("c.sexp")))
+                self.assertIn(said, self.chained("--anyway", **words))
+                os.remove(self.at("c.sexp"))
+
+    def test_without_the_library_nothing_is_given(self):
+        self.settings["SPKI_LIBRARY"] = self.at("none")
+        with mock.patch.dict(sys.modules, {"spki": None}):
+            self.assertIn("the library decides, and is not here", self.chained("--yes", wanted=4))
+            self.assertFalse(os.path.exists(self.at("c.sexp")))
+            self.chained("--anyway")
+
+    def test_a_right_that_ends_earlier_warns(self):
+        words = ("sign", "--by", "bob", "--to", "carol.pub", "--tag", "(packages read)", "--chain", "to-bob", "--days", "40", "-o", "c.sexp")
+        self.assertIn("item 1 of the chain ends earlier", self.done(*words, wanted=4))
+        self.done(*words, "--yes")
+        self.assertIn("item 1 of the chain: its tag does not contain the request `(packages write)`", self.done(
+            *words, "--try", "packages", "write", wanted=4))
+
+    def test_a_right_for_the_same_days_does_not_warn(self):
+        """Days are whole days: a chain that ends some hours before gives them. A moment that is given is meant."""
+        moment = datetime.datetime.now(datetime.timezone.utc) + datetime.timedelta(30)
+        near, far, later = ((moment + datetime.timedelta(hours=it)).strftime("%Y-%m-%d_%H:%M:%S") for it in (-23, -25, 1))
+        for ends, given, is_told in ((near, ("--days", "30"), False), (far, ("--days", "30"), True), (near, ("--until", later), True)):
+            with self.subTest(ends=ends, given=given):
+                signs = "sign", "--tag", "(packages)", "--force", "-o"
+                self.done(*signs, "b.sexp", "--by", "alice", "--to", "bob.pub", "--propagate", "--until", ends)
+                said = self.done(*signs, "c.sexp", "--by", "bob", "--to", "carol.pub", "--chain", "b.sexp", *given, wanted=4 if is_told else 0)
+                self.assertEqual("item 1 of the chain ends earlier" in said, is_told, said)
+
+    def test_certificates_of_a_key_for_itself_are_no_burden(self):
+        os.mkdir(self.at("many"))
+        for number, one in enumerate(self.signed(12)):
+            self.write(f"many/{number}", sexp.laid_out(one))
+        asks = ("ask", "--acl", "acl.sexp", "--key", "carol.pub", "--cert", "many", "--")
+        self.assertIn("so entry 1 grants it", self.done(*asks, "packages", "read"))
+        self.assertIn("TagLacks", self.done(*asks, "mail", wanted=1))
+        with mock.patch.object(certificates.Steps, "most", 1), mock.patch.object(certificates.Steps.__init__, "__defaults__", (1, False)):
+            self.assertIn("the search for chains ended after 1 steps", self.done(*asks, "packages", "read", wanted=1))
+        self.write("many/other", sexp.laid_out(self.at_home("bob", "carol", 99)))
+        for most, is_cut in ((1, True), (2, False)):
+            with mock.patch.object(asking, "MOST_CHAINS", most):
+                said = self.done(*asks, "mail", wanted=1)
+            self.assertEqual(f"ended after 20,000 steps or {most} chains: give only the certificates of the chain" in said, is_cut, said)
+
+
+# ---- streams, signals, random words
+
+
+class Child:
+    """A command in a forked child of this process, with streams of its own."""
+
+    def __init__(self, room, words, settings, stdin="/dev/null", stdout=None, before=lambda: None):
+        self.said = tempfile.TemporaryFile()
+        self.process = os.fork()
+        if self.process == 0:
+            try:
+                os.setsid()
+                signal.alarm(SECONDS)
+                os.chdir(room)
+                os.environ.clear()
+                os.environ.update(settings)
+                sys.argv = ["spki-cert", *words]
+                os.dup2(self.said.fileno(), 2)
+                sys.stderr = open(2, "w", encoding="utf-8", closefd=False)
+                sys.stdin = open(stdin, encoding="utf-8") if stdin else None
+                sys.stdout = stdout() if stdout else None
+                before()
+                commands.run()
+            except BaseException:
+                import traceback
+                os.write(2, traceback.format_exc().encode())
+            finally:
+                os._exit(99)
+
+    def ended(self):
+        """The status with which it ends, and what it has said."""
+        status = os.waitstatus_to_exitcode(os.waitpid(self.process, 0)[1])
+        self.said.seek(0)
+        with self.said:
+            return status, self.said.read().decode(errors="replace")
+
+
+def output(path, encoding="utf-8"):
+    return lambda: open(path, "w", encoding=encoding)
+
+
+class OfStreams(Room):
+    EACH = {"key": ("key", "alice.pub"), "key new": ("key", "new", "--no-passphrase", "new"), "check": ("check", "acl.sexp"),
+            "sign": ("sign", "--by", "alice", "--to", "bob.pub", "--tag", TAG, "--days", "1"), "show": ("show", "to-bob"),
+            "name": ("name", "--by", "alice", "--to", "bob.pub", "--name", "x", "--days", "1"), "completion": ("completion",),
+            "entry": ("entry", "--to", "bob.pub", "--tag", TAG), "help": ("sign", "--help"), "version": ("--version",)}
+
+    def test_a_stream_that_is_closed_or_full_is_said(self):
+        for name, words in self.EACH.items():
+            for what, stdout in (("is closed", None), ("No space left", output("/dev/full"))):
+                with self.subTest(name=name, what=what):
+                    with contextlib.suppress(FileNotFoundError):
+                        os.remove(self.at("new"))
+                        os.remove(self.at("new.pub"))
+                    status, said = Child(self.room, words, self.settings, stdout=stdout).ended()
+                    self.assertEqual((status, said.count("\n")), (3, 1), said)
+                    self.assertRegex(said, f"^spki-cert: standard output: .*{what}")
+
+    def test_the_program_itself_says_it(self):
+        for end, what in ((">&-", "is closed"), ("> /dev/full", "No space left")):
+            done = subprocess.run(["sh", "-c", f"'{sys.executable}' '{COMMAND}' show to-bob {end}"], cwd=self.room, capture_output=True, text=True)
+            self.assertEqual((done.returncode, what in done.stderr, "Traceback" in done.stderr), (3, True, False), done.stderr)
+
+    def test_what_a_stream_does_not_take_is_escaped(self):
+        self.done("sign", "--by", "alice", "--to", "bob.pub", "--tag", TAG, "--days", "1", "--comment", "für Bob\udcff", "-o", "c.sexp")
+        self.write("x.pub", self.pairs["carol"][1] + " \x1b[2Jcarol ä".encode())
+        status, said = Child(self.room, ("show", "--labels", ".", "c.sexp"), self.settings, stdout=output("out", "ascii")).ended()
+        self.assertEqual((status, said), (0, ""))
+        self.assertIn(b"f\\xfcr Bob", text_in(self.at("out")))
+        self.sign("-o", "d.sexp", to="x.pub")
+        os.remove(self.at("carol.pub"))
+        self.assertIn("\\x1b[2Jcarol ä", self.done("show", "--labels", ".", "d.sexp"))
+
+    def test_the_end_of_the_input_at_a_passphrase(self):
+        with mock.patch("getpass.getpass", side_effect=EOFError), mock.patch.object(files, "open", mock.mock_open(), create=True), \
+                mock.patch("termios.tcgetattr"):
+            self.assertIn("the input ended where", self.done("key", "new", "new", wanted=2))
+
+
+class OfSignals(Room):
+    WAITING = {"key": ("key", "-"), "sign": ("sign", "--by", "-", "--to", "bob.pub", "--tag", TAG, "--days", "1", "-o", "c.sexp"),
+               "name": ("name", "--by", "-", "--to", "bob.pub", "--name", "x", "--days", "1", "-o", "c.sexp"), "show": ("show", "-"),
+               "entry": ("entry", "--to", "bob.pub", "--tag", TAG, "--acl", "-"), "check": ("check", "-"),
+               "ask": ("ask", "--acl", "acl.sexp", "--key", "-", "--", "x"), "key new": ("key", "new", "--no-passphrase", "new"),
+               "completion": ("completion",)}
+
+    def test_each_ends_a_command_that_signs(self):
+        self.each_ends("sign", "name", "entry", "key new")
+
+    def test_each_ends_a_command_that_says(self):
+        self.each_ends("key", "show", "check", "ask", "completion")
+
+    def each_ends(self, *names):
+        """The signal comes while the command waits for its input, or where it has none, for its output to be taken."""
+        before = self.before()
+        wanted = sorted(signal.valid_signals() - {signal.SIGKILL, signal.SIGSTOP} - set(range(signal.SIGRTMIN + 1, signal.SIGRTMAX)))
+        for name in names:
+            for number in wanted:
+                status, said = self.ended_by(self.WAITING[name], number)
+                is_told = number in commands.ENDING
+                with self.subTest(name=name, number=number):
+                    self.assertNotIn("Traceback", said)
+                    self.assertIn(status, (3,) if is_told else (0, 2, 3, -number), said)
+                    self.assertEqual("ended by" in said, is_told, said)
+                self.assertLessEqual({it for it in os.listdir(self.room) if it not in before}, {"folder", "new", "new.pub"})
+                for made in ("new", "new.pub"):
+                    with contextlib.suppress(FileNotFoundError):
+                        os.remove(self.at(made))
+        self.assertEqual(before, self.before())
+
+    def ended_by(self, words, number):
+        """How a command ends that gets a signal while it waits, and then what it waits for."""
+        (ready, is_ready), (hang, let) = os.pipe(), os.pipe()
+
+        def before():
+            os.close(let)
+            # (a test that runs in the background has some of them ignored, and hands that on)
+            signal.signal(number, signal.SIG_DFL)
+
+            def wait(*_):
+                os.write(is_ready, b"x")
+                return os.read(hang, 1)
+            sys.stdin = mock.Mock(buffer=mock.Mock(read=wait), fileno=lambda: hang)
+            sys.stdout = mock.Mock(encoding="ascii", buffer=mock.Mock(write=wait))
+        child = Child(self.room, words, self.settings, before=before)
+        # (else nobody would ever say that a child has ended which was never ready)
+        os.close(is_ready)
+        os.read(ready, 1)
+        os.kill(child.process, number)
+        os.kill(child.process, signal.SIGCONT)
+        os.close(let)
+        ended = child.ended()
+        for handle in (ready, hang):
+            os.close(handle)
+        return ended
+
+    def test_a_file_is_whole_when_a_signal_comes(self):
+        """The signal comes while the file is written, and waits until it is in its place."""
+        for call in ("fsync", "fchmod", "link"):
+            def before(call=call, real=getattr(os, call)):
+                signal.signal(signal.SIGTERM, signal.SIG_DFL)
+                setattr(os, call, lambda *words: (os.kill(os.getpid(), signal.SIGTERM), real(*words))[1])
+            words = ("sign", "--by", "alice", "--to", "bob.pub", "--tag", TAG, "--days", "1", "-o", f"{call}.sexp")
+            status, said = Child(self.room, words, self.settings, before=before).ended()
+            self.assertEqual((status, said), (3, "spki-cert: ended by SIGTERM\n"))
+            self.verified(f"{call}.sexp")
+        self.assertEqual([it for it in os.listdir(self.room) if it.startswith(".")], [])
+
+
+class OfRandomWords(Room):
+    """Whatever words, files and streams a command gets, it ends with a status of the manual and loses nothing."""
+
+    OUTPUTS = ("-o", "--output", "--save", "--sequence", "--svg", "--acl")
+    INPUTS = {"key": ("--hash", "--json", "--force", "key"), "show": ("--force", "--json", "--braces", "show", "--labels"),
+              "ask": ("--acl", "--key", "--cert", "--labels", "--case"), "entry": ("--to",)}
+    VALUES = ("(packages read)", "(*", "(* prefix /)", "x", "", "-", "--", "7", "0", "2099-01-01", "2020-01-01", "\udcff\udc80", "ä", "a\nb",
+              "9" * 30, "(hash sha256 #00#)", "(name x)", ".", "folder", "none", "none/x", "/dev/null", "/dev/full", "ed25519", "c.sexp", "link",
+              "alice", "alice.pub", "bob", "bob.pub", "acl.sexp", "to-bob", "keys", "wild", "wild.pub", "wild.sexp", "carol", "carol.pub")
+    LIKELY = (*OfStreams.EACH.values(), ("entry", "--to", "bob.pub", "--tag", TAG, "--acl", "acl.sexp"), ("check", "."),
+              ("entry", "--remove", "--to", "alice.pub", "--acl", "acl.sexp"), ("show", "--svg", "c.svg", "acl.sexp"), ("key", "--json", "wild"),
+              ("ask", "--acl", "acl.sexp", "--key", "bob.pub", "--cert", ".", "--save", "c.sexp", "--", "packages", "read"),
+              ("sign", "--by", "bob", "--to", "carol.pub", "--chain", "to-bob", "--tag", TAG, "--days", "1", "-o", "c.sexp"),
+              ("sign", "--by", "wild", "--to", "wild.pub", "--tag", TAG, "--days", "1", "--yes", "-o", "c.sexp"),
+              ("show", "--labels", ".", "wild.sexp"),
+              ("sign", "--by", "alice", "--to", "bob.pub", "--tag", TAG, "--days", "1", "-o", "c.sexp"), ("key", "--hash", "c.key", "-o", "new"))
+
+    def setUp(self):
+        super().setUp()
+        self.write("keys", b"\n".join(public for _, public in self.pairs.values()))
+        self.write("c.sexp", "(acl)")
+        self.write("c.key", self.done("key", "bob.pub"))
+        os.symlink("acl.sexp", self.at("link"))
+        self.sources = [text_in(self.at(name)) for name in ("alice", "alice.pub", "acl.sexp", "to-bob", "keys")]
+        if not built.IS_ALONE and os.path.exists(os.environ.get("SPKI_TEST_LIBRARY", built.LIBRARY)):
+            self.settings["SPKI_LIBRARY"] = built.shared()
+
+    def words(self, rng):
+        """The words of a command: likely ones, of which some are changed, or any."""
+        commands_of = arguments.commands_with_options()
+        if rng.random() < 0.2:
+            name = rng.choice(list(commands_of))
+            words = [name, *(rng.choice([rng.choice([*commands_of[name], "x"]), rng.choice(self.VALUES)]) for _ in range(rng.randrange(8)))]
+        else:
+            words = list(rng.choice(self.LIKELY))
+        words[1:1] = ["--force"] * (rng.random() < 0.4)
+        for _ in range(rng.choice((0, 0, 1, 1, 2, 3))):
+            place, value = rng.randrange(1, len(words) + 1), rng.choice([*self.VALUES, *commands_of.get(words[0], [])])
+            words[place:place + rng.randrange(2)] = [value]
+        outputs = [place + 1 for place, word in enumerate(words[:-1]) if word in self.OUTPUTS]
+        if outputs and rng.random() < 0.4:
+            words[rng.choice(outputs)] = rng.choice([it for it in words if os.path.isfile(self.at(it))] or self.VALUES)
+        return words
+
+    def wild(self, rng):
+        """The octets of a file: those of another one with octets that are changed, left out or repeated, or any."""
+        octets = bytearray(rng.choice(self.sources) if rng.random() < 0.8 else rng.randbytes(rng.randrange(200)))
+        for _ in range(rng.randrange(5)):
+            place = rng.randrange(len(octets) + 1)
+            octets[place:place + rng.choice((0, 1, 1, 30))] = rng.choice((b"", b"(", b")", b"\0", b"\xff", b'"', b"#", b"9", octets[:50]))
+        return bytes(octets)
+
+    def test_nothing_is_lost(self):
+        rng, before = random.Random(SEED), self.before()
+        for number in range(RUNS):
+            words, wild = self.words(rng), {name: self.wild(rng) for name in ("wild", "wild.pub", "wild.sexp")}
+            for name, octets in wild.items():
+                self.write(name, octets)
+            stdin, stdout = rng.choice(("/dev/null", self.at("alice"), self.at("acl.sexp"), self.at("wild"), None)), rng.choice((
+                output(os.devnull), output(os.devnull), output(os.devnull, "ascii"), output("/dev/full"), None))
+            with self.subTest(number=number, words=words):
+                status, said = Child(self.room, words, self.settings, stdin, stdout).ended()
+                self.judged(words, status, said, {**before, **wild})
+
+    def test_nothing_is_lost_by_the_program(self):
+        rng, before = random.Random(SEED + " starts"), self.before()
+        for number in range(STARTS):
+            words, wild = self.words(rng), {"wild": self.wild(rng)}
+            self.write("wild", wild["wild"])
+            done = subprocess.run([sys.executable, COMMAND, *words], cwd=self.room, env=self.settings, stdin=subprocess.DEVNULL,
+                                  stdout=subprocess.DEVNULL, stderr=subprocess.PIPE, start_new_session=True, timeout=SECONDS)
+            with self.subTest(number=number, words=words):
+                self.judged(words, done.returncode, done.stderr.decode(errors="replace"), {**before, **wild})
+
+    def judged(self, words, status, said, before):
+        """Looks for a traceback, a changed input, a key that is gone, a file half written. Then the folder is as before."""
+        after, may_change = self.before(), {words[place + 1] for place, word in enumerate(words[:-1]) if word in self.OUTPUTS}
+        if "link" in may_change:
+            may_change.add("acl.sexp")
+        changed = {name for name in before if after.get(name) != before[name]}
+        made = {name: after[name] for name in after if before.get(name) != after[name]}
+        for name in set(after) - set(before):
+            os.remove(self.at(name))
+        for name in changed:
+            self.write(name, before[name])
+        self.assertIn(status, range(5), said)
+        self.assertNotIn("Traceback", said)
+        self.assertNotIn("a fault of spki-cert", said)
+        is_allowed = "--force" in words or words[0] == "entry"
+        self.assertTrue(not changed or changed <= may_change and is_allowed, f"{changed} {said}")
+        inputs = {it for front, it in zip(words, words[1:]) if front in self.INPUTS.get(words[0], ("--by", "--to", "--chain"))}
+        self.assertFalse(changed and inputs & {".", *changed, *({"link"} if "acl.sexp" in changed else ())}, f"{changed} {said}")
+        self.assertFalse({"alice", "bob", "carol", "alice.pub", "bob.pub", "carol.pub", "keys"} & changed, said)
+        for name, octets in made.items():
+            self.assertFalse(name.startswith(".spki"), name)
+            if octets.startswith(ending.HEAD):
+                self.assertRegex(octets, rb"\nend \d+ [0-9a-f]{64}\n\Z")
+                continue
+            # (the keys of several files are several values)
+            if not octets.startswith((b"<svg", b"ssh-", b"ecdsa-", b"-----BEGIN", b"[")):
+                value_in(b"(" + octets + b")")

@@ -1,0 +1,33 @@
+"""Compares CONTRIBUTING.md with `needs.py`, the list of what the tests use, and tries how a test is skipped."""
+import os
+import tempfile
+import unittest
+
+from harness import needs, running
+from harness.support import text_of
+
+
+class Needs(unittest.TestCase):
+    """The list of what the tests use."""
+
+    def test_table_of_the_page(self) -> None:
+        self.assertIn("\n".join(needs.table()), text_of("CONTRIBUTING.md"), "CONTRIBUTING.md has not the table that needs.py makes")
+
+    def test_line_of_the_page(self) -> None:
+        self.assertIn(needs.install_line(), text_of("CONTRIBUTING.md"), "CONTRIBUTING.md has not the line that tests/run --needs prints")
+
+    def test_skips(self) -> None:
+        """A skip is honest where what it names is on the list and not there."""
+        gone = needs.Need("no-such-command", "no-such-package", "nothing")
+        self.assertFalse(needs.is_honest(gone.reason))
+        self.assertTrue(all(needs.is_honest(need.reason) != need.is_there for need in needs.NEEDS))
+
+    def test_skipped_module(self) -> None:
+        """A module that is skipped as a whole has an outcome under its own name. This one is skipped for what is not on the list."""
+        with tempfile.TemporaryDirectory() as folder:
+            with open(os.path.join(folder, "test_gone.py"), "w", encoding="utf-8") as file:
+                file.write("import unittest\nraise unittest.SkipTest('there is no such command')\n")
+            tests = list(running.flattened(unittest.TestLoader().discover(folder, top_level_dir=folder)))
+        outcome, = running.run_all(tests, 1, False, "tests/run")
+        self.assertEqual(outcome.name, "test_gone")
+        self.assertIn("there is no such command", "".join(outcome.failed.values()))

@@ -1,0 +1,398 @@
+"""Tries the example of nginx and spki-authd, as it is set up, and among the ordinary lines of other sites: lists that are changed under load, slow
+clients, and a daemon that is killed and started again. test_attacks.py has the attacks.
+
+The example itself is run, as examples/nginx/run.sh runs it."""
+import contextlib
+import json
+import os
+import re
+import signal
+import socket
+import subprocess
+import tempfile
+import threading
+import unittest
+from typing import Any
+
+from harness import needs, served
+from harness.served import Site
+from rows.attackers import ASKED, DENIED, GRANTED, READ, UNDECIDED, Asked, Attackers, faults_of, in_braces, sequence, statuses
+from suite.test_go import sealed
+from spki_cert_tool.keys import digest_of
+from harness.support import TESTS, output_of, text_of, waits_for
+
+LOGS = ("log/files.log", "log/error.log", "log/authd.log", "log/grants.log")
+READERS, CHANGES = 4, 20
+
+
+class OfSite(unittest.TestCase):
+    """Tests of a site that is started once."""
+
+    site: Site
+
+    @classmethod
+    def setUpClass(cls) -> None:
+        cls.site = Site()
+        cls.addClassCleanup(cls.site.end)
+
+    def grants_ann(self) -> None:
+        self.assertEqual(self.site.status("ann", "GET", "/web/index.html"), 200)
+
+
+@needs.needs(*served.NEEDS, *needs.LIBRARY)
+class Attacks(OfSite):
+    """What the attacks of test_attacks.py are made of, and one that cannot be sent as octets."""
+
+    def lines(self) -> int:
+        return sum(self.site.text(name).count("\n") for name in LOGS)
+
+    def test_what_is_granted(self) -> None:
+        """What attacks are made of grants where it is not an attack."""
+        sent = Attackers(self.site).sent
+        self.assertEqual(self.site.status("ben", "GET", "/web/index.html?x=1", f"Authorization: SPKI {sent['ben']}"), 200)
+        self.assertEqual(self.site.status("ben", "HEAD", "/web/index.html", f"X-Spki-Sequence: {sent['ben']}"), 200)
+        self.assertEqual(self.site.status("ann", "GET", "/web/%69ndex.html"), 200)
+
+    def test_foreign_certificate(self) -> None:
+        """Who holds another key than that of the certificate gets no connection."""
+        files = map(self.site.at, ("keys/ann.crt", "keys/eve.crt", "keys/eve"))
+        words = ("go", "run", os.path.join(TESTS, "programs", "foreign.go"), f"127.0.0.1:{self.site.port}", *files)
+        before = self.lines()
+        said = output_of(*words, seconds=served.SECONDS)[1]
+        self.assertNotIn("HTTP/1.1 2", said)
+        self.assertIn("tls:", said)
+        waits_for("a line in a log", lambda: self.lines() > before)
+        self.grants_ann()
+
+
+SORRY = "/web/out/main.js"
+ERRORS = "500 502 503 504"
+CACHE = "proxy_cache_path {room}/tmp/cache keys_zone=site:1m; proxy_cache site; proxy_cache_valid any 1h; "
+# Ordinary lines of a site, by what they do: those of `http`, and those of the example's `server`.
+SITES: list[tuple[str, str, str]] = [
+    ("no more lines", "", ""),
+    ("error pages", f"error_page {ERRORS} = {SORRY};", ""),
+    ("error pages with 200", f"error_page {ERRORS} =200 {SORRY};", ""),
+    ("error pages with their status", f"error_page {ERRORS} {SORRY};", ""),
+    ("error pages in the server", "", f"error_page {ERRORS} = {SORRY};"),
+    ("error pages of denials", f"proxy_intercept_errors on; error_page 401 403 = {SORRY};", ""),
+    ("error pages of denials in the server", "proxy_intercept_errors on;", f"error_page 400 401 403 =200 {SORRY};"),
+    ("error pages of error pages", f"proxy_intercept_errors on; recursive_error_pages on; error_page 401 403 {ERRORS} =200 {SORRY};", ""),
+    ("an error page by a name", "proxy_intercept_errors on;",
+     f"error_page 401 403 {ERRORS} =200 @page; location @page {{ try_files {SORRY} =404; }}"),
+    ("an error page beside", "proxy_intercept_errors on;",
+     f"error_page 401 403 {ERRORS} =200 /page; location = /page {{ alias {{room}}/files{SORRY}; }}"),
+    ("an error page that is no file", "proxy_intercept_errors on;",
+     f"error_page 401 403 {ERRORS} =200 /page; location = /page {{ auth_request off; return 200 sorry; }}"),
+    ("a cache", CACHE + "proxy_ignore_headers Cache-Control Expires Set-Cookie Vary;", ""),
+    ("a cache by host", CACHE + "proxy_cache_key $host; proxy_ignore_headers Cache-Control Expires Set-Cookie Vary X-Accel-Expires;", ""),
+    ("a cache that outlives", CACHE + "proxy_ignore_headers Cache-Control; proxy_cache_use_stale error timeout http_500 http_503 http_403;", ""),
+    ("files of what was fetched", "proxy_store {room}/tmp/stored;", ""),
+    ("satisfy any", "satisfy any; allow all;", ""),
+    ("satisfy any for this machine", "satisfy any; allow 127.0.0.1; deny all;", ""),
+    ("retries", f"proxy_next_upstream error timeout http_403 http_500 http_503 non_idempotent; error_page {ERRORS} = {SORRY};", ""),
+    ("another method of asking", "proxy_method POST; proxy_pass_request_headers on;", ""),
+    ("lists of folders", "autoindex on; index index.html;", ""),
+    ("all methods of WebDAV", "dav_methods PUT DELETE MKCOL COPY MOVE;", ""),
+    ("files by their kind", "", "location ~* \\.(html|js|txt)$ { expires 1d; }"),
+    ("a folder of its own", "", "location /secret/ { root {room}/files; }"),
+    ("a folder inside", "", "location /web/ { location ~ html { expires 1d; } }"),
+    ("a choice of files", "", "location /secret/ { try_files $uri /web/index.html =404; }"),
+    ("an if", "", "location /secret/ { if ($request_method = GET) { expires 1d; } }"),
+    ("a folder that does not ask", "", "location /secret/ { auth_request off; }"),
+    ("a folder where any will do", "", "location /secret/ { satisfy any; allow all; }"),
+    ("open files that are kept", "open_file_cache max=100; open_file_cache_errors on; open_file_cache_valid 1h;", ""),
+]
+# Lines of one lock that are taken away, with what they keep out.
+LOCKS: list[tuple[str, str, str]] = [
+    ("error pages", f"proxy_intercept_errors on; error_page 401 403 {ERRORS} =200 {SORRY};", "(error_page 599 /|proxy_intercept_errors off);"),
+    ("satisfy any", "satisfy any; allow all;", "satisfy all;"),
+    ("nobody is asked", "", "auth_request /.spki-authd;")]
+
+
+@needs.needs(*served.NEEDS, *needs.LIBRARY)
+class Sites(OfSite):
+    """The example among the ordinary lines of other sites: none of them turns a denial into a grant, nor a daemon that does not answer."""
+
+    def setUp(self) -> None:
+        self.kept = {name: self.site.text(f"etc/{name}") for name in ("loopback.conf", "files.conf")}
+        self.addCleanup(lambda: self.sets("", ""))
+
+    def sets(self, of_all: str, of_server: str, without: str = "no such line") -> None:
+        """Starts nginx again with more lines, and without some."""
+        for name, place, lines in (("loopback.conf", "include files.conf;", of_all), ("files.conf", "server_name localhost;", of_server)):
+            more = lines.replace("{room}", self.site.room)
+            self.site.write(f"etc/{name}", re.sub(f"(?m)^ *{without}$", "", self.kept[name]).replace(place, f"{more}\n{place}", 1))
+        self.site.restart_server()
+
+    def get_nothing(self, asked: list[Asked], must: set[int]) -> None:
+        for each in asked:
+            self.assertEqual(faults_of(self.site, each, must), [])
+
+    def test_denied(self) -> None:
+        for name, of_all, of_server in SITES:
+            self.sets(of_all, of_server)
+            with self.subTest(name):
+                self.grants_ann()
+                self.get_nothing(ASKED, DENIED)
+                self.grants_ann()
+
+    def test_included(self) -> None:
+        """A file that Ann writes includes none that she may not read."""
+        self.sets("ssi on; ssi_types *;", "")
+        page = '<!--#include virtual="/secret/plan.txt" -->'
+        self.assertEqual(self.site.status("ann", "PUT", "/web/page.html", body=page), 201)
+        answer = self.site.answer("ann", b"GET /web/page.html HTTP/1.1\r\nHost: localhost\r\nConnection: close\r\n\r\n")
+        self.assertTrue(answer.endswith(page.encode()), answer)
+
+    def test_one_lock(self) -> None:
+        """Where the first lock is broken, the second holds: an answer of 200 that is not the daemon's finds no file."""
+        for name, of_all, line in LOCKS:
+            self.sets(of_all, "", without=line)
+            with self.subTest(name):
+                self.get_nothing([each for each in ASKED if each[2] != "/web/"], DENIED | UNDECIDED)
+
+    def test_daemon_stopped(self) -> None:
+        self.grants_ann()
+        self.site.stop_daemon()
+        self.addCleanup(self.site.start_daemon)
+        for name, of_all, of_server in SITES:
+            self.sets(of_all, of_server)
+            with self.subTest(name):
+                self.get_nothing([*ASKED, *GRANTED], DENIED - {401} | UNDECIDED)
+
+    def test_full_queue(self) -> None:
+        """Where the queue of the daemon's socket is full, nginx cannot ask, and nobody gets anything."""
+        self.sets(f"error_page {ERRORS} = {SORRY};", "")
+        self.grants_ann()
+        self.site.stop_daemon()
+        self.addCleanup(self.site.start_daemon)
+        with contextlib.ExitStack() as stack:
+            full = stack.enter_context(socket.socket(socket.AF_UNIX))
+            full.bind(self.site.at("run/socket"))
+            full.listen(0)
+            for _ in range(2):
+                waiting = stack.enter_context(socket.socket(socket.AF_UNIX))
+                waiting.setblocking(False)
+                with contextlib.suppress(BlockingIOError):
+                    waiting.connect(self.site.at("run/socket"))
+            self.get_nothing([*ASKED, *GRANTED], DENIED - {401} | UNDECIDED)
+
+
+class Numbers(unittest.TestCase):
+    """Numbers of the example that must fit others."""
+
+    def number(self, pattern: str) -> int:
+        """The only number at a place of the example."""
+        found, = re.findall(pattern, text_of("examples/nginx/files.conf"))
+        return int(found)
+
+    def test_idle_connections(self) -> None:
+        """The idle connections of 40 workers leave a quarter of the 1,024 places of a daemon to others."""
+        self.assertLessEqual(40 * self.number(r"keepalive (\d+);"), 768)
+
+    def test_rates(self) -> None:
+        """An address takes at most a tenth of a core: 18 ms a request with certificates, and 0.1 ms without."""
+        self.assertLessEqual(self.number(r"zone=spki_showing:\w+ rate=(\d+)r/s") * 0.018, 0.1)
+        self.assertLessEqual(self.number(r"zone=spki_leaving:\w+ rate=(\d+)r/s") * 0.018, 0.1)
+        self.assertLessEqual(self.number(r"zone=spki:\w+ rate=(\d+)r/s") * 0.0001, 0.01)
+
+
+@needs.needs(*served.NEEDS, *needs.LIBRARY)
+class Changes(OfSite):
+    """Lists that are changed, slow clients, and a daemon that ends."""
+
+    def test_list_under_load(self) -> None:
+        """While readers ask, the list is changed between two that both let Ann read and only one lets Ben. Nobody gets a wrong answer."""
+        both = self.site.text("etc/acl.sexp")
+        self.site.cert("entry", "--to", "keys/ben.pub", "--tag", READ, "--acl", "etc/acl.sexp")
+        with_ben, met, ends = self.site.text("etc/acl.sexp"), set[tuple[str, object]](), threading.Event()
+
+        def asks() -> None:
+            while not ends.is_set():
+                for who in ("ann", "ben", "eve"):
+                    try:
+                        met.add((who, self.site.status(who, "GET", "/web/index.html")))
+                    except Exception as why:
+                        met.add((who, repr(why)))
+
+        readers = [threading.Thread(target=asks) for _ in range(READERS)]
+        for each in readers:
+            each.start()
+        try:
+            for number in range(CHANGES):
+                self.site.write("etc/new", "(acl" if number % 5 == 4 else with_ben if number % 2 else both)
+                os.replace(self.site.at("etc/new"), self.site.at("etc/acl.sexp"))
+                said = self.site.reload()
+                self.assertEqual("refused" in said, number % 5 == 4, said)
+                if number % 5 != 4:
+                    self.assertEqual(self.site.status("ben", "GET", "/web/index.html"), 200 if number % 2 else 401)
+        finally:
+            ends.set()
+            for each in readers:
+                each.join()
+            self.site.write("etc/acl.sexp", both)
+            self.site.reload()
+        self.assertEqual(met, {("ann", 200), ("ben", 200), ("ben", 401), ("eve", 401)})
+
+    def test_slow_clients(self) -> None:
+        """Clients that never end their header, or their body, hold up nobody."""
+        halves = [b"GET /web/index.html HTTP/1.1\r\nHost: loc", b"PUT /web/slow HTTP/1.1\r\nHost: localhost\r\nContent-Length: 9\r\n\r\nab"] * 20
+        open_ones = []
+        try:
+            for half in halves:
+                waiting = self.site.connected("ann")
+                open_ones.append(waiting)
+                waiting.__enter__().sendall(half)
+            for _ in range(10):
+                self.grants_ann()
+        finally:
+            for waiting in open_ones:
+                waiting.__exit__(None, None, None)
+        self.grants_ann()
+        self.assertFalse(os.path.exists(self.site.at("files/web/slow")))
+
+    def test_daemon_killed(self) -> None:
+        """Without its daemon nginx grants nothing. Started again, the daemon takes over the socket that was left."""
+        self.grants_ann()
+        self.site.daemon.send_signal(signal.SIGKILL)
+        self.site.daemon.wait()
+        for who in ("ann", "eve", None):
+            self.assertGreaterEqual(self.site.status(who, "GET", "/web/index.html"), 500)
+        self.assertGreaterEqual(self.site.status("ann", "PUT", "/web/killed", body="x"), 500)
+        self.assertFalse(os.path.exists(self.site.at("files/web/killed")))
+        self.site.start_daemon()
+        self.grants_ann()
+
+    def test_daemon_ended(self) -> None:
+        """At SIGTERM the daemon ends with status 0, and leaves no socket."""
+        self.site.daemon.terminate()
+        self.assertEqual(self.site.daemon.wait(served.SECONDS), 0)
+        self.assertGreaterEqual(self.site.status("ann", "GET", "/web/index.html"), 500)
+        self.site.start_daemon()
+        self.grants_ann()
+
+    def test_ended_certificates(self) -> None:
+        """A certificate whose digest is in the file counts no longer, and counts again when it is gone from the file, and that is wanted."""
+        shown_by_ben = sequence(self.site, "ann", "ben", READ)
+        shown, before = f"Authorization: SPKI {in_braces(shown_by_ben)}", self.site.text("etc/ended")
+        self.assertEqual(self.site.status("ben", "GET", "/web/index.html", shown), 200)
+        asks = (self.site.program, "-config", self.site.at("etc/authd.json"), "-reload")
+        for text, words, done, status in ((sealed(f"{digest_of(shown_by_ben[1]).hex()}\n"), (), 0, 403), ("no digest\n", (), 1, 403),
+                                          (before, (), 1, 403), (before, ("-fewer",), 0, 200)):
+            self.site.write("etc/ended", text)
+            self.assertEqual(output_of(*asks, *words)[0], done)
+            self.assertEqual(self.site.status("ben", "GET", "/web/index.html", shown), status)
+
+
+@needs.needs(*served.NEEDS, *needs.LIBRARY)
+class Limits(OfSite):
+    """What clients see past the limits of nginx and of the daemon, and what the logs say."""
+
+    def lines(self) -> list[dict[str, Any]]:
+        """The lines of both logs of the daemon, in the order of their times."""
+        lines = [json.loads(line) for name in ("authd", "grants") for line in self.site.text(f"log/{name}.log").splitlines()]
+        return sorted(lines, key=lambda line: str(line["time"]))
+
+    def with_limits(self, **limits: int) -> None:
+        """Starts the daemon again with other limits."""
+        self.site.daemon.terminate()
+        self.site.daemon.wait(served.SECONDS)
+        config = json.loads(self.site.text("etc/authd.json"))
+        self.site.write("etc/authd.json", json.dumps({**config, "limits": limits}))
+        self.site.start_daemon()
+
+    def test_rate(self) -> None:
+        """Past the rate a client sees 429, and the daemon is not asked."""
+        self.grants_ann()
+        before, count = len(self.lines()), 400
+        each = "GET /web/index.html HTTP/1.1\r\nHost: localhost\r\n"
+        answer = self.site.answer_at_once("ann", f"{each}\r\n".encode() * (count - 1) + f"{each}Connection: close\r\n\r\n".encode())
+        met = statuses(answer)
+        self.assertEqual((len(met), set(met)), (count, {200, 429}))
+        self.assertEqual(len(self.lines()) - before, met.count(200))
+        self.grants_ann()
+
+    def test_rate_of_certificates(self) -> None:
+        """Who shows certificates has a lower rate, and the daemon is not asked past it."""
+        shown = f"Authorization: SPKI {in_braces(sequence(self.site, 'ann', 'ben', READ))}"
+        each, count = f"GET /web/index.html HTTP/1.1\r\nHost: localhost\r\n{shown}\r\n", 80
+        asked = f"{each}\r\n".encode() * (count - 1) + f"{each}Connection: close\r\n\r\n".encode()
+
+        def is_limited() -> bool:
+            before, met = len(self.lines()), statuses(self.site.answer_at_once("ben", asked))
+            self.assertEqual((len(met), len(self.lines()) - before), (count, met.count(200)))
+            return set(met) == {200, 429}
+        # (requests of the tests before may have used the rate up)
+        waits_for("a request within the rate", is_limited)
+        self.grants_ann()
+
+    def test_numbers_of_requests(self) -> None:
+        """Both logs have the number of a request, and a client cannot set it."""
+        self.site.status("ann", "GET", "/web/index.html", "X-Request-Id: ann-was-here")
+        last = self.lines()[-1]["id"]
+        self.assertRegex(last, "^[0-9a-f]{32}$")
+        waits_for("the line of nginx", lambda: f'"id":"{last}"' in self.site.text("log/files.log"))
+
+    def test_health(self) -> None:
+        """The flag asks the daemon, and fails where none answers."""
+        asks = (self.site.program, "-health", "-config", self.site.at("etc/authd.json"))
+        self.assertEqual(output_of(*asks)[0], 0)
+        self.assertEqual((self.lines()[-1]["id"], self.lines()[-1]["answer"]), ("spki-authd-health", "refused"))
+        self.site.daemon.terminate()
+        self.site.daemon.wait(served.SECONDS)
+        self.assertEqual(output_of(*asks)[0], 1)
+        self.site.start_daemon()
+
+    def test_connections(self) -> None:
+        """Where all connections are taken, a client waits until the daemon has closed one that says nothing."""
+        self.with_limits(connections=1, seconds=1)
+        try:
+            with socket.socket(socket.AF_UNIX) as silent:
+                silent.connect(self.site.at("run/socket"))
+                before = len(self.lines())
+                self.grants_ann()
+                self.assertEqual((silent.recv(1), len(self.lines())), (b"", before + 1))
+        finally:
+            self.with_limits()
+
+    def test_seconds(self) -> None:
+        """A request that does not end in time gets no answer, and a line in the log."""
+        self.with_limits(seconds=1)
+        try:
+            with socket.socket(socket.AF_UNIX) as slow:
+                slow.connect(self.site.at("run/socket"))
+                slow.sendall(b"GET / HTTP/1.1\r\nHost: x\r\n")
+                self.assertEqual(slow.recv(1), b"")
+            self.assertEqual(self.lines()[-1]["reason"], "the request did not end in time")
+            self.grants_ann()
+        finally:
+            self.with_limits()
+
+    def test_daemon_that_hangs(self) -> None:
+        """Where the daemon does not answer, a client sees 500 after proxy_read_timeout."""
+        self.site.daemon.send_signal(signal.SIGSTOP)
+        try:
+            self.assertEqual(self.site.status("ann", "GET", "/web/index.html"), 500)
+        finally:
+            self.site.daemon.send_signal(signal.SIGCONT)
+        self.grants_ann()
+
+
+@needs.needs(*served.NEEDS, *needs.LIBRARY)
+class Example(unittest.TestCase):
+    """The one command of the example."""
+
+    ANSWERS = ["nobody GET /web/index.html: 401", "ann GET /web/index.html: 500",
+               "ann GET /web/index.html: 200", "ann PUT /web/new.txt: 201", "ann GET /web/new.txt: 200", "ann GET /secret/plan.txt: 401",
+               "ben GET /web/new.txt: 401", "robot PUT /web/out/main.js: 204", "robot GET /web/out/main.js: 401", "ben GET /web/new.txt: 200",
+               "ben PUT /web/new.txt: 403", "ben GET /secret/plan.txt: 403", "eve GET /web/new.txt: 403"]
+
+    def test_run(self) -> None:
+        with tempfile.TemporaryDirectory() as room:
+            settings = {**os.environ, "SPKI_AUTHD": served.daemon_built(room), "PORT": str(served.free_port()), "TMPDIR": room}
+            done = subprocess.run([os.path.join(served.EXAMPLE, "run.sh")], env=settings, stdout=subprocess.PIPE, stderr=subprocess.PIPE, text=True,
+                                  timeout=served.SECONDS, cwd=TESTS)
+            answers = [line for line in done.stdout.splitlines() if not line.startswith("#")]
+            self.assertEqual((done.returncode, answers), (0, self.ANSWERS), done.stderr)
+            self.assertEqual(os.listdir(room), ["spki-authd"])

@@ -1,0 +1,30 @@
+"""Does what docs/OPERATING.md says, one command after the other in the folder of the example behind nginx, and compares what is written."""
+import os
+import unittest
+
+from harness import needs, served
+from harness.support import output_of, text_of
+from suite import test_guide
+
+
+@needs.needs(*served.NEEDS, *needs.LIBRARY)
+class Operating(unittest.TestCase):
+    """The page in a shell."""
+
+    def is_run(self, shell: str) -> None:
+        site = served.Site()
+        self.addCleanup(site.end)
+        steps = list(test_guide.steps_of_markdown(text_of("docs/OPERATING.md")))
+        settings = {**site.settings, "EXAMPLE": served.EXAMPLE, "PATH": f"{os.path.dirname(site.program)}:{site.settings['PATH']}"}
+        try:
+            said = output_of(shell, text="".join(test_guide.script(steps)), cwd=site.room, env=settings, seconds=served.SECONDS)[1]
+        finally:
+            output_of("sh", "-c", "kill $(cat run/second.pid)", cwd=site.room)
+        met = [each.strip("\n") for each in said.split(f"{test_guide.END}\n")]
+        self.assertEqual(met, [*(answer.strip("\n") for _, _, answer in steps), ""])
+
+    def test_in_sh(self) -> None:
+        self.is_run("sh")
+
+    def test_in_bash(self) -> None:
+        self.is_run("bash")

@@ -1,0 +1,344 @@
+"""Makes the Debian packages twice, of two copies of the sources in two places, and compares all octets. Unpacks them, and looks at what is inside:
+the program and the libraries without what is for debuggers, a C program that is compiled with the one package and runs with the other, the list of
+all files, the changelog, and what lintian says. Those for ARM must have the libraries for ARM.
+
+The packages are compressed less than usual, which takes less time: nothing else depends on it."""
+import hashlib
+import json
+import os
+import re
+import shutil
+import subprocess
+import sys
+import tempfile
+import unittest
+
+from harness import built, golang, needs
+from harness.support import EXAMPLES, TESTS, TOP, output_of, room_for, run, text_of
+
+VERSION = text_of("VERSION").strip()
+INTERFACE = VERSION.rpartition(".")[0]
+SHARED, PLACE = f"libspki-c{INTERFACE}", "usr/lib/x86_64-linux-gnu"
+MAINTAINER = "Ann Smith <ann@conguraki.org>"
+# The files that each package must have. All have a changelog and a copyright.
+FILES = {
+    "spki": ["usr/bin/spki", "usr/share/man/man1/spki.1.gz"],
+    SHARED: [f"{PLACE}/libspki_c.so.{INTERFACE}"],
+    "libspki-dev": ["usr/include/spki.h", "usr/include/spki.hpp", f"{PLACE}/cmake/spki/spki-config.cmake", f"{PLACE}/libspki_c.a",
+                    f"{PLACE}/libspki_c.so", f"{PLACE}/pkgconfig/spki.pc"],
+    "spki-cert": ["usr/bin/spki-cert", "usr/share/spki-cert/spki/__init__.py", "usr/share/spki-cert/spki_cert_tool/commands.py",
+                  "usr/share/man/man1/spki-cert.1.gz"],
+    "spki-authd": ["usr/bin/spki-authd", "lib/systemd/system/spki-authd.service", "usr/share/man/man8/spki-authd.8.gz", "etc/spki-authd",
+                   "usr/share/doc/spki-authd/examples/nginx/authd.json", "usr/share/doc/spki-authd/README.md"]}
+# What a package depends on, or is recommended with.
+RELATIONS = {"spki": r"Depends: libc6 \(>= 2\.\d+\)$", SHARED: r"Depends: libc6 \(>= 2\.\d+\)$",
+             "libspki-dev": rf"Depends: {SHARED} \(= {VERSION}\), libc6-dev$", "spki-cert": rf"Recommends: {SHARED}, python3-bcrypt$",
+             "spki-authd": r"Depends: libc6 \(>= 2\.\d+\), adduser, init-system-helpers"}
+# What packages.sh reads.
+SOURCES = ("*.sh", "VERSION", "CHANGELOG.md", "README.md", "apps", "bindings", "crates/spki_c/*.h*", "docs", "examples", "packaging")
+# There is no license yet.
+TAGS_OF_LINTIAN = {"copyright-without-copyright-notice"}
+SYMBOLS, DEBUG = re.compile(r"\.(?:symtab|strtab|z?debug\w*)$"), re.compile(r"\.z?debug\w*$")
+SECTIONS = re.compile(r"^ +\[ *\d+\] (\S+) ", re.MULTILINE)
+GO_CACHE = os.path.join(TESTS, "out", "go")
+SETTINGS = {**os.environ, "DPKG_DEB_COMPRESSOR_TYPE": "gzip", "DPKG_DEB_COMPRESSOR_LEVEL": "1", "GOCACHE": GO_CACHE}
+
+
+def packages(top: str, *words: str, **settings: str) -> tuple[int, str]:
+    """The status of packages.sh of some sources, and what it writes."""
+    return output_of(os.path.join(top, "packages.sh"), *words, env={**SETTINGS, **settings}, seconds=golang.SECONDS)
+
+
+def sections(path: str) -> list[str]:
+    """The sections of a program or a library."""
+    return SECTIONS.findall(output_of("readelf", "-SW", path)[1])
+
+
+def logics(path: str) -> set[bytes]:
+    """The logics that a program or a library names."""
+    with open(path, "rb") as file:
+        return set(re.findall(rb"rattle logic=[0-9a-f]{64}", file.read()))
+
+
+def copied_sources(folder: str) -> str:
+    """A copy of the sources of the packages in another place, which is no clone."""
+    words = ["git", "ls-files", "-z", "-co", "--exclude-standard", "--", *SOURCES]
+    listed = subprocess.run(words, cwd=TOP, stdout=subprocess.PIPE, check=True).stdout
+    subprocess.run(["xargs", "-0", "cp", "--parents", "-t", folder], cwd=TOP, input=listed, check=True)
+    return folder
+
+
+@needs.needs("dpkg-deb", "go", *needs.LIBRARY)
+class Packages(built.OfLibrary):
+    """What is in the packages."""
+
+    folder: str
+    unpacked: str
+    made: dict[str, str]
+
+    @classmethod
+    def setUpClass(cls) -> None:
+        super().setUpClass()
+        room = room_for(cls)
+        cls.folder = os.path.join(room, "packages")
+        status, said = packages(TOP, "--maintainer", MAINTAINER, cls.folder, cls.program, cls.library)
+        if status:
+            raise AssertionError(f"packages.sh ended with status {status}: {said}")
+        cls.made = {name.split("_")[0]: os.path.join(cls.folder, name) for name in os.listdir(cls.folder) if name.endswith(".deb")}
+        cls.unpacked = os.path.join(room, "unpacked")
+        os.mkdir(cls.unpacked)
+        for name, path in cls.made.items():
+            output_of("dpkg-deb", "-x", path, cls.inside(name))
+            output_of("dpkg-deb", "-e", path, cls.inside(name, "DEBIAN"))
+
+    @classmethod
+    def inside(cls, name: str, *path: str) -> str:
+        """The place of an unpacked package, or of a file of it."""
+        return os.path.join(cls.unpacked, name, *path)
+
+    def test_packages(self) -> None:
+        self.assertEqual(set(self.made), set(FILES))
+
+    def test_files(self) -> None:
+        of_all = ("usr/share/doc/{0}/copyright", "usr/share/doc/{0}/changelog.gz")
+        missing = [f"{name}: {file}" for name, files in FILES.items() for file in (*files, *(it.format(name) for it in of_all))
+                   if not os.path.exists(self.inside(name, file)) and not os.path.islink(self.inside(name, file))]
+        self.assertEqual(missing, [])
+
+    def test_fields(self) -> None:
+        for name in self.made:
+            control = text_of(self.inside(name, "DEBIAN", "control"))
+            with self.subTest(name=name):
+                self.assertIn(f"\nVersion: {VERSION}\n", control)
+                self.assertIn(f"\nMaintainer: {MAINTAINER}\n", control)
+                self.assertRegex(control, re.compile(f"^{RELATIONS[name]}", re.MULTILINE))
+
+    def test_soname(self) -> None:
+        """The library's package has the name of its soname, and programs that are linked with it depend on this package."""
+        soname = re.findall(r"SONAME.*\[(.*)\]", output_of("readelf", "-dW", self.shared)[1])
+        self.assertEqual(soname, [f"libspki_c.so.{INTERFACE}"])
+        self.assertEqual(text_of(self.inside(SHARED, "DEBIAN", "shlibs")), f"libspki_c {INTERFACE} {SHARED} (>= {INTERFACE})\n")
+        self.assertEqual(text_of(self.inside(SHARED, "DEBIAN", "triggers")), "activate-noawait ldconfig\n")
+
+    def test_program(self) -> None:
+        with open(os.path.join(EXAMPLES, "delegation.sexp"), "rb") as case:
+            answer = run(self.inside("spki", "usr", "bin", "spki"), "check", case.read())
+        self.assertEqual(answer, (0, b"yes entry 1\n"))
+
+    def test_daemon(self) -> None:
+        program = self.inside("spki-authd", "usr", "bin", "spki-authd")
+        self.assertEqual(output_of(program, "-version"), (0, f"spki-authd {VERSION}\n"))
+        with open(program, "rb") as file:
+            self.assertNotIn(TOP.encode(), file.read())
+
+    def test_stripped(self) -> None:
+        """Nothing is left that is for debuggers. What names the logic by which a program was proved is left."""
+        for name, place, source in (("spki", "usr/bin/spki", self.program), (SHARED, f"{PLACE}/libspki_c.so.{INTERFACE}", self.shared),
+                                    ("libspki-dev", f"{PLACE}/libspki_c.a", self.library), ("spki-authd", "usr/bin/spki-authd", self.library)):
+            left = sections(self.inside(name, place))
+            with self.subTest(name=name):
+                self.assertEqual([it for it in left if (DEBUG if name == "libspki-dev" else SYMBOLS).match(it)], [])
+                self.assertEqual(logics(self.inside(name, place)), logics(source))
+
+    def root_with(self, *names: str) -> str:
+        """A folder with several unpacked packages, in which /lib is a link, as in Debian."""
+        room = room_for(self)
+        for name in names:
+            shutil.copytree(self.inside(name), room, symlinks=True, dirs_exist_ok=True)
+        os.symlink("usr/lib", os.path.join(room, "lib"))
+        return room
+
+    @needs.needs("cmake")
+    def test_cmake(self) -> None:
+        """CMake finds the libraries and the header, also by the way of /lib."""
+        root = self.root_with("libspki-dev", SHARED)
+        for prefix in (os.path.join(root, "usr"), root):
+            with self.subTest(prefix=prefix), tempfile.TemporaryDirectory() as room:
+                with open(os.path.join(room, "CMakeLists.txt"), "w", encoding="ascii") as file:
+                    file.write("cmake_minimum_required(VERSION 3.13)\nproject(found C)\nset(CMAKE_FIND_USE_CMAKE_SYSTEM_PATH FALSE)\n"
+                               "find_package(spki REQUIRED)\nforeach(name spki static)\nget_target_property(place spki::${name} IMPORTED_LOCATION)\n"
+                               "get_target_property(headers spki::${name} INTERFACE_INCLUDE_DIRECTORIES)\n"
+                               "message(STATUS \"found ${place} ${headers}\")\nendforeach()\n")
+                said = output_of("cmake", "-S", room, "-B", room, f"-DCMAKE_PREFIX_PATH={prefix}")[1]
+                found = re.findall("^-- found (.*) (.*)$", said, re.MULTILINE)
+                self.assertEqual(len(found), 2, said)
+                self.assertEqual([it for line in found for it in line if not os.path.exists(it)], [])
+
+    def test_python(self) -> None:
+        """The module of spki-cert finds the library of its version by the loader alone, also beside one of another version."""
+        folder = self.root_with(SHARED)
+        shutil.copy(self.inside(SHARED, "DEBIAN", "control"), os.path.join(folder, PLACE, "libspki_c.so"))
+        settings = {name: value for name, value in os.environ.items() if name != "SPKI_LIBRARY"}
+        settings.update(PYTHONPATH=self.inside("spki-cert", "usr", "share", "spki-cert"), LD_LIBRARY_PATH=os.path.join(folder, PLACE))
+        said = output_of(sys.executable, "-B", "-c", "import spki; print(spki.library._name)", env=settings)
+        self.assertEqual(said, (0, f"libspki_c.so.{INTERFACE}\n"))
+
+    @needs.needs("pkg-config")
+    def test_linked(self) -> None:
+        """What is compiled with libspki-dev runs with the package of the shared library."""
+        root = self.root_with("libspki-dev", SHARED)
+        linked, settings = os.path.join(root, "linked"), {**os.environ, "PKG_CONFIG_LIBDIR": os.path.join(root, PLACE, "pkgconfig"),
+                                                          "PKG_CONFIG_SYSROOT_DIR": root}
+        flags = output_of("pkg-config", "--cflags", "--libs", "spki", env=settings)[1].split()
+        self.assertEqual([it.split("/")[-1] for it in flags], ["include", "x86_64-linux-gnu", "-lspki_c"])
+        words = ("cc", "-o", linked, os.path.join(TESTS, "programs", "linked.c"))
+        self.assertEqual(output_of(*words, *flags), (0, ""))
+        path = {**os.environ, "LD_LIBRARY_PATH": self.inside(SHARED, PLACE)}
+        self.assertEqual(output_of(linked, env=path), (0, ""))
+        self.assertEqual(output_of(*words, flags[0], os.path.join(root, PLACE, "libspki_c.a")), (0, ""))
+        self.assertEqual(output_of(linked), (0, ""))
+
+    def test_same_octets(self) -> None:
+        """The same sources in another place, and for another user, make the same octets. In the long run Go compiles everything once more."""
+        epoch = output_of("git", "log", "-1", "--format=%ct", cwd=TOP)[1].strip()
+        name, address = MAINTAINER.rstrip(">").split(" <")
+        with tempfile.TemporaryDirectory() as room:
+            top, folder = copied_sources(room), os.path.join(room, "made")
+            status, said = packages(top, folder, self.program, self.library, SOURCE_DATE_EPOCH=epoch, DEBFULLNAME=name, DEBEMAIL=address,
+                                    TZ="Asia/Tokyo", LC_ALL="C.UTF-8", HOME=room, GOCACHE=os.path.join(room, "go") if built.IS_LONG else GO_CACHE)
+            self.assertEqual(status, 0, said)
+            self.assertEqual(sorted(os.listdir(folder)), sorted(os.listdir(self.folder)))
+            for made in sorted(os.listdir(folder)):
+                with open(os.path.join(folder, made), "rb") as one, open(os.path.join(self.folder, made), "rb") as other:
+                    self.assertTrue(one.read() == other.read(), f"{made} has other octets")
+
+    def is_accepted_by_lintian(self, *names: str) -> None:
+        """lintian must have nothing to say of packages but that the license is missing."""
+        status, said = output_of("lintian", "--allow-root", "--tag-display-limit", "0", *map(self.made.__getitem__, names), seconds=600)
+        tags = [line for line in said.splitlines() if re.match("[EW]: ", line)]
+        self.assertEqual([line for line in tags if line.split()[2] not in TAGS_OF_LINTIAN], [], said)
+        self.assertEqual({line.split()[1].rstrip(":") for line in tags}, set(names), said)
+
+    @needs.needs("lintian")
+    def test_lintian_of_the_libraries(self) -> None:
+        self.is_accepted_by_lintian("spki", SHARED, "libspki-dev")
+
+    @needs.needs("lintian")
+    def test_lintian_of_the_commands(self) -> None:
+        self.is_accepted_by_lintian("spki-cert", "spki-authd")
+
+    def test_sums(self) -> None:
+        self.assertEqual(output_of("sha256sum", "--strict", "--check", "--quiet", "SHA256SUMS", cwd=self.folder), (0, ""))
+        listed = {line.split("  ")[1] for line in text_of(os.path.join(self.folder, "SHA256SUMS")).splitlines()}
+        self.assertEqual(listed | {"SHA256SUMS"}, set(os.listdir(self.folder)))
+
+    def test_list(self) -> None:
+        """The list in SPDX has each package and each file, with the digests of what was unpacked."""
+        listed = json.loads(text_of(os.path.join(self.folder, f"spki_{VERSION}.spdx.json")))
+        self.assertEqual((listed["spdxVersion"], listed["SPDXID"]), ("SPDX-2.3", "SPDXRef-DOCUMENT"))
+        files = {it["SPDXID"]: it for it in listed["files"]}
+        held = [(it["spdxElementId"], it["relatedSpdxElement"]) for it in listed["relationships"] if it["relationshipType"] == "CONTAINS"]
+        for package in (it for it in listed["packages"] if "packageFileName" in it):
+            name = package["name"]
+            met = {file["fileName"]: {it["algorithm"]: it["checksumValue"] for it in file["checksums"]}
+                   for owner, it in held if owner == package["SPDXID"] for file in [files[it]]}
+            self.assertEqual(met, self.digests(name), name)
+            whole = hashlib.sha1("".join(sorted(it["SHA1"] for it in met.values())).encode()).hexdigest()
+            self.assertEqual(package["packageVerificationCode"]["packageVerificationCodeValue"], whole, name)
+        linked = {(it["spdxElementId"], it["relatedSpdxElement"]) for it in listed["relationships"] if it["relationshipType"] == "STATIC_LINK"}
+        proved = {f"SPDXRef-{name}-amd64" for name in FILES if name != "spki-cert"}
+        logic = {it.partition(b"=")[2].decode() for it in logics(self.program)}
+        self.assertEqual({pair for pair in linked if "logic" in pair[1]}, {(name, f"SPDXRef-rattle-logic-{it}") for name in proved for it in logic})
+        self.assertEqual([pair[0] for pair in linked if "SPDXRef-go-" in pair[1]], ["SPDXRef-spki-authd-amd64"])
+        named = {it["packageFileName"] for it in listed["packages"] if "packageFileName" in it}
+        self.assertEqual(named, {os.path.basename(path) for path in self.made.values()})
+
+    def digests(self, name: str) -> dict[str, dict[str, str]]:
+        """The digests of the files of an unpacked package."""
+        found: dict[str, dict[str, str]] = {}
+        for path in output_of("find", ".", "-name", "DEBIAN", "-prune", "-o", "-type", "f", "-print", cwd=self.inside(name))[1].splitlines():
+            with open(self.inside(name, path), "rb") as file:
+                octets = file.read()
+            found[path] = {"SHA1": hashlib.sha1(octets).hexdigest(), "SHA256": hashlib.sha256(octets).hexdigest()}
+        return found
+
+    @needs.needs("dpkg-parsechangelog")
+    def test_changelog(self) -> None:
+        """The newest release in Debian's form has the version, the maintainer, and each item of CHANGELOG.md that is not in an older one."""
+        packed = self.inside("spki", "usr", "share", "doc", "spki", "changelog.gz")
+        text = subprocess.run(["gzip", "-dc", packed], stdout=subprocess.PIPE, check=True, text=True).stdout
+        said = output_of("dpkg-parsechangelog", "-l", "-", text=text)[1]
+        for line in ("Source: spki", f"Version: {VERSION}", f"Maintainer: {MAINTAINER}"):
+            self.assertIn(f"{line}\n", said)
+        met = len(re.findall(r"^  \* ", text, re.MULTILINE))
+        items = [it for it in re.split(r"\n\n|\n(?=- )", text_of("CHANGELOG.md")) if it.strip() and not it.strip().startswith("#")]
+        self.assertEqual(met, len(items))
+
+
+@needs.needs("dpkg-deb", "go", *needs.LIBRARY)
+class Scripts(unittest.TestCase):
+    """What runs where a package is installed, and what packages.sh refuses."""
+
+    def test_maintainer(self) -> None:
+        """Without somebody who answers for them no packages are made."""
+        rows: list[tuple[list[str], dict[str, str]]] = [
+            ([], {}), ([], {"DEBFULLNAME": "Ann"}), ([], {"DEBEMAIL": "ann@conguraki.org"}), (["--maintainer", "ann"], {}),
+            (["--maintainer", ""], {}),
+            (["--maintainer", "ann@conguraki.org"], {}), (["--maintainer", "Ann <ann>"], {}), (["--maintainer", "Ann\nX: y <a@conguraki.org>"], {}),
+            (["--maintainer"], {}), (["--maintaner", MAINTAINER], {})]
+        for words, settings in rows:
+            with self.subTest(words=words, settings=settings), tempfile.TemporaryDirectory() as room:
+                environment = {"PATH": os.environ["PATH"], **settings}
+                status, said = output_of(os.path.join(TOP, "packages.sh"), *words, os.path.join(room, "made"), env=environment)
+                self.assertNotEqual(status, 0, said)
+                self.assertIn("packages.sh: ", said)
+                self.assertEqual(os.listdir(room), [])
+
+    def test_time(self) -> None:
+        """Sources that are no clone need the time that the packages get."""
+        with tempfile.TemporaryDirectory() as room:
+            status, said = packages(copied_sources(room), "--maintainer", MAINTAINER, os.path.join(room, "made"))
+            self.assertEqual((status, "set SOURCE_DATE_EPOCH" in said), (2, True), said)
+            self.assertFalse(os.path.exists(os.path.join(room, "made")))
+
+    def test_installing_the_daemon(self) -> None:
+        """The user is made, the folder of the configuration is root's, and nothing is started or enabled."""
+        with tempfile.TemporaryDirectory() as room:
+            for name in ("adduser", "chown", "chmod", "systemctl", "deb-systemd-invoke", "runuser"):
+                with open(os.path.join(room, name), "w", encoding="ascii") as file:
+                    file.write(f'#!/bin/sh\necho {name} "$@"\n')
+                os.chmod(file.name, 0o755)
+            settings = {**os.environ, "PATH": f"{room}:{os.environ['PATH']}"}
+            status, said = output_of("sh", os.path.join(TOP, "packaging", "spki-authd.postinst"), "configure", "", env=settings)
+        self.assertEqual(status, 0, said)
+        self.assertRegex(said, "adduser .*--system --group .* spki-authd\nchown root:spki-authd /etc/spki-authd\nchmod 750 /etc/spki-authd\n")
+        self.assertEqual(re.findall(r"^(?:systemctl|deb-systemd-invoke) .*(?:start|enable).*", said, re.MULTILINE), [])
+
+    @needs.needs("man")
+    def test_manual_of_the_daemon(self) -> None:
+        """The manual has each flag of the program, and is shown without a warning."""
+        with open(os.path.join(golang.DAEMON, "main.go"), encoding="utf-8") as file:
+            flags = re.findall(r'flags\.\w*Var\(&[\w.]+, "([\w-]+)"', file.read())
+        page = text_of("docs/spki-authd.8").replace("\\-", "-")
+        self.assertTrue(flags)
+        self.assertEqual([it for it in flags if not re.search(rf"-{it}\b", page)], [])
+        settings = {**os.environ, "LC_ALL": "C.UTF-8", "MANPAGER": "cat", "MANWIDTH": "80"}
+        words = ["man", "--warnings", "-l", os.path.join(TOP, "docs", "spki-authd.8")]
+        done = subprocess.run(words, stdout=subprocess.DEVNULL, stderr=subprocess.PIPE, text=True, env=settings)
+        self.assertEqual((done.returncode, done.stderr), (0, ""))
+
+
+@needs.needs("dpkg-deb", "go", *needs.ARM)
+class PackagesForArm(built.OfLibrary):
+    """The packages of the library for ARM."""
+
+    def test_libraries(self) -> None:
+        """The code is that of the libraries for ARM."""
+        with tempfile.TemporaryDirectory() as room:
+            status, said = packages(TOP, "--maintainer", MAINTAINER, "--arm64", room, self.program, self.library)
+            self.assertEqual(status, 0, said)
+            self.assertEqual(len([name for name in os.listdir(room) if name.endswith(".deb")]), len(FILES) + 2)
+            for name, end, own in ((SHARED, f"so.{INTERFACE}", "so"), ("libspki-dev", "a", "a")):
+                package = os.path.join(room, f"{name}_{VERSION}_arm64.deb")
+                self.assertEqual(output_of("dpkg-deb", "-f", package, "Architecture"), (0, "arm64\n"))
+                output_of("dpkg-deb", "-x", package, os.path.join(room, "unpacked"))
+                packed = os.path.join(room, "unpacked", "usr", "lib", "aarch64-linux-gnu", f"libspki_c.{end}")
+                self.assertEqual(self.code(packed, room), self.code(f"{built.arm().removesuffix('a')}{own}", room), end)
+
+    def code(self, library: str, room: str) -> bytes:
+        """The code of a library for ARM."""
+        to = os.path.join(room, "code")
+        with open(to, "w", encoding="utf-8") as file:
+            subprocess.run(["aarch64-linux-gnu-objdump", "-s", "-j", ".text", library], stdout=file, check=True)
+        with open(to, "rb") as file:
+            return file.read().partition(b"Contents of section")[2]

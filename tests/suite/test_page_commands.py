@@ -1,0 +1,58 @@
+"""Compares the commands of all pages and helps with the lists of page_commands.py, which say what runs each."""
+from __future__ import annotations
+
+import os
+import re
+import unittest
+
+from harness import page_commands
+from harness.page_commands import NOT_RUN, RUN, Command, tracked
+from harness.support import COMMANDS, text_of
+
+# What is to be done where a command is unknown.
+ADVICE = ("no test knows these commands. Put each where a test runs it: into a block of a page that RUN in tests/harness/page_commands.py names. "
+          "If it can not be run, add a row to NOT_RUN there, with the reason")
+
+
+class Lists(unittest.TestCase):
+    """The commands of the pages beside the lists of page_commands.py."""
+
+    found: list[Command]
+
+    @classmethod
+    def setUpClass(cls) -> None:
+        cls.found = page_commands.all_commands()
+
+    def test_all_are_known(self) -> None:
+        unknown = page_commands.unknown(self.found)
+        self.assertEqual(unknown, [], "\n".join([ADVICE, *unknown]))
+
+    def test_each_row_is_about_a_command(self) -> None:
+        """A row whose commands are gone is to be removed."""
+        idle = [row for row in RUN if not any((it.page, it.kind) == (row.page, row.kind) for it in self.found)]
+        self.assertEqual(idle, [], "these rows of RUN are about no command: remove them")
+        left = [row for row in NOT_RUN if not any(page_commands.is_about(row, it) for it in self.found)]
+        self.assertEqual(left, [], "these rows of NOT_RUN are about no command: remove them")
+
+    def test_the_tests_read_their_pages(self) -> None:
+        for row in RUN:
+            with self.subTest(row):
+                self.assertIn(os.path.basename(row.page), text_of(f"tests/suite/{row.test}.py"))
+
+    def test_names(self) -> None:
+        """A command that is named with its options has both."""
+        helps: dict[str, str] = {}
+        flags = "".join(text_of(path) for path in tracked() if path.startswith("apps/spki-authd/") and path.endswith(".go"))
+        for it in self.found:
+            named = re.fullmatch(r"(spki-cert|spki|spki-authd) -?([a-z]+)((?: --[a-z-]+)*)", it.line)
+            if not named or it.kind != "inline":
+                continue
+            program, word, options = named.groups()
+            if program == "spki":
+                self.assertIn(word, COMMANDS, it)
+                continue
+            if program == "spki-authd":
+                self.assertIn(f'"{word}"', flags, it)
+                continue
+            helps[word] = helps.get(word) or page_commands.help_of(word)
+            self.assertEqual([option for option in options.split() if option not in helps[word]], [], it)

@@ -1,0 +1,141 @@
+"""Tests what nginx and Caddy change of signed requests that they pass on: docs/SIGNATURES.md, "Behind a proxy", says it. Each listens at a socket of
+its own, so that no port is taken."""
+from __future__ import annotations
+
+import contextlib
+import os
+import shutil
+import socket
+import subprocess
+import sys
+import tempfile
+import threading
+import unittest
+from collections.abc import Callable
+
+from harness import needs
+from harness.support import TOP, waits_for
+
+sys.path.append(os.path.join(TOP, "bindings", "python"))
+SECONDS = 600
+NAME = "files.example.org"
+NGINX = """daemon off; pid {room}/pid; events {{}} http {{ {http} access_log off; client_body_temp_path t; proxy_temp_path t; fastcgi_temp_path t;
+uwsgi_temp_path t; scgi_temp_path t; server {{ listen unix:{room}/proxy; location / {{ proxy_pass http://{to}; {more} }} }} }}"""
+OWN_HOST = "proxy_http_version 1.1; proxy_set_header Host $http_host;"
+BY_NONCE = """map $http_signature_input $spki_nonce { '~;nonce="([^"]+)"' $1; }"""
+CADDY = "{{\nadmin off\nauto_https off\n}}\nhttp:// {{\nbind unix/{room}/proxy\nreverse_proxy 127.0.0.1:{port}\n}}\n"
+Change = Callable[[list[str]], list[str]]
+
+
+def same(lines: list[str]) -> list[str]:
+    return lines
+
+
+@needs.needs("import cryptography")
+class Proxies(unittest.TestCase):
+    """What a proxy changes, by what the verifier behind it says."""
+
+    def setUp(self) -> None:
+        from cryptography.hazmat.primitives.asymmetric.ed25519 import Ed25519PrivateKey
+
+        import spki_http
+        from suite import test_signatures
+        import test_spki_http
+        self.room = tempfile.mkdtemp(prefix="proxy-")
+        self.addCleanup(shutil.rmtree, self.room)
+        self.signer = test_spki_http.ed25519_signer(Ed25519PrivateKey.generate())
+        self.services = [test_signatures.Service() for _ in range(2)]
+        for service in self.services:
+            service.verifier = spki_http.Verifier(NAME, scheme="http")
+            thread = threading.Thread(target=service.serve_forever)
+            thread.start()
+            self.addCleanup(thread.join)
+            self.addCleanup(service.server_close)
+            self.addCleanup(service.shutdown)
+        self.service = self.services[0]
+
+    def start(self, words: list[str], text: str) -> None:
+        """Starts a proxy, and waits until it listens."""
+        with open(os.path.join(self.room, "conf"), "w", encoding="ascii") as file:
+            file.write(text)
+        with open(os.path.join(self.room, "log"), "wb") as log:
+            proxy = subprocess.Popen(words, cwd=self.room, stdout=log, stderr=log, env={**os.environ, "HOME": self.room, "XDG_DATA_HOME": self.room})
+        self.addCleanup(proxy.wait)
+        self.addCleanup(proxy.terminate)
+
+        def listens() -> bool:
+            with socket.socket(socket.AF_UNIX) as client, contextlib.suppress(OSError):
+                client.connect(os.path.join(self.room, "proxy"))
+                return True
+            with open(os.path.join(self.room, "log"), encoding="utf-8") as log:
+                self.assertIsNone(proxy.poll(), log.read())
+            return False
+        waits_for("the proxy listens", listens)
+
+    def start_nginx(self, more: str, to: str = "", http: str = "") -> None:
+        as_user = "user root;" if os.getuid() == 0 else ""
+        self.start(["nginx", "-p", self.room, "-c", "conf", "-e", "log", "-g", as_user],
+                   NGINX.format(room=self.room, to=to or self.service.name, more=more, http=http))
+
+    def asked(self, method: str, target: str, change: Change = same, host: str = NAME, body: bytes = b"") -> str:
+        """The refusal, `valid`, or the status of the proxy."""
+        fields = self.signer.fields(method, f"http://{NAME}{target}", body)
+        length = [f"Content-Length: {len(body)}"] if body else []
+        lines = change([f"{name}: {it}" for name, it in fields.items()])
+        head = [f"{method} {target} HTTP/1.1", f"Host: {host}", "Connection: close", *length, *lines]
+        said = b""
+        with socket.socket(socket.AF_UNIX) as client:
+            client.settimeout(SECONDS)
+            client.connect(os.path.join(self.room, "proxy"))
+            client.sendall("\r\n".join([*head, "", ""]).encode() + body)
+            while octets := client.recv(65536):
+                said += octets
+        status, answer = said.split(b" ", 2)[1].decode(), said.partition(b"\r\n\r\n")[2]
+        return "valid" if b"(10:public-key" in answer else answer.decode() if status == "401" else status
+
+    def answers(self, wanted: dict[str, str]) -> None:
+        """The answers to each kind of request."""
+        kinds: dict[str, tuple[str, Change, str]] = {
+            "plain": ("/a/b?c=d", same, NAME), "empty query": ("/a?", same, NAME), "percent-encoding": ("/%7ea%2Fb%2f?%20+", same, NAME),
+            "dots": ("/a/../b/./c", same, NAME), "slashes": ("/a//b", same, NAME), "no URI's octets": ('/a"b|c[d]{e}', same, NAME),
+            "port": ("/a", same, f"{NAME}:80"), "capitals": ("/a", same, NAME.upper()),
+            "names in capitals": ("/a", lambda lines: [line.partition(":")[0].upper() + line[line.index(":"):] for line in lines], NAME),
+            "spaces": ("/a", lambda lines: [line.replace(": ", ":  \t", 1) + " \t" for line in lines], NAME),
+            "folded": ("/a", lambda lines: [line.replace(";created", "\r\n ;created") for line in lines], NAME),
+            "a line twice": ("/a", lambda lines: [*lines, lines[-1]], NAME), "another name": ("/a", same, "evil.example")}
+        met = {name: self.asked("GET", *kind) for name, kind in kinds.items()}
+        met["a body"] = self.asked("PUT", "/a", body=b"some octets")
+        usual = dict.fromkeys(met, "valid") | {"folded": "400", "a line twice": "repeated-field", "another name": "other-authority"}
+        self.assertEqual(met, usual | wanted)
+
+    @needs.needs("nginx")
+    def test_nginx(self) -> None:
+        """nginx passes on all that it takes as it is."""
+        self.start_nginx(OWN_HOST)
+        self.answers({})
+
+    @needs.needs("nginx")
+    def test_nginx_before_two_services(self) -> None:
+        """Where nginx chooses by the nonce, a request that is sent again comes to the service that has it, also with tabs around the field, which
+        nginx takes for a part of it."""
+        servers = " ".join(f"server {service.name};" for service in self.services)
+        self.start_nginx(OWN_HOST, "both", f"{BY_NONCE} upstream both {{ hash $spki_nonce consistent; {servers} }}")
+        for turn in range(1000):
+            sent = [f"{name}: {it}" for name, it in self.signer.fields("GET", f"http://{NAME}/a").items()]
+            self.assertEqual(self.asked("GET", "/a", lambda _: sent), "valid")
+            self.assertEqual(self.asked("GET", "/a", lambda _: [line.replace(": ", ": \t ", 1) + "\t " for line in sent]), "nonce-seen")
+            if turn >= 20 and all(service.met for service in self.services):
+                break
+        self.assertTrue(all(service.met for service in self.services))
+
+    @needs.needs("nginx")
+    def test_nginx_with_a_host_of_its_own(self) -> None:
+        """Without `proxy_set_header Host` the name is that of the upstream."""
+        self.start_nginx("")
+        self.assertEqual(self.asked("GET", "/a"), "other-authority")
+
+    @needs.needs("caddy")
+    def test_caddy(self) -> None:
+        """Caddy encodes the octets that no URI has, and unfolds lines."""
+        self.start(["caddy", "run", "--config", "conf", "--adapter", "caddyfile"], CADDY.format(room=self.room, port=self.service.server_port))
+        self.answers({"no URI's octets": "invalid-signature", "folded": "malformed"})

@@ -1,0 +1,223 @@
+"""Drives the smallest services in C, Rust, Python and Go by signed requests, with keys and certificates that are made for them, and counts their
+lines.
+
+The keys, the list and the certificates are those of examples/signed/run.py. Each request is sent to one process of the service: right ones,
+certificates with a wrong signature or that have expired, requests that another key has signed, that are sent again or were changed, and what is no
+request. The service in C is compiled without warnings, with OpenSSL and with libgcrypt, and driven again under AddressSanitizer and valgrind."""
+from __future__ import annotations
+
+import contextlib
+import os
+import socket
+import subprocess
+import sys
+from collections.abc import Iterator
+from typing import Any
+
+from harness import built, golang, needs
+from harness.support import EXAMPLES, TOP, is_compiled, output_of, room_for
+
+needs.required("import cryptography")
+# (examples/signed/ has a module of this file's name)
+sys.path.insert(0, os.path.join(EXAMPLES, "signed"))
+import spki_http  # noqa: E402
+import tools  # noqa: E402
+from run import NAME, PASTED, READ, WRITE, Story, asked_by, signed, with_changed_bit, with_digest_of  # noqa: E402
+
+FOLDER, PYTHON, RUST = (os.path.join(TOP, *parts) for parts in (("examples", "c"), ("bindings", "python"), ("bindings", "rust")))
+STRICT = ["cc", "-std=c11", "-Wall", "-Wextra", "-Wpedantic", "-Werror", "-O1", "-g"]
+SANITIZED = ["-fsanitize=address,undefined", "-fno-sanitize-recover=all", "-fno-omit-frame-pointer"]
+VALGRIND = ["valgrind", "--quiet", "--leak-check=full", "--show-leak-kinds=definite,indirect"]
+SECONDS = 120
+# The most lines of each service.
+SERVICES = {"examples/c/service.c": 70, "bindings/rust/examples/service.rs": 60, "bindings/python/examples/service.py": 40,
+            "bindings/go/examples/service/main.go": 40}
+# A request as it is sent: the method, the target and the fields, without `Host`.
+Sent = tuple[str, str, dict[str, str]]
+
+
+class LastingStory(Story):
+    """The story with certificates that last, since the service asks by its own clock, and one that has expired."""
+
+    def __init__(self) -> None:
+        super().__init__()
+        self.to_builders = self.to_builders.replace("2026-01-01", "2000-01-01")
+        self.bob_is_builder = self.bob_is_builder.replace("2026-12-31", "9999-12-31")
+        self.ended = self.to_carol.replace("2026-06-30", "2020-06-30")
+        self.to_carol = self.to_carol.replace("2026-06-30", "9999-06-30")
+
+
+def chains(story: LastingStory) -> Iterator[tuple[str, Sent, bool]]:
+    """What is shown: a remark, the request, and whether it is granted."""
+    alice, bob, carol = story.alice, story.bob, story.carol
+    good = signed(story.to_carol, bob)
+    longer = story.to_carol.replace("9999-06-30", "9999-07-31")
+    changed = signed(story.to_carol, bob, changed=longer)
+    right = story.sequence(good)
+    yield "all is right", asked_by(carol, READ, right), True
+    yield "an entry alone, by RSA", asked_by(alice, READ), True
+    yield "the second entry", asked_by(bob, ("packages", "read", "/manuals/cook.pdf")), True
+    yield "the right is to read", asked_by(carol, WRITE, right), False
+    for remark, sequence in {
+        "one bit of a signature is changed": story.sequence(with_changed_bit(good)), "a certificate is changed": story.sequence(changed),
+        "another certificate is changed": right.replace(story.to_builders, story.to_builders.replace("2000-01-01", "2000-01-02")),
+        "a certificate is changed, and its digest made to fit": story.sequence(with_digest_of(longer, changed)),
+        "a certificate is signed by another key": story.sequence(signed(story.to_carol, carol, named=bob)),
+        "a key is not shown": story.sequence(good, keys=False), "a certificate has expired": story.sequence(signed(story.ended, bob)),
+        "nothing is shown": "(sequence)", "an item is none": "(sequence (certificate))", "it is no sequence": "(key x)",
+        "there are too many certificates": story.sequence(good + 14 * f" {good}"),
+        "two sequences": tools.canonical(right) + b"(8:sequence)", "no octets": b"", "half a sequence": tools.canonical(right)[:-1],
+    }.items():
+        yield remark, asked_by(carol, READ, sequence), False
+    yield "another holder asks", asked_by(bob, READ, right), False
+    yield "the path has parentheses and quotes", asked_by(carol, PASTED, right), False
+    for path in ("/builds/web/%69ndex.html", "/builds/web/../app/x", "/builds/web/./x", "/builds/web/index.html?x"):
+        fields = spki_http.Signer(tools.canonical(carol.text), carol.sign, asked_by(carol, READ, right)[2]["X-Spki-Sequence"]).fields(
+            "GET", f"https://{NAME}{path}")
+        yield f"the path {path}", ("GET", path, fields), False
+    yield "and again all is right", asked_by(carol, READ, right), True
+
+
+def proofs(story: LastingStory) -> Iterator[tuple[str, Sent, bool]]:
+    """Who has signed what: a remark, the request, and whether it is granted."""
+    alice, bob, carol = story.alice, story.bob, story.carol
+    right = story.sequence(signed(story.to_carol, bob))
+    once = asked_by(carol, READ, right)
+    yield "a request", once, True
+    yield "the request again", once, False
+    yield "another has signed", asked_by(bob, READ, right, key=carol), False
+    yield "it was signed for another service", asked_by(carol, READ, right, name="other.example"), False
+    method, target, fields = asked_by(carol, READ, right)
+    for remark, sent in {
+        "another path": (method, target + "x", fields), "another method": ("HEAD", target, fields), "there is no signature": (method, target, {}),
+        "the key alone": (method, target, {"Signature-Input": fields["Signature-Input"]}),
+        "another name": (method, target, {**fields, "Host": "other.example"}), "two names": (method, target, {**fields, "host": "other.example"}),
+        "a chain less": (method, target, {name: value for name, value in fields.items() if name != "X-Spki-Sequence"}),
+        "another chain": (method, target, {**fields, "X-Spki-Sequence": asked_by(alice, READ)[2]["X-Spki-Sequence"]}),
+        "two chains": (method, target, {**fields, "x-spki-sequence": fields["X-Spki-Sequence"]}),
+        "a chain that is not signed": (method, target, {**asked_by(carol, READ)[2], "X-Spki-Sequence": fields["X-Spki-Sequence"]}),
+        "a folded line": (method, target, {**fields, "Signature": fields["Signature"].replace("=:", "=:\r\n ", 1)}),
+        "a line without a colon": (method, target, {"X-Odd": "1\r\nodd", **fields}),
+        "a body that is not signed": (method, target, {**fields, "Content-Length": "1"}),
+        "70 fields and a body": (method, target, {**fields, **{f"x-{place}": "" for place in range(70)}, "Content-Length": "1"}),
+    }.items():
+        yield remark, sent, False
+    yield "and then it is granted, once", (method, target, fields), True
+
+
+def answered(port: int, octets: bytes) -> bytes:
+    """The first line of the answer to these octets, or nothing."""
+    with socket.create_connection(("127.0.0.1", port), timeout=SECONDS) as client, contextlib.suppress(OSError):
+        client.sendall(octets)
+        client.shutdown(socket.SHUT_WR)
+        return client.makefile("rb").readline()
+    return b""
+
+
+def is_granted(port: int, sent: Sent) -> bool:
+    """Whether a request is granted."""
+    method, target, fields = sent
+    lines = [f"{method} {target} HTTP/1.1", *(f"{name}: {value}" for name, value in {"Host": NAME, "Connection": "close", **fields}.items()), "", ""]
+    return b" 200 " in answered(port, "\r\n".join(lines).encode("latin-1"))
+
+
+NO_REQUESTS = (b"", b"\r\n\r\n", b"GET\r\n\r\n", b"GET / HTTP/1.1\r\n\r\n", b"GET / HTTP/1.1\r\n: x\r\n\r\n", b"\0" * 99, b"GET " + b"a" * 99_999,
+               b"GET / HTTP/1.1\r\nHost: x", b"GET / HTTP/1.1\r\n" + b"a: b\r\n" * 20_000 + b"\r\n")
+
+
+@needs.needs(*needs.LIBRARY)
+class Service(built.OfLibrary):
+    """A service that is driven."""
+
+    room: str
+    path: str
+    story: LastingStory
+
+    @classmethod
+    def setUpClass(cls) -> None:
+        super().setUpClass()
+        cls.room, tools.SPKI = room_for(cls), cls.program
+        cls.story, cls.path = LastingStory(), os.path.join(cls.room, "acl")
+        cls.write(cls.path, cls.story.access_list)
+
+    @staticmethod
+    def write(path: str, text: str) -> None:
+        with open(path, "w", encoding="ascii") as file:
+            file.write(text)
+
+    def answers(self, *words: str, **settings: str) -> None:
+        """The service must answer each request as it should, and end on lists that are none."""
+        others = {**os.environ, **settings}
+        with open(os.path.join(self.room, "said"), "w+b") as said, subprocess.Popen(
+                [*words, self.path, NAME], stdout=subprocess.PIPE, stderr=said, env=others) as service:
+            try:
+                assert service.stdout is not None
+                port = int(service.stdout.readline())
+                for remark, sent, wanted in (*chains(self.story), *proofs(self.story)):
+                    with self.subTest(remark):
+                        self.assertEqual(is_granted(port, sent), wanted)
+                for octets in NO_REQUESTS:
+                    self.assertNotIn(b" 200 ", answered(port, octets))
+                self.assertTrue(is_granted(port, asked_by(self.story.alice, READ)))
+                self.assertIsNone(service.poll())
+            finally:
+                service.terminate()
+                service.wait()
+            said.seek(0)
+            self.assertNotRegex(said.read(), rb"lost in|Invalid|uninitialised|ERROR")
+        for text in ("(acl (entry (public-key (test a))))", "(acl) (acl)", "(acl)".ljust(1_048_577), ""):
+            self.write(path := os.path.join(self.room, "wrong"), text)
+            done: Any = subprocess.run([*words, path, NAME], stdout=subprocess.PIPE, stderr=subprocess.PIPE, timeout=SECONDS, env=others)
+            self.assertEqual((done.returncode == 0, done.stdout), (False, b""), text[:99])
+
+    def test_lines(self) -> None:
+        """Each service has at most so many lines."""
+        for path, most in SERVICES.items():
+            with open(os.path.join(TOP, path), encoding="utf-8") as file:
+                self.assertLessEqual(len(file.readlines()), most, path)
+
+
+@needs.needs("openssl/evp.h")
+class InC(Service):
+    """The service in C as it is, under AddressSanitizer, and under valgrind."""
+
+    def compiled(self, *more: str, verifier: str = "verify_openssl.c", library: str = "-lcrypto") -> str:
+        """The service, compiled without warnings."""
+        service = os.path.join(self.room, self.id())
+        sources = [os.path.join(FOLDER, name) for name in ("service.c", "http_request.c", "http_nonces.c", verifier)]
+        self.assertTrue(is_compiled(*STRICT, *more, "-o", service, *sources, self.library, library), "service.c is not compiled")
+        return service
+
+    def test_service(self) -> None:
+        self.answers(self.compiled())
+
+    @needs.needs("/usr/include/gcrypt.h")
+    def test_service_by_gcrypt(self) -> None:
+        self.answers(self.compiled(verifier="verify_gcrypt.c", library="-lgcrypt"))
+
+    def test_under_address_sanitizer(self) -> None:
+        self.answers(self.compiled(*SANITIZED))
+
+    @needs.needs("valgrind")
+    def test_under_valgrind(self) -> None:
+        self.answers(*VALGRIND, self.compiled())
+
+
+class InOtherLanguages(Service):
+    """The services in Rust, Python and Go."""
+
+    @needs.needs("cargo", "openssl")
+    def test_rust(self) -> None:
+        settings = {**os.environ, "SPKI_LIB_DIR": os.path.dirname(self.library), "CARGO_NET_OFFLINE": "true"}
+        status, said = output_of("cargo", "build", "--quiet", "--example", "service", cwd=RUST, env=settings, seconds=SECONDS)
+        self.assertEqual(status, 0, said)
+        self.answers(os.path.join(RUST, "out", "debug", "examples", "service"))
+
+    def test_python(self) -> None:
+        self.answers(sys.executable, os.path.join(PYTHON, "examples", "service.py"), PYTHONPATH=PYTHON, SPKI_LIBRARY=self.shared)
+
+    @needs.needs("go")
+    def test_go(self) -> None:
+        program = os.path.join(self.room, "service")
+        golang.go(golang.MODULE, ["build", "-o", program, "./examples/service"], self.library).check_returncode()
+        self.answers(program)

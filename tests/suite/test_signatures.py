@@ -1,0 +1,239 @@
+"""Tests signed requests: those of `spki-cert request`, by a key's file and by ssh-agent, at a small server that curl asks too; and the verifier in C
+by the table that the bindings read, and by mutations of it, to which it must answer what the verifier in Python answers."""
+from __future__ import annotations
+
+import dataclasses
+import hashlib
+import http.server
+import os
+import random
+import subprocess
+import sys
+import threading
+import unittest
+import urllib.request
+from typing import Any, Optional
+
+from harness import built, needs
+from harness.support import TESTS, TOP, is_compiled, room_for, string
+
+COMMAND = os.path.join(TOP, "apps", "spki-cert", "spki-cert")
+SECONDS = 600
+WARNINGS = ["cc", "-std=c11", "-Wall", "-Wextra", "-Wpedantic", "-Werror", "-O1", "-g", "-fsanitize=address,undefined", "-fno-sanitize-recover=all"]
+# How many rows are mutated.
+MUTATED = 200_000 if built.IS_LONG else 2_000
+# The name, the request, the time, how long before the same came, the answer.
+Row = tuple[str, Any, int, Optional[int], str]
+KINDS = ("ed25519", "rsa", "p256", "p384")
+
+
+def spki_cert(*words: str, room: str, **settings: str) -> subprocess.CompletedProcess[bytes]:
+    """What `spki-cert` does in a folder."""
+    kept = {name: value for name, value in os.environ.items() if name not in ("SSH_AUTH_SOCK", "SPKI_LABELS")}
+    return subprocess.run([sys.executable, COMMAND, *words], cwd=room, stdin=subprocess.DEVNULL, stdout=subprocess.PIPE, stderr=subprocess.PIPE,
+                          timeout=SECONDS, env={**kept, **settings, "no_proxy": "*"})
+
+
+class Handler(http.server.BaseHTTPRequestHandler):
+    """Writes down each request, and answers by what its server's verifier says of it."""
+
+    server: Service
+
+    def answer_it(self) -> None:
+        import spki_http
+        body = self.rfile.read(int(self.headers.get("Content-Length", 0)))
+        self.server.met.append((self.command, self.path, body))
+        try:
+            said = self.server.verifier.prove(self.command, self.headers["Host"], self.path, self.headers.items(), body).key
+        except spki_http.Refused as why:
+            said = why.name.encode()
+        self.send_response(200 if said.startswith(b"(") else 401)
+        self.send_header("Content-Length", str(len(said)))
+        self.end_headers()
+        if self.command != "HEAD":
+            self.wfile.write(said)
+
+    do_GET = do_HEAD = do_PUT = do_DELETE = answer_it
+
+    def log_message(self, *words: object) -> None:
+        pass
+
+
+class Service(http.server.ThreadingHTTPServer):
+    """A service on a port of its own."""
+
+    def __init__(self) -> None:
+        import spki_http
+        super().__init__(("127.0.0.1", 0), Handler)
+        self.name, self.met = f"127.0.0.1:{self.server_port}", list[tuple[str, str, bytes]]()
+        self.verifier = spki_http.Verifier(self.name, scheme="http")
+
+
+@needs.needs("import cryptography")
+class Requests(unittest.TestCase):
+    """Requests that `spki-cert` signs."""
+
+    room: str
+
+    @classmethod
+    def setUpClass(cls) -> None:
+        sys.path.append(os.path.join(TOP, "bindings", "python"))
+        cls.room = room_for(cls)
+        for kind in KINDS:
+            spki_cert("key", "new", "--no-passphrase", "--type", kind, kind, room=cls.room).check_returncode()
+
+    def setUp(self) -> None:
+        self.service = Service()
+        thread = threading.Thread(target=self.service.serve_forever)
+        thread.start()
+        self.addCleanup(thread.join)
+        self.addCleanup(self.service.server_close)
+        self.addCleanup(self.service.shutdown)
+        self.url = f"http://{self.service.name}/a%20b/c?d=e"
+
+    def done(self, *words: str, wanted: int = 0, **settings: str) -> str:
+        made = spki_cert(*words, room=self.room, **settings)
+        self.assertEqual(made.returncode, wanted, made.stderr)
+        return (made.stdout if wanted == 0 else made.stderr).decode(errors="replace")
+
+    def asked(self, fields: str, method: str = "GET", body: bytes | None = None) -> tuple[int, bytes]:
+        """What the service answers to a request with these fields."""
+        headers = dict(line.split(": ", 1) for line in fields.splitlines())
+        opener = urllib.request.build_opener(urllib.request.ProxyHandler({}), Quiet())
+        with opener.open(urllib.request.Request(self.url, body, headers, method=method)) as answer:
+            return answer.status, answer.read()
+
+    def test_fields(self) -> None:
+        """The printed fields prove each kind of key, once, for the method and the body that were given alone."""
+        with open(os.path.join(self.room, "body"), "wb") as file:
+            file.write(b"some octets")
+        for kind in KINDS:
+            fields = self.done("request", "--by", kind, self.url)
+            status, said = self.asked(fields)
+            self.assertEqual((status, said[:14]), (200, b"(10:public-key"))
+            self.assertEqual(self.asked(fields), (401, b"nonce-seen"))
+            self.assertEqual(self.asked(self.done("request", "--by", kind, self.url), "HEAD"), (401, b""))
+        put = self.done("request", "--by", "p256", "--body", "body", self.url)
+        self.assertEqual(self.asked(put, "PUT", b"some octetz"), (401, b"other-digest"))
+        self.assertEqual(self.asked(put, "PUT", b"some octets")[0], 200)
+
+    def test_chain(self) -> None:
+        """The chain is sent as `spki-cert show --braces` has it, and is signed."""
+        self.done("sign", "--by", "ed25519", "--to", "p256.pub", "--tag", "(files read)", "--days", "9", "-o", "chain.sexp")
+        fields = self.done("request", "--by", "p256", "--cert", "chain.sexp", self.url)
+        shown = self.done("show", "--braces", "chain.sexp").strip()
+        self.assertIn(f"X-Spki-Sequence: {shown}\n", fields)
+        self.assertEqual(self.asked(fields.replace(shown, "{KDg6c2VxdWVuY2Up}")), (401, b"invalid-signature"))
+        self.assertEqual(self.asked(fields)[0], 200)
+
+    @needs.needs("curl")
+    def test_curl(self) -> None:
+        """curl sends what was signed, and spki-cert ends with its status."""
+        with open(os.path.join(self.room, "body"), "wb") as file:
+            file.write(bytes(range(256)) * 8192)
+        self.assertTrue(self.done("request", "--by", "ed25519", "--curl", self.url, "--", "--silent").startswith("(10:public-key"))
+        self.assertIn("200 OK", self.done("request", "--by", "rsa", "--method", "HEAD", "--curl", self.url, "--", "-s"))
+        self.assertTrue(self.done("request", "--by", "p256", "--body", "body", "--curl", self.url, "--", "-s").startswith("(10:public-key"))
+        self.assertTrue(self.done("request", "--by", "p256", "--method", "DELETE", "--curl", self.url, "--", "-s").startswith("(10:public-key"))
+        odd = f"http://{self.service.name}/a/../%7e[b]{{c}}?"
+        self.assertTrue(self.done("request", "--by", "p256", "--curl", odd, "--", "-s").startswith("(10:public-key"))
+        self.assertEqual([(method, path, len(body)) for method, path, body in self.service.met], [
+            ("GET", "/a%20b/c?d=e", 0), ("HEAD", "/a%20b/c?d=e", 0), ("PUT", "/a%20b/c?d=e", 2_097_152), ("DELETE", "/a%20b/c?d=e", 0),
+            ("GET", "/a/../%7e[b]{c}?", 0)])
+        self.done("request", "--by", "p256", "--curl", self.url.replace("127.0.0.1", "localhost"), "--", "-s", "--fail", wanted=22)
+
+    def test_refusals(self) -> None:
+        for words, said in (
+            (["--by", "nokey", self.url], "nokey: No such file"), (["--by", "p256", "http://a/ b"], "no address of https or http"),
+            (["--by", "p256", "ftp://a/"], "no address"), (["--by", "p256", "https://me:word@a/"], "no address"),
+            (["--by", "p256", "https://a/#b"], "no address"), (["--by", "p256", "--method", "get", self.url], "capital letters"),
+            (["--by", "p256", self.url, "--", "-s"], "--curl"), (["--by", "p256", "--body", "nobody", self.url], "nobody: No such file"),
+            (["--by", "p256", "--cert", "p256.pub", self.url], "p256.pub"), (["--by", "p256.pub", self.url], "SSH_AUTH_SOCK is not set"),
+        ):
+            self.assertIn(said, self.done("request", *words, wanted=2), words)
+
+    @needs.needs("ssh-keygen")
+    def test_agent(self) -> None:
+        """Keys that ssh-agent holds sign too."""
+        started = subprocess.run(["ssh-agent", "-s"], stdout=subprocess.PIPE, text=True, check=True).stdout
+        settings = dict(part.split("=") for part in started.replace("\n", "").split(";") if "=" in part)
+        try:
+            socket = settings["SSH_AUTH_SOCK"]
+            for kind in KINDS:
+                subprocess.run(["ssh-add", "-q", kind], cwd=self.room, env={**os.environ, "SSH_AUTH_SOCK": socket}, check=True)
+                self.assertEqual(self.asked(self.done("request", "--by", f"{kind}.pub", self.url, SSH_AUTH_SOCK=socket))[0], 200)
+        finally:
+            subprocess.run(["kill", settings["SSH_AGENT_PID"]], check=True)
+
+
+@needs.needs("cc", "import cryptography")
+class InC(unittest.TestCase):
+    """The verifier in C, under AddressSanitizer."""
+
+    def setUp(self) -> None:
+        sys.path.append(os.path.join(TOP, "bindings", "python"))
+        self.room = room_for(self)
+
+    def answers(self, program: str, rows: list[Row]) -> list[str]:
+        """The answers to requests, and to the digests of their bodies."""
+        strings: list[bytes] = []
+        for _, message, now, again, _ in rows:
+            words = [message.method, message.authority, message.target, str(now), "" if again is None else str(again), str(len([*message.fields]))]
+            strings += [word.encode("latin-1") for word in [*words, *(it for pair in message.fields for it in pair)]]
+        done = subprocess.run([program], input=b"".join(map(string, strings)), stdout=subprocess.PIPE, timeout=SECONDS)
+        self.assertEqual(done.returncode, 0)
+        return [self.judged(line, row[1].body) for line, row in zip(done.stdout.decode().split("\n"), rows)]
+
+    def judged(self, line: str, body: bytes | None) -> str:
+        """The answer of a line, with a look at the body, which the caller has."""
+        answer, _, digest = line.partition(" ")
+        if answer != "valid" or body is None:
+            return answer
+        made = {0: b"".hex() if body == b"" else "-", 64: hashlib.sha256(body).hexdigest(), 128: hashlib.sha512(body).hexdigest()}
+        return "valid" if made[len(digest)] == digest else "other-digest"
+
+    def compiled(self, verifier: str, library: str) -> str:
+        folder, program = os.path.join(TOP, "examples", "c"), os.path.join(self.room, verifier)
+        files = [os.path.join(folder, f"{name}.c") for name in ("http_request", "http_nonces", verifier)]
+        self.assertTrue(is_compiled(*WARNINGS, "-I", folder, "-o", program, os.path.join(TESTS, "programs", "proving.c"), *files, library))
+        return program
+
+    def agrees(self, verifier: str, library: str) -> None:
+        """The answers to all rows and to mutated ones are right."""
+        import test_spki_http
+        program, rows = self.compiled(verifier, library), [*test_spki_http.rows()]
+        self.assertEqual([*zip([row[0] for row in rows], self.answers(program, rows))], [(row[0], row[4]) for row in rows])
+        seed = random.randrange(2**32)
+        chance = random.Random(seed)
+        made = [mutated(chance.choice(rows), chance) for _ in range(MUTATED)]
+        wanted = [test_spki_http.answer(test_spki_http.verifier_at([now]), message) for _, message, now, _, _ in made]
+        for row, answer, right in zip(made, self.answers(program, made), wanted):
+            self.assertEqual(answer, right, f"seed {seed}: {row}")
+
+    @needs.needs("openssl/evp.h")
+    def test_by_openssl(self) -> None:
+        self.agrees("verify_openssl", "-lcrypto")
+
+    @needs.needs("/usr/include/gcrypt.h")
+    def test_by_gcrypt(self) -> None:
+        self.agrees("verify_gcrypt", "-lgcrypt")
+
+
+def mutated(row: Row, chance: random.Random) -> Row:
+    """A row of which one text has another octet, one less or one more, or a part twice. It is asked once."""
+    name, message, now, _, gives = row
+    texts = [message.method, message.authority, message.target, *(it for pair in message.fields for it in pair)]
+    place = chance.randrange(len(texts))
+    text, at = texts[place], chance.randrange(len(texts[place]) + 1)
+    octet, end = chance.choice("\0\t\n ,;=()\":{}@?#/Az09\x7f\xe9" + chance.choice(text or " ")), at + chance.randrange(40)
+    texts[place] = chance.choice([text[:at] + octet + text[at:], text[:at] + octet + text[at + 1:], text[:at] + text[at + 1:],
+                                  text[:at] + text[at:end] + text[at:], text[:at] + text[end:]])
+    pairs = [*zip(texts[3::2], texts[4::2])]
+    return name, dataclasses.replace(message, method=texts[0], authority=texts[1], target=texts[2], fields=pairs), now, None, gives
+
+
+class Quiet(urllib.request.HTTPErrorProcessor):
+    """Answers of other statuses are answers too."""
+
+    def http_response(self, request: object, response: object) -> object:  # type: ignore[override]
+        return response

@@ -1,0 +1,205 @@
+"""Tests signed requests to spki-authd behind nginx, Caddy, HAProxy and Apache, without a certificate of TLS."""
+from __future__ import annotations
+
+import os
+import subprocess
+import unittest
+
+from harness import needs, web_servers
+from harness.served import EXAMPLE, NEEDS, free_port
+from harness.support import TOP
+from rows import attackers, attacks
+
+PAGE = "/web/index.html"
+
+
+class OfSites(unittest.TestCase):
+    """A site whose daemon reads signatures."""
+
+    kind: type[web_servers.Behind]
+    site: web_servers.Behind
+    # The answer to a second line of a signature. nginx 1.22 passes on the first one alone.
+    second_line = 403
+
+    @classmethod
+    def setUpClass(cls) -> None:
+        class Signed(cls.kind):  # type: ignore[name-defined, misc]
+            """The site, with its name in the configuration of the daemon."""
+
+            def prepare(self) -> None:
+                super().prepare()
+                os.mkdir(self.at("chains"), 0o700)
+                names = f'"signatures": {{"names": ["localhost:{self.port}"]}}, "chains": {{"folder": "{self.at("chains")}"}}, "listen"'
+                self.write("etc/authd.json", self.text("etc/authd.json").replace('"listen"', names))
+
+        cls.site = Signed()
+        cls.addClassCleanup(cls.site.end)
+
+    def fields(self, who: str, path: str, *words: str) -> list[str]:
+        """The lines of a signed request."""
+        return self.site.cert("request", "--by", f"keys/{who}", *words, f"https://localhost:{self.site.port}{path}").splitlines()
+
+    def asked(self, method: str, path: str, *lines: str, body: str = "") -> int:
+        return self.site.status(None, method, path, *lines, body=body)
+
+    def answers(self) -> None:
+        """Who signs is granted what the key may do, once."""
+        ann = self.fields("ann", PAGE)
+        self.assertEqual([self.asked("GET", PAGE, *ann) for _ in range(2)], [200, 403])
+        self.assertIn("nonce-seen", self.site.text("log/authd.log"))
+        self.assertEqual(self.asked("GET", "/secret/plan.txt", *self.fields("ann", "/secret/plan.txt")), 401)
+        self.assertEqual(self.asked("GET", PAGE, *self.fields("eve", PAGE)), 401)
+        self.assertEqual(self.asked("GET", PAGE), 401)
+        self.assertEqual(self.asked("GET", PAGE, *(line for line in self.fields("ann", PAGE) if not line.startswith("X-Spki-Public-Key"))), 403)
+        self.assertEqual(self.asked("GET", "/web/out/main.js", *self.fields("ann", PAGE)), 403)
+        self.assertEqual(self.asked("HEAD", PAGE, *self.fields("ann", PAGE)), 403)
+        self.assertEqual(self.asked("PUT", PAGE, *self.fields("ann", PAGE), body="x"), 403)
+        both = self.fields("ann", PAGE)
+        self.assertEqual(self.asked("GET", PAGE, *both, "Signature: spki=:AAAA:"), self.second_line)
+        self.assertEqual(self.site.status("ann", "GET", PAGE), 200)
+        self.assertEqual(self.site.status("ann", "GET", PAGE, "Signature: spki=:AAAA:"), 403)
+        self.chained()
+
+    def chained(self) -> None:
+        """Ben shows Ann's certificate, and must sign it too."""
+        right = ("--tag", "(files read (* prefix /web/))", "--days", "9")
+        self.site.cert("sign", "--by", "keys/ann", "--to", "keys/ben.pub", *right, "--force", "-o", "b")
+        ben = self.fields("ben", PAGE, "--cert", "b")
+        self.assertEqual(self.asked("GET", PAGE, *ben), 200)
+        self.assertEqual([self.site.status("ben", "GET", PAGE), self.asked("GET", PAGE, *self.fields("ben", PAGE))], [401, 401])
+        sent = self.fields("ben", PAGE)
+        self.assertEqual(self.asked("GET", PAGE, *sent, next(line for line in ben if line.startswith("X-Spki-Sequence"))), 403)
+
+    def leaves(self) -> None:
+        """Ben leaves Ann's certificate, once and in any form, and his requests need nothing but the key, of TLS too."""
+        place, body = attacks.LEAVING, self.site.text("b")
+        sent, nothing = self.fields("ben", place, "--body", "b"), list[str]()
+        wrong: list[tuple[str, str, list[str], str]] = [
+            ("PUT", place, self.fields("eve", place, "--body", "b"), body), ("PUT", place, self.fields("ben", place, "--body", "etc/acl.sexp"), body),
+            ("PUT", f"{place}?GET={PAGE}", sent, body), ("PUT", place, sent, body + " "), ("PUT", place, nothing, body),
+            ("PUT", place, ["X-Client-Cert: x"], body), ("POST", place, sent, body), ("GET", place, sent, ""),
+            *(("PUT", place + query, self.fields("ben", place + query, "--body", "b"), body) for query in ("?", f"?GET={PAGE}"))]
+        for method, path, lines, text in wrong:
+            # (502 where the daemon has answered before the web server has passed on the body)
+            self.assertIn(self.asked(method, path, *lines, body=text), (*range(400, 500), 502), (method, path))
+        self.assertEqual([self.site.status("ben", "GET", PAGE), self.asked("GET", PAGE, *self.fields("ben", PAGE))], [401, 401])
+        self.assertEqual([self.asked("PUT", place, *sent, body=body) for _ in range(2)], [201, 403])
+        self.assertEqual([self.site.status("ben", "GET", PAGE), self.asked("GET", PAGE, *self.fields("ben", PAGE))], [200, 200])
+        self.assertEqual(self.asked("GET", "/secret/plan.txt", *self.fields("ben", "/secret/plan.txt")), 401)
+        sender = attackers.Attackers(self.site, self.site.form)
+        for each in attacks.of_group(attacks.of_leaving(), attacks.UNCLEAR):
+            answer = self.site.answer(each.who, sender.filled(each.octets))
+            self.assertLessEqual(set(attackers.statuses(answer) or [0]), each.must, each.what)
+        address = f"https://localhost:{self.site.port}{place}"
+        self.site.cert("request", "--by", "keys/ben", "--body", "b", "--curl", address, "--", "--silent", "--fail", "--cacert", "ca/ca.crt")
+
+    def stores(self) -> None:
+        """A file is stored by curl in one line, with the digest of the body."""
+        self.site.write("new", "some text")
+        url = f"https://localhost:{self.site.port}/web/new"
+        self.site.cert("request", "--by", "keys/ann", "--body", "new", "--curl", url, "--", "--silent", "--fail", "--cacert", "ca/ca.crt")
+        self.assertEqual(self.site.text("files/web/new"), "some text")
+        said = self.site.cert("request", "--by", "keys/ann", "--curl", url, "--", "--silent", "--fail", "--cacert", "ca/ca.crt")
+        self.assertEqual(said, "some text")
+
+
+@needs.needs(*NEEDS)
+class Nginx(OfSites):
+    """nginx reads and writes files."""
+
+    kind, second_line = web_servers.Nginx, 200
+
+    def test_answers(self) -> None:
+        self.answers()
+        self.leaves()
+
+    def test_stores(self) -> None:
+        self.stores()
+
+
+@needs.needs(*NEEDS, "git")
+class Git(OfSites):
+    """git over HTTPS needs nothing but a key, once its certificates are left."""
+
+    kind = web_servers.Nginx
+
+    def test_git(self) -> None:
+        said = self.site.sh(os.path.join(EXAMPLE, "git.sh"))
+        self.assertEqual(said.splitlines(), ["Ben clones: denied", "Ben leaves Ann's certificate", "Ben clones: one", "Ben pulls: two",
+                                             "Eve clones: denied"])
+
+
+@needs.needs(*NEEDS, *web_servers.Caddy.needs)
+class Caddy(OfSites):
+    """Caddy reads files."""
+
+    kind = web_servers.Caddy
+
+    def test_answers(self) -> None:
+        self.answers()
+        self.leaves()
+
+
+@needs.needs(*NEEDS, *web_servers.HAProxy.needs)
+class HAProxy(OfSites):
+    """HAProxy passes on what a server behind it reads and writes."""
+
+    kind = web_servers.HAProxy
+
+    def test_answers(self) -> None:
+        self.answers()
+        self.leaves()
+
+    def test_stores(self) -> None:
+        self.stores()
+
+
+class WithRsync(web_servers.HAProxy):
+    """HAProxy before the daemon of rsync, too."""
+
+    files = (*web_servers.HAProxy.files, "rsync.cfg", "rsync.lua")
+
+    def prepare(self) -> None:
+        self.settings["RSYNC_PORT"], self.inner = str(free_port()), free_port()
+        super().prepare()
+        os.mkdir(self.at("files/rsync"))
+        self.write("files/rsync/page", "a page")
+        self.write("etc/rsyncd.conf", f"use chroot = no\n[web]\npath = {self.at('files/rsync')}\n")
+        self.rsyncd = subprocess.Popen(["rsync", "--daemon", "--no-detach", f"--config={self.at('etc/rsyncd.conf')}", "--address=127.0.0.1",
+                                        f"--port={self.inner}", f"--log-file={self.at('log/rsyncd')}"], stdin=subprocess.DEVNULL)
+
+    def replaced(self, text: str) -> str:
+        return super().replaced(text).replace("bind :874", f"bind 127.0.0.1:{self.settings['RSYNC_PORT']}").replace(":873", f":{self.inner}")
+
+    def command(self) -> list[str]:
+        return [*super().command(), "-f", self.at("etc/rsync.cfg")]
+
+    def end(self) -> None:
+        self.rsyncd.terminate()
+        self.rsyncd.wait()
+        super().end()
+
+
+@needs.needs(*NEEDS, *web_servers.HAProxy.needs, "rsync")
+class Rsync(OfSites):
+    """rsync over TLS needs nothing but a key, once its certificates are left."""
+
+    kind = WithRsync
+
+    def test_rsync(self) -> None:
+        said = self.site.sh(os.path.join(TOP, "examples", "haproxy", "rsync.sh"))
+        self.assertEqual(said.splitlines(), ["Ann copies", "Ben copies: denied", "Ben leaves Ann's certificate", "Ben copies: a page",
+                                             "Eve copies: denied"])
+
+
+@needs.needs(*NEEDS, *web_servers.Apache.needs)
+class Apache(OfSites):
+    """Apache reads and writes files."""
+
+    kind = web_servers.Apache
+
+    def test_answers(self) -> None:
+        self.answers()
+
+    def test_stores(self) -> None:
+        self.stores()

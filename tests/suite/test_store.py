@@ -1,0 +1,647 @@
+"""Tests `spki-store` and `spki-authd` with a list in PostgreSQL, on a server in a temporary folder.
+
+Among the long tests 20,000 questions are asked while another client changes the store, and the primary, a replica and the network are cut."""
+import contextlib
+import hashlib
+import http.client
+import io
+import os
+import re
+import secrets
+import signal
+import sqlite3
+import subprocess
+import threading
+import time
+import unittest
+import urllib.parse
+from typing import Any
+
+from harness import built, databases, golang, needs
+from harness.support import TESTS, TOP, room_for, text_of, waits_for
+from suite import test_go
+from suite.test_go import Person, spki_cert
+
+needs.required(*needs.LIBRARY, *databases.NEEDED)
+os.environ["SPKI_LIBRARY"] = built.shared()
+import psycopg  # noqa: E402
+from spki_store_tool import commands, texts, transfer  # noqa: E402
+from spki_store_tool.tables import Store  # noqa: E402
+
+STORE = os.path.join(TOP, "apps", "spki-store", "spki-store")
+DRIVER = "/usr/share/gocode/src/github.com/lib/pq/conn.go"
+WITH_DRIVER = ("-modfile=postgres.mod", "-tags", "spki_postgres")
+QUESTIONS = 20_000 if built.IS_LONG else 1_500
+A = b"(5:entry(10:public-key(4:test1:a))(3:tag(1:*)))"
+ZEROS = b"(5:entry(4:name(4:hash6:sha25632:" + bytes(32) + b")3:bob)(9:propagate)(3:tag(1:a1:b)))"
+
+
+def key_entry(name: bytes, tag: bytes = b"(1:*)") -> bytes:
+    """An entry for a key of a test."""
+    return b"(5:entry(10:public-key(4:test%d:%s))(3:tag%s))" % (len(name), name, tag)
+
+
+class OfStore(built.OfLibrary):
+    """Tests with a server. Each test has a schema of its own."""
+
+    server: databases.Server
+
+    @classmethod
+    def setUpClass(cls) -> None:
+        super().setUpClass()
+        cls.server = databases.Server().__enter__()
+        cls.addClassCleanup(cls.server.__exit__, None, None, None)
+
+    def setUp(self) -> None:
+        self.schema = f"spki_{secrets.token_hex(6)}"
+        self.store = Store(self.server.address, self.schema)
+        self.addCleanup(self.store.close)
+        self.store.make()
+        self.room = room_for(self)
+
+    def file(self, octets: bytes, name: str = "list") -> str:
+        """A file with these octets."""
+        path = os.path.join(self.room, name)
+        with open(path, "wb") as file:
+            file.write(octets)
+        return path
+
+    def does(self, wanted: int, *words: str) -> str:
+        """What a command writes, whose exit status must be this one."""
+        out, fault = io.StringIO(), io.StringIO()
+        with contextlib.redirect_stdout(out), contextlib.redirect_stderr(fault):
+            status = commands.done(["--database", self.server.address, "--schema", self.schema, *words])
+        self.assertEqual(status, wanted, (words, out.getvalue(), fault.getvalue()))
+        return out.getvalue() + fault.getvalue()
+
+
+class Command(OfStore):
+    """The command `spki-store`."""
+
+    def test_one_after_another(self) -> None:
+        """Entries are imported, added, removed, compared, checked, told of and exported."""
+        path = self.file(b"(acl (entry (public-key (test a)) (tag (*)))" + ZEROS.replace(b"(5:", b" (5:", 1) + b")", "list.sexp")
+        self.assertEqual(self.does(0, "import", path), "entries added: 2\n")
+        self.assertIn("imported before", self.does(2, "import", path))
+        self.assertEqual(self.does(0, "diff", path), "entries that differ: 0\n")
+        added = self.does(0, "add", self.file(b"(entry (public-key (test b)) (tag (packages read)))", "entry"))
+        self.assertEqual(added, "entry 3\n")
+        self.assertEqual(self.does(0, "remove", "1"), "entries removed: 1\n")
+        self.assertIn("entry 1 is not there", self.does(1, "remove", "1"))
+        self.assertEqual(self.does(1, "diff", path).splitlines(), ["- 3 (entry (public-key (test b)) (tag (packages read)))",
+                                                                   "+ (entry (public-key (test a)) (tag *))".replace("*", "(*)"),
+                                                                   "entries that differ: 2"])
+        told = [line.split(" ", 6) for line in self.does(0, "log").splitlines()]
+        self.assertEqual([(line[0], line[2], line[3], line[4]) for line in told],
+                         [("1", "'postgres'", "add", "1"), ("2", "'postgres'", "add", "2"), ("3", "'postgres'", "add", "3"),
+                          ("4", "'postgres'", "remove", "1")])
+        self.assertEqual(told[3][6], "(entry (public-key (test a)) (tag (*)))")
+        self.does(0, "check")
+        to = os.path.join(self.room, "exported")
+        self.does(0, "export", to)
+        with open(to, "rb") as file:
+            self.assertEqual(file.read(), b"(3:acl" + ZEROS + key_entry(b"b", b"(8:packages4:read)") + b")")
+        self.assertIn("not written over", self.does(2, "export", to))
+
+    def test_faults(self) -> None:
+        """What is no entry, no digest, no schema and no server ends with a line and a status, and changes nothing."""
+        for text in (b"(entry (public-key (test a)))", b"(entry (public-key (test a)) (tag (*))) x", b"", b"(acl)", b"(entry (tag (*)))"):
+            self.does(2, "add", self.file(text))
+        self.does(2, "import", self.file(b"(3:acl" + A + b"(5:entry))"))
+        self.does(2, "end", "00")
+        self.does(3, "add", os.path.join(self.room, "none"))
+        self.assertEqual(commands.done(["--database", self.server.address, "--schema", 'a"; DROP TABLE x', "log"]), 2)
+        self.assertEqual(commands.done(["--database", self.server.address, "--schema", "none", "log"]), 2)
+        self.assertEqual(commands.done(["--database", "host=/none", "log"]), 3)
+        self.assertEqual(self.does(0, "log"), "")
+
+    @needs.needs("openssl", "import cryptography")
+    def test_entry_of_spki_cert(self) -> None:
+        """`spki-cert entry --store` has `spki-store` add one entry, and says so where it cannot."""
+        store = Store(self.server.address)
+        self.addCleanup(store.close)
+        store.make()
+        self.addCleanup(store.connection.execute, "DROP SCHEMA spki CASCADE")
+        alice = Person(self.room, "alice", "ed25519")
+        words = ["entry", "--to", alice.public, "--tag", "(files read)", "--store"]
+        self.assertEqual(spki_cert(*words, self.server.address), b"entry 1\n")
+        wanted = texts.entry_of(f"(entry {alice.key} (tag (files read)))".encode())
+        self.assertEqual([(row.number, row.text) for row in store.all()], [(1, wanted)])
+        for status, more in ((3, ["host=/none"]), (4, [self.server.address, "--try", "files", "write"]), (2, [self.server.address, "--acl", "acl"])):
+            done = subprocess.run([test_go.SPKI_CERT, *words, *more], cwd=self.room, stdin=subprocess.DEVNULL, stdout=subprocess.PIPE,
+                                  stderr=subprocess.PIPE)
+            self.assertEqual((done.returncode, done.stdout), (status, b""), done.stderr)
+        self.assertEqual(len(list(store.all())), 1)
+
+    def test_import_that_stops(self) -> None:
+        """An import of a list of over 1 MiB that is stopped continues, and nothing is added twice or left out."""
+        wanted = [key_entry(b"k%06d" % place, b"(8:packages4:read)") for place in range(23_000)]
+        path, stopping = self.file(b"(3:acl" + b"".join(wanted) + b")"), Stopping(self.server.address, self.schema)
+        self.addCleanup(stopping.close)
+        with self.assertRaises(ZeroDivisionError):
+            transfer.imported(stopping, path, False)
+        (count,), = self.store.rows("SELECT count(*) FROM {entries}")
+        self.assertEqual(count, 2 * transfer.MOST_AT_ONCE)
+        self.assertEqual(self.does(0, "import", path), f"entries added: {len(wanted) - count}, and {count} before\n")
+        self.assertEqual([row.text for row in self.store.all()], wanted)
+        self.assertEqual(self.does(0, "diff", path), "entries that differ: 0\n")
+        self.assertIn("wrong 0", self.does(0, "check"))
+
+    def older(self) -> tuple[list[bytes], list[tuple[int, bytes, bytes]]]:
+        """Entries, and the rows of a table of version 0.1.0 that has them: one in between was removed there, and no number is used again."""
+        wanted = [key_entry(b"a\0\n'", b"(8:packages4:read)"), ZEROS, A, key_entry(bytes(range(256))), A]
+        return wanted, [(2 * place + 1, texts.principal_of(text), text) for place, text in enumerate(wanted)]
+
+    def is_taken_over(self, wanted: list[bytes]) -> None:
+        """The store has these entries and no others, in their order and from 1 on, each of which can be read."""
+        self.assertEqual([(row.number, row.text) for row in self.store.all()], list(enumerate(wanted, 1)))
+        self.assertEqual(self.does(0, "check"), f"entries checked: {len(wanted)}, wrong 0\n")
+        self.assertEqual(self.store.rows("SELECT count(*) FROM {changes}"), [(len(wanted),)])
+
+    def test_older_store_in_sqlite(self) -> None:
+        """The entries of the example of version 0.1.0 are taken over from SQLite, by the command of the page."""
+        wanted, rows = self.older()
+        old, to = (os.path.join(self.room, name) for name in ("old", "list"))
+        with contextlib.closing(sqlite3.connect(old)) as connection, connection:
+            connection.execute("PRAGMA journal_mode = WAL")
+            connection.execute("CREATE TABLE entries (number INTEGER PRIMARY KEY AUTOINCREMENT, principal BLOB NOT NULL, text BLOB NOT NULL)")
+            connection.executemany("INSERT INTO entries VALUES (?, ?, ?)", reversed(rows))
+        command, = re.findall(r"^    (python3 -c .*) OLD > LIST$", text_of("apps/spki-store/README.md"), re.MULTILINE)
+        subprocess.run(["sh", "-c", f'{command} "$0" > "$1"', old, to], check=True)
+        self.assertEqual(self.does(0, "import", to), f"entries added: {len(wanted)}\n")
+        self.is_taken_over(wanted)
+
+    def test_older_store_in_postgresql(self) -> None:
+        """The entries of the example of version 0.1.0 are taken over from PostgreSQL, by the statement of the page."""
+        wanted, rows = self.older()
+        statement, = re.findall(r"`(INSERT INTO spki\.entries [^`]*)`", text_of("apps/spki-store/README.md"))
+        old = f"{self.schema}_old"
+        with self.store.connection.transaction():
+            for text in (f"CREATE SCHEMA {old}", f"SET LOCAL search_path TO {old}",
+                         "CREATE TABLE entries (number bigserial PRIMARY KEY, principal bytea NOT NULL, text bytea NOT NULL)"):
+                self.store.connection.execute(text.encode())
+            self.store.connection.cursor().executemany("INSERT INTO entries VALUES (%s, %s, %s)", list(reversed(rows)))
+            self.store.connection.execute(statement.replace("spki.", f"{self.schema}.").encode())
+        self.is_taken_over(wanted)
+
+
+class Stopping(Store):
+    """A store to which a program adds twice, and then ends."""
+
+    count = 0
+
+    def copy(self, texts: list[bytes]) -> None:
+        super().copy(texts)
+        self.count += 1
+        if self.count == 3:
+            raise ZeroDivisionError
+
+
+class Schema(OfStore):
+    """What the database itself refuses, and what it notes."""
+
+    def refused(self, fault: type[Exception], text: str, *values: Any, role: str = "") -> None:
+        """A statement must be refused, to a role if one is given."""
+        with self.subTest(text), self.assertRaises(fault), self.store.connection.transaction():
+            if role:
+                self.store.connection.execute(f"SET LOCAL ROLE {self.schema}_{role}")
+            self.store.rows(text, *values)
+
+    def test_rows(self) -> None:
+        """The principal of a row is that of its text, as Python's own modules make it; what is not one list is no row."""
+        key = b"(10:public-key(4:test1:a))"
+        hinted = b"(5:entry(4:hash6:sha256[1:x]32:" + b"h" * 32 + b")(3:tag(1:*)))"
+        for text, wanted in {A: hashlib.sha256(key).digest(), ZEROS: bytes(32), hinted: b"h" * 32,
+                             b"(5:entry(4:name" + key + b"1:n)(3:tag(1:*)))": hashlib.sha256(key).digest(),
+                             b"(5:entry(4:hash6:sha51264:" + b"(" * 64 + b")(3:tag(1:*)))": b"(" * 64}.items():
+            number = self.store.add(text)
+            self.assertEqual(self.store.rows("SELECT principal FROM {entries} WHERE number = %s", number), [(wanted,)])
+            self.assertEqual(texts.principal_of(text), wanted)
+        for bad in (A + A, A[:-1], A + b")", b"", b"x", b"(3:tag(1:*))", A.replace(b"1:a", b"9:a"), A.replace(b"1:a", b"a"), b" " + A,
+                    A.replace(b"10:public-key", b"4:mask"), A.replace(b"1:a", b"99999999999:a"), ZEROS.replace(b"32:", b"31:", 1),
+                    b"(5:entry(4:hash6:sha2564:abcd)(3:tag(1:*)))", b"(5:entry(4:hash6:sha256)(3:tag(1:*)))"):
+            self.refused(psycopg.Error, "INSERT INTO {entries} (text) VALUES (%s)", bad)
+
+    def test_statements_in_values(self) -> None:
+        """Text that looks like a statement is a value everywhere."""
+        hostile = b"'); DROP SCHEMA public CASCADE; --"
+        entry = key_entry(b"a", b"(%d:%s)" % (len(hostile), hostile))
+        number = self.store.add(entry)
+        self.store.end(bytes(32), hostile.decode())
+        self.assertEqual([(row.number, row.text) for row in self.store.all()], [(number, entry)])
+        self.assertEqual(self.store.rows("SELECT remark FROM {ended}"), [(hostile.decode(),)])
+        self.assertEqual(self.does(0, "diff", self.file(b"(3:acl" + entry + b")")), "entries that differ: 0\n")
+        self.assertEqual(self.store.found([hostile]), [])
+
+    def test_row_that_is_no_entry(self) -> None:
+        """`check` finds what the constraints cannot say."""
+        self.store.rows("INSERT INTO {entries} (text) VALUES (%s), (%s)", A, A.replace(b"(3:tag(1:*))", b""))
+        self.assertEqual(self.does(1, "check").splitlines()[-1], "entries checked: 2, wrong 1")
+
+    def test_roles(self) -> None:
+        """Who reads cannot write, and who writes cannot rewrite what was."""
+        self.store.add(A)
+        no = psycopg.errors.InsufficientPrivilege
+        for role in ("reader", "writer"):
+            for text in ("UPDATE {entries} SET text = text", "TRUNCATE {entries}", "UPDATE {changes} SET who = ''", "DELETE FROM {changes}",
+                         "TRUNCATE {changes}", "INSERT INTO {changes} SELECT * FROM {changes}", "UPDATE {state} SET changes = 0",
+                         "DELETE FROM {ended}", "UPDATE {ended} SET remark = ''", "DELETE FROM {heartbeat}", "DROP TABLE {entries}",
+                         "INSERT INTO {entries} (number, text) OVERRIDING SYSTEM VALUE SELECT 9, text FROM {entries}"):
+                self.refused(no, text, role=role)
+        for text in ("INSERT INTO {entries} (text) SELECT text FROM {entries}", "DELETE FROM {entries}", "UPDATE {heartbeat} SET number = 9",
+                     "INSERT INTO {ended} (certificate) VALUES ('x')", "SELECT who FROM {changes}", "SELECT text FROM {changes}",
+                     "SELECT * FROM {imports}"):
+            self.refused(no, text, role="reader")
+        for text in ("UPDATE {entries} SET text = text", "DELETE FROM {changes}", "TRUNCATE {entries}", "TRUNCATE {changes}", "DELETE FROM {ended}"):
+            self.refused(no, text)
+        with self.store.connection.transaction():
+            self.store.connection.execute(f"SET LOCAL ROLE {self.schema}_writer")
+            number = self.store.add(A)
+            self.assertTrue(self.store.remove(number) and self.store.end(bytes(32), "") and self.store.beat())
+        with self.store.connection.transaction():
+            self.store.connection.execute(f"SET LOCAL ROLE {self.schema}_reader")
+            self.assertEqual(self.store.rows("SELECT number, what FROM {changes} ORDER BY number"),
+                             [(1, "add"), (2, "add"), (3, "remove"), (4, "end")])
+
+    def account(self, name: str, role: str) -> Store:
+        """The store, as an account in a role uses it."""
+        account = f"{self.schema}_{name}"
+        self.store.connection.execute(f"CREATE ROLE {account} LOGIN IN ROLE {self.schema}_{role}".encode())
+        made = Store(f"host={self.server.folder} user={account} dbname=postgres", self.schema)
+        self.addCleanup(made.close)
+        return made
+
+    def test_rows_of_others(self) -> None:
+        """Who adds can remove what the same account has added, and who writes can remove any entry. The log says who did."""
+        ann, ben, carl = (self.account(*words) for words in (("ann", "adder"), ("ben", "adder"), ("carl", "writer")))
+        first, second = ann.add(A), ben.add(ZEROS)
+        self.assertEqual([ann.remove(second), ben.remove(first), ben.remove(second), carl.remove(first)], [False, False, True, True])
+        for text in ("INSERT INTO {ended} (certificate) VALUES (sha256(''))", "INSERT INTO {entries} (text, who) VALUES ('', '')",
+                     "UPDATE {entries} SET who = ''", "SELECT * FROM {imports}", "SELECT text FROM {changes}"):
+            with self.subTest(text), self.assertRaises(psycopg.errors.InsufficientPrivilege):
+                ann.rows(text)
+        carl.copy([A, ZEROS])
+        self.assertEqual([(who.rpartition("_")[2], what) for who, what in self.store.rows("SELECT who, what FROM {changes} ORDER BY number")],
+                         [("ann", "add"), ("ben", "add"), ("ben", "remove"), ("carl", "remove"), ("carl", "add"), ("carl", "add")])
+
+    def test_chains(self) -> None:
+        """Who keeps certificates of clients does so by one function alone, within limits, and what has ended is gone."""
+        kim, reader = self.account("kim", "keeper"), self.account("rob", "reader")
+        keep = f"SELECT {self.schema}.keep(%s, %s, now() + '1 h', 2, 2)"
+
+        def became(key: int, text: bytes) -> str:
+            (word,), = kim.rows(keep, bytes([key]) * 32, text)
+            return str(word)
+        self.assertEqual([became(1, b"a"), became(1, b"a"), became(1, b"b"), became(1, b"c"), became(2, b"a"), became(3, b"a")],
+                         ["kept", "known", "kept", "full", "kept", "full"])
+        self.store.rows("UPDATE {chains} SET until = now() WHERE key = %s", bytes([2]) * 32)
+        self.assertEqual(became(3, b"a"), "kept")
+        self.assertEqual(kim.rows("SELECT key, text FROM {chains} ORDER BY key, text"),
+                         [(bytes([1]) * 32, b"a"), (bytes([1]) * 32, b"b"), (bytes([3]) * 32, b"a")])
+        for store, text in ((kim, "INSERT INTO {chains} (key, until, text) VALUES (sha256(''), now(), '')"), (kim, "DELETE FROM {chains}"),
+                            (kim, "SELECT * FROM {entries}"), (reader, "SELECT * FROM {chains}")):
+            with self.subTest(text), self.assertRaises(psycopg.errors.InsufficientPrivilege):
+                store.rows(text)
+        with self.assertRaises(psycopg.errors.InsufficientPrivilege):
+            reader.rows(keep, bytes(32), b"")
+        self.assertRaises(psycopg.Error, became, 3, bytes(9000))
+
+    def test_changes_in_order(self) -> None:
+        """A change waits for the transaction that changed something before: no lower number appears after a higher one."""
+        other = Store(self.server.address, self.schema)
+        self.addCleanup(other.close)
+        with self.store.connection.transaction():
+            self.store.add(A)
+            with self.assertRaises(psycopg.errors.LockNotAvailable), other.connection.transaction():
+                other.rows("SET LOCAL lock_timeout = '50ms'")
+                other.add(A)
+        other.add(A)
+        self.assertEqual(self.store.rows("SELECT number FROM {changes} ORDER BY number"), [(1,), (2,)])
+
+
+# ---- the daemon
+
+
+@needs.needs("go", DRIVER)
+class OfDaemon(OfStore):
+    """Tests of the daemon with the driver."""
+
+    def go(self, *words: str, **more: str) -> str:
+        """What a command of Go writes, which must end well."""
+        done = golang.go(golang.DAEMON, list(words), self.library, None, **more)
+        said = (done.stdout + done.stderr).decode(errors="replace")
+        self.assertEqual(done.returncode, 0, said[-4000:])
+        return said
+
+
+class Driven(OfDaemon):
+    """What is written in Go, with the driver."""
+
+    def test_vet(self) -> None:
+        self.go("vet", *WITH_DRIVER, ".")
+
+    @needs.needs("go-staticcheck")
+    def test_lints(self) -> None:
+        settings = {**golang.settings(self.library), "XDG_CACHE_HOME": os.path.join(TESTS, "out", "staticcheck")}
+        settings["GOFLAGS"] += " -modfile=postgres.mod"
+        done = subprocess.run(["go-staticcheck", "-tags", "spki_postgres", "."], cwd=golang.DAEMON, stdout=subprocess.PIPE, stderr=subprocess.STDOUT,
+                              text=True, env=settings, timeout=golang.SECONDS)
+        self.assertEqual((done.returncode, done.stdout), (0, ""))
+
+    def test_questions(self) -> None:
+        """Generated questions are asked while another client changes the store. Each answer is that of the guard of the whole list."""
+        seed = str(secrets.randbelow(1 << 32))
+        self.go("test", *WITH_DRIVER, "-count=1", "-run", "TestQuestionsToStore", "-v", ".", SPKI_STORE_HOST=self.server.folder, SPKI_STORE_SEED=seed,
+                SPKI_STORE_SCHEMA=self.schema, SPKI_STORE_QUESTIONS=str(QUESTIONS))
+
+
+STALE = 3
+# The site that clients sign requests to.
+SITE = "files.example.org"
+
+
+class Around:
+    """A daemon with a list in PostgreSQL."""
+
+    def __init__(self, room: str, program: str, server: databases.Server, schema: str, *before: str, chains: object = None, **more: str) -> None:
+        os.makedirs(room, exist_ok=True)
+        of = {"host": server.folder, "database": "postgres", "user": "postgres", "schema": schema, "stale_seconds": STALE, **more}
+        signed = {"signatures": {"names": [SITE]}, "chains": chains} if chains else {}
+        self.daemon = test_go.Daemon(room, program, "(acl)", *before, list={"postgres": of}, **signed)
+        self.room, self.process = room, self.daemon.process
+
+    def status(self, who: Person, shown: bytes = b"") -> int:
+        return self.daemon.ask(who, "GET", "/web/a", shown).status
+
+    def becomes(self, wanted: int, who: Person, shown: bytes = b"") -> None:
+        """Waits until a person gets an answer."""
+        waits_for(f"{wanted} for {os.path.basename(who.path)} from {self.room}", lambda: self.status(who, shown) == wanted)
+
+    def kill(self) -> None:
+        """Ends the daemon at once, if it still runs."""
+        if self.process.poll() is None:
+            self.process.kill()
+            self.process.communicate()
+
+
+@needs.needs("openssl", "import cryptography")
+class OfServed(OfDaemon):
+    """Tests of the daemon as a program."""
+
+    program: str
+    people: dict[str, Person]
+
+    @classmethod
+    def setUpClass(cls) -> None:
+        super().setUpClass()
+        room = room_for(cls)
+        cls.program = golang.build_daemon(cls.library, os.path.join(room, "spki-authd"), *WITH_DRIVER)
+        cls.people = {name: Person(room, name, "ed25519") for name in ("alice", "bob", "mallory")}
+
+    def beats(self, address: str, *before: str) -> subprocess.Popen[bytes]:
+        """The program that increases the heartbeat."""
+        process = subprocess.Popen([*before, STORE, "--database", address, "--schema", self.schema, "beat"], stderr=subprocess.DEVNULL)
+        self.addCleanup(process.wait)
+        self.addCleanup(process.kill)
+        return process
+
+    def around(self, name: str, server: databases.Server, *before: str, chains: object = None, **more: str) -> Around:
+        made = Around(os.path.join(self.room, name), self.program, server, self.schema, *before, chains=chains, **more)
+        self.addCleanup(made.kill)
+        return made
+
+    def added(self, who: Person, store: Store | None = None) -> int:
+        """Adds an entry for a person."""
+        text = texts.entry_of(f"(entry {who.key} (propagate) (tag (files read (* prefix /web/))))".encode())
+        return (store or self.store).add(text)
+
+
+class Served(OfServed):
+    """The daemon with the store of a server that is killed, stopped and hangs."""
+
+    def test_one_server(self) -> None:
+        """What is added grants, what is removed or has ended does not, and without a fresh store all is 503."""
+        alice, bob, mallory = (self.people[name] for name in ("alice", "bob", "mallory"))
+        beats, shown = self.beats(self.server.address), alice.gives(bob, "(files read (* prefix /web/))")
+        it = self.around("one", self.server)
+        it.becomes(401, alice)
+        number = self.added(alice)
+        it.becomes(200, alice)
+        met = it.daemon.ask(bob, "GET", "/web/a", shown)
+        self.assertEqual((met.status, met.headers["X-Spki-Entry"], it.daemon.last()["list"]), (200, str(number), "change 1"))
+        self.assertEqual((it.status(mallory), it.status(mallory, shown)), (401, 403))
+        self.assertEqual([it.daemon.does(word)[0] for word in ("-health", "-state")], [0, 0])
+        digests = it.daemon.last()["certificates"]
+        assert isinstance(digests, list)
+        self.does(0, "end", *digests)
+        it.becomes(403, bob, shown)
+        self.assertEqual(it.status(alice), 200)
+        self.does(0, "remove", str(number))
+        it.becomes(401, alice)
+        self.added(alice)
+        it.becomes(200, alice)
+        beats.kill()
+        it.becomes(503, alice)
+        self.assertEqual((it.status(bob, shown), it.status(mallory)), (503, 503))
+        status, said, fault = it.daemon.does("-health")
+        self.assertEqual((status, "is stale" in fault), (1, True), said + fault)
+        self.beats(self.server.address)
+        it.becomes(200, alice)
+        self.server.kill()
+        it.becomes(503, alice)
+        self.server.start()
+        it.becomes(200, alice)
+
+    def test_kept_in_the_store(self) -> None:
+        """Certificates that a client leaves with one daemon are used by another one."""
+        self.beats(self.server.address)
+        of = {"host": self.server.folder, "database": "postgres", "user": "postgres", "schema": self.schema}
+        alice, bob = self.people["alice"], self.people["bob"]
+        shown = alice.gives(bob, "(files read (* prefix /web/))")
+        self.added(alice)
+        one, other = (self.around(name, self.server, chains={"postgres": of}) for name in ("one", "other"))
+        one.becomes(200, alice)
+        other.becomes(401, bob)
+        body, target = os.path.join(self.room, "shown"), "/.well-known/spki-chain"
+        with open(body, "wb") as file:
+            file.write(shown)
+        fields = test_go.spki_cert("request", "--by", bob.path, "--body", body, f"https://{SITE}{target}").decode().splitlines()
+        connection = test_go.OverSocket(one.daemon.socket)
+        connection.request("PUT", target, shown, {"Host": SITE, **dict(field.split(": ", 1) for field in fields)})
+        met = connection.getresponse()
+        self.assertEqual((met.status, met.headers["X-Spki-Answer"]), (201, "kept"))
+        connection.close()
+        other.becomes(200, bob)
+        self.assertEqual(other.daemon.last()["kept"], "used")
+
+    def test_server_that_hangs(self) -> None:
+        """A server that takes requests and answers nothing ends in 503, and not in requests that hang."""
+        self.beats(self.server.address)
+        alice, it = self.people["alice"], self.around("hangs", self.server)
+        self.added(alice)
+        it.becomes(200, alice)
+        assert self.server.process is not None
+        processes = [self.server.process.pid, *children_of(self.server.process.pid)]
+        try:
+            for each in processes:
+                os.kill(each, signal.SIGSTOP)
+            it.becomes(503, alice)
+            self.assertEqual(it.status(self.people["mallory"]), 503)
+        finally:
+            for each in processes:
+                os.kill(each, signal.SIGCONT)
+        it.becomes(200, alice)
+
+
+def children_of(process: int) -> list[int]:
+    """The processes that a process has started."""
+    found = subprocess.run(["ps", "-o", "pid=", "--ppid", str(process)], stdout=subprocess.PIPE, text=True, check=False).stdout
+    return [int(each) for each in found.split()]
+
+
+class Asker(threading.Thread):
+    """Asks daemons again and again, and notes when requests began and ended that were granted."""
+
+    def __init__(self, daemons: list[Around], who: Person) -> None:
+        super().__init__()
+        self.daemons, self.who, self.ends = daemons, who, threading.Event()
+        self.granted: list[tuple[float, float]] = []
+
+    def run(self) -> None:
+        while not self.ends.is_set():
+            for each in self.daemons:
+                begun = time.monotonic()
+                with contextlib.suppress(OSError, http.client.HTTPException):
+                    if each.status(self.who) == 200:
+                        self.granted.append((begun, time.monotonic()))
+
+    def end(self) -> list[tuple[float, float]]:
+        """When the requests began and ended that were granted."""
+        self.ends.set()
+        self.join()
+        return self.granted
+
+
+class Replicated(OfServed):
+    """Two replicas, each with a daemon. The primary is killed, and a replica takes its place."""
+
+    def test_failover(self) -> None:
+        """Nobody is granted anything by an entry whose removal is older than `stale_seconds`, whatever dies."""
+        with contextlib.ExitStack() as stack:
+            replicas = [stack.enter_context(self.server.replica()) for _ in range(2)]
+            servers = [self.server, *replicas]
+            anywhere = f"host={','.join(each.folder for each in servers)} user=postgres dbname=postgres target_session_attrs=read-write"
+            self.beats(anywhere)
+            alice, bob, mallory = (self.people[name] for name in ("alice", "bob", "mallory"))
+            daemons = [self.around(f"on-{place}", each) for place, each in enumerate(replicas)]
+            askers = [Asker(daemons, each) for each in (bob, mallory)]
+            for each in askers:
+                each.start()
+            self.added(alice)
+            number = self.added(bob)
+            for it in daemons:
+                it.becomes(200, alice)
+                it.becomes(200, bob)
+            self.lags(replicas[0], daemons)
+            self.store.remove(number)
+            removed = time.monotonic()
+            for it in daemons:
+                it.becomes(401, bob)
+            self.server.kill()
+            self.addCleanup(self.server.start)
+            for it in daemons:
+                it.becomes(503, alice)
+            replicas[0].promote()
+            daemons[0].becomes(200, alice)
+            self.assertEqual(daemons[1].status(alice), 503)
+            follows(replicas[1], replicas[0])
+            daemons[1].becomes(200, alice)
+            again = Store(anywhere, self.schema)
+            stack.callback(again.close)
+            back = time.monotonic()
+            number = self.added(bob, again)
+            for it in daemons:
+                it.becomes(200, bob)
+            again.remove(number)
+            gone = time.monotonic()
+            for it in daemons:
+                it.becomes(401, bob)
+            bobs, mallorys = [each.end() for each in askers]
+            self.assertEqual(mallorys, [])
+            self.assertEqual([each for each in bobs if each[0] > removed + STALE and each[1] < back or each[0] > gone + STALE], [])
+            self.assertTrue(bobs)
+
+    def lags(self, replica: databases.Server, daemons: list[Around]) -> None:
+        """A replica that no longer follows is stale, and the other one is not."""
+        alice = self.people["alice"]
+        with psycopg.connect(replica.address, autocommit=True) as connection:
+            connection.execute("SELECT pg_wal_replay_pause()")
+            daemons[0].becomes(503, alice)
+            self.assertEqual(daemons[1].status(alice), 200)
+            connection.execute("SELECT pg_wal_replay_resume()")
+        daemons[0].becomes(200, alice)
+
+    @needs.needs("haproxy")
+    def test_behind_haproxy(self) -> None:
+        """HAProxy asks only daemons that decide: not one whose replica is behind, nor one that is gone."""
+        alice, check = self.people["alice"], self.people["bob"]
+        with self.server.replica() as replica, contextlib.ExitStack() as stack:
+            self.beats(self.server.address)
+            daemons = [self.around("behind", replica), self.around("direct", self.server)]
+            front = os.path.join(self.room, "front")
+            config = self.file(PROXY.format(front=front, certificate=urllib.parse.quote(check.certificate).replace("%", "%%"),
+                                            one=daemons[0].daemon.socket, other=daemons[1].daemon.socket).encode(), "haproxy.cfg")
+            process = subprocess.Popen(["haproxy", "-f", config], stdout=subprocess.DEVNULL, stderr=subprocess.DEVNULL)
+            stack.enter_context(databases.ended(process))
+
+            def is_always(wanted: int) -> bool:
+                with contextlib.suppress(OSError):
+                    return all(daemons[0].daemon.ask(alice, "GET", "/web/a", door=front).status == wanted for _ in range(10))
+                return False
+
+            self.added(alice)
+            waits_for("HAProxy asks nobody: the key of the check has no entry", lambda: is_always(503))
+            self.added(check)
+            waits_for("HAProxy asks both", lambda: is_always(200))
+            with psycopg.connect(replica.address, autocommit=True) as connection:
+                connection.execute("SELECT pg_wal_replay_pause()")
+                daemons[0].becomes(503, alice)
+                waits_for("HAProxy asks the other daemon alone", lambda: is_always(200))
+                connection.execute("SELECT pg_wal_replay_resume()")
+            daemons[0].becomes(200, alice)
+            waits_for("HAProxy asks both again", lambda: is_always(200))
+            daemons[1].kill()
+            waits_for("HAProxy asks the daemon that is left", lambda: is_always(200))
+
+
+PROXY = """
+defaults
+    mode http
+    timeout client 60s
+    timeout server 60s
+    timeout connect 60s
+frontend front
+    bind unix@{front}
+    default_backend daemons
+backend daemons
+    option httpchk
+    http-check send meth GET uri / hdr X-Original-Method GET hdr X-Original-URI /web/check hdr X-Client-Cert '{certificate}'
+    http-check expect status 200
+    default-server check inter 200ms fall 1 rise 1
+    server one unix@{one}
+    server other unix@{other}
+"""
+
+
+def follows(replica: databases.Server, primary: databases.Server) -> None:
+    """Has a replica follow another primary."""
+    with psycopg.connect(replica.address, autocommit=True) as connection:
+        connection.execute(f"ALTER SYSTEM SET primary_conninfo = '{replica.source(primary)}'")
+        connection.execute("SELECT pg_reload_conf()")
+
+
+if not built.IS_LONG:
+    del Replicated
+
+if __name__ == "__main__":
+    unittest.main()

@@ -1,0 +1,93 @@
+"""Runs the program on the rows of the tables in `tables/`, on the pairs of sets of `pairs.py` and on the cases with certificates of
+`chains.py`. Each row is a test, which `tests/run tables/malformed:12` runs alone. Where the second compiler's program is there too, which
+`rt ci` makes, it must answer the same."""
+import os
+from collections import Counter
+from collections.abc import Callable, Iterable, Iterator
+from concurrent.futures import ThreadPoolExecutor
+
+from harness import built
+from harness.support import run, tables_here
+from rows import Row, chains, fault_of, pairs, rows_of
+
+Test = Callable[[built.OfProgram], None]
+SETS = len(pairs.sets())
+# The program that `rt try` compiles is not optimized: these take it a minute and more.
+SLOW_WITHOUT_PROOFS = ("chains:chain with 101 strings",)
+
+
+class BySecondCompiler(built.OfProgram):
+    """Tests of the program that the compiler written in Rattle has built."""
+
+    @classmethod
+    def setUpClass(cls) -> None:
+        cls.program = built.there(built.BY_RATTLE)
+
+
+# ---- rows
+
+
+def made_test(row: Row) -> Test:
+    """The test of a row."""
+    def test(self: built.OfProgram) -> None:
+        fault = fault_of(self.program, row)
+        if fault:
+            self.fail(fault)
+    return test
+
+
+def named_tests(rows: Iterable[Row]) -> Iterator[tuple[str, Test]]:
+    """The tests of rows with their names: where a row stands; where there are several rows, the command; and again, a number."""
+    listed = list(rows)
+    places, named = Counter(row.place for row in listed), Counter[str]()
+    for row in listed:
+        name = f"test_{row.place}{f':{row.command}' if places[row.place] > 1 else ''}"
+        named[name] += 1
+        yield f"{name}{f':{named[name]}' if named[name] > 1 else ''}", made_test(row)
+
+
+# ---- pairs
+
+
+def faults_of_pairs(program: str) -> list[str | None]:
+    """What is wrong with the answer to each pair, None if nothing is."""
+    with ThreadPoolExecutor(os.cpu_count()) as pool:
+        rows = [Row(*row) for row in pairs.rows(lambda text: pool.submit(run, program, "intersect", text))]
+        return list(pool.map(lambda row: fault_of(program, row), rows))
+
+
+def pairs_test(number: int) -> Test:
+    """The test of the pairs of one first set. The first of these tests asks the program about all pairs."""
+    def test(self: built.OfProgram) -> None:
+        own = type(self)
+        if not hasattr(own, "faults"):
+            setattr(own, "faults", faults_of_pairs(self.program))
+        faults: list[str] = list(filter(None, getattr(own, "faults")[number * SETS:(number + 1) * SETS]))
+        if faults:
+            self.fail("\n".join(faults))
+    return test
+
+
+# ---- a class of tests for each table, on each program
+
+
+def classes(base: type[built.OfProgram], ending: str = "") -> Iterator[type]:
+    """The classes of tests of a program. Their names end so."""
+    tables = {os.path.basename(path).capitalize(): rows_of(path) for path in tables_here()}
+    for name, rows in {**tables, "Chains": map(Row._make, chains.rows())}.items():
+        asked = (row for row in rows if not (built.IS_ALONE and row.place in SLOW_WITHOUT_PROOFS))
+        yield type(name + ending, (base,), dict(named_tests(asked)))
+    yield type(f"Pairs{ending}", (base,), {f"test_pairs:{number + 1}": pairs_test(number) for number in range(SETS)})
+
+
+def add_classes() -> None:
+    """Adds the classes to this module, those of the second compiler's program where it is there."""
+    found = list(classes(built.OfProgram))
+    if os.path.exists(built.BY_RATTLE) and not built.IS_ALONE:
+        found += classes(BySecondCompiler, "BySecondCompiler")
+    for made in found:
+        made.__module__ = __name__
+        globals()[made.__name__] = made
+
+
+add_classes()

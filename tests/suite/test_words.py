@@ -1,0 +1,46 @@
+"""Runs the program with words that ask for no command, and with those that ask for help.
+
+Wrong words end with status 2, nothing on standard output and a text on standard error that says what is wrong; help with status 0,
+nothing on standard output and the help on standard error, which names each exit status."""
+import subprocess
+
+from harness import built
+from harness.support import COMMANDS, SECONDS
+
+WRONG = [(), (b"frob",), (b"check", b"check"), (b"",), (b"\xff",), (b"check", b"\xff"), (b"Check",), (b"check ",), (b"--",),
+         (b"--frob",), (b"check", b"--frob"), (b"help",)]
+HELP = [(b"--help",), (b"-h",)] + [(command.encode(), b"--help") for command in COMMANDS]
+STATUSES = (b"\n  0  ", b"\n  2  ", b"\n  3  ")
+TEXT = b"(1:a)"
+NO_TEXT = (2, b"", b"error: the words aren't UTF-8\n")
+
+
+class Words(built.OfProgram):
+    """The words of the command line."""
+
+    def met(self, words: tuple[bytes, ...]) -> tuple[int, bytes, bytes]:
+        """The status, and what goes to standard output and to standard error."""
+        done = subprocess.run([self.program.encode(), *words], input=TEXT, stdout=subprocess.PIPE, stderr=subprocess.PIPE, timeout=SECONDS)
+        return done.returncode, done.stdout, done.stderr
+
+    def test_wrong_words(self) -> None:
+        for words in WRONG:
+            with self.subTest(words):
+                status, out, said = self.met(words)
+                is_said = said.startswith(b"error: ") or b"Usage: spki" in said
+                self.assertEqual((status, out, is_said), (2, b"", True), f"spki {b' '.join(words)!r}: {said!r}")
+
+    def test_words_that_are_no_text(self) -> None:
+        self.assertEqual(self.met((b"\xff",)), NO_TEXT)
+        self.assertEqual(self.met((b"check", b"\xff")), NO_TEXT)
+
+    def test_help(self) -> None:
+        for words in HELP:
+            with self.subTest(words):
+                status, out, said = self.met(words)
+                is_said = b"Usage: spki" in said and all(each in said for each in STATUSES)
+                self.assertEqual((status, out, is_said), (0, b"", True), f"spki {b' '.join(words)!r}: {said!r}")
+        self.assertTrue(self.met((b"--help",))[2].startswith(b"Decides"))
+
+    def test_right_word(self) -> None:
+        self.assertEqual(self.met((b"canonical",)), (0, TEXT, b""))

@@ -1,0 +1,144 @@
+"""What happens where a call of the bindings is held wrong, by the table of wrong_uses.py. Rows that do not compile are compiled together, and each
+must be named by the compiler with the word that its row says. All others are run. What is granted is a kind that docs/GUIDE.md names."""
+import os
+import subprocess
+import sys
+import unittest
+from collections import defaultdict
+
+from harness import built, golang, needs
+from harness.snippets import GO_MODULE
+from harness.support import EXAMPLES, TOP, room_for, text_of
+from rows import wrong_uses
+from rows.wrong_uses import Row
+
+SECONDS = 600
+RUST, PYTHON, CRATE = (os.path.join(TOP, *words) for words in (["bindings", "rust"], ["bindings", "python"], ["crates", "spki_c"]))
+WARNINGS = ["-Wall", "-Wextra", "-Wno-unused-function", "-Wno-unused-const-variable", "-Werror"]
+GRANTED = ("a key that was only sent", "a verifier that accepts everything", "a path that is not normalized", "an answer that is kept past its time",
+           "another service's list")
+
+
+class Table(unittest.TestCase):
+    """The table itself."""
+
+    def test_rows(self) -> None:
+        """There are 40 rows and more, at least 10 in each language; what grants is of five kinds, and the guide names each."""
+        rows = {language: wrong_uses.parts_of(language)[1] for language in wrong_uses.LANGUAGES}
+        self.assertGreaterEqual(sum(map(len, rows.values())), 40)
+        self.assertGreaterEqual(min(map(len, rows.values())), 10)
+        guide = text_of("docs/GUIDE.md")
+        for row in (row for of in rows.values() for row in of if row.outcome == "is granted"):
+            kind = next((kind for kind in GRANTED if row.name.startswith(kind)), None)
+            self.assertIsNotNone(kind, row.name)
+            self.assertIn(f"| {kind} |", guide)
+
+
+@needs.needs(*needs.LIBRARY)
+class WrongUses(built.OfLibrary):
+    """The rows of each language."""
+
+    room: str
+
+    def setUp(self) -> None:
+        self.room = room_for(self)
+        self.environment = {**os.environ, "SPKI_LIBRARY": self.shared, "PYTHONPATH": PYTHON, "LC_ALL": "C"}
+
+    def said(self, *words: str, folder: str = "", status: int | None = None) -> str:
+        """What a command writes. Its status must be the given one, if any."""
+        done = subprocess.run(words, cwd=folder or self.room, stdout=subprocess.PIPE, stderr=subprocess.STDOUT, text=True, timeout=SECONDS,
+                              env=self.environment)
+        self.assertIn(done.returncode, (done.returncode if status is None else status,), done.stdout)
+        return done.stdout
+
+    def written(self, name: str, shared: str, rows: list[Row]) -> tuple[str, dict[int, Row]]:
+        """The file of a program with these rows, and the row of each line."""
+        text, lines = wrong_uses.program_of(shared, rows)
+        path = os.path.join(self.room, name)
+        os.makedirs(os.path.dirname(path), exist_ok=True)
+        with open(path, "w", encoding="utf-8") as file:
+            file.write(text)
+        return path, lines
+
+    def are_refused(self, rows: list[Row], said: str, path: str, lines: dict[int, Row]) -> None:
+        """Each of these rows must be named by the compiler, with its word."""
+        met: defaultdict[str, str] = defaultdict(str)
+        for row, why in wrong_uses.faults_in(said, path, lines):
+            met[row.name] += why
+        for row in rows:
+            with self.subTest(row.name):
+                self.assertRegex(met[row.name], f"(?s){row.said}")
+
+    def come_to(self, rows: list[Row], said: str) -> None:
+        """Each of these rows must have its outcome."""
+        self.assertEqual(said, "".join(f"{row.place} {row.outcome}\n" for row in rows), [f"{row.place}: {row.name}" for row in rows])
+
+    def split(self, language: str) -> tuple[str, list[Row], list[Row]]:
+        """What rows share, those that do not compile, and the others."""
+        shared, rows = wrong_uses.parts_of(language)
+        return shared, [row for row in rows if row.outcome == "does not compile"], [row for row in rows if row.outcome != "does not compile"]
+
+    def test_c(self) -> None:
+        shared, wrong, others = self.split("c")
+        words = ["gcc", "-std=c11", *WARNINGS, "-I", CRATE, "-I", os.path.join(EXAMPLES, "c"), "-x", "c"]
+        path, lines = self.written("wrong.c", shared, wrong)
+        self.are_refused(wrong, self.said(*words, "-c", "-O1", "-o", "wrong.o", path, status=1), path, lines)
+        path, _ = self.written("run.c", shared, others)
+        self.said(*words, "-o", "run", path, "-x", "none", self.library, status=0)
+        self.come_to(others, self.said("./run", status=0))
+
+    @needs.needs("g++")
+    def test_cpp(self) -> None:
+        shared, wrong, others = self.split("cpp")
+        words = ["g++", "-std=c++17", *WARNINGS, "-I", CRATE]
+        path, lines = self.written("wrong.cpp", shared, wrong)
+        self.are_refused(wrong, self.said(*words, "-fsyntax-only", path, status=1), path, lines)
+        path, _ = self.written("run.cpp", shared, others)
+        self.said(*words, "-o", "run", path, self.library, status=0)
+        self.come_to(others, self.said("./run", status=0))
+
+    @needs.needs("cargo")
+    def test_rust(self) -> None:
+        """One by one, since the compiler finds faults of one kind before it looks for those of the next."""
+        shared, wrong, others = self.split("rust")
+        self.environment.update(SPKI_LIB_DIR=os.path.dirname(self.library), CARGO_NET_OFFLINE="true")
+        self.said("cargo", "build", "--quiet", "--lib", folder=RUST, status=0)
+        made = os.path.join(RUST, "out", "debug")
+        library, others_of_it = os.path.join(made, "libspki.rlib"), os.path.join(made, "deps")
+        words = ["rustc", "--edition=2021", "--extern", f"spki={library}", "-L", f"dependency={others_of_it}"]
+        for row in wrong:
+            path, lines = self.written("wrong.rs", shared, [row])
+            self.are_refused([row], self.said(*words, "--emit=metadata", "-o", "wrong.rmeta", path, status=1), path, lines)
+        path, _ = self.written("run.rs", shared, others)
+        self.said(*words, "-o", "run", path, status=0)
+        self.come_to(others, self.said("./run", status=0))
+
+    @needs.needs("go")
+    def test_go(self) -> None:
+        shared, wrong, others = self.split("go")
+        self.environment.update(golang.settings(self.library))
+        for name, rows in (("wrong", wrong), ("run", others)):
+            path, lines = self.written(f"{name}/main.go", shared, rows)
+            with open(os.path.join(self.room, name, "go.mod"), "w", encoding="utf-8") as file:
+                file.write(GO_MODULE.format(module=golang.MODULE))
+            said = self.said("go", "build", "-gcflags=-e", "-o", "made", ".", folder=os.path.dirname(path), status=None if rows is wrong else 0)
+            if rows is wrong:
+                self.are_refused(wrong, said, path, lines)
+        self.come_to(others, self.said(os.path.join(self.room, "run", "made"), status=0))
+
+    @needs.needs("mypy")
+    def test_python_by_types(self) -> None:
+        shared, wrong, others = self.split("python")
+        self.environment["MYPYPATH"] = PYTHON
+        path, lines = self.written("wrong.py", shared, wrong)
+        mypy = ["mypy", "--strict", "--cache-dir", os.devnull, "--no-error-summary", "--follow-imports", "silent"]
+        self.are_refused(wrong, self.said(*mypy, path, status=1), path, lines)
+
+    def test_python(self) -> None:
+        shared, _, others = self.split("python")
+        path, _ = self.written("run.py", shared, others)
+        self.come_to(others, self.said(sys.executable, "-W", "ignore", path, status=0))
+
+
+if __name__ == "__main__":
+    unittest.main()
