@@ -2,6 +2,7 @@
 import glob
 import os
 import shutil
+import sys
 
 from merge_gate import plan
 from merge_gate.report import Counts
@@ -37,3 +38,7 @@ def main() -> int:
     with Parts(plan.MINUTES) as parts:
         land(parts, counts)
     return counts.end()
+
+
+if __name__ == "__main__":
+    sys.exit(main())

@@ -1,8 +1,10 @@
-"""The parts of the gate: which functions a wrong body changes, what a check must say to refuse it, how logs are counted, that what is shown of a
-command is all that it says, and that one which takes too long is ended. The texts of the toolchain are those that it printed in runs."""
+"""The parts of the gate: what bash makes of its file, which functions a wrong body changes, what a check must say to refuse it, how logs are
+counted, that what is shown of a command is all that it says, and that one which takes too long is ended. The texts of the toolchain are those that
+it printed in runs."""
 import contextlib
 import io
 import os
+import subprocess
 import tempfile
 import unittest
 from unittest import mock
@@ -85,6 +87,21 @@ class Verdicts(unittest.TestCase):
         gone = "./proofs/names/tried/Answers.antt:4:1: error: `c` has no field `push-2`"
         self.assertFalse(self.is_refused(gone, "fn low::names::tried: not proved"))
         self.assertTrue(self.is_refused(gone, gone.replace("`c` has no field `push-2`", "`search`: no proof"), "fn low::names::tried: not proved"))
+
+
+class Script(unittest.TestCase):
+    """The file that CI runs."""
+
+    def test_bash(self) -> None:
+        """Bash runs it, and nothing but the gate: in a text in another language it would run what stands in backticks."""
+        with tempfile.TemporaryDirectory() as folder:
+            for name, line in ("python3", 'echo "$PWD" "$@"'), ("dirname", 'echo "${1%/*}"'):
+                path = os.path.join(folder, name)
+                with open(path, "w", encoding="utf-8") as file:
+                    file.write(f"#!/bin/sh\n{line}\n")
+                os.chmod(path, 0o755)
+            done = subprocess.run(["/bin/bash", ".ci/run"], cwd=TOP, env={"PATH": folder}, capture_output=True, text=True)
+        self.assertEqual((done.stdout, done.stderr, done.returncode), (f"{TOP}/.ci -m merge_gate.landing\n", "", 0))
 
 
 class Logs(unittest.TestCase):
