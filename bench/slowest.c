@@ -72,7 +72,7 @@ int main(int count, char **words)
     const struct spki_limits *limits = is(words[2], "highest") ? &highest : &usual;
     struct held held = held_in(words[4], limits);
     free(held.buffer);
-    held.room = limits->answer;
+    held.room = limits->answer ? limits->answer : SPKI_USUAL_ANSWER;
     held.buffer = malloc(held.room);
     enum spki_status status = SPKI_DONE;
     double least = 0, all = 0, took;

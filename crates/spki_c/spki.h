@@ -209,9 +209,9 @@ struct spki_limits {
 #define SPKI_USUAL_ANSWER 1048576
 #define SPKI_MOST_ANSWER 268435456
 
-/* An initialiser of a struct spki_limits: the usual limits, and the highest. On some questions within the highest an explanation takes
- * seconds. */
-#define SPKI_USUAL_LIMITS {sizeof(struct spki_limits), 65536, 16, 64, SPKI_MOST_NODES, 2000000, SPKI_USUAL_ANSWER}
+/* An initialiser of a struct spki_limits: the usual limits, which are those of 0, and the highest. On some questions within the highest an
+ * explanation takes seconds. */
+#define SPKI_USUAL_LIMITS {sizeof(struct spki_limits), 0, 0, 0, 0, 0, 0}
 #define SPKI_HIGHEST_LIMITS \
     {sizeof(struct spki_limits), SPKI_MOST_OCTETS, SIZE_MAX, SIZE_MAX, SPKI_MOST_NODES, SPKI_MOST_WORK, SPKI_MOST_ANSWER}
 

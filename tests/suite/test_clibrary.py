@@ -434,7 +434,7 @@ class Structures(unittest.TestCase):
     """`later.c`: an spki.c that is given structures of other headers, and one of a later header."""
 
     # What that header adds at the ends of two structures.
-    LATER = ((", SPKI_USUAL_ANSWER}", ", SPKI_USUAL_ANSWER, 0}"), (", SPKI_MOST_ANSWER}", ", SPKI_MOST_ANSWER, 0}"),
+    LATER = (("0, 0, 0, 0, 0, 0}", "0, 0, 0, 0, 0, 0, 0}"), (", SPKI_MOST_ANSWER}", ", SPKI_MOST_ANSWER, 0}"),
              ("the most octets of the answer */\n", "the most octets of the answer */\n    size_t later;\n"),
              ("past the year 9999 */\n};", "past the year 9999 */\n    const void *later;\n};"))
 
