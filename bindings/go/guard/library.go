@@ -185,13 +185,25 @@ func possible(asked opened) bool {
 // decide returns the decision by the marks of a question.
 func decide(asked opened) (Decision, error) {
 	said := C.library_decide(asked)
+	return decisionIn(&said)
+}
+
+// decideVerified returns the decision of a question that lists so many signatures, of which so many at the front are valid.
+func decideVerified(guard handle, question *Question, listed, valid int) (Decision, error) {
+	parts, lengths := partsOf(question)
+	said := C.library_decide_verified(guard, parts, lengths, C.size_t(listed), C.size_t(valid))
+	return decisionIn(&said)
+}
+
+// decisionIn returns the decision that a call has made.
+func decisionIn(said *C.struct_library_said) (Decision, error) {
 	switch said.status {
 	case C.SPKI_YES:
-		return decisionOf(lineIn(&said), int64(said.until))
+		return decisionOf(lineIn(said), int64(said.until))
 	case C.SPKI_NO:
 		return Decision{}, nil
 	}
-	return Decision{}, failed(said.status, lineIn(&said))
+	return Decision{}, failed(said.status, lineIn(said))
 }
 
 // lines returns the lines of an answer that is no decision, which has at most so many octets.

@@ -66,6 +66,24 @@ static inline struct library_said library_decide(const spki_asked *asked)
     return said;
 }
 
+/* Decides a question that lists so many signatures, of which so many at the front are valid. */
+static inline struct library_said library_decide_verified(const spki_guard *guard, struct library_question parts, const size_t *lengths, size_t listed,
+                                                          size_t valid)
+{
+    struct library_said said = library_ask(guard, parts, lengths);
+    spki_asked *asked = said.asked;
+    if (said.status != SPKI_DONE)
+        return said;
+    said = (struct library_said){.status = SPKI_MISUSED};
+    if (spki_asked_count(asked) == listed && valid <= listed) {
+        for (size_t place = 0; place < valid; place++)
+            spki_asked_mark(asked, place);
+        said = library_decide(asked);
+    }
+    spki_asked_close(asked);
+    return said;
+}
+
 /* The lines of an answer, which library_free frees. They have room for the longest answer, in memory of C's, of which the system gives no more
  * than is used. */
 static inline enum spki_status library_lines(const spki_asked *asked, enum library_wish wish, size_t room, struct spki_text *lines)
