@@ -243,7 +243,7 @@ func (d *door) survive() {
 // answerOne reads and answers one request, and says whether another one may follow. To a request that does not end in time there is no answer.
 func (d *door) answerOne(connection net.Conn, reader *heads) bool {
 	request, err := reader.next()
-	if errors.Is(err, os.ErrDeadlineExceeded) {
+	if err != nil && errors.Is(err, os.ErrDeadlineExceeded) {
 		d.decider.endAs(answerRefused, errSlow)
 		return false
 	}
@@ -259,7 +259,10 @@ func (d *door) answerOne(connection net.Conn, reader *heads) bool {
 		}
 	}
 	isLast = isLast || d.isOver()
-	_, err = connection.Write(made.response(time.Now(), isLast))
+	room := rooms.Get().(*[]byte)
+	*room = made.response(*room, time.Now(), isLast)
+	_, err = connection.Write(*room)
+	rooms.Put(room)
 	return err == nil && !isLast
 }
 

@@ -40,7 +40,7 @@ func newCounts(rules int) *counts {
 }
 
 // note counts one answer.
-func (c *counts) note(made record, took time.Duration) {
+func (c *counts) note(made *record, took time.Duration) {
 	for place, answer := range answers {
 		if answer == made.Answer {
 			c.decisions[made.rule][place].Add(1)

@@ -48,13 +48,21 @@ func decoded(sent string) (string, error) {
 			octet = digit(sent[place+1])<<4 | digit(sent[place+2])
 			place += 2
 		}
-		if octet < ' ' || octet > '~' || strings.IndexByte(`%\;?#`, octet) >= 0 || isEscaped && octet == '/' {
+		if !isOfPath[octet] || isEscaped && octet == '/' {
 			return "", errUnclear
 		}
 		path = append(path, octet)
 	}
 	return string(path), nil
 }
+
+// isOfPath has the characters that a path may have.
+var isOfPath = func() (made [256]bool) {
+	for octet := ' '; octet <= '~'; octet++ {
+		made[octet] = !strings.ContainsRune(`%\;?#`, octet)
+	}
+	return made
+}()
 
 func isHexadecimal(octet byte) bool {
 	return '0' <= octet && octet <= '9' || 'a' <= octet|0x20 && octet|0x20 <= 'f'
