@@ -38,6 +38,9 @@ func pathOf(target string, most int) (string, error) {
 
 // decoded decodes each `%XX`, once, and refuses the characters that no path has.
 func decoded(sent string) (string, error) {
+	if isOfPaths(sent) {
+		return sent, nil
+	}
 	path := make([]byte, 0, len(sent))
 	for place := 0; place < len(sent); place++ {
 		octet, isEscaped := sent[place], sent[place] == '%'
@@ -63,6 +66,16 @@ var isOfPath = func() (made [256]bool) {
 	}
 	return made
 }()
+
+// isOfPaths says whether a text has only such characters.
+func isOfPaths(text string) bool {
+	for place := 0; place < len(text); place++ {
+		if !isOfPath[text[place]] {
+			return false
+		}
+	}
+	return true
+}
 
 func isHexadecimal(octet byte) bool {
 	return '0' <= octet && octet <= '9' || 'a' <= octet|0x20 && octet|0x20 <= 'f'

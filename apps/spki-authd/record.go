@@ -118,7 +118,8 @@ func (r *record) response(room []byte, now time.Time, isLast bool) []byte {
 		header("X-Spki-Key", r.Key)
 	}
 	if r.Entry > 0 {
-		header("X-Spki-Entry", strconv.Itoa(r.Entry))
+		header("X-Spki-Entry", "")
+		made = strconv.AppendInt(made, int64(r.Entry), 10)
 	}
 	if r.Answer == answerRefused {
 		header("X-Spki-Reason", strings.ReplaceAll(r.Reason, "\n", ", "))
