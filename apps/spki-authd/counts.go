@@ -46,8 +46,12 @@ func (c *counts) note(made *record, took time.Duration) {
 			c.decisions[made.rule][place].Add(1)
 		}
 	}
-	c.known.Add(uint64(made.Cached))
-	c.spared.Add(uint64(made.Unverified))
+	if made.Cached > 0 {
+		c.known.Add(uint64(made.Cached))
+	}
+	if made.Unverified > 0 {
+		c.spared.Add(uint64(made.Unverified))
+	}
 	c.seconds.note(took)
 }
 
