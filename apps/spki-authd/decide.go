@@ -80,7 +80,8 @@ func (d *decider) decide(asked *asked, now time.Time) record {
 		made.Target = cut(asked.method+" "+path, mostTarget)
 		return made.ended(answerNo, errNoRule)
 	}
-	return d.takeNonce(d.judgeAll(made, client.key, path, asked, now), proof)
+	d.judgeAll(&made, client.key, path, asked, now)
+	return d.takeNonce(made, proof)
 }
 
 // shownTarget returns what the log has of a target that is not clear. A query may have a password or a token, and is left out.
@@ -89,27 +90,26 @@ func shownTarget(target string) string {
 	return cut(path, mostTarget)
 }
 
-// judge asks the guard.
-func (d *decider) judge(made record, key guard.ProvenKey, path, sequence string, now time.Time) record {
+// judge asks the guard, and adds what it says to a record.
+func (d *decider) judge(made *record, key guard.ProvenKey, path, sequence string, now time.Time) {
 	question := guard.Question{Key: key, Words: made.Request, Time: now}
 	var decision guard.Decision
 	var err error
 	if known := d.sequences.of(sequence); known != nil && !d.config.Explain {
-		decision, err = d.decideKnown(&made, question, path, known)
+		decision, err = d.decideKnown(made, question, path, known)
 	} else {
-		decision, err = d.decideAnew(&made, question, path, sequence)
+		decision, err = d.decideAnew(made, question, path, sequence)
 	}
 	switch {
 	case err != nil && errors.Is(err, errNoList):
-		return made.ended(answerNo, err)
+		*made = made.ended(answerNo, err)
 	case err != nil:
-		return made.ended(answerOf(err), err)
+		*made = made.ended(answerOf(err), err)
 	case decision.Granted():
 		made.Answer, made.Entry = answerYes, made.number(decision.Entry())
 	case sequence == "":
 		made.Answer = answerUnknown
 	}
-	return made
 }
 
 // decideKnown decides a question whose signatures are known to be valid. A certificate that has ended early counts as not verified.

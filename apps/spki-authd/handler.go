@@ -15,7 +15,7 @@ func (d *decider) answerTo(request *http.Request) record {
 	made := d.answer(request, begun)
 	took := d.now().Sub(begun)
 	made.Time, made.Microseconds = stamp(begun), took.Microseconds()
-	made = d.logged(made)
+	d.logged(&made)
 	d.clock.note(begun)
 	d.counts.note(&made, d.now().Sub(begun))
 	return made
@@ -23,13 +23,14 @@ func (d *decider) answerTo(request *http.Request) record {
 
 // endAs returns the answer to what cannot be decided, and logs it.
 func (d *decider) endAs(answer answer, fault error) record {
-	made := d.logged(record{Time: stamp(d.now())}.ended(answer, fault))
+	made := record{Time: stamp(d.now())}.ended(answer, fault)
+	d.logged(&made)
 	d.counts.note(&made, 0)
 	return made
 }
 
 // logged sets the status of an answer, and logs it. Without a line in the file of grants a grant is a failure. Other lines may be lost.
-func (d *decider) logged(made record) record {
+func (d *decider) logged(made *record) {
 	room := rooms.Get().(*[]byte)
 	defer rooms.Put(room)
 	made.Status = made.Answer.status(d.config.RefusedStatus)
@@ -37,14 +38,13 @@ func (d *decider) logged(made record) record {
 		*room = made.line(*room)
 		err := d.grants(*room)
 		if err == nil {
-			return made
+			return
 		}
 		made.Answer, made.Entry, made.Reason = answerFailed, 0, errNotLogged.Error()+": "+err.Error()
 		made.Status = made.Answer.status(d.config.RefusedStatus)
 	}
 	*room = made.line(*room)
 	d.rest(*room)
-	return made
 }
 
 // answer returns the record of a request at a moment. A panic is a failure.
