@@ -21,6 +21,8 @@ from spki_cert_tool.keys import FileSigner, hash_of, new_private  # noqa: E402
 ENTRIES, HOT, COLD = 10_000, 100, 6_000
 # The cache has room for the certificates of the hot chains, and for few of the cold ones. So do the 1,000 sequences that the daemon keeps.
 CACHE = 2_000
+# The environment of the daemon, as its unit sets it.
+UNIT = {"GLIBC_TUNABLES": "glibc.malloc.tcache_count=100"}
 # When the daemon writes its log of grants to the disk: `each`, `seconds` or `never`.
 SYNC = os.environ.get("SYNC", "seconds")
 PORTS = 3
@@ -158,10 +160,10 @@ class Site:
             "listen": f"unix:{self.path('authd.socket')}", "server": "nginx", "list": self.list, "requests": rules, "cache": CACHE,
             "log": self.path("grants.log"), "log_sync": SYNC}))
 
-    def start(self, *words, at):
+    def start(self, *words, at, **environment):
         """Starts a program that listens on a port of loopback, or on a Unix socket."""
         with open(self.path(f"{os.path.basename(words[0])}.out"), "ab") as out:
-            process = subprocess.Popen(words, stdin=subprocess.DEVNULL, stdout=out, stderr=out)
+            process = subprocess.Popen(words, stdin=subprocess.DEVNULL, stdout=out, stderr=out, env={**os.environ, **environment})
         self.running.append(process)
         for _ in range(SECONDS_TO_START * 20):
             with contextlib.suppress(OSError), connected(at):
@@ -176,7 +178,7 @@ class Site:
 
     def start_daemon(self):
         """Starts the daemon."""
-        return self.start(self.program, "-config", self.config(), at=self.path("authd.socket"))
+        return self.start(self.program, "-config", self.config(), at=self.path("authd.socket"), **UNIT)
 
     def start_all(self):
         """Starts all programs, and returns the daemon."""

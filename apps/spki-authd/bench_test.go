@@ -18,10 +18,11 @@ func BenchmarkHandler(b *testing.B) {
 	} {
 		request.Header.Set(name, value)
 	}
+	var room []byte
 	b.ReportAllocs()
 	for turn := 0; turn < b.N; turn++ {
 		made := s.answerTo(request)
-		if made.response(time.Now(), false); made.Status != http.StatusOK {
+		if room = made.response(room, time.Now(), false); made.Status != http.StatusOK {
 			b.Fatal(made.Status)
 		}
 	}

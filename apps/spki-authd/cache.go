@@ -41,14 +41,16 @@ func (c *cache) verifies(signed guard.Signature, message digest, verify guard.Ve
 	return true, false
 }
 
+// The octets that the key, the digest and the value of most signatures have together.
+const roomForSignature = 512
+
 // digestOf returns the digest of a signature. The length of the key goes in front, so that no two signatures have the same octets.
-func digestOf(signed guard.Signature, message digest) (name digest) {
-	hash := sha256.New()
-	var length [8]byte
-	binary.BigEndian.PutUint64(length[:], uint64(len(signed.Key)))
-	for _, part := range [][]byte{length[:], signed.Key, message[:], signed.Value} {
-		hash.Write(part)
+func digestOf(signed guard.Signature, message digest) digest {
+	var room [roomForSignature]byte
+	binary.BigEndian.PutUint64(room[:], uint64(len(signed.Key)))
+	made := room[:8]
+	for _, part := range [][]byte{signed.Key, message[:], signed.Value} {
+		made = append(made, part...)
 	}
-	hash.Sum(name[:0])
-	return name
+	return sha256.Sum256(made)
 }

@@ -9,6 +9,7 @@ import (
 	"net/http"
 	"os"
 	"sync"
+	"sync/atomic"
 	"time"
 )
 
@@ -20,9 +21,10 @@ type door struct {
 	// Closed when no further connection is taken.
 	isShut chan struct{}
 	mutex  sync.Mutex
-	// The open connections, and what each does.
-	open     map[net.Conn]*visit
-	isEnding bool
+	// The open connections, and what each does. The mutex holds the map alone.
+	open map[net.Conn]*visit
+	// Set before the time of the open connections is ended: who notes afterwards what a connection does sees it.
+	isEnding atomic.Bool
 	all      sync.WaitGroup
 	// Closed when the last connection is, after isShut.
 	isEmpty chan struct{}
@@ -30,6 +32,8 @@ type door struct {
 
 // A visit is what a connection does, until when it may, and whether that was ever set as a deadline.
 type visit struct {
+	connection  net.Conn
+	mutex       sync.Mutex
 	stage       stage
 	until       time.Time
 	hasDeadline bool
@@ -83,8 +87,7 @@ func (d *door) serve(listener net.Listener) {
 			continue
 		}
 		d.takePlace()
-		d.enter(connection)
-		go d.answerAll(connection)
+		go d.answerAll(d.enter(connection))
 	}
 }
 
@@ -109,21 +112,33 @@ func (d *door) takePlace() {
 func (d *door) closeIdle() {
 	d.mutex.Lock()
 	defer d.mutex.Unlock()
-	for connection, visit := range d.open {
-		if visit.stage == isIdle {
-			visit.hasDeadline = true
-			_ = connection.SetReadDeadline(time.Now())
+	for _, visit := range d.open {
+		if visit.endIdle() {
 			return
 		}
 	}
 }
 
+// endIdle has a connection end if it is idle, and says whether it is.
+func (v *visit) endIdle() bool {
+	v.mutex.Lock()
+	defer v.mutex.Unlock()
+	if v.stage != isIdle {
+		return false
+	}
+	v.hasDeadline = true
+	_ = v.connection.SetReadDeadline(time.Now())
+	return true
+}
+
 // enter notes a connection.
-func (d *door) enter(connection net.Conn) {
+func (d *door) enter(connection net.Conn) *visit {
+	made := &visit{connection: connection}
 	d.mutex.Lock()
 	defer d.mutex.Unlock()
-	d.open[connection] = &visit{}
+	d.open[connection] = made
 	d.all.Add(1)
+	return made
 }
 
 // leave closes a connection, and gives its place back.
@@ -138,23 +153,23 @@ func (d *door) leave(connection net.Conn) {
 
 // note notes what a connection does from now on, and until when it may. Where a deadline was set, a later one takes its place: a request may have
 // come at that moment.
-func (d *door) note(connection net.Conn, stage stage) error {
-	d.mutex.Lock()
-	defer d.mutex.Unlock()
-	visit := d.open[connection]
+func (d *door) note(visit *visit, stage stage) error {
+	visit.mutex.Lock()
+	defer visit.mutex.Unlock()
 	visit.stage, visit.until = stage, time.Now().Add(d.patience(stage))
-	if d.isEnding || visit.hasDeadline {
-		return connection.SetDeadline(visit.until)
+	if d.isEnding.Load() || visit.hasDeadline {
+		return visit.connection.SetDeadline(visit.until)
 	}
 	return nil
 }
 
-// patience returns how long a connection may do something. The mutex is held.
+// patience returns how long a connection may do something.
 func (d *door) patience(stage stage) time.Duration {
+	isEnding := d.isEnding.Load()
 	switch {
-	case d.isEnding && stage == isFresh:
+	case isEnding && stage == isFresh:
 		return graceFresh
-	case d.isEnding && stage == isIdle:
+	case isEnding && stage == isIdle:
 		return graceIdle
 	case stage == isIdle:
 		return timeIdle
@@ -180,29 +195,27 @@ func (d *door) watch() {
 func (d *door) endLate(now time.Time) {
 	d.mutex.Lock()
 	defer d.mutex.Unlock()
-	for connection, visit := range d.open {
-		if !visit.until.IsZero() && now.After(visit.until) {
-			visit.hasDeadline = true
-			_ = connection.SetDeadline(now)
-		}
+	for _, visit := range d.open {
+		visit.endLate(now)
 	}
 }
 
-// isOver says whether the daemon ends.
-func (d *door) isOver() bool {
-	d.mutex.Lock()
-	defer d.mutex.Unlock()
-	return d.isEnding
+// endLate ends the time of a connection that has had it.
+func (v *visit) endLate(now time.Time) {
+	v.mutex.Lock()
+	defer v.mutex.Unlock()
+	if !v.until.IsZero() && now.After(v.until) {
+		v.hasDeadline = true
+		_ = v.connection.SetDeadline(now)
+	}
 }
 
 // end waits until each request is answered that was sent before the listener was closed.
 func (d *door) end(until context.Context) error {
+	d.isEnding.Store(true)
 	d.mutex.Lock()
-	d.isEnding = true
-	for connection, visit := range d.open {
-		if visit.stage != isBusy {
-			_ = connection.SetDeadline(time.Now().Add(d.patience(visit.stage)))
-		}
+	for _, visit := range d.open {
+		d.endSoon(visit)
 	}
 	d.mutex.Unlock()
 	go func() { <-d.isShut; d.all.Wait(); close(d.isEmpty) }()
@@ -214,8 +227,18 @@ func (d *door) end(until context.Context) error {
 	}
 }
 
+// endSoon gives a connection little time to send another request.
+func (d *door) endSoon(visit *visit) {
+	visit.mutex.Lock()
+	defer visit.mutex.Unlock()
+	if visit.stage != isBusy {
+		_ = visit.connection.SetDeadline(time.Now().Add(d.patience(visit.stage)))
+	}
+}
+
 // answerAll answers the requests of a connection.
-func (d *door) answerAll(connection net.Conn) {
+func (d *door) answerAll(visit *visit) {
+	connection := visit.connection
 	defer d.leave(connection)
 	defer d.survive()
 	limited := &io.LimitedReader{R: connection}
@@ -223,10 +246,10 @@ func (d *door) answerAll(connection net.Conn) {
 	stage := isFresh
 	for isOpen := true; isOpen; stage = isIdle {
 		limited.N = int64(2 * d.decider.config.Limits.HeaderOctets)
-		if d.note(connection, stage) != nil {
+		if d.note(visit, stage) != nil {
 			return
 		}
-		if _, err := reader.all.Peek(1); err != nil || d.note(connection, isBusy) != nil {
+		if _, err := reader.all.Peek(1); err != nil || d.note(visit, isBusy) != nil {
 			return
 		}
 		isOpen = d.answerOne(connection, reader)
@@ -243,7 +266,7 @@ func (d *door) survive() {
 // answerOne reads and answers one request, and says whether another one may follow. To a request that does not end in time there is no answer.
 func (d *door) answerOne(connection net.Conn, reader *heads) bool {
 	request, err := reader.next()
-	if errors.Is(err, os.ErrDeadlineExceeded) {
+	if err != nil && errors.Is(err, os.ErrDeadlineExceeded) {
 		d.decider.endAs(answerRefused, errSlow)
 		return false
 	}
@@ -258,8 +281,11 @@ func (d *door) answerOne(connection net.Conn, reader *heads) bool {
 			passOver(request)
 		}
 	}
-	isLast = isLast || d.isOver()
-	_, err = connection.Write(made.response(time.Now(), isLast))
+	isLast = isLast || d.isEnding.Load()
+	room := rooms.Get().(*[]byte)
+	*room = made.response(*room, time.Now(), isLast)
+	_, err = connection.Write(*room)
+	rooms.Put(room)
 	return err == nil && !isLast
 }
 

@@ -40,14 +40,18 @@ func newCounts(rules int) *counts {
 }
 
 // note counts one answer.
-func (c *counts) note(made record, took time.Duration) {
+func (c *counts) note(made *record, took time.Duration) {
 	for place, answer := range answers {
 		if answer == made.Answer {
 			c.decisions[made.rule][place].Add(1)
 		}
 	}
-	c.known.Add(uint64(made.Cached))
-	c.spared.Add(uint64(made.Unverified))
+	if made.Cached > 0 {
+		c.known.Add(uint64(made.Cached))
+	}
+	if made.Unverified > 0 {
+		c.spared.Add(uint64(made.Unverified))
+	}
 	c.seconds.note(took)
 }
 

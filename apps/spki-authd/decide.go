@@ -25,7 +25,7 @@ type decider struct {
 	explaining *rates
 	now        func() time.Time
 	verify     guard.Verify
-	// What writes the line of a grant, and what writes every other line.
+	// What writes the line of a grant, and what writes every other line. When they return they use it no longer.
 	grants func(line []byte) error
 	rest   func(line []byte)
 }
@@ -47,15 +47,15 @@ var (
 	errOftenKey      = errors.New("the key asks more often than key_rate")
 )
 
-// decide returns the record of what is asked. Its answer is yes only if the guard has granted the request.
-func (d *decider) decide(asked asked) record {
+// decide returns the record of what is asked at a moment. Its answer is yes only if the guard has granted the request.
+func (d *decider) decide(asked *asked, now time.Time) record {
 	made := record{Answer: answerNo, ID: asked.id, Host: asked.host}
-	if !d.byAddress.allows(asked.address, d.now()) {
+	if !d.byAddress.allows(asked.address, now) {
 		made.Address = cut(asked.address, mostID)
 		return made.ended(answerLimited, errOftenAddress)
 	}
-	client, proof, err := d.clientOf(&asked)
-	if errors.Is(err, errNoCertificate) {
+	client, proof, err := d.clientOf(asked)
+	if err != nil && errors.Is(err, errNoCertificate) {
 		return made.ended(answerUnknown, err)
 	}
 	if err != nil {
@@ -64,11 +64,11 @@ func (d *decider) decide(asked asked) record {
 	if made.Key = client.name; proof != nil {
 		made.Proof = bySignature
 	}
-	if !d.byKey.allows(client.name, d.now()) {
+	if !d.byKey.allows(client.name, now) {
 		return made.ended(answerLimited, errOftenKey)
 	}
 	if asked.left != nil {
-		return d.leave(made, client.key, proof, &asked)
+		return d.leave(made, client.key, proof, asked)
 	}
 	path, err := pathOf(asked.target, d.config.Limits.PathOctets)
 	if err != nil {
@@ -80,7 +80,8 @@ func (d *decider) decide(asked asked) record {
 		made.Target = cut(asked.method+" "+path, mostTarget)
 		return made.ended(answerNo, errNoRule)
 	}
-	return d.takeNonce(d.judgeAll(made, client.key, path, &asked), proof)
+	d.judgeAll(&made, client.key, path, asked, now)
+	return d.takeNonce(made, proof)
 }
 
 // shownTarget returns what the log has of a target that is not clear. A query may have a password or a token, and is left out.
@@ -89,67 +90,71 @@ func shownTarget(target string) string {
 	return cut(path, mostTarget)
 }
 
-// judge asks the guard.
-func (d *decider) judge(made record, key guard.ProvenKey, path, sequence string) record {
-	question := guard.Question{Key: key, Words: made.Request, Time: d.now()}
+// judge asks the guard, and adds what it says to a record.
+func (d *decider) judge(made *record, key guard.ProvenKey, path, sequence string, now time.Time) {
+	question := guard.Question{Key: key, Words: made.Request, Time: now}
 	var decision guard.Decision
 	var err error
 	if known := d.sequences.of(sequence); known != nil && !d.config.Explain {
-		decision, err = d.decideKnown(&made, question, path, known)
+		decision, err = d.decideKnown(made, question, path, known)
 	} else {
-		decision, err = d.decideAnew(&made, question, path, sequence)
+		decision, err = d.decideAnew(made, question, path, sequence)
 	}
 	switch {
-	case errors.Is(err, errNoList):
-		return made.ended(answerNo, err)
+	case err != nil && errors.Is(err, errNoList):
+		*made = made.ended(answerNo, err)
 	case err != nil:
-		return made.ended(answerOf(err), err)
+		*made = made.ended(answerOf(err), err)
 	case decision.Granted():
 		made.Answer, made.Entry = answerYes, made.number(decision.Entry())
 	case sequence == "":
 		made.Answer = answerUnknown
 	}
-	return made
 }
 
 // decideKnown decides a question whose signatures are known to be valid. A certificate that has ended early counts as not verified.
 func (d *decider) decideKnown(made *record, question guard.Question, path string, known *shown) (guard.Decision, error) {
 	question.Sequence = known.canonical()
-	access, at, opened, err := d.ask(question, made.Host, path)
-	if err != nil {
-		return guard.Decision{}, err
+	valid := 0
+	var decision guard.Decision
+	_, at, err := d.withList(&question, made.Host, path, func(present *access, at *list) (err error) {
+		if valid, err = known.notEnded(present); err == nil {
+			decision, err = at.guard.DecideVerified(question, len(known.names), valid)
+		}
+		return err
+	})
+	if err == nil {
+		made.setKnown(at, known, valid)
 	}
-	defer opened.Close()
-	valid, err := known.notEnded(access)
-	if err != nil {
-		return guard.Decision{}, err
-	}
-	made.setKnown(at, known, valid)
-	if opened.Count() != len(known.names) {
-		return guard.Decision{}, guard.ErrMisused
-	}
-	if err := markFirst(opened, valid); err != nil {
-		return guard.Decision{}, err
-	}
-	return opened.Decide()
+	return decision, err
 }
 
 // ask opens a question at the present list of a host and a path.
 func (d *decider) ask(question guard.Question, host, path string) (*access, *list, *guard.Asked, error) {
+	var opened *guard.Asked
+	present, at, err := d.withList(&question, host, path, func(_ *access, at *list) (err error) {
+		opened, err = at.guard.Ask(question)
+		return err
+	})
+	return present, at, opened, err
+}
+
+// withList has the present list of a host and a path used for a question. If it is closed at that moment, the one that has taken its place is used.
+func (d *decider) withList(question *guard.Question, host, path string, use func(present *access, at *list) error) (*access, *list, error) {
 	for {
-		access, at, err := d.keeper.at(host, path)
+		present, at, err := d.keeper.at(host, path)
 		if err == nil && at.store != nil {
-			at, err = at.store.list(&question)
+			at, err = at.store.list(question)
 		}
 		if err != nil {
-			return nil, nil, nil, err
+			return nil, nil, err
 		}
-		opened, err := at.guard.Ask(question)
+		err = use(present, at)
 		if at.isPassing {
 			at.guard.Close()
 		}
-		if !errors.Is(err, guard.ErrClosed) {
-			return access, at, opened, err
+		if err == nil || !errors.Is(err, guard.ErrClosed) {
+			return present, at, err
 		}
 	}
 }

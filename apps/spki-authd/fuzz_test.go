@@ -120,10 +120,11 @@ func FuzzConnection(f *testing.F) {
 		defer s.log.Reset()
 		connection := &played{sent: bytes.NewReader(octets)}
 		door.places <- struct{}{}
-		if door.enter(connection); len(door.open) != 1 {
+		visit := door.enter(connection)
+		if len(door.open) != 1 {
 			t.Fatal("the connection is not open")
 		}
-		door.answerAll(connection)
+		door.answerAll(visit)
 		told, lines := connection.told.String(), strings.SplitAfter(s.log.String(), "\n")
 		answers := strings.SplitAfter(told, "\r\n\r\n")
 		if len(answers) != len(lines) || len(door.open) != 0 || len(door.places) != 0 {

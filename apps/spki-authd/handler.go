@@ -4,6 +4,7 @@ import (
 	"errors"
 	"fmt"
 	"net/http"
+	"time"
 )
 
 var errNotLogged = errors.New("the log of grants takes no line")
@@ -11,39 +12,43 @@ var errNotLogged = errors.New("the log of grants takes no line")
 // answerTo answers one request of the web server, and logs that. Whatever goes wrong is not 200, also if a grant cannot be logged.
 func (d *decider) answerTo(request *http.Request) record {
 	begun := d.now()
-	made := d.answer(request)
+	made := d.answer(request, begun)
 	took := d.now().Sub(begun)
 	made.Time, made.Microseconds = stamp(begun), took.Microseconds()
-	made = d.logged(made)
+	d.logged(&made)
 	d.clock.note(begun)
-	d.counts.note(made, d.now().Sub(begun))
+	d.counts.note(&made, d.now().Sub(begun))
 	return made
 }
 
 // endAs returns the answer to what cannot be decided, and logs it.
 func (d *decider) endAs(answer answer, fault error) record {
-	made := d.logged(record{Time: stamp(d.now())}.ended(answer, fault))
-	d.counts.note(made, 0)
+	made := record{Time: stamp(d.now())}.ended(answer, fault)
+	d.logged(&made)
+	d.counts.note(&made, 0)
 	return made
 }
 
 // logged sets the status of an answer, and logs it. Without a line in the file of grants a grant is a failure. Other lines may be lost.
-func (d *decider) logged(made record) record {
+func (d *decider) logged(made *record) {
+	room := rooms.Get().(*[]byte)
+	defer rooms.Put(room)
 	made.Status = made.Answer.status(d.config.RefusedStatus)
 	if made.Answer == answerYes {
-		err := d.grants(made.line())
+		*room = made.line(*room)
+		err := d.grants(*room)
 		if err == nil {
-			return made
+			return
 		}
 		made.Answer, made.Entry, made.Reason = answerFailed, 0, errNotLogged.Error()+": "+err.Error()
 		made.Status = made.Answer.status(d.config.RefusedStatus)
 	}
-	d.rest(made.line())
-	return made
+	*room = made.line(*room)
+	d.rest(*room)
 }
 
-// answer returns the record of a request. A panic is a failure.
-func (d *decider) answer(request *http.Request) (made record) {
+// answer returns the record of a request at a moment. A panic is a failure.
+func (d *decider) answer(request *http.Request, now time.Time) (made record) {
 	defer func() {
 		if fault := recover(); fault != nil {
 			made = record{}.ended(answerFailed, fmt.Errorf("panic: %v", fault))
@@ -60,5 +65,5 @@ func (d *decider) answer(request *http.Request) (made record) {
 	if err != nil {
 		return record{ID: asked.id, Host: asked.host, Target: shownTarget(asked.target)}.ended(answerRefused, err)
 	}
-	return d.decide(asked)
+	return d.decide(&asked, now)
 }

@@ -59,7 +59,7 @@ func (s *site) ask(pairs ...string) *http.Response {
 // told returns what the web server is told of a request.
 func (s *site) told(request *http.Request) *http.Response {
 	made := s.answerTo(request)
-	response, err := http.ReadResponse(bufio.NewReader(bytes.NewReader(made.response(time.Now(), false))), request)
+	response, err := http.ReadResponse(bufio.NewReader(bytes.NewReader(made.response(nil, time.Now(), false))), request)
 	if err != nil {
 		panic(err)
 	}

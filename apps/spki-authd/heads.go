@@ -11,7 +11,8 @@ import (
 // A heads reads the requests of a connection.
 type heads struct {
 	all *bufio.Reader
-	// The lines of a request up to the empty one, those of them that are not read yet, and what reads them and the body behind them.
+	// Of a request whose lines are more than fit in all: these up to the empty one, those of them that are not read yet, and what reads them and the
+	// body behind them.
 	lines, left []byte
 	whole       *bufio.Reader
 }
@@ -24,21 +25,54 @@ const (
 
 // newHeads returns what reads the requests of a connection.
 func newHeads(connection io.Reader) *heads {
-	return &heads{all: bufio.NewReaderSize(connection, roomForRequest), whole: bufio.NewReaderSize(nil, roomForRequest)}
+	return &heads{all: bufio.NewReaderSize(connection, roomForRequest)}
 }
 
 // next reads a request. A line `Content-Length:` without a number is refused: net/http drops it, and others may read a body behind it.
 func (h *heads) next() (*http.Request, error) {
-	isClear, err := h.readLines()
+	isWhole, isClear, err := h.peekLines()
+	if err == nil && !isWhole {
+		isClear, err = h.readLines()
+	}
 	if err == nil && !isClear {
 		err = errOther
 	}
 	if err != nil {
 		return nil, err
 	}
+	if isWhole {
+		return http.ReadRequest(h.all)
+	}
 	h.left = h.lines
+	if h.whole == nil {
+		h.whole = bufio.NewReaderSize(nil, roomForRequest)
+	}
 	h.whole.Reset(h)
 	return http.ReadRequest(h.whole)
+}
+
+// peekLines looks at the lines up to the first that is empty, and leaves them to be read. It says whether they all fit in what is read at once,
+// and if so whether none of them gives a body's length without a number.
+func (h *heads) peekLines() (isWhole, isClear bool, err error) {
+	begin := 0
+	isClear = true
+	for {
+		text, _ := h.all.Peek(h.all.Buffered())
+		for end := bytes.IndexByte(text[begin:], '\n'); end >= 0; end = bytes.IndexByte(text[begin:], '\n') {
+			line := text[begin : begin+end+1]
+			if isEmpty(line) {
+				return true, isClear, nil
+			}
+			isClear = isClear && !isEmptyLength(line)
+			begin += len(line)
+		}
+		if len(text) == h.all.Size() {
+			return false, false, nil
+		}
+		if _, err := h.all.Peek(len(text) + 1); err != nil {
+			return false, false, err
+		}
+	}
 }
 
 // Read reads the lines of a request, and then what is behind them.
@@ -68,7 +102,7 @@ func (h *heads) readLines() (isClear bool, err error) {
 			return false, err
 		}
 		line := h.lines[begin:]
-		if string(line) == "\r\n" || string(line) == "\n" {
+		if isEmpty(line) {
 			return isClear, nil
 		}
 		isClear = isClear && !isEmptyLength(line)
@@ -76,9 +110,15 @@ func (h *heads) readLines() (isClear bool, err error) {
 	}
 }
 
+// isEmpty says whether a line is that which ends the headers.
+func isEmpty(line []byte) bool {
+	return string(line) == "\r\n" || string(line) == "\n"
+}
+
 var lengthName = []byte("content-length:")
 
 // isEmptyLength says whether a line gives a body's length without a number.
 func isEmptyLength(line []byte) bool {
-	return len(line) >= len(lengthName) && bytes.EqualFold(line[:len(lengthName)], lengthName) && len(bytes.TrimSpace(line[len(lengthName):])) == 0
+	return len(line) >= len(lengthName) && line[0]|0x20 == lengthName[0] && bytes.EqualFold(line[:len(lengthName)], lengthName) &&
+		len(bytes.TrimSpace(line[len(lengthName):])) == 0
 }

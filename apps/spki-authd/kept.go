@@ -263,20 +263,23 @@ func (k *kept) write(key string, made keptChain) error {
 }
 
 // judgeAll decides by what a request shows. Where it shows nothing and gets nothing, each sequence that is kept for its key is tried.
-func (d *decider) judgeAll(made record, key guard.ProvenKey, path string, asked *asked) record {
-	first := d.judge(made, key, path, asked.sequence)
-	if asked.sequence != "" || first.Answer != answerUnknown || d.chains == nil {
-		return first
+func (d *decider) judgeAll(made *record, key guard.ProvenKey, path string, asked *asked, now time.Time) {
+	begun := *made
+	d.judge(made, key, path, asked.sequence, now)
+	if asked.sequence != "" || made.Answer != answerUnknown || d.chains == nil {
+		return
 	}
-	shown, err := d.chains.of(made.Key, d.now())
+	shown, err := d.chains.of(made.Key, now)
 	if err != nil {
-		return made.ended(answerFailed, err)
+		*made = begun.ended(answerFailed, err)
+		return
 	}
 	for _, each := range shown {
-		if next := d.judge(made, key, path, each.text); next.Answer == answerYes {
+		next := begun
+		if d.judge(&next, key, path, each.text, now); next.Answer == answerYes {
 			next.Kept = "used"
-			return next
+			*made = next
+			return
 		}
 	}
-	return first
 }

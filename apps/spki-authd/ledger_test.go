@@ -1,11 +1,14 @@
 package main
 
 import (
+	"fmt"
 	"os"
 	"path/filepath"
 	"strings"
+	"sync"
 	"syscall"
 	"testing"
+	"time"
 )
 
 // A failing file writes part of what it is given, and fails, as a full disk does. It may not be cut or not be written to its disk.
@@ -81,6 +84,57 @@ func TestFullDisk(t *testing.T) {
 			t.Error(err)
 		}
 		made.has(t, wanted)
+	}
+}
+
+// A filled file takes half of what it is given, and fails, at each third write.
+type filled struct {
+	*os.File
+	writes int
+}
+
+func (f *filled) Write(octets []byte) (int, error) {
+	if f.writes++; f.writes%3 > 0 {
+		return f.File.Write(octets)
+	}
+	count, _ := f.File.Write(octets[:len(octets)/2])
+	return count, errFull
+}
+
+// TestFullDiskOfMany has many hand lines over while a disk is full again and again. The file has those that are said to be written, whole and once,
+// and no others.
+func TestFullDiskOfMany(t *testing.T) {
+	made, to := opened(t, syncNever, "")
+	made.file = &filled{File: to.File}
+	writer := newWriter(made, time.Minute, nil)
+	var all sync.WaitGroup
+	var mutex sync.Mutex
+	wanted := map[string]bool{}
+	for routine := 0; routine < 16; routine++ {
+		all.Add(1)
+		go func(routine int) {
+			defer all.Done()
+			for number := 0; number < 50; number++ {
+				line := fmt.Sprintf("%d-%d\n", routine, number)
+				if writer.write([]byte(line)) == nil {
+					mutex.Lock()
+					wanted[line] = true
+					mutex.Unlock()
+				}
+			}
+		}(routine)
+	}
+	all.Wait()
+	met, err := os.ReadFile(made.path)
+	lines := strings.SplitAfter(string(met), "\n")
+	if err != nil || len(lines)-1 != len(wanted) || len(wanted) == 0 || len(wanted) == 800 {
+		t.Errorf("%d lines, wanted %d, %v", len(lines)-1, len(wanted), err)
+	}
+	for _, line := range lines[:len(lines)-1] {
+		if !wanted[line] {
+			t.Errorf("%q is in the file", line)
+		}
+		delete(wanted, line)
 	}
 }
 

@@ -18,7 +18,7 @@ func TestLines(t *testing.T) {
 					Unverified: number, List: text, Reason: text, Reasons: text, Target: text, Microseconds: int64(number), Host: text, Address: text,
 				}
 				wanted, err := json.Marshal(made)
-				if met := string(made.line()); err != nil || met != string(wanted)+"\n" {
+				if met := string(made.line(nil)); err != nil || met != string(wanted)+"\n" {
 					t.Errorf("%q, wanted %q", met, wanted)
 				}
 			}

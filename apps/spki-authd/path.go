@@ -38,6 +38,9 @@ func pathOf(target string, most int) (string, error) {
 
 // decoded decodes each `%XX`, once, and refuses the characters that no path has.
 func decoded(sent string) (string, error) {
+	if isOfPaths(sent) {
+		return sent, nil
+	}
 	path := make([]byte, 0, len(sent))
 	for place := 0; place < len(sent); place++ {
 		octet, isEscaped := sent[place], sent[place] == '%'
@@ -48,12 +51,30 @@ func decoded(sent string) (string, error) {
 			octet = digit(sent[place+1])<<4 | digit(sent[place+2])
 			place += 2
 		}
-		if octet < ' ' || octet > '~' || strings.IndexByte(`%\;?#`, octet) >= 0 || isEscaped && octet == '/' {
+		if !isOfPath[octet] || isEscaped && octet == '/' {
 			return "", errUnclear
 		}
 		path = append(path, octet)
 	}
 	return string(path), nil
+}
+
+// isOfPath has the characters that a path may have.
+var isOfPath = func() (made [256]bool) {
+	for octet := ' '; octet <= '~'; octet++ {
+		made[octet] = !strings.ContainsRune(`%\;?#`, octet)
+	}
+	return made
+}()
+
+// isOfPaths says whether a text has only such characters.
+func isOfPaths(text string) bool {
+	for place := 0; place < len(text); place++ {
+		if !isOfPath[text[place]] {
+			return false
+		}
+	}
+	return true
 }
 
 func isHexadecimal(octet byte) bool {

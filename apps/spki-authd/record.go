@@ -103,13 +103,10 @@ func (a answer) status(refused int) int {
 	return http.StatusServiceUnavailable
 }
 
-// The octets that most answers have.
-const roomForAnswer = 512
-
-// response returns what the web server is told. It has no body, so it is the same for HEAD. The headers have digits, words of the daemon and
-// lines of the library alone, and nothing that a client sent. After the last answer the connection is closed.
-func (r *record) response(now time.Time, isLast bool) []byte {
-	made := append(make([]byte, 0, roomForAnswer), "HTTP/1.1 "...)
+// response returns what the web server is told, in some room. It has no body, so it is the same for HEAD. The headers have digits, words of the
+// daemon and lines of the library alone, and nothing that a client sent. After the last answer the connection is closed.
+func (r *record) response(room []byte, now time.Time, isLast bool) []byte {
+	made := append(room[:0], "HTTP/1.1 "...)
 	made = strconv.AppendInt(made, int64(r.Status), 10)
 	made = append(append(append(made, ' '), http.StatusText(r.Status)...), "\r\nCache-Control: no-store\r\nContent-Length: 0\r\nDate: "...)
 	made = append(made, secondOf(now).date...)
@@ -121,7 +118,8 @@ func (r *record) response(now time.Time, isLast bool) []byte {
 		header("X-Spki-Key", r.Key)
 	}
 	if r.Entry > 0 {
-		header("X-Spki-Entry", strconv.Itoa(r.Entry))
+		header("X-Spki-Entry", "")
+		made = strconv.AppendInt(made, int64(r.Entry), 10)
 	}
 	if r.Answer == answerRefused {
 		header("X-Spki-Reason", strings.ReplaceAll(r.Reason, "\n", ", "))
@@ -168,6 +166,8 @@ func secondOf(moment time.Time) *second {
 
 // stamp returns a moment as the log has it, in milliseconds.
 func stamp(moment time.Time) string {
-	parts := int64(moment.Nanosecond()/int(time.Millisecond)) + 1000
-	return secondOf(moment).log + "." + strconv.FormatInt(parts, 10)[1:] + "Z"
+	parts := moment.Nanosecond() / int(time.Millisecond)
+	var room [len("2006-01-02T15:04:05.000Z")]byte
+	made := append(room[:0], secondOf(moment).log...)
+	return string(append(made, '.', byte('0'+parts/100), byte('0'+parts/10%10), byte('0'+parts%10), 'Z'))
 }

@@ -14,8 +14,8 @@ func TestMoments(t *testing.T) {
 			t.Errorf("%s, not %s", said, want)
 		}
 		made := record{Status: 200, Answer: answerYes}
-		if want := moment.UTC().Format(time.RFC1123); !strings.Contains(string(made.response(moment, false)), "\r\nDate: "+strings.Replace(want, "UTC", "GMT", 1)+"\r\n") {
-			t.Errorf("no date %s: %s", want, made.response(moment, false))
+		if want := moment.UTC().Format(time.RFC1123); !strings.Contains(string(made.response(nil, moment, false)), "\r\nDate: "+strings.Replace(want, "UTC", "GMT", 1)+"\r\n") {
+			t.Errorf("no date %s: %s", want, made.response(nil, moment, false))
 		}
 	}
 }

@@ -320,15 +320,15 @@ func TestDeadlines(t *testing.T) {
 		"for a new one": (*door).closeIdle, "after long": func(door *door) { door.endLate(time.Now().Add(timeIdle + time.Second)) },
 	} {
 		door, connection := newDoor(newSite(t, "").decider), &dated{}
-		door.enter(connection)
-		if err := door.note(connection, isIdle); err != nil || !connection.until.IsZero() {
+		visit := door.enter(connection)
+		if err := door.note(visit, isIdle); err != nil || !connection.until.IsZero() {
 			t.Errorf("%s: %v, %v", name, err, connection.until)
 		}
 		door.endLate(time.Now())
 		if ends(door); connection.until.IsZero() {
 			t.Errorf("%s: it stays", name)
 		}
-		if err := door.note(connection, isBusy); err != nil || time.Until(connection.until) < time.Second {
+		if err := door.note(visit, isBusy); err != nil || time.Until(connection.until) < time.Second {
 			t.Errorf("%s: %v, %v", name, err, connection.until)
 		}
 	}

@@ -153,7 +153,7 @@ func BenchmarkSigned(b *testing.B) {
 	b.ReportAllocs()
 	for turn := 0; turn < b.N; turn++ {
 		made := s.answerTo(request)
-		if made.response(time.Now(), false); made.Status != http.StatusOK {
+		if made.response(nil, time.Now(), false); made.Status != http.StatusOK {
 			b.Fatal(made.Status, made.Reason)
 		}
 	}

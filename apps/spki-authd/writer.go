@@ -18,108 +18,173 @@ type sink interface {
 type writer struct {
 	to       sink
 	patience time.Duration
-	queue    chan *queued
 	commands chan func()
+	// Tells the goroutine that lines wait.
+	wakes chan struct{}
 	// What is done each second, if anything.
 	eachSecond func()
 	// Whether the last lines had to be waited for in vain, and whether they could not be written.
 	isStuck, isFailing atomic.Bool
 	// The lines that were written, those that could not be, and those that were dropped because too many waited.
 	written, failed, dropped atomic.Uint64
-	// What the goroutine gathers before it writes.
-	batch  []*queued
-	buffer []byte
+	// Guards what follows.
+	mutex sync.Mutex
+	// What waits, first what came first, the number of its lines, and what is written now, or nil.
+	waiting []*batch
+	queued  int
+	present *batch
+	// Room for lines that is used again.
+	rooms [][]byte
+	// Calls look, and whether it is going to.
+	watchdog  *time.Timer
+	isWatched bool
 }
 
-// A queued line waits to be written.
-type queued struct {
-	line []byte
-	// Whether it is being written, or is given up: what comes first counts.
-	isTaken  atomic.Bool
-	done     chan error
-	patience *time.Timer
+// A batch has lines that are written at once. Then all who wait for one of them are told.
+type batch struct {
+	lines []byte
+	count int
+	// Whether its lines are still written when nobody waits for them any more.
+	isKept bool
+	// When its first line came, and whether no further one comes.
+	begun  time.Time
+	isFull bool
+	// Closed when the lines are written or are not waited for any more, after err and isDone are set.
+	done   chan struct{}
+	isDone bool
+	err    error
 }
 
-// What was queued and is done, and can be used again.
-var spare = sync.Pool{New: func() any {
-	made := &queued{done: make(chan error, 1), patience: time.NewTimer(time.Hour)}
-	made.patience.Stop()
-	return made
-}}
-
-// queuedFor returns a line that waits for some time.
-func queuedFor(line []byte, patience time.Duration) *queued {
-	made := spare.Get().(*queued)
-	made.line = line
-	made.patience.Reset(patience)
-	return made
-}
-
-// end ends a line that is done. What was given up, or was near to it, is left to the collector.
-func (q *queued) end() {
-	if q.patience.Stop() {
-		q.line = nil
-		q.isTaken.Store(false)
-		spare.Put(q)
-	}
-}
-
-// The lines that may wait, and the octets after which no further line is written at once.
+// The lines that may wait without anyone who waits for them, and the octets after which no further line is written at once.
 const (
 	mostQueued = 1024
 	mostAtOnce = 1 << 18
 )
 
+// The room that lines have at first, and how many such rooms are kept: for those that are written, and for those that wait meanwhile.
+const (
+	roomForLines = 8 * roomForLine
+	mostRooms    = 2
+)
+
+// How often in the time of a line it is looked which lines have had theirs. To set a timer for each line would take a microsecond.
+const looksInPatience = 20
+
 var errHangs = errors.New("the log takes no line in time")
 
 // newWriter returns a writer, which begins at once.
 func newWriter(to sink, patience time.Duration, eachSecond func()) *writer {
-	made := &writer{to: to, patience: patience, queue: make(chan *queued, mostQueued), commands: make(chan func()), eachSecond: eachSecond}
+	made := &writer{to: to, patience: patience, commands: make(chan func()), wakes: make(chan struct{}, 1), eachSecond: eachSecond}
+	made.watchdog = time.AfterFunc(patience, made.look)
+	made.watchdog.Stop()
 	go made.run()
 	return made
 }
 
-// write writes a line, and returns when it is written. After an error it is not, or it has no end in time.
+// write writes a line, and returns when it is written. After an error it is not, or it has no end in time. The line can then be used again.
 func (w *writer) write(line []byte) error {
-	waiting := queuedFor(line, w.patience)
-	select {
-	case w.queue <- waiting:
-	case <-waiting.patience.C:
-		w.failed.Add(1)
-		return errHangs
-	}
-	select {
-	case err := <-waiting.done:
-		waiting.end()
-		return err
-	case <-waiting.patience.C:
-		if waiting.isTaken.CompareAndSwap(false, true) {
-			w.failed.Add(1)
-		}
-		w.isStuck.Store(true)
-		return errHangs
-	}
+	w.mutex.Lock()
+	in := w.add(line, false)
+	w.mutex.Unlock()
+	<-in.done
+	return in.err
 }
 
 // offer writes a line, if the sink takes it. It waits only as long as the sink was not late before. What is too much is dropped and counted.
 func (w *writer) offer(line []byte) {
-	waiting := queuedFor(line, w.patience)
-	select {
-	case w.queue <- waiting:
-	default:
-		waiting.end()
+	w.mutex.Lock()
+	if w.queued >= mostQueued {
+		w.mutex.Unlock()
 		w.dropped.Add(1)
 		return
 	}
-	if w.isStuck.Load() {
-		waiting.patience.Stop()
-		return
+	in := w.add(line, true)
+	w.mutex.Unlock()
+	if !w.isStuck.Load() {
+		<-in.done
 	}
+}
+
+// add puts a line behind those that wait, and returns what it is written with. The mutex is held.
+func (w *writer) add(line []byte, isKept bool) *batch {
+	last := len(w.waiting) - 1
+	if last < 0 || w.waiting[last].isFull || w.waiting[last].isKept != isKept {
+		w.waiting = append(w.waiting, &batch{lines: w.newRoom(), isKept: isKept, begun: time.Now(), done: make(chan struct{})})
+		last++
+		w.watch()
+		w.wake()
+	}
+	in := w.waiting[last]
+	in.lines = append(in.lines, line...)
+	in.count++
+	in.isFull = len(in.lines) >= mostAtOnce
+	w.queued++
+	return in
+}
+
+// newRoom returns room for lines, which may have been used before. The mutex is held.
+func (w *writer) newRoom() []byte {
+	last := len(w.rooms) - 1
+	if last < 0 {
+		return make([]byte, 0, roomForLines)
+	}
+	room := w.rooms[last]
+	w.rooms = w.rooms[:last]
+	return room
+}
+
+// wake has the goroutine write what waits.
+func (w *writer) wake() {
 	select {
-	case <-waiting.done:
-		waiting.end()
-	case <-waiting.patience.C:
-		w.isStuck.Store(true)
+	case w.wakes <- struct{}{}:
+	default:
+	}
+}
+
+// watch has look called after some time, if it is not yet to be. The mutex is held.
+func (w *writer) watch() {
+	if !w.isWatched {
+		w.isWatched = true
+		w.watchdog.Reset(w.patience / looksInPatience)
+	}
+}
+
+// look tells those who have waited too long. A line that is waited for and comes from now on is in a batch of its own, and is given as much time.
+func (w *writer) look() {
+	w.mutex.Lock()
+	defer w.mutex.Unlock()
+	late := time.Now().Add(w.patience/looksInPatience - w.patience)
+	if w.present != nil && w.present.begun.Before(late) {
+		w.giveUp(w.present)
+	}
+	left := w.waiting[:0]
+	for _, each := range w.waiting {
+		each.isFull = each.isFull || !each.isKept
+		if each.begun.After(late) || w.giveUp(each) {
+			left = append(left, each)
+			continue
+		}
+		w.queued -= each.count
+		w.failed.Add(uint64(each.count))
+	}
+	w.waiting = left
+	if w.isWatched = false; w.present != nil || len(left) > 0 {
+		w.watch()
+	}
+}
+
+// giveUp tells those who wait for lines that these have no end in time, and says whether they are still written. The mutex is held.
+func (w *writer) giveUp(late *batch) (isKept bool) {
+	w.isStuck.Store(true)
+	late.end(errHangs)
+	return late.isKept
+}
+
+// end tells those who wait what became of their lines, if they were not told before. The writer's mutex is held.
+func (b *batch) end(err error) {
+	if !b.isDone {
+		b.isDone, b.err = true, err
+		close(b.done)
 	}
 }
 
@@ -144,8 +209,7 @@ func (w *writer) do(command func()) bool {
 // flush writes what waits, if the sink takes it in time.
 func (w *writer) flush() {
 	w.do(func() {
-		for next := w.next(); next != nil; next = w.next() {
-			w.writeAll(next)
+		for w.writeNext() {
 		}
 	})
 }
@@ -158,10 +222,10 @@ func (w *writer) run() {
 	}
 	for {
 		select {
-		case first := <-w.queue:
-			// (whoever is about to hand over a line does that first: under load one write then has ten lines, and not one)
+		case <-w.wakes:
+			// (whoever is about to hand over a line does that first: under load one write then has several lines, and not one)
 			runtime.Gosched()
-			w.writeAll(first)
+			w.writeNext()
 		case command := <-w.commands:
 			command()
 		case <-beats:
@@ -170,44 +234,42 @@ func (w *writer) run() {
 	}
 }
 
-// writeAll writes a line and those that wait behind it, and tells each of them.
-func (w *writer) writeAll(first *queued) {
-	w.gather(first)
-	if len(w.batch) == 0 {
-		return
+// writeNext writes the lines that have waited longest, and says whether there were any.
+func (w *writer) writeNext() bool {
+	next := w.next()
+	if next == nil {
+		return false
 	}
-	err := w.to.write(w.buffer)
+	err := w.to.write(next.lines)
+	w.mutex.Lock()
+	defer w.mutex.Unlock()
 	w.isFailing.Store(err != nil)
 	if err == nil {
 		w.isStuck.Store(false)
-		w.written.Add(uint64(len(w.batch)))
+		w.written.Add(uint64(next.count))
 	} else {
-		w.failed.Add(uint64(len(w.batch)))
+		w.failed.Add(uint64(next.count))
 	}
-	for _, each := range w.batch {
-		each.done <- err
+	next.end(err)
+	w.present = nil
+	if len(w.rooms) < mostRooms {
+		w.rooms = append(w.rooms, next.lines[:0])
 	}
+	if len(w.waiting) > 0 {
+		w.wake()
+	}
+	return true
 }
 
-// gather puts together the lines that wait and are not given up.
-func (w *writer) gather(first *queued) {
-	w.batch, w.buffer = w.batch[:0], w.buffer[:0]
-	for next := first; next != nil; next = w.next() {
-		if next.isTaken.CompareAndSwap(false, true) {
-			w.batch, w.buffer = append(w.batch, next), append(w.buffer, next.line...)
-		}
-		if len(w.buffer) >= mostAtOnce {
-			return
-		}
-	}
-}
-
-// next returns a line that waits, or nil.
-func (w *writer) next() *queued {
-	select {
-	case next := <-w.queue:
-		return next
-	default:
+// next returns the lines that have waited longest, or nil.
+func (w *writer) next() *batch {
+	w.mutex.Lock()
+	defer w.mutex.Unlock()
+	if len(w.waiting) == 0 {
 		return nil
 	}
+	w.present = w.waiting[0]
+	w.waiting = append(w.waiting[:0], w.waiting[1:]...)
+	w.queued -= w.present.count
+	return w.present
 }

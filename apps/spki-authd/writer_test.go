@@ -81,6 +81,96 @@ func TestManyLines(t *testing.T) {
 	}
 }
 
+// TestTimeOfLines hands lines over by many, some of them later, to a sink that takes none. Each gets its answer in time, also that which is being
+// written, and none before its time is nearly over. What is given up is not written, and what comes afterwards is.
+func TestTimeOfLines(t *testing.T) {
+	const patience = time.Second
+	sink := &hanging{goes: make(chan struct{})}
+	made := newWriter(sink, patience, nil)
+	var all sync.WaitGroup
+	hands := func(line string) {
+		defer all.Done()
+		begun := time.Now()
+		err := made.write([]byte(line))
+		// (a busy machine may tell it later)
+		if took := time.Since(begun); !errors.Is(err, errHangs) || took < patience/2 || took > 3*patience {
+			t.Errorf("%q: %v after %v", line, err, took)
+		}
+	}
+	all.Add(1)
+	go hands("first\n")
+	for made.taken() == 0 {
+		time.Sleep(time.Millisecond)
+	}
+	for line := 0; line < 64; line++ {
+		all.Add(1)
+		go hands("given up\n")
+		time.Sleep(patience / 128)
+	}
+	all.Wait()
+	if !made.isStuck.Load() || made.written.Load() != 0 {
+		t.Error("it is not said that the sink hangs")
+	}
+	close(sink.goes)
+	wanted := "first\n"
+	for line := 0; line < 100; line++ {
+		wanted += "later\n"
+		if err := made.write([]byte("later\n")); err != nil {
+			t.Fatal(err)
+		}
+	}
+	if met := sink.text.String(); met != wanted || made.isStuck.Load() || made.written.Load() != 101 || made.failed.Load() != 64 {
+		t.Errorf("%d written, %d failed: %.100q", made.written.Load(), made.failed.Load(), met)
+	}
+}
+
+// TestOrderOfLines has lines wait behind a write. They are written as they came, those that are offered among the others, and a long line too.
+func TestOrderOfLines(t *testing.T) {
+	sink := &hanging{goes: make(chan struct{})}
+	made := newWriter(sink, time.Minute, nil)
+	long := strings.Repeat("x", mostAtOnce) + "\n"
+	wanted := ""
+	var all sync.WaitGroup
+	for line, text := range []string{"first\n", "second\n", long, "third\n", "fourth\n", "fifth\n"} {
+		wanted += text
+		all.Add(1)
+		go func(line int, text string) {
+			defer all.Done()
+			if line%2 == 0 {
+				made.offer([]byte(text))
+			} else if err := made.write([]byte(text)); err != nil {
+				t.Error(err)
+			}
+		}(line, text)
+		for begun := time.Now(); made.lines() <= line && time.Since(begun) < time.Minute; {
+			time.Sleep(time.Millisecond)
+		}
+	}
+	close(sink.goes)
+	all.Wait()
+	if met := sink.text.String(); met != wanted {
+		t.Errorf("%d octets, %.20q", len(met), met)
+	}
+}
+
+// taken returns the number of lines that are being written.
+func (w *writer) taken() int {
+	w.mutex.Lock()
+	defer w.mutex.Unlock()
+	if w.present == nil {
+		return 0
+	}
+	return w.present.count
+}
+
+// lines returns the number of lines that wait or are being written.
+func (w *writer) lines() int {
+	taken := w.taken()
+	w.mutex.Lock()
+	defer w.mutex.Unlock()
+	return taken + w.queued
+}
+
 // A filling writer is full after so many octets.
 type filling struct {
 	room int

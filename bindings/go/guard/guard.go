@@ -54,8 +54,8 @@ type Event struct {
 	Took time.Duration
 }
 
-// Logged returns the same guard, which calls a function after each Decide, DecideContext and Require, before they return. Calls may be under way
-// at the same time. If it panics, nothing is granted.
+// Logged returns the same guard, which calls a function after each Decide, DecideContext, DecideVerified and Require, before they return. Calls may
+// be under way at the same time. If it panics, nothing is granted.
 func (g *Guard) Logged(log func(Event)) *Guard {
 	return &Guard{g.held, log, g.most}
 }
@@ -206,6 +206,25 @@ func (g *Guard) decideContext(ctx context.Context, question *Question, verify Ve
 		return Decision{}, fmt.Errorf("a signature could not be verified: %w", err)
 	}
 	return asked.Decide()
+}
+
+// DecideVerified decides a question whose sequence the caller has asked about before: it lists so many signatures, of which so many at the front are
+// valid. Which signatures are listed depends on the sequence and the policy alone. It is Ask, Mark and Decide in one call. The error is ErrMisused if
+// another number is listed, and else that of Ask.
+func (g *Guard) DecideVerified(question Question, listed, valid int) (Decision, error) {
+	return g.told(question, func() (Decision, error) { return g.decideVerified(&question, listed, valid) })
+}
+
+func (g *Guard) decideVerified(question *Question, listed, valid int) (Decision, error) {
+	handle, err := g.lock()
+	if err != nil {
+		return Decision{}, err
+	}
+	defer g.held.mutex.RUnlock()
+	if listed < 0 || valid < 0 {
+		return Decision{}, ErrMisused
+	}
+	return decideVerified(handle, question, listed, valid)
 }
 
 // Require is as DecideContext for a caller that tests nothing but the error: nil is a yes, with the number of the entry, and a no is ErrDenied.

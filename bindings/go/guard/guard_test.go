@@ -153,6 +153,37 @@ func TestMarks(t *testing.T) {
 	}
 }
 
+// TestVerifiedBefore decides by how many signatures are known to be valid, as by marks.
+func TestVerifiedBefore(t *testing.T) {
+	made := opened(t, list)
+	question := shown(1)
+	question.Sequence = []byte("(sequence " + own + pair + ")")
+	for valid, wanted := range []int{0, 0, 1} {
+		met, err := made.DecideVerified(question, 2, valid)
+		if err != nil || met.Entry() != wanted || met.Granted() != granted(t, marked(t, made, question, []int{0, 1}[:valid]...)) {
+			t.Errorf("%d: %v, %v", valid, met, err)
+		}
+	}
+	for _, row := range [][2]int{{1, 1}, {3, 3}, {2, 3}, {0, 0}, {2, -1}, {-1, -1}} {
+		if met, err := made.DecideVerified(question, row[0], row[1]); !errors.Is(err, guard.ErrMisused) || met.Granted() {
+			t.Errorf("%d: %v, %v", row, met, err)
+		}
+	}
+	var events []guard.Event
+	_, _ = made.Logged(func(event guard.Event) { events = append(events, event) }).DecideVerified(question, 2, 2)
+	if len(events) != 1 || !events[0].Decision.Granted() {
+		t.Errorf("%v", events)
+	}
+	question.Sequence = []byte("(sequence")
+	if met, err := made.DecideVerified(question, 0, 0); !errors.Is(err, guard.ErrRefused) || met.Granted() {
+		t.Errorf("%v, %v", met, err)
+	}
+	made.Close()
+	if met, err := made.DecideVerified(shown(1), 1, 1); !errors.Is(err, guard.ErrClosed) || met.Granted() {
+		t.Errorf("%v, %v", met, err)
+	}
+}
+
 // TestMarksAreOfOneQuestion asks for two clients at once. What is marked for b grants nothing to c, who shows a forged certificate.
 func TestMarksAreOfOneQuestion(t *testing.T) {
 	made, question := opened(t, list), shown(0)

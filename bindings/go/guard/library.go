@@ -53,15 +53,6 @@ func text(octets []byte) C.struct_spki_text {
 	return C.struct_spki_text{octets: unsafe.Pointer(&octets[0]), length: C.size_t(len(octets))}
 }
 
-// textOf lends a text of Go's for one call.
-func textOf(octets string) C.struct_spki_text {
-	if len(octets) == 0 {
-		return C.struct_spki_text{}
-	}
-	// (a string begins with the address of its octets)
-	return C.struct_spki_text{octets: *(*unsafe.Pointer)(unsafe.Pointer(&octets)), length: C.size_t(len(octets))}
-}
-
 // octetsOf lends octets that belong to the library, for as long as the library keeps them.
 func octetsOf(text C.struct_spki_text) []byte {
 	if text.length == 0 {
@@ -128,26 +119,33 @@ func entries(guard handle) int {
 	return int(C.spki_guard_entries(guard))
 }
 
-// partsOf lends a question. Its strings are in one piece, and their lengths beside it.
-func partsOf(question *Question) (C.struct_library_question, *C.size_t) {
+// A lent is a question as one call takes it.
+type lent struct {
+	parts            C.struct_library_question
+	sequence, joined *C.char
+	lengths          *C.size_t
+}
+
+// lend lends a question for one call.
+func lend(question *Question) lent {
 	joined, lengths := question.joined()
-	parts := C.struct_library_question{
-		sequence: text(question.Sequence), key: textOf(question.Key.Text()), request: text(question.Request), joined: textOf(joined),
-		moment: text(question.Moment), word_count: C.size_t(len(question.Words)),
+	made := lent{
+		parts:    C.struct_library_question{sequence_length: C.size_t(len(question.Sequence)), word_count: C.size_t(len(question.Words))},
+		sequence: (*C.char)(text(question.Sequence).octets), joined: (*C.char)(text(joined).octets), lengths: (*C.size_t)(unsafe.Pointer(&lengths[0])),
 	}
 	if question.Words != nil {
-		parts.by_words = 1
+		made.parts.by_words = 1
 	}
 	if !question.Time.IsZero() {
-		parts.by_seconds, parts.seconds = 1, C.int64_t(question.Time.Unix())
+		made.parts.by_seconds, made.parts.seconds = 1, C.int64_t(question.Time.Unix())
 	}
-	return parts, (*C.size_t)(unsafe.Pointer(&lengths[0]))
+	return made
 }
 
 // ask reads a question, and counts its signatures.
 func ask(guard handle, question *Question) (asked opened, count int, err error) {
-	parts, lengths := partsOf(question)
-	said := C.library_ask(guard, parts, lengths)
+	lent := lend(question)
+	said := C.library_ask(guard, lent.parts, lent.sequence, lent.joined, lent.lengths)
 	if said.status != C.SPKI_DONE || said.asked == nil {
 		return nil, 0, failed(said.status, lineIn(&said))
 	}
@@ -185,13 +183,25 @@ func possible(asked opened) bool {
 // decide returns the decision by the marks of a question.
 func decide(asked opened) (Decision, error) {
 	said := C.library_decide(asked)
+	return decisionIn(&said)
+}
+
+// decideVerified returns the decision of a question that lists so many signatures, of which so many at the front are valid.
+func decideVerified(guard handle, question *Question, listed, valid int) (Decision, error) {
+	lent := lend(question)
+	said := C.library_decide_verified(guard, lent.parts, lent.sequence, lent.joined, lent.lengths, C.size_t(listed), C.size_t(valid))
+	return decisionIn(&said)
+}
+
+// decisionIn returns the decision that a call has made.
+func decisionIn(said *C.struct_library_said) (Decision, error) {
 	switch said.status {
 	case C.SPKI_YES:
-		return decisionOf(lineIn(&said), int64(said.until))
+		return decisionOf(lineIn(said), int64(said.until))
 	case C.SPKI_NO:
 		return Decision{}, nil
 	}
-	return Decision{}, failed(said.status, lineIn(&said))
+	return Decision{}, failed(said.status, lineIn(said))
 }
 
 // lines returns the lines of an answer that is no decision, which has at most so many octets.

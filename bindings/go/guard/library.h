@@ -18,10 +18,10 @@ struct library_said {
     char line[LIBRARY_LINE];
 };
 
-/* The parts of a question. The strings of the request are one after the other in `joined`. */
+/* A question but its texts, of which the sequence is apart. The key, the request, the moment and the strings of the request are one after the other
+ * in one piece, and as many lengths are beside it. It has no pointer: Go looks through all that is behind one, at each call. */
 struct library_question {
-    struct spki_text sequence, key, request, joined, moment;
-    size_t word_count;
+    size_t sequence_length, word_count;
     int by_words, by_seconds;
     int64_t seconds;
 };
@@ -35,22 +35,28 @@ static inline struct library_said library_open(struct spki_text list, enum spki_
     return said;
 }
 
-static inline struct library_said library_ask(const spki_guard *guard, struct library_question parts, const size_t *lengths)
+/* The text of the next length, behind which the rest begins. */
+static inline struct spki_text library_next(const char **rest, const size_t **lengths)
+{
+    struct spki_text text = {**lengths > 0 ? *rest : NULL, **lengths};
+    *rest += *(*lengths)++;
+    return text;
+}
+
+static inline struct library_said library_ask(const spki_guard *guard, struct library_question parts, const char *sequence, const char *joined,
+                                              const size_t *lengths)
 {
     struct library_said said = {.status = SPKI_NO_MEMORY};
     const size_t count = parts.word_count;
     struct spki_text few[LIBRARY_FEW_WORDS], *words = count <= LIBRARY_FEW_WORDS ? few : calloc(count, sizeof *words);
-    const char *at = parts.joined.octets;
     if (!words)
         return said;
-    for (size_t place = 0; place < count; place++) {
-        words[place] = (struct spki_text){at, lengths[place]};
-        at += lengths[place];
-    }
+    const struct spki_text key = library_next(&joined, &lengths), request = library_next(&joined, &lengths), moment = library_next(&joined, &lengths);
+    for (size_t place = 0; place < count; place++)
+        words[place] = library_next(&joined, &lengths);
     const struct spki_question question = {
-        .size = sizeof question, .sequence = parts.sequence, .key = spki_assume_key(parts.key), .request = parts.request,
-        .words = parts.by_words ? words : NULL, .word_count = count, .moment = parts.moment,
-        .seconds = parts.by_seconds ? &parts.seconds : NULL};
+        .size = sizeof question, .sequence = {sequence, parts.sequence_length}, .key = spki_assume_key(key), .request = request,
+        .words = parts.by_words ? words : NULL, .word_count = count, .moment = moment, .seconds = parts.by_seconds ? &parts.seconds : NULL};
     said.status = spki_guard_ask(guard, &question, &said.asked, said.line, sizeof said.line, &said.length);
     said.count = spki_asked_count(said.asked);
     if (words != few)
@@ -63,6 +69,24 @@ static inline struct library_said library_decide(const spki_asked *asked)
     struct library_said said = {0};
     struct spki_decision decision = spki_asked_decide(asked, said.line, sizeof said.line, &said.length);
     said.status = decision.status, said.until = decision.until;
+    return said;
+}
+
+/* Decides a question that lists so many signatures, of which so many at the front are valid. */
+static inline struct library_said library_decide_verified(const spki_guard *guard, struct library_question parts, const char *sequence,
+                                                          const char *joined, const size_t *lengths, size_t listed, size_t valid)
+{
+    struct library_said said = library_ask(guard, parts, sequence, joined, lengths);
+    spki_asked *asked = said.asked;
+    if (said.status != SPKI_DONE)
+        return said;
+    said = (struct library_said){.status = SPKI_MISUSED};
+    if (spki_asked_count(asked) == listed && valid <= listed) {
+        for (size_t place = 0; place < valid; place++)
+            spki_asked_mark(asked, place);
+        said = library_decide(asked);
+    }
+    spki_asked_close(asked);
     return said;
 }
 

@@ -1,9 +1,6 @@
 package guard
 
-import (
-	"strings"
-	"time"
-)
+import "time"
 
 // A Question is what a service asks a guard. Each text is one value in any of the three forms of RFC 9804.
 type Question struct {
@@ -22,11 +19,18 @@ type Question struct {
 	Moment []byte
 }
 
-// joined returns the strings of the request in one piece, and their lengths, of which there is at least one.
-func (q *Question) joined() (string, []uintptr) {
-	lengths := make([]uintptr, len(q.Words)+1)
-	for place, word := range q.Words {
-		lengths[place] = uintptr(len(word))
+// joined returns the key, the request, the moment and the strings of the request in one piece, and the length of each.
+func (q *Question) joined() ([]byte, []uintptr) {
+	key := q.Key.Text()
+	lengths := append(make([]uintptr, 0, 3+len(q.Words)), uintptr(len(key)), uintptr(len(q.Request)), uintptr(len(q.Moment)))
+	octets := len(key) + len(q.Request) + len(q.Moment)
+	for _, word := range q.Words {
+		lengths = append(lengths, uintptr(len(word)))
+		octets += len(word)
 	}
-	return strings.Join(q.Words, ""), lengths
+	joined := append(append(append(make([]byte, 0, octets), key...), q.Request...), q.Moment...)
+	for _, word := range q.Words {
+		joined = append(joined, word...)
+	}
+	return joined, lengths
 }

@@ -135,6 +135,10 @@ func isOfLargeOrder(q []byte) bool {
 	if len(q) != ed25519.PublicKeySize {
 		return false
 	}
+	if top := q[len(q)-1] &^ 0x80; top != 0 && top != 0x05 && top != 0x7a && top != 0x7f {
+		// (the first octets of the numbers below are others)
+		return true
+	}
 	y := littleEndian(q)
 	y.SetBit(y, 8*half-1, 0)
 	return y.BitLen() > 192 && y.Cmp(lastY) < 0 && y.Cmp(eighth) != 0 && y.Cmp(other) != 0

@@ -21,13 +21,15 @@ const (
 	afterValue  = ")))"
 )
 
-// The order of the group of Ed25519.
+// The order of the group of Ed25519, and its first octet.
+const topOfOrder = 0x10
+
 var order = numberOf("1000000000000000000000000000000014def9dea2f79cd65812631a5cf5d3ed")
 
 // ed25519Value returns both halves of a signature by Ed25519.
 func ed25519Value(value []byte) ([]byte, bool) {
 	r, s, ok := pair(value, beforeR)
-	if !ok || len(r) != half || len(s) != half || littleEndian(s).Cmp(order) >= 0 {
+	if !ok || len(r) != half || len(s) != half || s[half-1] >= topOfOrder && littleEndian(s).Cmp(order) >= 0 {
 		return nil, false
 	}
 	return append(append(make([]byte, 0, 2*half), r...), s...), true

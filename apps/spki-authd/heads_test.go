@@ -1,0 +1,53 @@
+package main
+
+import (
+	"fmt"
+	"io"
+	"strings"
+	"testing"
+	"testing/iotest"
+)
+
+// readAll returns what is read of requests that come one after the other: of each its method and body, and at last why there is none.
+func readAll(from io.Reader) (read []string) {
+	reader := newHeads(from)
+	for {
+		request, err := reader.next()
+		if err != nil {
+			return append(read, err.Error())
+		}
+		body, err := io.ReadAll(request.Body)
+		read = append(read, fmt.Sprint(request.Method, " ", request.Header.Get("X-Last"), " ", string(body), " ", err))
+	}
+}
+
+// TestHeads reads requests whose lines fit in what is read at once, and the same with a longer one, whole and in pieces. They are read alike.
+func TestHeads(t *testing.T) {
+	for _, row := range []struct{ text, wanted string }{
+		{"GET / HTTP/1.1\r\n%sHost: x\r\nX-Last: a\r\n\r\n", "GET a  <nil>, EOF"},
+		{"GET / HTTP/1.1\n%sHost: x\nX-Last: a\n\n", "GET a  <nil>, EOF"},
+		{"GET / HTTP/1.1\r\n%sX-Last: a\r\n\r\nGET / HTTP/1.1\r\nX-Last: b\r\n\r\n", "GET a  <nil>, GET b  <nil>, EOF"},
+		{"PUT / HTTP/1.1\r\n%sHost: x\r\nContent-Length: 3\r\n\r\nabc", "PUT  abc <nil>, EOF"},
+		{"PUT / HTTP/1.1\r\n%sHost: x\r\nTransfer-Encoding: chunked\r\n\r\n2\r\nab\r\n0\r\n\r\n", "PUT  ab <nil>, EOF"},
+		{"PUT / HTTP/1.1\r\n%sHost: x\r\nContent-Length: 3\r\n\r\na", "PUT  a unexpected EOF, EOF"},
+		{"GET / HTTP/1.1\r\n%sHost: x\r\nContent-Length:\r\n\r\n", errOther.Error()},
+		{"GET / HTTP/1.1\r\n%sHost: x\r\ncontent-LENGTH: \t \r\n\r\n", errOther.Error()},
+		{"GET / HTTP/1.1\r\n%sHost: x\r\nContent-Lengths:\r\n\r\n", "GET   <nil>, EOF"},
+		{"GET / HTTP/1.1\r\n%sHost: x\r\n\rx\r\n\r\n", `malformed MIME header: missing colon: "\rx"`},
+		{"GET / HTTP/1.1\r\n%sHost: x\r\n", "EOF"}, {"x\r\n%s\r\n", `malformed HTTP request "x"`},
+	} {
+		for _, more := range []string{"", strings.Repeat("X-More: x\r\n", 500), "X-More: " + strings.Repeat("x", 2*roomForRequest) + "\r\n"} {
+			text := fmt.Sprintf(row.text, more)
+			for name, from := range map[string]io.Reader{
+				"whole": strings.NewReader(text), "halves": iotest.HalfReader(strings.NewReader(text)), "octets": iotest.OneByteReader(strings.NewReader(text)),
+			} {
+				if met := strings.Join(readAll(from), ", "); met != row.wanted {
+					t.Errorf("%.60q, %d octets more, %s: %q, wanted %q", row.text, len(more), name, met, row.wanted)
+				}
+			}
+		}
+	}
+	if met := readAll(strings.NewReader("\r\nGET / HTTP/1.1\r\n\r\n")); len(met) != 1 || !strings.Contains(met[0], "malformed") {
+		t.Errorf("%q", met)
+	}
+}
