@@ -114,12 +114,14 @@ func (d *decider) judge(made *record, key guard.ProvenKey, path, sequence string
 
 // decideKnown decides a question whose signatures are known to be valid. A certificate that has ended early counts as not verified.
 func (d *decider) decideKnown(made *record, question guard.Question, path string, known *shown) (guard.Decision, error) {
-	question.Sequence = known.canonical()
+	verified, text := known.canonical()
 	valid := 0
 	var decision guard.Decision
-	_, at, err := d.withList(&question, made.Host, path, func(present *access, at *list) (err error) {
+	shows := question
+	shows.Sequence = text
+	_, at, err := d.withList(&shows, made.Host, path, func(present *access, at *list) (err error) {
 		if valid, err = known.notEnded(present); err == nil {
-			decision, err = at.guard.DecideVerified(question, len(known.names), valid)
+			decision, err = at.guard.DecideVerified(question, verified.First(valid))
 		}
 		return err
 	})
@@ -162,7 +164,7 @@ func (d *decider) withList(question *guard.Question, host, path string, use func
 // decideAnew opens a question, and verifies its signatures only if the request is granted where all of them are valid. So whoever gets no right
 // by them, whatever they are, costs no verification. If all of them are valid, the sequence is kept.
 func (d *decider) decideAnew(made *record, question guard.Question, path, sequence string) (guard.Decision, error) {
-	question.Sequence = nothingShown.canonical()
+	question.Sequence = nothingShown.text
 	if sequence != "" {
 		question.Sequence = []byte(sequence)
 	}
@@ -193,6 +195,7 @@ func (d *decider) decideAnew(made *record, question guard.Question, path, sequen
 	}
 	decision, err := opened.Decide()
 	if err == nil && canHelp && valid == len(signatures) {
+		found.verified = opened.Verified()
 		d.sequences.add(sequence, found)
 	}
 	if err == nil && !decision.Granted() && d.config.Explain {

@@ -12,9 +12,10 @@ import (
 // of a daemon does not change, and a signature stays valid. So nothing in it can become wrong. It says nothing of the key, the request, the time,
 // the list and the ended certificates: each question is decided anew.
 type shown struct {
-	// The sequence as it was shown, and from the second time on in canonical form, which is read in three quarters of the time.
-	text  []byte
-	again sync.Once
+	// The sequence as it was shown, and from the second time on in canonical form: with its signatures, which are valid, and its octets alone.
+	verified guard.Verified
+	text     []byte
+	again    sync.Once
 	// The digests of the certificates that are signed, and the same as the log has them.
 	digests []digest
 	names   []string
@@ -27,7 +28,7 @@ const (
 )
 
 // nothingShown is the sequence of a client that shows no certificates.
-var nothingShown = &shown{text: []byte("(8:sequence)")}
+var nothingShown = &shown{text: guard.Verified{}.Sequence()}
 
 // A sequences keeps sequences by their texts.
 type sequences struct {
@@ -61,13 +62,13 @@ func (s *sequences) add(text string, made *shown) {
 }
 
 // canonical returns the sequence in canonical form, which takes as long to make as a decision. So a sequence that is shown once has none.
-func (s *shown) canonical() []byte {
+func (s *shown) canonical() (guard.Verified, []byte) {
 	s.again.Do(func() {
-		if canonical, err := guard.Canonical(s.text); err == nil {
-			s.text = canonical
+		if canonical, err := s.verified.Canonical(); err == nil {
+			s.verified, s.text = canonical, canonical.Sequence()
 		}
 	})
-	return s.text
+	return s.verified, s.text
 }
 
 // shownBy returns a sequence by its signatures, without its text.

@@ -21,6 +21,10 @@ type Asked struct {
 type heldAsked struct {
 	mutex  sync.Mutex
 	handle opened
+	// What Verified returns: the sequence, the policy by which its signatures are listed, and how many of these are marked, from the first.
+	sequence []byte
+	policy   Policy
+	marked   int
 }
 
 // close frees the memory.
@@ -107,7 +111,13 @@ func (a *Asked) Mark(place int) error {
 	if place < 0 {
 		return ErrMisused
 	}
-	return mark(handle, place)
+	if err := mark(handle, place); err != nil {
+		return err
+	}
+	if place == a.held.marked {
+		a.held.marked++
+	}
+	return nil
 }
 
 // Verify marks each signature that is valid, in order, up to the first that is not. To explain a denial, verify also what is not possible.

@@ -64,6 +64,7 @@ func (g *Guard) Logged(log func(Event)) *Guard {
 type heldGuard struct {
 	mutex  sync.RWMutex
 	handle handle
+	policy Policy
 }
 
 // close frees the memory.
@@ -107,7 +108,7 @@ func Open(list []byte, policy Policy, limits Limits) (*Guard, error) {
 	if err != nil {
 		return nil, err
 	}
-	held := &heldGuard{handle: opened}
+	held := &heldGuard{handle: opened, policy: policy}
 	runtime.SetFinalizer(held, (*heldGuard).close)
 	return &Guard{held: held, most: limits.most()}, nil
 }
@@ -152,7 +153,8 @@ func (g *Guard) ask(question *Question) (Asked, error) {
 	if err != nil {
 		return Asked{}, err
 	}
-	return Asked{held: &heldAsked{handle: opened}, count: count, most: g.most}, nil
+	held := &heldAsked{handle: opened, sequence: append([]byte(nil), question.Sequence...), policy: g.held.policy}
+	return Asked{held: held, count: count, most: g.most}, nil
 }
 
 // Decide asks a question, verifies its signatures in order, up to the first that is not valid, and decides. Nothing is verified where the
@@ -206,25 +208,6 @@ func (g *Guard) decideContext(ctx context.Context, question *Question, verify Ve
 		return Decision{}, fmt.Errorf("a signature could not be verified: %w", err)
 	}
 	return asked.Decide()
-}
-
-// DecideVerified decides a question whose sequence the caller has asked about before: it lists so many signatures, of which so many at the front are
-// valid. Which signatures are listed depends on the sequence and the policy alone. It is Ask, Mark and Decide in one call. The error is ErrMisused if
-// another number is listed, and else that of Ask.
-func (g *Guard) DecideVerified(question Question, listed, valid int) (Decision, error) {
-	return g.told(question, func() (Decision, error) { return g.decideVerified(&question, listed, valid) })
-}
-
-func (g *Guard) decideVerified(question *Question, listed, valid int) (Decision, error) {
-	handle, err := g.lock()
-	if err != nil {
-		return Decision{}, err
-	}
-	defer g.held.mutex.RUnlock()
-	if listed < 0 || valid < 0 {
-		return Decision{}, ErrMisused
-	}
-	return decideVerified(handle, question, listed, valid)
 }
 
 // Require is as DecideContext for a caller that tests nothing but the error: nil is a yes, with the number of the entry, and a no is ErrDenied.

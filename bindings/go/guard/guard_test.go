@@ -1,6 +1,7 @@
 package guard_test
 
 import (
+	"bytes"
 	"context"
 	"crypto/sha1"
 	"crypto/sha256"
@@ -153,34 +154,81 @@ func TestMarks(t *testing.T) {
 	}
 }
 
-// TestVerifiedBefore decides by how many signatures are known to be valid, as by marks.
-func TestVerifiedBefore(t *testing.T) {
-	made := opened(t, list)
-	question := shown(1)
-	question.Sequence = []byte("(sequence " + own + pair + ")")
-	for valid, wanted := range []int{0, 0, 1} {
-		met, err := made.DecideVerified(question, 2, valid)
-		if err != nil || met.Entry() != wanted || met.Granted() != granted(t, marked(t, made, question, []int{0, 1}[:valid]...)) {
-			t.Errorf("%d: %v, %v", valid, met, err)
+// verified returns what is known of a question in which the signatures at these places are marked.
+func verified(t *testing.T, made *guard.Guard, question guard.Question, places ...int) guard.Verified {
+	t.Helper()
+	asked, err := made.Ask(question)
+	if err != nil {
+		t.Fatal(err)
+	}
+	defer asked.Close()
+	for _, place := range places {
+		if err := asked.Mark(place); err != nil {
+			t.Fatal(err)
 		}
 	}
-	for _, row := range [][2]int{{1, 1}, {3, 3}, {2, 3}, {0, 0}, {2, -1}, {-1, -1}} {
-		if met, err := made.DecideVerified(question, row[0], row[1]); !errors.Is(err, guard.ErrMisused) || met.Granted() {
-			t.Errorf("%d: %v, %v", row, met, err)
+	return asked.Verified()
+}
+
+// TestVerifiedBefore decides by signatures that are known to be valid, as by marks.
+func TestVerifiedBefore(t *testing.T) {
+	made, question := opened(t, list), shown(1)
+	shows := question
+	shows.Sequence = []byte("(sequence " + own + pair + ")")
+	question.Sequence = nil
+	for _, row := range []struct {
+		places []int
+		most   int
+		wanted int
+	}{{nil, 2, 0}, {[]int{0}, 2, 0}, {[]int{1}, 2, 0}, {[]int{0, 1}, 2, 1}, {[]int{0, 1}, 1, 0}, {[]int{0, 1}, 99, 1}, {[]int{0, 1}, -1, 0}, {[]int{0}, 2, 0}} {
+		known := verified(t, made, shows, row.places...).First(row.most)
+		canonical, err := known.Canonical()
+		if err != nil || !bytes.HasPrefix(canonical.Sequence(), []byte("(8:sequence")) {
+			t.Fatalf("%q, %v", canonical.Sequence(), err)
+		}
+		for _, each := range []guard.Verified{known, canonical} {
+			if met, err := made.DecideVerified(question, each); err != nil || met.Entry() != row.wanted {
+				t.Errorf("%v: %v, %v", row, met, err)
+			}
 		}
 	}
 	var events []guard.Event
-	_, _ = made.Logged(func(event guard.Event) { events = append(events, event) }).DecideVerified(question, 2, 2)
+	_, _ = made.Logged(func(event guard.Event) { events = append(events, event) }).DecideVerified(question, verified(t, made, shows, 0, 1))
 	if len(events) != 1 || !events[0].Decision.Granted() {
 		t.Errorf("%v", events)
 	}
-	question.Sequence = []byte("(sequence")
-	if met, err := made.DecideVerified(question, 0, 0); !errors.Is(err, guard.ErrRefused) || met.Granted() {
-		t.Errorf("%v, %v", met, err)
+}
+
+// TestVerifiedIsOfItsSequence shows that what is known of one sequence counts for no other one, for no other policy, and not without its marks.
+func TestVerifiedIsOfItsSequence(t *testing.T) {
+	made, question := opened(t, list), shown(1)
+	shows, forged := question, append([]byte(nil), question.Sequence...)
+	shows.Sequence = []byte("(sequence " + own + pair + ")")
+	known := verified(t, made, shows, 0, 1)
+	open, err := guard.Open([]byte(list), guard.AllowSHA1, guard.Limits{})
+	if err != nil {
+		t.Fatal(err)
+	}
+	defer open.Close()
+	question.Sequence = forged
+	if met, err := made.DecideVerified(question, known); !errors.Is(err, guard.ErrMisused) || met.Granted() {
+		t.Errorf("another sequence: %v, %v", met, err)
+	}
+	question.Sequence = nil
+	if met, err := open.DecideVerified(question, known); !errors.Is(err, guard.ErrMisused) || met.Granted() {
+		t.Errorf("another policy: %v, %v", met, err)
+	}
+	if met, err := made.DecideVerified(question, guard.Verified{}); err != nil || met.Granted() {
+		t.Errorf("no certificates: %v, %v", met, err)
+	}
+	shows.Sequence[len(shows.Sequence)-2] ^= 1
+	known.Sequence()[0] ^= 1
+	if met, err := made.DecideVerified(question, known); err != nil || !met.Granted() {
+		t.Errorf("octets that changed since: %v, %v", met, err)
 	}
 	made.Close()
-	if met, err := made.DecideVerified(shown(1), 1, 1); !errors.Is(err, guard.ErrClosed) || met.Granted() {
-		t.Errorf("%v, %v", met, err)
+	if met, err := made.DecideVerified(question, known); !errors.Is(err, guard.ErrClosed) || met.Granted() {
+		t.Errorf("a closed guard: %v, %v", met, err)
 	}
 }
 

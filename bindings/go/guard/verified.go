@@ -1,0 +1,80 @@
+package guard
+
+// A Verified is a sequence whose signatures were marked as valid in a question. It has the sequence, so what was verified for one client does not
+// count for what another one shows. Only Asked.Verified makes one with marks. The zero Verified is the sequence without certificates.
+type Verified struct {
+	sequence []byte
+	policy   Policy
+	// How many signatures are listed, and how many of them are marked, from the first.
+	listed, marked int
+}
+
+// noCertificates is a sequence that lists no signatures.
+var noCertificates = []byte("(8:sequence)")
+
+// Verified returns the sequence of a question with its marks: those from the first on that were set in order, up to the first that is not set. So
+// a service need not verify a sequence again that it is shown again.
+func (a *Asked) Verified() Verified {
+	if a.held == nil {
+		return Verified{}
+	}
+	a.held.mutex.Lock()
+	defer a.held.mutex.Unlock()
+	return Verified{a.held.sequence, a.held.policy, a.count, a.held.marked}
+}
+
+// Sequence returns the sequence.
+func (v Verified) Sequence() []byte {
+	return append([]byte(nil), v.text()...)
+}
+
+func (v Verified) text() []byte {
+	if v.sequence == nil {
+		return noCertificates
+	}
+	return v.sequence
+}
+
+// First returns the same with at most so many marks, from the first on.
+func (v Verified) First(most int) Verified {
+	if most < 0 {
+		most = 0
+	}
+	if v.marked > most {
+		v.marked = most
+	}
+	return v
+}
+
+// Canonical returns the same in canonical form, which is read in three quarters of the time. To make it takes as long as a decision.
+func (v Verified) Canonical() (Verified, error) {
+	canonical, err := Canonical(v.text())
+	if err != nil {
+		return Verified{}, err
+	}
+	v.sequence = canonical
+	return v, nil
+}
+
+// DecideVerified decides a question whose certificates are those of a Verified, if exactly its marks count. It is Ask, Mark and Decide in one call.
+// The error is ErrMisused if the question has a Sequence of its own, or if the Verified comes from a guard with another policy. Else it is that of
+// Ask.
+func (g *Guard) DecideVerified(question Question, verified Verified) (Decision, error) {
+	if len(question.Sequence) > 0 {
+		return Decision{}, ErrMisused
+	}
+	question.Sequence = verified.text()
+	return g.told(question, func() (Decision, error) { return g.decideVerified(&question, verified) })
+}
+
+func (g *Guard) decideVerified(question *Question, verified Verified) (Decision, error) {
+	handle, err := g.lock()
+	if err != nil {
+		return Decision{}, err
+	}
+	defer g.held.mutex.RUnlock()
+	if verified.listed > 0 && verified.policy != g.held.policy {
+		return Decision{}, ErrMisused
+	}
+	return decideVerified(handle, question, verified.listed, verified.marked)
+}
