@@ -19,6 +19,7 @@ Usage: bench/failover.py [LIBRARY] [--cut] [--stale N ..] [--wait N ..] [--times
 import argparse
 import contextlib
 import os
+import random
 import signal
 import sys
 import tempfile
@@ -36,7 +37,7 @@ from spki_cert_tool.keys import FileSigner, new_private  # noqa: E402
 
 databases = servers()
 STAYS, GOES, NEVER = "stays", "goes", "never"
-# How long is asked before the kill, and after the daemons answer again, in seconds.
+# How long is asked before the failure, and up to a second more: it is anywhere between two heartbeats. And after the daemons answer again.
 BEFORE, AFTER = 2.0, 3.0
 # The seconds between two requests to a daemon.
 PAUSE = 0.005
@@ -152,7 +153,7 @@ class Site:
         """Prints what a failover takes, and returns how many answers were wrong and promises broken."""
         for each in self.askers:
             each.start()
-        time.sleep(BEFORE)
+        time.sleep(BEFORE + random.random())
         removed, failed, begun, ended = self.fails(wait)
         # (where all was over before the store was stale, nothing else may make it stale later)
         time.sleep(AFTER + max(0.0, failed + self.stale - ended))

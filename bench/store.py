@@ -19,8 +19,8 @@ The medians of the largest number must be at most 1.5 times those of the smalles
 
 One daemon and those who ask it can use all processors of a small machine, so that more daemons add nothing there. --share 0.25 measures what they add
 where there are processors for them: each daemon has a quarter of one and no more (by a cgroup), and all the rest is for PostgreSQL and the clients.
-Nothing else is measured then. The daemons must use at least 0.9 of their shares, and all that runs at most 0.9 of the processors: otherwise something
-else was the limit. In each of --times runs four daemons must answer at least 3 times as many as one.
+Nothing else is measured then. The daemons must use at least 0.9 of their shares, and they, PostgreSQL and the clients together at most 0.9 of the
+processors: otherwise something else was the limit. In each of --times runs four daemons must answer at least 3 times as many as one.
 
 Build the library first. Needs PostgreSQL, psycopg, Go and its driver (Debian: postgresql, python3-psycopg, golang-go, golang-github-lib-pq-dev).
 Usage: bench/store.py [--entries N ..] [--share PROCESSORS [--times N]] [LIBRARY]
@@ -46,8 +46,9 @@ SCHEMA = "spki"
 GROUP = 50
 MOST_GROWTH, MOST_COLD = 1.5, 3.0
 DAEMONS, RATES, SECONDS = (1, 2, 4), (0, 10_000), 8
-# Of daemons with a share of a processor: how much of it they use, how much of the machine is busy, and how much more the last of DAEMONS answer.
-LEAST_USED, MOST_BUSY, LEAST_MORE = 0.9, 0.9, 3.0
+# Of daemons with a share of a processor: how much of it they use, how much of the machine all that is measured uses, and how much more the last of
+# DAEMONS answer than one.
+LEAST_USED, MOST_USED, LEAST_MORE = 0.9, 0.9, 3.0
 DRIVER = "-modfile=postgres.mod", "-tags", "spki_postgres"
 FIGURE = re.compile(r"^figure (\w+) (.*)$", re.M)
 SERVER = {"fsync": "on", "shared_buffers": "256MB", "max_wal_size": "4GB", "checkpoint_timeout": "30min"}
@@ -183,8 +184,8 @@ def shared(server, library, count, share, times):
                       f"{used['clients']:.2f}; {rates[-1] / rates[0]:.2f} times one", flush=True)
                 if used["daemon"] < LEAST_USED * share * number:
                     wrong.append(f"{what} used {used['daemon']:.2f} processors")
-                if found["busy"] > MOST_BUSY * os.cpu_count():
-                    wrong.append(f"{what}: {found['busy']:.2f} of {os.cpu_count()} processors were busy")
+                if sum(used.values()) > MOST_USED * os.cpu_count():
+                    wrong.append(f"{what}, PostgreSQL and clients used {sum(used.values()):.2f} of {os.cpu_count()} processors")
             if rates[-1] < LEAST_MORE * rates[0]:
                 wrong.append(f"{count:>10,} entries: {DAEMONS[-1]} daemons answer {rates[-1] / rates[0]:.2f} times one, less than {LEAST_MORE}")
     return wrong
