@@ -562,6 +562,7 @@ class Heartbeat(OfStore):
         self.addCleanup(store.close)
         beats = Beats(store)
         beats.hosts.reverse()
+        store.close()
         begun = time.monotonic()
         beats.beat()
         self.assertLess(time.monotonic() - begun, 2)
@@ -578,6 +579,8 @@ class Replicated(OfServed):
             servers = [self.server, *replicas]
             anywhere = f"host={','.join(each.folder for each in servers)} user=postgres dbname=postgres target_session_attrs=read-write"
             self.beats(anywhere)
+            # (the state that `init` made may be stale before the first beat)
+            waits_for("the first beat", lambda: self.store.rows("SELECT number FROM {heartbeat}") > [(0,)])
             alice, bob, mallory = (self.people[name] for name in ("alice", "bob", "mallory"))
             daemons = [self.around(f"on-{place}", each) for place, each in enumerate(replicas)]
             askers = [Asker(daemons, each) for each in (bob, mallory)]

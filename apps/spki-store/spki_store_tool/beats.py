@@ -18,10 +18,8 @@ class Beats:
 
     def __init__(self, store: Store) -> None:
         self.store, self.hosts = store, store.each_host()
-        self.at = self.hosts[0]
         self.opening: dict[str, Future[psycopg.Connection[Any]]] = {}
         self.pool = ThreadPoolExecutor(len(self.hosts))
-        store.close()
 
     def beat(self) -> None:
         """Beats once, or raises a fault of the database. The next beat is then tried at another connection."""
@@ -31,7 +29,7 @@ class Beats:
             self.store.beat()
         except psycopg.Error:
             self.store.close()
-            self.hosts.append(self.hosts.pop(self.hosts.index(self.at)))
+            self.hosts.append(self.hosts.pop(self.hosts.index(self.store.at)))
             raise
 
     def connect(self) -> None:
@@ -45,7 +43,7 @@ class Beats:
         if not found:
             faults = [str(each.exception() or "").strip().replace("\n", " ") for each in done.values()]
             raise psycopg.OperationalError("; ".join(faults) or "no server answers")
-        (self.at, self.store.connection), *others = found.items()
+        (self.store.at, self.store.connection), *others = found.items()
         for _, connection in others:
             connection.close()
         for late in self.opening.values():

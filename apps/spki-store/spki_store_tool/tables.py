@@ -44,7 +44,9 @@ def answered(connection: PGconn, text: bytes, seconds: float) -> bytes:
     connection.flush()
     while True:
         while connection.is_busy():
-            if not select.select([connection.socket], [], [], max(0.0, end - time.monotonic()))[0]:
+            waiting = select.poll()
+            waiting.register(connection.socket, select.POLLIN)
+            if not waiting.poll(max(0.0, end - time.monotonic()) * 1000):
                 raise psycopg.OperationalError(f"the server has not answered for {seconds:.0f} seconds")
             connection.consume_input()
         result = connection.get_result()
@@ -52,7 +54,8 @@ def answered(connection: PGconn, text: bytes, seconds: float) -> bytes:
             return value
         if result.status not in (ExecStatus.COMMAND_OK, ExecStatus.TUPLES_OK):
             raise psycopg.OperationalError(error_message(result))
-        value = result.get_value(0, 0) or value
+        if result.status == ExecStatus.TUPLES_OK:
+            value = result.get_value(0, 0) or b""
 
 
 @dataclass(frozen=True)
@@ -83,10 +86,11 @@ class Store:
         """Connects to the first of the hosts that takes it, also after the connection was closed. A host that is cut off is left soon: otherwise it
         would be waited for by minutes, and no other one be asked."""
         *others, last = self.each_host()
-        for each in others:
+        for self.at in others:
             with contextlib.suppress(psycopg.OperationalError):
-                self.connection = opened(each)
+                self.connection = opened(self.at)
                 return
+        self.at = last
         self.connection = opened(last)
 
     def close(self) -> None:
