@@ -84,6 +84,10 @@ class OfStore(built.OfLibrary):
         self.addCleanup(process.kill)
         return process
 
+    def has_beaten(self) -> None:
+        """Waits for the first beat: the state that `init` made may be stale before it, and something may fail before the program has begun."""
+        waits_for("the first beat", lambda: bool(self.store.rows("SELECT 1 FROM {heartbeat} WHERE number > 0")))
+
 
 class Command(OfStore):
     """The command `spki-store`."""
@@ -579,8 +583,7 @@ class Replicated(OfServed):
             servers = [self.server, *replicas]
             anywhere = f"host={','.join(each.folder for each in servers)} user=postgres dbname=postgres target_session_attrs=read-write"
             self.beats(anywhere)
-            # (the state that `init` made may be stale before the first beat)
-            waits_for("the first beat", lambda: self.store.rows("SELECT number FROM {heartbeat}") > [(0,)])
+            self.has_beaten()
             alice, bob, mallory = (self.people[name] for name in ("alice", "bob", "mallory"))
             daemons = [self.around(f"on-{place}", each) for place, each in enumerate(replicas)]
             askers = [Asker(daemons, each) for each in (bob, mallory)]
