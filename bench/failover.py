@@ -1,21 +1,25 @@
 #!/usr/bin/env python3
 """Measures a failover of the servers of a store by the clock, and ends with another status if an answer is wrong.
 
-A primary has two replicas, and a change is on one of them before it is acknowledged. Each replica has a daemon, which a client asks for three people
-again and again. An entry is removed, and the primary and all its processes are killed by SIGKILL. After some seconds the replica that received most
-is promoted by `pg_ctl promote`, and the other one is told to follow it. Each line has seconds since the kill: the begin and the end of the promotion,
-and of each daemon, that of the promoted replica first, the first 503 and the first answer after the last one.
+A primary has two replicas, and a change is on two servers before it is acknowledged, also after the failover. Each replica has a daemon, which a
+client asks for three people again and again. An entry is removed, and the primary and all its processes are killed by SIGKILL. With --cut it runs on,
+and its network is cut: what is sent to it is lost, as if its machine had no power. After some seconds the replica that received most is promoted by
+`pg_ctl promote`, and the other one is told to follow it. Each line has seconds since the failure: the begin and the end of the promotion, and of each
+daemon, that of the promoted replica first, the first 503, the first answer after the last one, and how long that was after the promotion.
 
 An answer is wrong if the removed entry grants in a request that began over `stale_seconds` after the removal, if the entry that stays does not grant,
-or if somebody without an entry is granted something.
+or if somebody without an entry is granted something. A promise is broken if there is a 503 though the promotion ended `stale_seconds` - 2 after the
+failure, or if 503 lasts over `stale_seconds` though it ended 2 * `stale_seconds` - 2 after it. The heartbeat leaves a primary that is cut off after 4
+seconds, so that an earlier promotion counts as one after 4. Without --wait the promotions are such that both can just be kept.
 
 Build the library first. Needs PostgreSQL, psycopg, Go, its driver and `cryptography` (Debian: postgresql, python3-psycopg, golang-go,
-golang-github-lib-pq-dev, python3-cryptography).
-Usage: bench/failover.py [LIBRARY] [--stale N ..] [--wait N ..] [--times N]
+golang-github-lib-pq-dev, python3-cryptography); with --cut also iproute2 and root.
+Usage: bench/failover.py [LIBRARY] [--cut] [--stale N ..] [--wait N ..] [--times N]
 """
 import argparse
 import contextlib
 import os
+import random
 import signal
 import sys
 import tempfile
@@ -33,10 +37,13 @@ from spki_cert_tool.keys import FileSigner, new_private  # noqa: E402
 
 databases = servers()
 STAYS, GOES, NEVER = "stays", "goes", "never"
-# How long is asked before the kill, and after the daemons answer again, in seconds.
+# How long is asked before the failure, and up to a second more: it is anywhere between two heartbeats. And after the daemons answer again.
 BEFORE, AFTER = 2.0, 3.0
 # The seconds between two requests to a daemon.
 PAUSE = 0.005
+# The seconds that a promotion must be before the end of what it may take: the last heartbeat is up to one older than the failure, and the next one is
+# found in up to one. And those after which the heartbeat leaves a primary that is cut off.
+MARGIN, LEAVES = 2.0, 4.0
 REQUEST = "GET /auth HTTP/1.1\r\nHost: d\r\nConnection: close\r\nX-Original-Method: GET\r\nX-Original-URI: /web/x\r\nX-Client-Cert: {}\r\n\r\n"
 
 
@@ -80,10 +87,10 @@ class Asker(threading.Thread):
         return next((status for _, _, name, status in reversed(self.met) if name == STAYS), 0) == 200
 
 
-def span_of(met, killed):
-    """When the first 503 was received, and the first answer to a request after the last 503, in seconds since the kill. None if there is no 503."""
+def span_of(met, failed):
+    """When the first 503 was received, and the first answer to a request after the last 503, in seconds since the failure. None if there is none."""
     refused = [place for place, each in enumerate(met) if each[3] == 503]
-    return (met[refused[0]][1] - killed, met[refused[-1] + 1][1] - killed) if refused else None
+    return (met[refused[0]][1] - failed, met[refused[-1] + 1][1] - failed) if refused else None
 
 
 def is_wrong(each, removed, stale):
@@ -95,15 +102,18 @@ def is_wrong(each, removed, stale):
 
 
 class Site:
-    """Servers, daemons, and those who ask them."""
+    """Servers, daemons, and those who ask them. Where something is to be cut, each server is at a node of a network, and the heartbeat too."""
 
-    def __init__(self, stack, room, program, stale):
-        self.primary, self.stale = stack.enter_context(databases.Server(fsync="on")), stale
+    def __init__(self, stack, room, program, stale, is_cut):
+        self.nodes, self.stale = nodes_of(stack) if is_cut else [None] * 4, stale
+        self.primary = stack.enter_context(databases.Server(at=self.nodes[0], fsync="on"))
         self.store = store.opened(self.primary)
-        self.replicas = [stack.enter_context(self.primary.replica()) for _ in range(2)]
-        does(self.primary, "ALTER SYSTEM SET synchronous_standby_names = 'ANY 1 (*)'", "SELECT pg_reload_conf()")
-        hosts = ",".join(each.folder for each in (self.primary, *self.replicas))
-        stack.enter_context(store.beats(f"host={hosts} user=postgres dbname=postgres target_session_attrs=read-write"))
+        does(self.primary, "ALTER SYSTEM SET synchronous_standby_names = 'ANY 1 (*)'")
+        self.replicas = [stack.enter_context(self.primary.replica(each)) for each in self.nodes[1:3]]
+        does(self.primary, "SELECT pg_reload_conf()")
+        hosts = ",".join(each.host for each in (self.primary, *self.replicas))
+        stack.enter_context(store.beats(f"host={hosts} user=postgres dbname=postgres target_session_attrs=read-write",
+                                        *(self.nodes[3].words if is_cut else [])))
         # (the state that `init` made may be stale before the first beat)
         databases.waits_for("the first beat", lambda: self.store.rows("SELECT number FROM {heartbeat}") > [(0,)])
         people = {name: Person() for name in (STAYS, GOES, NEVER)}
@@ -115,51 +125,78 @@ class Site:
             self.askers.append(Asker(socket, people))
             databases.waits_for("the daemon has the entries", lambda: people[GOES].status(self.askers[-1].socket) == 200)
 
-    def fails(self, wait):
-        """Removes an entry, kills the primary, and promotes a replica after some seconds. Returns when the entry was removed, the primary was
-        killed, and the promotion began and ended."""
-        self.store.remove(self.number)
-        removed = time.monotonic()
+    def fail(self):
+        """Kills the primary and all its processes, or cuts it off."""
+        if self.nodes[0]:
+            self.nodes[0].cut()
+            return
         for each in store.processes_of(self.primary.process.pid):
             os.kill(each, signal.SIGKILL)
-        killed = time.monotonic()
+
+    def fails(self, wait):
+        """Removes an entry, has the primary fail, and promotes a replica after some seconds. Returns when the entry was removed, the primary failed,
+        and the promotion began and ended."""
+        self.store.remove(self.number)
+        removed = time.monotonic()
+        self.fail()
+        failed = time.monotonic()
         time.sleep(wait)
         if received(self.replicas[1]) > received(self.replicas[0]):
             self.replicas.reverse()
             self.askers.reverse()
         begun = time.monotonic()
         self.replicas[0].promote()
-        ended = time.monotonic()
         does(self.replicas[1], f"ALTER SYSTEM SET primary_conninfo = '{self.replicas[1].source(self.replicas[0])}'", "SELECT pg_reload_conf()")
-        return removed, killed, begun, ended
+        return removed, failed, begun, time.monotonic()
 
     def measured(self, wait):
-        """Prints what a failover takes, and returns how many answers were wrong."""
+        """Prints what a failover takes, and returns how many answers were wrong and promises broken."""
         for each in self.askers:
             each.start()
-        time.sleep(BEFORE)
-        removed, killed, begun, ended = self.fails(wait)
+        time.sleep(BEFORE + random.random())
+        removed, failed, begun, ended = self.fails(wait)
         # (where all was over before the store was stale, nothing else may make it stale later)
-        time.sleep(AFTER + max(0.0, killed + self.stale - ended))
+        time.sleep(AFTER + max(0.0, failed + self.stale - ended))
         databases.waits_for("the daemons answer again", lambda: all(each.grants() for each in self.askers))
         time.sleep(AFTER)
         met = [each.end() for each in self.askers]
         wrong = sum(is_wrong(each, removed, self.stale) for some in met for each in some)
         granted = max(end for some in met for _, end, name, status in some if name == GOES and status == 200)
-        spans = [f"503 from {span[0]:.1f} to {span[1]:.1f}, {span[1] - span[0]:.1f} s" if span else "no 503"
-                 for span in (span_of(some, killed) for some in met)]
-        print(f"stale_seconds {self.stale}, promoted from {begun - killed:.1f} to {ended - killed:.1f}: {'; '.join(spans)}; the last grant by the "
-              f"removed entry {granted - removed:.2f} s after its removal; {sum(map(len, met))} answers, {wrong} wrong", flush=True)
-        return wrong
+        spans = [span_of(some, failed) for some in met]
+        counts_as = max(ended - failed, LEAVES if self.nodes[0] else 0.0)
+        broken = sum(is_broken(span, self.stale, counts_as) for span in spans)
+        told = [f"503 from {span[0]:.1f} to {span[1]:.1f}, {span[1] - span[0]:.1f} s, {span[1] + failed - ended:.1f} after it" if span else "no 503"
+                for span in spans]
+        print(f"stale_seconds {self.stale}, promoted from {begun - failed:.1f} to {ended - failed:.1f}: {'; '.join(told)}; the last grant by the "
+              f"removed entry {granted - removed:.2f} s after its removal; {sum(map(len, met))} answers, {wrong} wrong, {broken} promises broken",
+              flush=True)
+        return wrong + broken
+
+
+def nodes_of(stack):
+    """Four nodes of a network."""
+    network = stack.enter_context(databases.networks.Network())
+    return [network.node() for _ in range(4)]
+
+
+def is_broken(span, stale, ended):
+    """Whether 503 at a daemon lasted longer than is promised of a promotion that ended so many seconds after the failure."""
+    lasted = span[1] - span[0] if span else 0.0
+    return ended <= stale - MARGIN and lasted > 0 or ended <= 2 * stale - MARGIN and lasted > stale
+
+
+def waits_of(stale):
+    """When promotions begin that just keep the promises, at once, and when it is too late for no 503. They take up to half a second."""
+    return [0.0, max(0.0, stale - MARGIN - 0.5), stale, 2 * stale - MARGIN - 0.5]
 
 
 def does(server, *statements):
-    """Runs statements, each in a transaction of its own."""
+    """Runs statements, each in a transaction of its own. Returns a row of the last, if it has any."""
     import psycopg
     with psycopg.connect(server.address, autocommit=True) as connection:
         for each in statements:
             rows = connection.execute(each)
-    return rows.fetchone()
+    return rows.fetchone() if rows.description else None
 
 
 def received(replica):
@@ -169,16 +206,17 @@ def received(replica):
 
 def main():
     asked = argparse.ArgumentParser(description=__doc__, formatter_class=argparse.RawDescriptionHelpFormatter)
+    asked.add_argument("--cut", action="store_true", help="cut the primary off, in place of killing it")
     asked.add_argument("--stale", type=int, nargs="+", default=[3, 10], help="`stale_seconds` of the daemons")
-    asked.add_argument("--wait", type=float, nargs="+", default=[0, 15], help="seconds from the kill to the promotion")
+    asked.add_argument("--wait", type=float, nargs="+", help="seconds from the failure to the promotion")
     asked.add_argument("--times", type=int, default=1)
     asked.add_argument("library", nargs="?", default=LIBRARY)
     given, wrong = asked.parse_args(), 0
     with tempfile.TemporaryDirectory() as room:
         program = golang.build_daemon(os.path.abspath(given.library), os.path.join(room, "spki-authd"), *store.DRIVER)
-        for stale, wait in [(stale, wait) for stale in given.stale for wait in given.wait] * given.times:
+        for stale, wait in [(stale, wait) for stale in given.stale for wait in given.wait or waits_of(stale)] * given.times:
             with contextlib.ExitStack() as stack, tempfile.TemporaryDirectory(dir=room) as own:
-                wrong += Site(stack, own, program, stale).measured(wait)
+                wrong += Site(stack, own, program, stale, given.cut).measured(wait)
     return 1 if wrong else 0
 
 

@@ -10,14 +10,20 @@ temporary folder, with a quarter of a GiB of its own memory.
 - cold: the same where PostgreSQL was started again, and the system was told to forget its files.
 - load: decisions a second of as many goroutines as fit, nine of ten by rows that are kept.
 - served: the same over HTTP, by 1, 2 and 4 daemons on this machine, each with 16 connections and a TLS certificate in each request: as many as they
-  answer, and 10,000 a second of each. Decisions a second, median and 99th percentile in µs, the processor time of a decision in daemons and
-  PostgreSQL in µs, the octets that a daemon reads and writes for one, and the memory of a daemon and of PostgreSQL.
+  answer, and 10,000 a second of each. Decisions a second, median and 99th percentile in µs, the processor time of a decision in daemons, PostgreSQL
+  and clients in µs, the octets that a daemon reads and writes for one, the processors that were busy, and the memory of a daemon and of PostgreSQL.
+  Those who ask, 20,200 people, have entries in the store meanwhile.
 - add: single entries a second, each in a transaction.
 
 The medians of the largest number must be at most 1.5 times those of the smallest for misses, and 3 times when cold.
 
+One daemon and those who ask it can use all processors of a small machine, so that more daemons add nothing there. --share 0.25 measures what they add
+where there are processors for them: each daemon has a quarter of one and no more (by a cgroup), and all the rest is for PostgreSQL and the clients.
+Nothing else is measured then. The daemons must use at least 0.9 of their shares, and they, PostgreSQL and the clients together at most 0.9 of the
+processors: otherwise something else was the limit. In each of --times runs four daemons must answer at least 3 times as many as one.
+
 Build the library first. Needs PostgreSQL, psycopg, Go and its driver (Debian: postgresql, python3-psycopg, golang-go, golang-github-lib-pq-dev).
-Usage: bench/store.py [--entries N ..] [LIBRARY]
+Usage: bench/store.py [--entries N ..] [--share PROCESSORS [--times N]] [LIBRARY]
 """
 import argparse
 import contextlib
@@ -32,12 +38,17 @@ import time
 sys.path.append(os.path.join(os.path.dirname(os.path.abspath(__file__)), "..", "tests"))
 from shared import LIBRARY, TOP, golang, servers  # noqa: E402
 
+import shares  # noqa: E402
+
 databases = servers()
 
 SCHEMA = "spki"
 GROUP = 50
 MOST_GROWTH, MOST_COLD = 1.5, 3.0
 DAEMONS, RATES, SECONDS = (1, 2, 4), (0, 10_000), 8
+# Of daemons with a share of a processor: how much of it they use, how much of the machine all that is measured uses, and how much more the last of
+# DAEMONS answer than one.
+LEAST_USED, MOST_USED, LEAST_MORE = 0.9, 0.9, 3.0
 DRIVER = "-modfile=postgres.mod", "-tags", "spki_postgres"
 FIGURE = re.compile(r"^figure (\w+) (.*)$", re.M)
 SERVER = {"fsync": "on", "shared_buffers": "256MB", "max_wal_size": "4GB", "checkpoint_timeout": "30min"}
@@ -60,6 +71,8 @@ def entries(count):
 def asked():
     words = argparse.ArgumentParser(description=__doc__, formatter_class=argparse.RawDescriptionHelpFormatter)
     words.add_argument("--entries", type=int, nargs="+", default=[1_000, 1_000_000])
+    words.add_argument("--share", type=float, default=0.0, help="measure daemons that have so much of a processor each")
+    words.add_argument("--times", type=int, default=3, help="how often daemons with a share are measured")
     words.add_argument("library", nargs="?", default=LIBRARY)
     return words.parse_args()
 
@@ -98,9 +111,9 @@ def processes_of(parent):
     return [parent, *map(int, subprocess.run(words, stdout=subprocess.PIPE, text=True, check=False).stdout.split())]
 
 
-def beats(address):
+def beats(address, *before):
     """The program that increases the heartbeat."""
-    words = [os.path.join(TOP, "apps", "spki-store", "spki-store"), "--database", address, "--schema", SCHEMA, "beat"]
+    words = [*before, os.path.join(TOP, "apps", "spki-store", "spki-store"), "--database", address, "--schema", SCHEMA, "beat"]
     return databases.ended(subprocess.Popen(words, stderr=subprocess.DEVNULL))
 
 
@@ -116,23 +129,66 @@ def started(program, server, room, number, **more):
     return process, path
 
 
+def asked_by_people(server, library, count, program, number, rate, share=0.0):
+    """What some daemons answer, and the memory in MiB of one and of PostgreSQL. Each has a share of a processor, if one is given."""
+    with keeps(server), contextlib.ExitStack() as running:
+        made, room = [], running.enter_context(tempfile.TemporaryDirectory())
+        for each in range(number):
+            group = running.enter_context(shares.Share(share)) if share else None
+            made.append(started(program, server, room, each))
+            running.enter_context(databases.ended(made[-1][0]))
+            if group:
+                group.take(made[-1][0].pid)
+        found = figures(server, "served", count, library, SPKI_STORE_SOCKETS=",".join(path for _, path in made),
+                        SPKI_STORE_DAEMONS=",".join(str(process.pid) for process, _ in made), SPKI_STORE_RATE=str(rate),
+                        SPKI_STORE_SERVER=str(server.process.pid), SPKI_STORE_SECONDS=str(SECONDS))
+        return found["served"], resident(made[0][0].pid), sum(map(resident, processes_of(server.process.pid)))
+
+
+@contextlib.contextmanager
+def keeps(server):
+    """Removes the entries that are added meanwhile."""
+    from spki_store_tool.tables import Store
+    with contextlib.closing(Store(server.address, SCHEMA)) as store:
+        (last,), = store.rows("SELECT max(number) FROM {entries}")
+        yield
+        store.rows("DELETE FROM {entries} WHERE number > %s", last)
+
+
 def served(server, library, count):
     """Prints what decisions over HTTP take."""
-    with tempfile.TemporaryDirectory() as room, contextlib.ExitStack() as stack:
+    with tempfile.TemporaryDirectory() as room, beats(server.address):
         program = golang.build_daemon(library, os.path.join(room, "spki-authd"), *DRIVER)
-        stack.enter_context(beats(server.address))
         for number in DAEMONS:
             for rate in RATES:
-                with contextlib.ExitStack() as running:
-                    made = [started(program, server, room, each) for each in range(number)]
-                    for process, _ in made:
-                        running.enter_context(databases.ended(process))
-                    found = figures(server, "served", count, library, SPKI_STORE_SOCKETS=",".join(path for _, path in made),
-                                    SPKI_STORE_DAEMONS=",".join(str(process.pid) for process, _ in made), SPKI_STORE_RATE=str(rate),
-                                    SPKI_STORE_SERVER=str(server.process.pid), SPKI_STORE_SECONDS=str(SECONDS))
-                    memory = resident(made[0][0].pid), sum(map(resident, processes_of(server.process.pid)))
-                print(f"{count:>10,} entries, {number} daemons, {f'{rate} a second each' if rate else 'at most'}: {found['served']}, memory "
-                      f"{memory[0]:.0f} and {memory[1]:.0f} MiB", flush=True)
+                text, daemon, database = asked_by_people(server, library, count, program, number, rate)
+                print(f"{count:>10,} entries, {number} daemons, {f'{rate} a second each' if rate else 'at most'}: {text}, memory {daemon:.0f} and "
+                      f"{database:.0f} MiB", flush=True)
+
+
+def shared(server, library, count, share, times):
+    """Prints what daemons answer of which each has a share of a processor. Returns what is not as it must be."""
+    wrong = []
+    with tempfile.TemporaryDirectory() as room, beats(server.address):
+        program = golang.build_daemon(library, os.path.join(room, "spki-authd"), *DRIVER)
+        for _ in range(times):
+            rates = []
+            for number in DAEMONS:
+                text, *_ = asked_by_people(server, library, count, program, number, 0, share)
+                words = text.split()
+                found = {name: float(value) for name, value in zip(words[::2], words[1::2])}
+                used = {name: found[name] * found["second"] / 1e6 for name in ("daemon", "server", "clients")}
+                rates.append(found["second"])
+                what = f"{count:>10,} entries, {number} daemons of {share} of a processor"
+                print(f"{what}: {text}; processors used by daemons {used['daemon']:.2f}, PostgreSQL {used['server']:.2f}, clients "
+                      f"{used['clients']:.2f}; {rates[-1] / rates[0]:.2f} times one", flush=True)
+                if used["daemon"] < LEAST_USED * share * number:
+                    wrong.append(f"{what} used {used['daemon']:.2f} processors")
+                if sum(used.values()) > MOST_USED * os.cpu_count():
+                    wrong.append(f"{what}, PostgreSQL and clients used {sum(used.values()):.2f} of {os.cpu_count()} processors")
+            if rates[-1] < LEAST_MORE * rates[0]:
+                wrong.append(f"{count:>10,} entries: {DAEMONS[-1]} daemons answer {rates[-1] / rates[0]:.2f} times one, less than {LEAST_MORE}")
+    return wrong
 
 
 def opened(server):
@@ -168,11 +224,18 @@ def adds(store):
     return 500 / (time.monotonic() - begun)
 
 
+@contextlib.contextmanager
+def stored(count):
+    """A server, and a store there with so many entries."""
+    with databases.Server(**SERVER) as server, tempfile.TemporaryDirectory() as room:
+        with contextlib.closing(opened(server)) as store:
+            filled(store, count, room)
+            yield server, store
+
+
 def measured(count, library):
     """The figures of a store with so many entries."""
-    with databases.Server(**SERVER) as server, tempfile.TemporaryDirectory() as room:
-        store = opened(server)
-        filled(store, count, room)
+    with stored(count) as (server, store):
         found = figures(server, "single", count, library) | figures(server, "load", count, library)
         print(f"{count:>10,} entries: {adds(store):.0f} adds a second", flush=True)
         store.close()
@@ -184,13 +247,30 @@ def measured(count, library):
         return {name: float(text.split()[1]) for name, text in found.items()}
 
 
+def grown(counts, library):
+    """Measures stores of these numbers of entries. Returns by how much the last is slower than the first, where that is too much."""
+    found = [measured(count, library) for count in counts]
+    return [f"{name} grows by {found[-1][name] / found[0][name]:.2f}" for name, most in (("miss", MOST_GROWTH), ("cold", MOST_COLD))
+            if found[-1][name] > most * found[0][name]]
+
+
+def scaled(counts, library, share, times):
+    """Measures daemons with shares of a processor, by stores of these numbers of entries. Returns what is not as it must be."""
+    if why := shares.fault():
+        print(f"skipped: here no daemon can have a share of a processor: {why}")
+        return []
+    wrong = []
+    for count in counts:
+        with stored(count) as (server, _):
+            wrong += shared(server, library, count, share, times)
+    return wrong
+
+
 def main():
     given = asked()
     library = os.path.abspath(given.library)
     os.environ["SPKI_LIBRARY"] = library.removesuffix(".a") + ".so"
-    found = [measured(count, library) for count in given.entries]
-    wrong = [f"{name} grows by {found[-1][name] / found[0][name]:.2f}" for name, most in (("miss", MOST_GROWTH), ("cold", MOST_COLD))
-             if found[-1][name] > most * found[0][name]]
+    wrong = scaled(given.entries, library, given.share, given.times) if given.share else grown(given.entries, library)
     print("".join(f"{line}\n" for line in wrong), end="")
     return 1 if wrong else 0
 

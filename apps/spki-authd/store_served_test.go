@@ -61,18 +61,24 @@ func TestStoreServed(t *testing.T) {
 	l.seconds = time.Duration(seconds) * time.Second
 	l.populate()
 	l.warm()
-	daemons, server := strings.Split(os.Getenv(envDaemons), ","), processesOf(os.Getenv(envServer))
-	before, beforeServer, octets, begun := processorTime(daemons), processorTime(server), transferredBy(daemons), time.Now()
+	daemons := strings.Split(os.Getenv(envDaemons), ",")
+	used := func() [4]time.Duration {
+		return [...]time.Duration{processorTime(daemons), processorTime(processesOf(os.Getenv(envServer))), processorTime([]string{"self"}), busyTime()}
+	}
+	before, octets, begun := used(), transferredBy(daemons), time.Now()
 	l.all()
-	took, times := time.Since(begun), []time.Duration{}
+	took, after, times := time.Since(begun), used(), []time.Duration{}
+	octets = transferredBy(daemons) - octets
 	for _, each := range l.times {
 		times = append(times, each...)
 	}
-	each := func(sum time.Duration) float64 { return float64(sum.Microseconds()) / float64(len(times)) }
+	each := func(which int) float64 {
+		return float64((after[which] - before[which]).Microseconds()) / float64(len(times))
+	}
 	sort.Slice(times, func(one, other int) bool { return times[one] < times[other] })
-	fmt.Printf("figure served second %.0f p50 %d p99 %d daemon %.1f server %.1f octets %d\n", float64(len(times))/took.Seconds(),
-		times[len(times)/2].Microseconds(), times[len(times)*99/100].Microseconds(), each(processorTime(daemons)-before),
-		each(processorTime(server)-beforeServer), (transferredBy(daemons)-octets)/len(times))
+	fmt.Printf("figure served second %.0f p50 %d p99 %d daemon %.1f server %.1f clients %.1f octets %d busy %.2f\n", float64(len(times))/took.Seconds(),
+		times[len(times)/2].Microseconds(), times[len(times)*99/100].Microseconds(), each(0), each(1), each(2), octets/len(times),
+		(after[3]-before[3]).Seconds()/took.Seconds())
 }
 
 // populate makes people, their entries, and the requests of each.
@@ -202,15 +208,32 @@ func statOf(path string) []string {
 	return strings.Fields(rest)
 }
 
-// processorTime returns the time of a processor that processes have used.
+// processorTime returns the time of a processor that processes have used, and those that they had started and that have ended.
 func processorTime(processes []string) (sum time.Duration) {
 	for _, each := range processes {
-		if fields := statOf("/proc/" + each + "/stat"); len(fields) > 12 {
-			for _, ticks := range fields[11:13] {
-				count, _ := strconv.Atoi(ticks)
-				sum += time.Duration(count) * 10 * time.Millisecond
-			}
+		if fields := statOf("/proc/" + each + "/stat"); len(fields) > 14 {
+			sum += ticksIn(fields[11:15])
 		}
+	}
+	return sum
+}
+
+// busyTime returns the time for which the processors of the machine were not idle: all of /proc/stat, but what it has for idle and for waiting.
+func busyTime() time.Duration {
+	text, _ := os.ReadFile("/proc/stat")
+	first, _, _ := strings.Cut(string(text), "\n")
+	fields := strings.Fields(first)
+	if len(fields) < 9 {
+		return 0
+	}
+	return ticksIn(fields[1:4]) + ticksIn(fields[6:9])
+}
+
+// ticksIn returns the time of some fields, which count hundredths of a second.
+func ticksIn(fields []string) (sum time.Duration) {
+	for _, each := range fields {
+		count, _ := strconv.Atoi(each)
+		sum += time.Duration(count) * 10 * time.Millisecond
 	}
 	return sum
 }

@@ -9,6 +9,7 @@ import os
 import re
 import secrets
 import signal
+import socket
 import sqlite3
 import subprocess
 import threading
@@ -25,7 +26,9 @@ from suite.test_go import Person, spki_cert
 needs.required(*needs.LIBRARY, *databases.NEEDED)
 os.environ["SPKI_LIBRARY"] = built.shared()
 import psycopg  # noqa: E402
+from psycopg import sql  # noqa: E402
 from spki_store_tool import commands, texts, transfer  # noqa: E402
+from spki_store_tool.beats import Beats  # noqa: E402
 from spki_store_tool.tables import Store  # noqa: E402
 
 STORE = os.path.join(TOP, "apps", "spki-store", "spki-store")
@@ -73,6 +76,17 @@ class OfStore(built.OfLibrary):
             status = commands.done(["--database", self.server.address, "--schema", self.schema, *words])
         self.assertEqual(status, wanted, (words, out.getvalue(), fault.getvalue()))
         return out.getvalue() + fault.getvalue()
+
+    def beats(self, address: str, *before: str) -> subprocess.Popen[bytes]:
+        """The program that increases the heartbeat."""
+        process = subprocess.Popen([*before, STORE, "--database", address, "--schema", self.schema, "beat"], stderr=subprocess.DEVNULL)
+        self.addCleanup(process.wait)
+        self.addCleanup(process.kill)
+        return process
+
+    def has_beaten(self) -> None:
+        """Waits for the first beat: the state that `init` made may be stale before it, and something may fail before the program has begun."""
+        waits_for("the first beat", lambda: bool(self.store.rows("SELECT 1 FROM {heartbeat} WHERE number > 0")))
 
 
 class Command(OfStore):
@@ -398,13 +412,6 @@ class OfServed(OfDaemon):
         cls.program = golang.build_daemon(cls.library, os.path.join(room, "spki-authd"), *WITH_DRIVER)
         cls.people = {name: Person(room, name, "ed25519") for name in ("alice", "bob", "mallory")}
 
-    def beats(self, address: str, *before: str) -> subprocess.Popen[bytes]:
-        """The program that increases the heartbeat."""
-        process = subprocess.Popen([*before, STORE, "--database", address, "--schema", self.schema, "beat"], stderr=subprocess.DEVNULL)
-        self.addCleanup(process.wait)
-        self.addCleanup(process.kill)
-        return process
-
     def around(self, name: str, server: databases.Server, *before: str, chains: object = None, **more: str) -> Around:
         made = Around(os.path.join(self.room, name), self.program, server, self.schema, *before, chains=chains, **more)
         self.addCleanup(made.kill)
@@ -522,6 +529,50 @@ class Asker(threading.Thread):
         return self.granted
 
 
+class Heartbeat(OfStore):
+    """The heartbeat, where another server takes the place of the primary."""
+
+    def number(self, server: databases.Server) -> int:
+        """The number of the last heartbeat that a server has."""
+        with contextlib.closing(Store(server.address, self.schema)) as store:
+            (number,), = store.rows("SELECT number FROM {heartbeat}")
+            return int(number)
+
+    def test_primary_that_is_heard_by_no_replica(self) -> None:
+        """It acknowledges no beat, and ends no connection. The heartbeat leaves it, finds the new primary, and beats there."""
+        with self.server.replica() as replica:
+            sets(self.server, "synchronous_standby_names", "ANY 1 (*)")
+            self.addCleanup(sets, self.server, "synchronous_standby_names", "")
+            self.beats(f"host={self.server.folder},{replica.folder} user=postgres dbname=postgres target_session_attrs=read-write")
+            waits_for("the replica has a beat", lambda: self.number(replica) > 1)
+            sets(replica, "primary_conninfo", "host=/none")
+            time.sleep(STALE + 3)
+            self.assertEqual(self.number(self.server), last := self.number(replica))
+            with psycopg.connect(self.server.address) as connection:
+                (waiting,), = connection.execute("SELECT count(*) FROM pg_stat_activity WHERE application_name = 'spki-store'").fetchall()
+            self.assertLessEqual(waiting, 4, "the beats that are left do not wait for ever")
+            replica.promote()
+            promoted = time.monotonic()
+            waits_for("the new primary has a beat", lambda: self.number(replica) > last)
+            self.assertLess(time.monotonic() - promoted, 5)
+
+    def test_primary_that_is_gone(self) -> None:
+        """A host that answers nothing does not keep the heartbeat from the one that takes it."""
+        silent = socket.socket(socket.AF_UNIX)
+        self.addCleanup(silent.close)
+        silent.bind(os.path.join(self.room, ".s.PGSQL.5432"))
+        silent.listen()
+        store = Store(f"host={self.server.folder},{self.room} user=postgres dbname=postgres", self.schema)
+        self.addCleanup(store.close)
+        beats = Beats(store)
+        beats.hosts.reverse()
+        store.close()
+        begun = time.monotonic()
+        beats.beat()
+        self.assertLess(time.monotonic() - begun, 2)
+        self.assertGreater(self.number(self.server), 0)
+
+
 class Replicated(OfServed):
     """Two replicas, each with a daemon. The primary is killed, and a replica takes its place."""
 
@@ -532,6 +583,7 @@ class Replicated(OfServed):
             servers = [self.server, *replicas]
             anywhere = f"host={','.join(each.folder for each in servers)} user=postgres dbname=postgres target_session_attrs=read-write"
             self.beats(anywhere)
+            self.has_beaten()
             alice, bob, mallory = (self.people[name] for name in ("alice", "bob", "mallory"))
             daemons = [self.around(f"on-{place}", each) for place, each in enumerate(replicas)]
             askers = [Asker(daemons, each) for each in (bob, mallory)]
@@ -635,8 +687,13 @@ backend daemons
 
 def follows(replica: databases.Server, primary: databases.Server) -> None:
     """Has a replica follow another primary."""
-    with psycopg.connect(replica.address, autocommit=True) as connection:
-        connection.execute(f"ALTER SYSTEM SET primary_conninfo = '{replica.source(primary)}'")
+    sets(replica, "primary_conninfo", replica.source(primary))
+
+
+def sets(server: databases.Server, name: str, value: str) -> None:
+    """Changes a setting of a server that runs."""
+    with psycopg.connect(server.address, autocommit=True) as connection:
+        connection.execute(sql.SQL("ALTER SYSTEM SET {} = {}").format(sql.Identifier(name), sql.Literal(value)))
         connection.execute("SELECT pg_reload_conf()")
 
 

@@ -341,6 +341,7 @@ class Daemons(Failing):
         """A primary that has no room for its own log ends again and again, and its daemon answers 503. What was acknowledged is there afterwards."""
         self.server = primary = self.primary(SMALL, mib=MIB)
         self.beats(primary.address)
+        self.has_beaten()
         it, alice, bob = self.around("full", primary), self.people["alice"], self.people["bob"]
         self.added(alice)
         number = self.added(bob)

@@ -1,8 +1,11 @@
 """The tables of a store, through a connection of psycopg. Values are parameters of a statement and never a part of its text."""
 from __future__ import annotations
 
+import contextlib
 import os
 import re
+import select
+import time
 from collections.abc import Iterator
 from dataclasses import dataclass
 from typing import Any
@@ -10,6 +13,8 @@ from typing import Any
 import psycopg
 from psycopg import sql
 from psycopg.conninfo import conninfo_to_dict, make_conninfo
+from psycopg.pq import ExecStatus, error_message
+from psycopg.pq.abc import PGconn
 
 from .texts import Wrong
 
@@ -21,8 +26,36 @@ ROLES = ("reader", "writer", "adder", "keeper")
 LENGTHS = (20, 32, 64)
 # How long a server may take to take a connection, in seconds, and to take what was sent, in milliseconds.
 PATIENCE: dict[str, Any] = {"connect_timeout": 3, "tcp_user_timeout": 3000, "keepalives_idle": 3, "keepalives_interval": 1, "keepalives_count": 3}
+# How long a beat waits for another one, in milliseconds.
+WAITS = 500
 # The rows that a reader of all rows has in memory.
 PAGE = 2000
+
+
+def opened(settings: str) -> psycopg.Connection[Any]:
+    """A connection to one host."""
+    return psycopg.connect(settings, autocommit=True, fallback_application_name="spki-store")
+
+
+def answered(connection: PGconn, text: bytes, seconds: float) -> bytes:
+    """The value in the only row of the last of some statements. Raises OperationalError if one fails, or if the server does not answer in time."""
+    end, value = time.monotonic() + seconds, b""
+    connection.send_query(text)
+    connection.flush()
+    while True:
+        while connection.is_busy():
+            waiting = select.poll()
+            waiting.register(connection.socket, select.POLLIN)
+            if not waiting.poll(max(0.0, end - time.monotonic()) * 1000):
+                raise psycopg.OperationalError(f"the server has not answered for {seconds:.0f} seconds")
+            connection.consume_input()
+        result = connection.get_result()
+        if result is None:
+            return value
+        if result.status not in (ExecStatus.COMMAND_OK, ExecStatus.TUPLES_OK):
+            raise psycopg.OperationalError(error_message(result))
+        if result.status == ExecStatus.TUPLES_OK:
+            value = result.get_value(0, 0) or b""
 
 
 @dataclass(frozen=True)
@@ -43,19 +76,22 @@ class Store:
         self.settings, self.schema = settings, schema
         self.connect()
 
+    def each_host(self) -> list[str]:
+        """The settings for each host alone, in their order."""
+        given = {**PATIENCE, **conninfo_to_dict(self.settings)}
+        hosts, ports = (str(given.get(each, "")).split(",") for each in ("host", "port"))
+        return [make_conninfo(**{**given, "host": host, "port": ports[place % len(ports)]}) for place, host in enumerate(hosts)]
+
     def connect(self) -> None:
         """Connects to the first of the hosts that takes it, also after the connection was closed. A host that is cut off is left soon: otherwise it
         would be waited for by minutes, and no other one be asked."""
-        given = {**PATIENCE, **conninfo_to_dict(self.settings)}
-        hosts, ports = (str(given.get(each, "")).split(",") for each in ("host", "port"))
-        for place, host in enumerate(hosts):
-            one = make_conninfo(**{**given, "host": host, "port": ports[place % len(ports)]})
-            try:
-                self.connection = psycopg.connect(one, autocommit=True, fallback_application_name="spki-store")
+        *others, last = self.each_host()
+        for self.at in others:
+            with contextlib.suppress(psycopg.OperationalError):
+                self.connection = opened(self.at)
                 return
-            except psycopg.OperationalError:
-                if place + 1 == len(hosts):
-                    raise
+        self.at = last
+        self.connection = opened(last)
 
     def close(self) -> None:
         self.connection.close()
@@ -104,10 +140,11 @@ class Store:
         """Ends a certificate, by its digest. Returns whether it had not ended before."""
         return bool(self.rows("INSERT INTO {ended} (certificate, remark) VALUES (%s, %s) ON CONFLICT DO NOTHING RETURNING 1", certificate, remark))
 
-    def beat(self) -> int:
-        """Increases the number of the heartbeat."""
-        (number,), = self.rows("UPDATE {heartbeat} SET number = number + 1, moment = clock_timestamp() RETURNING number")
-        return int(number)
+    def beat(self, seconds: float = 3.0) -> int:
+        """Increases the number of the heartbeat. Raises OperationalError if that fails, or takes longer: the server is not told to cancel it then,
+        since a change that waits for a replica would count at once. A beat that waits so keeps others waiting, and they give up soon."""
+        text = f"SET LOCAL lock_timeout = {WAITS}; UPDATE {{heartbeat}} SET number = number + 1, moment = clock_timestamp() RETURNING number"
+        return int(answered(self.connection.pgconn, self.named(text).as_string(self.connection).encode(), seconds))
 
     def all(self) -> Iterator[Row]:
         """All entries in order, of one state of the store."""

@@ -1,0 +1,56 @@
+"""The heartbeat, at whichever of several servers takes it."""
+from __future__ import annotations
+
+from concurrent.futures import Future, ThreadPoolExecutor, wait
+from typing import Any
+
+import psycopg
+
+from .tables import Store, opened
+
+# The time between two beats, and between two looks for a server that takes them, in seconds.
+EVERY, AGAIN = 1.0, 0.2
+
+
+class Beats:
+    """Beats at one server as long as that goes. Otherwise all are asked at once, since a machine that is gone keeps one waiting for seconds. Of those
+    that answer the first in order is taken; where a beat failed, that server is the last in order."""
+
+    def __init__(self, store: Store) -> None:
+        self.store, self.hosts = store, store.each_host()
+        self.opening: dict[str, Future[psycopg.Connection[Any]]] = {}
+        self.pool = ThreadPoolExecutor(len(self.hosts))
+
+    def beat(self) -> None:
+        """Beats once, or raises a fault of the database. The next beat is then tried at another connection."""
+        if self.store.connection.closed:
+            self.connect()
+        try:
+            self.store.beat()
+        except psycopg.Error:
+            self.store.close()
+            self.hosts.append(self.hosts.pop(self.hosts.index(self.store.at)))
+            raise
+
+    def connect(self) -> None:
+        """Connects to a server that takes connections now."""
+        for host in self.hosts:
+            if host not in self.opening:
+                self.opening[host] = self.pool.submit(opened, host)
+        wait(self.opening.values(), AGAIN)
+        done = {host: self.opening.pop(host) for host in self.hosts if self.opening[host].done()}
+        found = {host: each.result() for host, each in done.items() if not each.exception() and not each.result().closed}
+        if not found:
+            faults = [str(each.exception() or "").strip().replace("\n", " ") for each in done.values()]
+            raise psycopg.OperationalError("; ".join(faults) or "no server answers")
+        (self.store.at, self.store.connection), *others = found.items()
+        for _, connection in others:
+            connection.close()
+        for late in self.opening.values():
+            late.add_done_callback(closes)
+
+
+def closes(late: Future[psycopg.Connection[Any]]) -> None:
+    """Closes a connection that is not used."""
+    if not late.exception():
+        late.result().close()

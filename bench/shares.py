@@ -1,0 +1,50 @@
+"""Shares of the processors: groups of Linux (cgroups, version 1) whose processes have so much of one processor together, and no more."""
+import os
+import secrets
+import time
+
+TOP = "/sys/fs/cgroup/cpu"
+# The microseconds after which a share begins anew. A process that has used its share waits for the rest of them.
+PERIOD = 10_000
+
+
+class Share:
+    """A group with a share of a processor. It ends with its context, when its processes have ended."""
+
+    def __init__(self, cores):
+        self.path, self.cores = os.path.join(TOP, f"spki-{os.getpid()}-{secrets.token_hex(3)}"), cores
+
+    def __enter__(self):
+        os.mkdir(self.path)
+        try:
+            self.write("cpu.cfs_period_us", PERIOD)
+            self.write("cpu.cfs_quota_us", round(self.cores * PERIOD))
+        except OSError:
+            os.rmdir(self.path)
+            raise
+        return self
+
+    def __exit__(self, *fault):
+        for _ in range(100):
+            try:
+                return os.rmdir(self.path)
+            except OSError:
+                time.sleep(0.05)
+        return os.rmdir(self.path)
+
+    def write(self, name, value):
+        with open(os.path.join(self.path, name), "w", encoding="ascii") as file:
+            file.write(str(value))
+
+    def take(self, process):
+        """Puts a process and its threads into the group."""
+        self.write("cgroup.procs", process)
+
+
+def fault():
+    """Why no shares can be made here, or None."""
+    try:
+        with Share(0.5):
+            return None
+    except OSError as why:
+        return f"{TOP}: {why.strerror}"
