@@ -4,8 +4,8 @@ use Rattle.spki_service.specs.AccessLists.{GuardModel}
 use Rattle.spki_service.specs.declared.question.Question.{Question}
 use Rattle.spki_guard.specs.declared.answers.Verdict.{Verdict}
 use Rattle.spki_guard.specs.declared.answers.Verdict.TheVariants.{Refused}
-use Rattle.spki_guard.specs.declared.question_answers.Query.{Query}
-use Rattle.spki_guard.specs.declared.question_answers.Query.TheVariants.{Decide, Explain, Reduce}
+use Rattle.spki_guard.specs.declared.queries.Query.{Query}
+use Rattle.spki_guard.specs.declared.queries.Query.TheVariants.{Decide, Explain, Reduce}
 use Rattle.spki_guard.specs.HeldQuestions.{IsAnswerHeld}
 use Rattle.spki_guard.specs.Lines.{refused_memory}
 use Rattle.spki_c.specs.Guards.{query_number, status_for, IsAnswered}

@@ -7,8 +7,8 @@ use Rattle.spki_service.specs.declared.owned_question.OwnedQuestion.{OwnedQuesti
 use Rattle.spki_service.specs.declared.question.Question.{Question}
 use Rattle.spki_guard.specs.declared.answers.Verdict.{Verdict}
 use Rattle.spki_guard.specs.declared.answers.Verdict.TheVariants.{Done, No, Refused}
-use Rattle.spki_guard.specs.declared.question_answers.Query.{Query}
-use Rattle.spki_guard.specs.declared.question_answers.Query.TheVariants.{Decide, Explain, Reduce}
+use Rattle.spki_guard.specs.declared.queries.Query.{Query}
+use Rattle.spki_guard.specs.declared.queries.Query.TheVariants.{Decide, Explain, Reduce}
 use Rattle.spki_guard.specs.HeldQuestions.{HasGrant, IsGrantFor}
 use Rattle.spki_c.specs.Guards.{status_for}
 use Rattle.spki_c.specs.Results.{IsHanded}

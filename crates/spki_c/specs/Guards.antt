@@ -7,10 +7,10 @@ use Rattle.spki_service.specs.declared.limits.Limits.{Limits}
 use Rattle.spki_service.specs.declared.list_fault.AclFault.{AclFault}
 use Rattle.spki_service.specs.declared.question.Question.{Question}
 use Rattle.spki_guard.specs.declared.answers.Verdict.{Verdict}
-use Rattle.spki_guard.specs.declared.question_answers.Query.{Query}
-use Rattle.spki_guard.specs.declared.question_answers.Query.TheVariants.{Decide, Explain, Reduce}
-use Rattle.spki_guard.specs.HeldQuestions.{IsAnswerHeld, refused_list}
-use Rattle.spki_guard.specs.Lines.{refused_memory}
+use Rattle.spki_guard.specs.declared.queries.Query.{Query}
+use Rattle.spki_guard.specs.declared.queries.Query.TheVariants.{Decide, Explain, Reduce}
+use Rattle.spki_guard.specs.HeldQuestions.{IsAnswerHeld}
+use Rattle.spki_guard.specs.Lines.{refused_list, refused_memory}
 use Rattle.spki_c.specs.Results.{IsHanded, decided, written}
 use Rattle.spki_c.specs.declared.handle_value.HandleValue.{HandleValue}
 use Rattle.spki_c.specs.declared.handle_value.HandleValue.TheVariants as contents

@@ -4,13 +4,13 @@ ghost use Rattle.spki_guard.specs.TextAnswers.{written_by};
 ghost use Rattle.spki_c.specs.Results.{IsHanded};
 
 use crate::numbers::{MISUSED, TOO_SMALL};
-use spki_guard::Answer;
+use spki_guard::Printed;
 
 /// Writes an answer to the front of a buffer, frees it, and returns the given status. The rest of the buffer is unchanged.
 ///
 /// If the buffer is too small, all of it is unchanged, and the status is `TOO_SMALL`. In both cases `needed` is set to
 /// the answer's length in octets.
-pub fn hand_over(answer: Answer, status: u32, buffer: &mut [u8], needed: &mut usize) -> u32
+pub fn hand_over(answer: Printed, status: u32, buffer: &mut [u8], needed: &mut usize) -> u32
     ensures { IsHanded buffer.old buffer.new needed.new result status (written_by answer) }
 {
     let octets = answer.octets();

@@ -11,7 +11,7 @@ use crate::handle_value::{HandleValue, boxed};
 use crate::lent_texts::words_of;
 use crate::parts::Parts;
 use crate::text::Text;
-use spki_guard::{Answer, AskFault, Question, SharedGuard, open_question, refused_question};
+use spki_guard::{AskFault, Printed, Question, SharedGuard, open_question, refused_question};
 use std::alloc::Global;
 
 /// Opens the question of these parts for a guard, and puts it on the heap. `texts` are the strings of its request. All texts must be lent
@@ -22,7 +22,7 @@ pub(crate) fn open_parts(
     mut parts: Parts,
     mut texts: Vec<Text>,
     seconds: &[i64],
-) -> Result<Box<HandleValue>, Answer>
+) -> Result<Box<HandleValue>, Printed>
     requires { AreLent parts texts.items }
     ensures opened { IfOk result (λ c. (q : Question) × IsQuestionOf parts texts.items seconds.now q
         × ((o : OwnedQuestion) × (c.value ≡ HandleValue.Question o) × IsOpened guard.now q o × NoneMarked o.marks.items)) }
@@ -41,7 +41,7 @@ fn open_boxed(
     alloc: Global,
     guard: &SharedGuard,
     question: &Question,
-) -> Result<Box<HandleValue>, Answer>
+) -> Result<Box<HandleValue>, Printed>
     ensures opened { IfOk result (λ c. (o : OwnedQuestion) × (c.value ≡ HandleValue.Question o) × IsOpened guard.now question.now o × NoneMarked o.marks.items) }
     ensures refused { IfErr result (λ a. IsUnreadQuestion guard.now question.now a.verdict (written_by a)) }
 {

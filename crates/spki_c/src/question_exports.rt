@@ -5,7 +5,7 @@ ghost use Rattle.spki_service.specs.AccessLists.{GuardModel};
 ghost use Rattle.spki_service.specs.declared.question.Question.{Question};
 ghost use Rattle.spki_service.specs.declared.owned_question.OwnedQuestion.{OwnedQuestion};
 ghost use Rattle.spki_service.specs.GuardQuestions.{IsOpened};
-ghost use Rattle.spki_guard.specs.declared.question_answers.Query.{Query};
+ghost use Rattle.spki_guard.specs.declared.queries.Query.{Query};
 ghost use Rattle.spki_c.specs.Asking.{IsAmbiguous, IsQuestionOf, IsHeldQuestion, IsUnheld, AreLent, IsSignature};
 ghost use Rattle.spki_c.specs.declared.handle_value.HandleValue.{HandleValue};
 ghost use Rattle.spki_c.specs.HandleValues.{HandsBack};

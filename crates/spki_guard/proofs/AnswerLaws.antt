@@ -18,19 +18,18 @@ use Rattle.spki_case.proofs.Building.{behind_head}
 use Rattle.spki_decision.specs.declared.fault.GuardFault.{GuardFault}
 use Rattle.spki_decision.specs.declared.fault.GuardFault.TheVariants as guard
 use Rattle.spki_words.specs.declared.commands.Command.{Command}
-use Rattle.spki_guard.specs.declared.answers.Refusal.{Refusal}
-use Rattle.spki_guard.specs.declared.answers.Refusal.TheVariants as refusals
-use Rattle.spki_guard.specs.TextAnswers.{RefusesValue, HasTooLarge, form_of, IsOnCase, AnswersValue, AnswersRead, RefusesAnswer, written_by, ReadsCase, DecidesApart, DecidesBy, RefusesApart, RefusesBy}
+use Rattle.spki_guard.specs.declared.refusals.Refusal.{Refusal}
+use Rattle.spki_guard.specs.declared.refusals.Refusal.TheVariants as refusals
+use Rattle.spki_guard.specs.TextAnswers.{RefusesValue, HasTooLarge, form_of, IsOnCase, AnswersValue, AnswersRead, RefusesAnswer, ReadsCase, DecidesApart, DecidesBy, RefusesApart, RefusesBy}
 use Rattle.sexpr_core.specs.declared.fault.FormFault.{FormFault}
 use Rattle.sexpr_text.specs.AdvancedForm.{IsTextWithin, written}
 use Rattle.sexpr_text.proofs.Printed.{canonical_spelled}
 use Rattle.spki_case.specs.declared.cases.CaseFault.{CaseFault}
 use Rattle.spki_case.specs.declared.cases.CaseFault.TheVariants as faults
-use Rattle.spki_guard.specs.declared.sources.CaseCommand.{CaseCommand}
-use Rattle.spki_guard.specs.declared.sources.CaseCommand.TheVariants as case_command
+use Rattle.spki_guard.specs.declared.queries.Query.{Query}
+use Rattle.spki_guard.specs.declared.queries.Query.TheVariants as query
 use Rattle.spki_guard.specs.declared.answers.Answer.{Answer}
-use Rattle.spki_guard.specs.declared.replies.Reply.{Reply}
-use Rattle.spki_guard.specs.Inner.Replies.{PrintsAs, command_of}
+use Rattle.spki_guard.specs.Inner.Prints.{PrintsAs, command_of}
 
 -- ---- the two operands of an intersection
 
@@ -86,7 +85,7 @@ pub of_value : (text : List ℕ) (fault : CaseFault) → TextRefused text fault 
 of_value text fault (inl m) other = absurd (other (m.form, m.is))
 of_value text fault (inr t) other = t
 
-answered_by : (command : Command) (text : List ℕ) (v : Value) (r : Result Reply Refusal) → IsTextWithin text v
+answered_by : (command : Command) (text : List ℕ) (v : Value) (r : Result Answer Refusal) → IsTextWithin text v
     → IfOk r (PrintsAs (AnswersValue command v))
     → IfOk r (PrintsAs (AnswersRead command text))
 answered_by command text v (Ok x) t h = λ output printed. record { value = v; read = t; answer = h output printed }
@@ -96,23 +95,25 @@ refused_by : (command : Command) (text : List ℕ) (v : Value) (refusal : Refusa
     → RefusesValue command v refusal → RefusesAnswer command text refusal
 refused_by command text v (refusals.Form fault) t h = absurd h
 refused_by command text v (refusals.Rows fault) t h = absurd h
+refused_by command text v (refusals.List fault) t h = absurd h
+refused_by command text v (refusals.Question fault) t h = absurd h
 refused_by command text v refusals.Memory t h = tt
 refused_by command text v refusal t h = record { value = v; read = t; refused = h }
 
-err_by : (command : Command) (text : List ℕ) (v : Value) (r : Result Reply Refusal) → IsTextWithin text v
+err_by : (command : Command) (text : List ℕ) (v : Value) (r : Result Answer Refusal) → IsTextWithin text v
     → IfErr r (λ refusal. RefusesValue command v refusal) → IfErr r (λ refusal. RefusesAnswer command text refusal)
 err_by command text v (Ok a) t h = tt
 err_by command text v (Err refusal) t h = refused_by command text v refusal t h
 
 -- what is answered to the value is answered to the canonical text
-pub canonical_answered : (command : Command) (text : List ℕ) (c : Case) (r : Result Reply Refusal) → IsCaseText text c
+pub canonical_answered : (command : Command) (text : List ℕ) (c : Case) (r : Result Answer Refusal) → IsCaseText text c
     → ((v : Value) → IsCaseText (canon v) c → IfOk r (PrintsAs (AnswersValue command v)))
     → IfOk r (PrintsAs (AnswersRead command text))
 canonical_answered command text c r t f =
     answered_by command text t.value r (canonical_text text t.value t.within t.written)
     (f t.value (subst (λ s. IsCaseText s c) t.written t))
 
-pub canonical_refused : (command : Command) (text : List ℕ) (c : Case) (r : Result Reply Refusal) → IsCaseText text c
+pub canonical_refused : (command : Command) (text : List ℕ) (c : Case) (r : Result Answer Refusal) → IsCaseText text c
     → ((v : Value) → IsCaseText (canon v) c → IfErr r (λ refusal. RefusesValue command v refusal))
     → IfErr r (λ refusal. RefusesAnswer command text refusal)
 canonical_refused command text c r t f =
@@ -120,22 +121,22 @@ canonical_refused command text c r t f =
     (f t.value (subst (λ s. IsCaseText s c) t.written t))
 
 -- the same of the octets of a value that is converted
-pub converted_answered : (command : Command) (text octets : List ℕ) (r : Result Reply Refusal)
+pub converted_answered : (command : Command) (text octets : List ℕ) (r : Result Answer Refusal)
     → (v : Value) × IsTextWithin text v × (octets ≡ written (form_of command) v)
     → ((v : Value) → octets ≡ written (form_of command) v → IfOk r (PrintsAs (AnswersValue command v)))
     → IfOk r (PrintsAs (AnswersRead command text))
 converted_answered command text octets r (v, t, e) f = answered_by command text v r t (f v e)
 
-pub converted_refused : (command : Command) (text octets : List ℕ) (r : Result Reply Refusal)
+pub converted_refused : (command : Command) (text octets : List ℕ) (r : Result Answer Refusal)
     → (v : Value) × IsTextWithin text v × (octets ≡ written (form_of command) v)
     → ((v : Value) → octets ≡ written (form_of command) v → IfErr r (λ refusal. RefusesValue command v refusal))
     → IfErr r (λ refusal. RefusesAnswer command text refusal)
 converted_refused command text octets r (v, t, e) f = err_by command text v r t (f v e)
 
-pub on_case : (command : Command) (own : CaseCommand) → command ≡ command_of own → IsOnCase command
-on_case command case_command.Reduce e = subst IsOnCase (sym e) tt
-on_case command case_command.Check e = subst IsOnCase (sym e) tt
-on_case command case_command.Explain e = subst IsOnCase (sym e) tt
+pub on_case : (command : Command) (own : Query) → command ≡ command_of own → IsOnCase command
+on_case command query.Reduce e = subst IsOnCase (sym e) tt
+on_case command query.Decide e = subst IsOnCase (sym e) tt
+on_case command query.Explain e = subst IsOnCase (sym e) tt
 
 -- a case that has no reading, as the refusal
 pub no_case : (command : Command) (text : List ℕ) (fault : CaseFault) (outer : Refusal) → IsOnCase command
@@ -158,8 +159,8 @@ reads_case : (text : List ℕ) (c : Case) → IsCaseText text c → ReadsCase te
 reads_case text c t = search (rules, canonical_text, written)
 
 pub apart_answered : (text rows : List ℕ) (c : Case) (r : Result Answer Refusal) → IsCaseText text c
-    → IfOk r (λ a. DecidesBy c rows a.verdict (written_by a)) → IfOk r (λ a. DecidesApart text rows a.verdict (written_by a))
-apart_answered text rows c (Ok a) t h = record { case_read = c; text_is = reads_case text c t; is = h }
+    → IfOk r (PrintsAs (DecidesBy c rows)) → IfOk r (PrintsAs (DecidesApart text rows))
+apart_answered text rows c (Ok a) t h = λ printed is. record { case_read = c; text_is = reads_case text c t; is = h printed is }
 apart_answered text rows c (Err refusal) t h = tt
 
 apart_refusal : (text rows : List ℕ) (c : Case) (refusal : Refusal) → IsCaseText text c → RefusesBy c rows refusal

@@ -15,14 +15,14 @@ use Rattle.spki_service.specs.declared.owned_question.OwnedQuestion.{OwnedQuesti
 use Rattle.spki_service.specs.declared.question.Question.{Question}
 use Rattle.spki_service.specs.declared.question.AskFault.{AskFault}
 use Rattle.spki_service.specs.declared.question.AskFault.TheVariants as faults
-use Rattle.spki_guard.specs.declared.answers.Answer.{Answer}
+use Rattle.spki_guard.specs.declared.printed.Printed.{Printed}
 use Rattle.spki_guard.specs.declared.answers.Verdict.{Verdict}
 use Rattle.spki_guard.specs.declared.answers.Verdict.TheVariants.{Done, No, Refused}
-use Rattle.spki_guard.specs.declared.question_answers.Query.{Query}
-use Rattle.spki_guard.specs.declared.question_answers.Query.TheVariants.{Decide, Explain, Reduce}
+use Rattle.spki_guard.specs.declared.queries.Query.{Query}
+use Rattle.spki_guard.specs.declared.queries.Query.TheVariants.{Decide, Explain, Reduce}
 use Rattle.spki_guard.specs.TextAnswers.{written_by, IsLineOf, RefusesForMemory}
-use Rattle.spki_guard.specs.HeldQuestions.{ReadsQuestion, AnswersAsked, IsUnreadQuestion, IsAnswerHeld, HasGrant, GrantsHeld, MayGrant, refused_question, IsUnreadFor, WritesAsked, IsTooLargeFor, AnswersHeld, beside}
-use Rattle.spki_guard.specs.Lines.{refused_memory, ReportsReduced, IsExplanationReport}
+use Rattle.spki_guard.specs.HeldQuestions.{ReadsQuestion, AnswersAsked, IsUnreadQuestion, IsAnswerHeld, HasGrant, GrantsHeld, MayGrant, IsUnreadFor, WritesAsked, IsTooLargeFor, AnswersHeld, beside}
+use Rattle.spki_guard.specs.Lines.{refused_question, refused_memory, ReportsReduced, IsExplanationReport}
 use Rattle.spki_cert.specs.declared.entry.Entry.{Entry}
 use Rattle.spki_decision.specs.declared.reduction.EntryFold.{EntryFold}
 use Rattle.spki_decision.specs.Granted.{SomeTooLarge, IsYes}
@@ -48,7 +48,7 @@ pub opened_reads : (held : GuardModel) (q : Question) (o : OwnedQuestion) (a : P
     → ReadsQuestion held q a.case
 opened_reads held q o a opened read = search (rules, reads)
 
-pub answered : (query : Query) (held : GuardModel) (q : Question) (marks : List Bool) (a : PreparedModel) (x : Answer) → ReadsQuestion held q a.case
+pub answered : (query : Query) (held : GuardModel) (q : Question) (marks : List Bool) (a : PreparedModel) (x : Printed) → ReadsQuestion held q a.case
     → a.texts ≡ held.texts → a.answer ≡ held.answer → a.marks ≡ marks
     → AnswersAsked query a x.verdict (written_by x) ⊎ RefusesForMemory x.verdict (written_by x)
     → IsAnswerHeld query held q marks x.verdict (written_by x)
@@ -85,9 +85,11 @@ unread held q (faults.Moment kind) verdict output within is other refused (inl l
 
 -- ---- a question that was opened
 
-some_if : (grant : Option Grant) (verdict : Verdict) (output : List ℕ) → IsLineOf (decision_of grant) verdict output → verdict ≡ Done → IsSome grant
-some_if None verdict output line done = absurd (let clash : No ≡ Done = sym line.0 ∙ done in cc)
+some_if : (grant : Option Grant) (verdict : Verdict) (output : List ℕ) → IsLineOf (decision_of grant) verdict output ⊎ RefusesForMemory verdict output
+    → verdict ≡ Done → IsSome grant
 some_if (Some grant) verdict output line done = refl
+some_if None verdict output (inl line) done = absurd (let clash : No ≡ Done = sym line.0 ∙ done in cc)
+some_if None verdict output (inr h) done = absurd (let clash : Refused ≡ Done = sym h.verdict_is ∙ done in cc)
 
 module _ (q : Question) (o : OwnedQuestion) (opened : IsOpened o.guard q o) (a : PreparedModel) (read : IsReadFrom o.guard o.texts a) where
   is_beside : (marks : List Bool) → a.marks ≡ marks → a ≡ beside o.guard a.case marks
@@ -97,9 +99,11 @@ module _ (q : Question) (o : OwnedQuestion) (opened : IsOpened o.guard q o) (a :
     there : DecidesMarked (beside o.guard a.case o.marks.items) d
     there = subst (λ (b : PreparedModel). DecidesMarked b d) (is_beside o.marks.items same) decides
 
-    pub opened_decided : (verdict : Verdict) (output : List ℕ) → IsLineOf d verdict output → IsAnswerHeld Decide o.guard q o.marks.items verdict output
-    opened_decided verdict output line =
+    pub opened_decided : (verdict : Verdict) (output : List ℕ) → IsLineOf d verdict output ⊎ RefusesForMemory verdict output
+        → IsAnswerHeld Decide o.guard q o.marks.items verdict output
+    opened_decided verdict output (inl line) =
         inl (record { case_read = a.case; read = opened_reads o.guard q o a opened read; answer = inl (d, there, line) })
+    opened_decided verdict output (inr h) = inr (inr h)
 
     pub opened_granted : (said : Bool) → IsTrue said ↔ IsYes d → GrantsHeld o.guard q o.marks.items said
     opened_granted said is = record {
@@ -117,7 +121,8 @@ module _ (q : Question) (o : OwnedQuestion) (opened : IsOpened o.guard q o) (a :
         record { case_read = a.case; read = opened_reads o.guard q o a opened read; granted = grants_there; some = some }
 
     -- a line that says yes is that of a grant
-    pub opened_yes : (output : List ℕ) → IsLineOf (decision_of grant) verdict output → HasGrant o.guard q o.marks.items verdict grant
+    pub opened_yes : (output : List ℕ) → IsLineOf (decision_of grant) verdict output ⊎ RefusesForMemory verdict output
+        → HasGrant o.guard q o.marks.items verdict grant
     opened_yes output line = opened_grants (some_if grant verdict output line)
 
   pub opened_possible : (d : Decision) (said : Bool) → Decides every a d → IsTrue said ↔ IsYes d → MayGrant o.guard q said

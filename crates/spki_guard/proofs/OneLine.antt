@@ -27,8 +27,8 @@ use Rattle.spki_decision.proofs.OneDecision.{decided_one, explained_one, explain
 use Rattle.spki_service.proofs.OneAsking.{text_one}
 use Rattle.spki_words.specs.declared.commands.Command.{Command}
 use Rattle.spki_words.specs.declared.commands.Command.TheVariants.{Intersect, Reduce, Check, Explain}
-use Rattle.spki_guard.specs.declared.answers.Refusal.{Refusal}
-use Rattle.spki_guard.specs.declared.answers.Refusal.TheVariants as refusals
+use Rattle.spki_guard.specs.declared.refusals.Refusal.{Refusal}
+use Rattle.spki_guard.specs.declared.refusals.Refusal.TheVariants as refusals
 use Rattle.spki_guard.specs.declared.answers.Verdict.{Verdict}
 use Rattle.spki_guard.specs.declared.intersection.IntersectFault.{IntersectFault}
 use Rattle.spki_guard.specs.declared.intersection.IntersectFault.TheVariants as intersect
@@ -223,6 +223,8 @@ pub answered : (command : Command) (text : List ℕ) (x : Verdict) (output : Lis
     → RefusesAnswer command text refusal → refusal ≡ refusals.Memory
 answered command text x output (refusals.Form fault) a r = absurd (r.none a.value a.read)
 answered command text x output (refusals.Rows fault) a r = absurd r
+answered command text x output (refusals.List fault) a r = absurd r
+answered command text x output (refusals.Question fault) a r = absurd r
 answered command text x output refusals.Memory a r = refl
 answered command text x output refusal a r = by_value command text x output refusal a r.value r.read r.refused
 
@@ -258,6 +260,8 @@ module _ (command : Command) (text : List ℕ) (Said : Value → Refusal → Typ
       → refusal ≢ refusals.Memory → refusal ≡ one
   only v read a (refusals.Form fault) r found = absurd (r.none v read)
   only v read a (refusals.Rows fault) r found = absurd r
+  only v read a (refusals.List fault) r found = absurd r
+  only v read a (refusals.Question fault) r found = absurd r
   only v read a refusals.Memory r found = absurd (found refl)
   only v read a refusal r found = large r.value refusal (subst (λ (w : Value). Said w one) (text_one text v r.value read r.read) a) r.refused found
 

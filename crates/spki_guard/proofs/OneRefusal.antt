@@ -16,8 +16,8 @@ use Rattle.spki_case.specs.declared.cases.CaseFault.TheVariants as case_faults
 use Rattle.spki_case.proofs.OneCase.{one-fault, one_text, well_formed, case_unrefused, one-rows_fault, text-one, rows_unrefused, one_list}
 use Rattle.spki_words.specs.declared.commands.Command.{Command}
 use Rattle.spki_words.specs.declared.commands.Command.TheVariants.{Intersect, Reduce, Check, Explain}
-use Rattle.spki_guard.specs.declared.answers.Refusal.{Refusal}
-use Rattle.spki_guard.specs.declared.answers.Refusal.TheVariants as refusals
+use Rattle.spki_guard.specs.declared.refusals.Refusal.{Refusal}
+use Rattle.spki_guard.specs.declared.refusals.Refusal.TheVariants as refusals
 use Rattle.spki_service.specs.Questions.{RefusesForm}
 use Rattle.spki_service.proofs.OneAsking.{text_one, refuses_one}
 use Rattle.spki_guard.specs.declared.intersection.IntersectFault.{IntersectFault}
@@ -138,6 +138,8 @@ module _ (command : Command) (v : Value) (h : IsShallow v) where
       → refusal ≢ refusals.Memory → other ≢ refusals.Memory → refusal ≡ other
   value_one (refusals.Form e) other r s found known = absurd r
   value_one (refusals.Rows e) other r s found known = absurd r
+  value_one (refusals.List e) other r s found known = absurd r
+  value_one (refusals.Question e) other r s found known = absurd r
   value_one refusals.Memory other r s found known = absurd (found refl)
   value_one (refusals.Intersect e) (refusals.Intersect f) r s found known = ap refusals.Intersect (text_not_met_one v e f h r.1 s.1)
   value_one (refusals.Intersect e) (refusals.Case f) r s found known = absurd (off_case command r.0 s.0)
@@ -162,6 +164,8 @@ said : (command : Command) (text : List ℕ) (refusal : Refusal) → RefusesAnsw
     → refusal ≢ refusals.Memory → IsSaid command text refusal
 said command text (refusals.Form fault) r found = of_form fault refl r
 said command text (refusals.Rows fault) r found = absurd r
+said command text (refusals.List fault) r found = absurd r
+said command text (refusals.Question fault) r found = absurd r
 said command text refusals.Memory r found = absurd (found refl)
 said command text refusal r found = of_value r
 
@@ -230,7 +234,6 @@ not_undecided c rows verdict output fault a b =
 pub only_memory : (text rows : List ℕ) (verdict : Verdict) (output : List ℕ) (refusal : Refusal) → DecidesApart text rows verdict output
     → RefusesApart text rows refusal → refusal ≡ refusals.Memory
 only_memory text rows verdict output (refusals.Form fault) a b = absurd (b.none a.text_is.value a.text_is.read)
-only_memory text rows verdict output (refusals.Intersect fault) a b = absurd b
 only_memory text rows verdict output (refusals.Case fault) a b = absurd (no_denial text a.case_read fault a.text_is b)
 only_memory text rows verdict output (refusals.Decision fault) a b =
     let same : a.case_read ≡ b.case_read =
@@ -238,6 +241,7 @@ only_memory text rows verdict output (refusals.Decision fault) a b =
     absurd (not_undecided b.case_read rows verdict output fault (subst (λ (c : Case). DecidesBy c rows verdict output) same a.is) b.is)
 only_memory text rows verdict output (refusals.Rows fault) a b = absurd (no_blame rows a.is.rows fault a.is.rows_are b.is)
 only_memory text rows verdict output refusals.Memory a b = refl
+only_memory text rows verdict output other a b = absurd b
 
 -- what no case is refused for
 cases_one : (text : List ℕ) (f g : CaseFault) → LacksCase text f → LacksCase text g → f ≡ g
@@ -268,24 +272,23 @@ pub one_refused : (text rows : List ℕ) (refusal other : Refusal) → RefusesAp
     → refusal ≢ refusals.Memory → other ≢ refusals.Memory → refusal ≡ other
 one_refused text rows refusals.Memory other a b k l = absurd (k refl)
 one_refused text rows (refusals.Intersect f) other a b k l = absurd a
-one_refused text rows (refusals.Form f) (refusals.Intersect g) a b k l = absurd b
+one_refused text rows (refusals.List f) other a b k l = absurd a
+one_refused text rows (refusals.Question f) other a b k l = absurd a
 one_refused text rows (refusals.Form f) (refusals.Form g) a b k l = ap refusals.Form (refuses_one text f g a b)
 one_refused text rows (refusals.Form f) (refusals.Case g) a b k l = absurd (a.none b.value b.read)
 one_refused text rows (refusals.Form f) (refusals.Rows g) a b k l = absurd (a.none b.text_is.value b.text_is.read)
 one_refused text rows (refusals.Form f) (refusals.Decision g) a b k l = absurd (a.none b.text_is.value b.text_is.read)
-one_refused text rows (refusals.Case f) (refusals.Intersect g) a b k l = absurd b
 one_refused text rows (refusals.Case f) (refusals.Form g) a b k l = absurd (b.none a.value a.read)
 one_refused text rows (refusals.Case f) (refusals.Case g) a b k l = ap refusals.Case (cases_one text f g a b)
 one_refused text rows (refusals.Case f) (refusals.Rows g) a b k l = absurd (no_denial text b.case_read f b.text_is a)
 one_refused text rows (refusals.Case f) (refusals.Decision g) a b k l = absurd (no_denial text b.case_read f b.text_is a)
-one_refused text rows (refusals.Rows f) (refusals.Intersect g) a b k l = absurd b
 one_refused text rows (refusals.Rows f) (refusals.Form g) a b k l = absurd (b.none a.text_is.value a.text_is.read)
 one_refused text rows (refusals.Rows f) (refusals.Case g) a b k l = absurd (no_denial text a.case_read g a.text_is b)
 one_refused text rows (refusals.Rows f) (refusals.Rows g) a b k l = ap refusals.Rows (rows_one rows f g a.is b.is)
 one_refused text rows (refusals.Rows f) (refusals.Decision g) a b k l = absurd (no_blame rows b.is.rows f b.is.rows_are a.is)
-one_refused text rows (refusals.Decision f) (refusals.Intersect g) a b k l = absurd b
 one_refused text rows (refusals.Decision f) (refusals.Form g) a b k l = absurd (b.none a.text_is.value a.text_is.read)
 one_refused text rows (refusals.Decision f) (refusals.Case g) a b k l = absurd (no_denial text a.case_read g a.text_is b)
 one_refused text rows (refusals.Decision f) (refusals.Rows g) a b k l = absurd (no_blame rows a.is.rows g a.is.rows_are b.is)
 one_refused text rows (refusals.Decision f) (refusals.Decision g) a b k l = ap refusals.Decision (a.is.named ∙ sym b.is.named)
 one_refused text rows refusal refusals.Memory a b k l = absurd (l refl)
+one_refused text rows refusal other a b k l = absurd b

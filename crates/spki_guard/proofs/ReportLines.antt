@@ -1,25 +1,25 @@
 -- The lines of entries: their numbers and words, one line behind another, and what a printer of folds has of them.
-use Rattle.std.proofs.Common.{◌≡◌, ℕ, zero, suc, ◌<◌, ◌^◌, [], ◌∷◌, refl, sym, ◌∙◌, arith, ◌+◌, List, ◌++◌, length, take, get_or, ap, append_assoc, append-nil, length-take-le, rules, ◌==◌, false, Vec, Global, Option, Some, None, IfSome, subst, Bool, true, ◌||◌, true≢false}
+use Rattle.std.proofs.Common.{◌≡◌, ℕ, zero, suc, ◌<◌, ◌^◌, [], ◌∷◌, refl, sym, ◌∙◌, arith, ◌+◌, List, ◌++◌, length, take, get_or, map, ap, append_assoc, append-nil, length-take-le, rules, false, Option, Some, None, IfSome, subst, Bool, true, ◌||◌, true≢false}
 use Rattle.std.proofs.lemmas.Fmt.{decimal-digits_of}
 use Rattle.std.specs.Fmt.{digits}
 use Rattle.std.specs.Fmt as std_fmt
 use Rattle.sexpr_core.proofs.Texts.{decimal_zero, decimal_suc}
 use Rattle.sexpr_core.specs.Value.{decimal, Value}
 use Rattle.std.specs.Prelude.{codes}
-use Rattle.std.proofs.lemmas.List.{take_more, length-append}
-use Rattle.spki_guard.specs.Lines.{line, entry_line, reason_line, verdict_of, IsFoldLine, AreFoldLines, ReportsFolds, IsReductionReport, some_done, reason_lines, no_entries, is_done}
-use Rattle.std.proofs.lemmas.Bool.Decides.{nat_tests}
+use Rattle.std.proofs.lemmas.List.{take_more, length-append, flat_map_more}
+use Rattle.std.specs.List.{flat_map}
+use Rattle.spki_guard.specs.Lines.{line, entry_line, reason_line, verdict_of, IsFoldLine, AreFoldLines, ReportsFolds, some_done, reason_lines, no_entries, is_done}
 use Rattle.sexpr_text.specs.AdvancedForm.{adv}
 use Rattle.spki_reduce.proofs.Uniqueness.{written_one}
 use Rattle.spki_decision.specs.declared.reduction.EntryFold.{EntryFold}
 use Rattle.spki_decision.specs.declared.reduction.EntryFold.TheVariants as folded
-use Rattle.spki_decision.specs.declared.reduction.Reduction.{Reduction}
-use Rattle.spki_decision.specs.declared.reduction.Reduction.TheVariants as reduction
 use Rattle.spki_decision.specs.declared.explanation.Reason.{Reason}
 use Rattle.spki_guard.specs.declared.answers.Verdict.{Verdict}
-use Rattle.spki_guard.specs.declared.replies.Reply.{Reply}
-use Rattle.spki_guard.specs.declared.replies.Reply.TheVariants.{Whole, Octets, Line, Tag, Item, NoEntries, Folds, Reasons}
-use Rattle.spki_guard.specs.Inner.Replies.{Prints, PrintsAs, HasPrinted, AreLongFolds}
+use Rattle.spki_guard.specs.declared.answers.Answer.{Answer}
+use Rattle.spki_guard.specs.declared.answers.Answer.TheVariants as answer
+use Rattle.spki_guard.specs.declared.answers.Output.{Output}
+use Rattle.spki_guard.specs.declared.answers.Output.TheVariants.{Octets, Line, Made, Tag, Item, NoEntries, Folds, Reasons}
+use Rattle.spki_guard.specs.Inner.Prints.{PrintsOutput, Prints, HasPrinted, AreLongFolds}
 use Rattle.spki_guard.specs.declared.fold_printer.FoldPrinter.{FoldPrinter}
 use Rattle.spki_guard.specs.declared.answers.Verdict.TheVariants.{No}
 
@@ -33,15 +33,24 @@ pub decimal_written : (n : ℕ) → n < 2 ^ 64 → std_fmt.decimal n ≡ decimal
 decimal_written zero h = zero_written ∙ sym decimal_zero
 decimal_written (suc n) h = decimal-digits_of (suc n) (omega arith) h ∙ sym (decimal_suc n)
 
--- ---- the lines of entries, piece by piece
+-- ---- lines of words
 
-pub item_whole : (item : ℕ) (word : List ℕ)
-    → ((codes "item " ++ decimal item) ++ 32 ∷ []) ++ line (word ∷ []) ≡ line (codes "item" ∷ decimal item ∷ word ∷ [])
-item_whole item word = ap (λ s. codes "item " ++ s) (append_assoc (decimal item) (32 ∷ []) (word ++ 10 ∷ []))
+-- words, each with a space before it
+module _ {A : Type 0} (octets : A → List ℕ) where
+  pub spaced : (first : List ℕ) (words : List A) → (first ++ flat_map (λ w. 32 ∷ octets w) words) ++ 10 ∷ [] ≡ line (first ∷ map octets words)
+  spaced first [] = ap (λ s. s ++ 10 ∷ []) (append-nil first)
+  spaced first (word ∷ words) =
+      append_assoc first ((32 ∷ octets word) ++ flat_map (λ w. 32 ∷ octets w) words) (10 ∷ [])
+      ∙ ap (λ s. first ++ 32 ∷ s) (spaced (octets word) words)
 
-pub entry_whole : (n : ℕ) (word : List ℕ) (words : List (List ℕ))
-    → (codes "entry " ++ (decimal n ++ 32 ∷ [])) ++ line (word ∷ words) ≡ entry_line n (word ∷ words)
-entry_whole n word words = ap (λ s. codes "entry " ++ s) (append_assoc (decimal n) (32 ∷ []) (line (word ∷ words)))
+  -- and of one word more
+  pub spaced_more : (words : List A) (k : ℕ) (d : A) → k < length words
+      → (flat_map (λ w. 32 ∷ octets w) (take k words) ++ 32 ∷ []) ++ octets (get_or words k d)
+      ≡ flat_map (λ w. 32 ∷ octets w) (take (k + 1) words)
+  spaced_more words k d lt =
+      append_assoc (flat_map (λ w. 32 ∷ octets w) (take k words)) (32 ∷ []) (octets (get_or words k d))
+      ∙ flat_map_more (λ w. 32 ∷ octets w) [] (take k words) (get_or words k d)
+      ∙ ap (flat_map (λ w. 32 ∷ octets w)) (sym (take_more words k d lt))
 
 -- ---- lines one behind another
 
@@ -62,6 +71,10 @@ module _ {A : Type 0} (one : ℕ → A → List ℕ) (all : ℕ → List A → L
       ∙ ap (all 1) (sym (take_more xs k d lt))
 
 -- ---- the lines of entries' chains and reasons, one behind another
+
+entry_whole : (n : ℕ) (word : List ℕ) (words : List (List ℕ))
+    → (codes "entry " ++ (decimal n ++ 32 ∷ [])) ++ line (word ∷ words) ≡ entry_line n (word ∷ words)
+entry_whole n word words = ap (λ s. codes "entry " ++ s) (append_assoc (decimal n) (32 ∷ []) (line (word ∷ words)))
 
 pub fold_whole : (n : ℕ) (text : List ℕ)
     → ((codes "entry " ++ (decimal n ++ 32 ∷ [])) ++ text) ++ 10 ∷ [] ≡ entry_line n (text ∷ [])
@@ -118,21 +131,27 @@ folds_once n (fold ∷ folds) a b e d =
     let rest = folds_once (suc n) folds e.1 d.1 e.3 d.3 in
     e.4 ∙ (λ i. first i ++ rest i) ∙ sym d.4
 
-pub prints_once : (reply : Reply) (a b : List ℕ) → Prints reply a → Prints reply b → a ≡ b
-prints_once (Folds folds) a b e d = folds_once 1 folds.items a b e d
-prints_once (Whole answer) a b e d = e ∙ sym d
-prints_once (Octets octets) a b e d = e ∙ sym d
-prints_once (Line octets) a b e d = e ∙ sym d
-prints_once (Tag tag) a b e d = e ∙ sym d
-prints_once (Item item stop) a b e d = e ∙ sym d
-prints_once NoEntries a b e d = e ∙ sym d
-prints_once (Reasons reasons) a b e d = e ∙ sym d
+output_once : (output : Output) (a b : List ℕ) → PrintsOutput output a → PrintsOutput output b → a ≡ b
+output_once (Folds folds) a b e d = folds_once 1 folds.items a b e d
+output_once (Octets octets) a b e d = e ∙ sym d
+output_once (Line octets) a b e d = e ∙ sym d
+output_once (Made octets) a b e d = e ∙ sym d
+output_once (Tag tag) a b e d = e ∙ sym d
+output_once (Item item stop) a b e d = e ∙ sym d
+output_once NoEntries a b e d = e ∙ sym d
+output_once (Reasons reasons) a b e d = e ∙ sym d
+
+pub prints_once : (one : Answer) (a b : List ℕ) → Prints one a → Prints one b → a ≡ b
+prints_once (answer.Yes entry) a b e d = e ∙ sym d
+prints_once answer.No a b e d = e ∙ sym d
+prints_once (answer.Done output) a b e d = output_once output a b e d
+prints_once (answer.Refused refusal) a b e d = e ∙ sym d
 
 -- so their number is one
-pub counted_once : (reply : Reply) (octets : List ℕ) (more : ℕ) (sum : Option ℕ) → Prints reply octets → IfSome sum (λ n. n ≡ length octets + more)
-    → IfSome sum (λ n. (others : List ℕ) → Prints reply others → n ≡ length others + more)
-counted_once reply octets more None printed e = tt
-counted_once reply octets more (Some n) printed e = λ others also. e ∙ ap (λ o. length o + more) (prints_once reply octets others printed also)
+pub counted_once : (one : Answer) (octets : List ℕ) (more : ℕ) (sum : Option ℕ) → Prints one octets → IfSome sum (λ n. n ≡ length octets + more)
+    → IfSome sum (λ n. (others : List ℕ) → Prints one others → n ≡ length others + more)
+counted_once one octets more None printed e = tt
+counted_once one octets more (Some n) printed e = λ others also. e ∙ ap (λ o. length o + more) (prints_once one octets others printed also)
 
 -- ---- what a printer has printed with one fold more
 

@@ -2,19 +2,19 @@
 use Rattle.std.proofs.Common.{◌≡◌, ℕ, List, Option, Bool, IsTrue, inl, inr, ◌⊎◌, refl, subst, sym, ◌∙◌, rules, ◌+◌, ◌<◌, ◌≤◌, max, [], ◌++◌, length, true, false, Result, Ok, Err, OnErr, ap, append_assoc, arith}
 use Rattle.spki_words.specs.declared.commands.Command.{Command}
 use Rattle.spki_guard.specs.declared.answers.Verdict.{Verdict}
-use Rattle.spki_guard.specs.declared.answers.Verdict.TheVariants.{Refused, Done, No}
-use Rattle.spki_guard.specs.TextAnswers.{IsReply, IsAnswer, AnswersRead, RefusesAnswer, refused_line, output_octets, RefusesForMemory, IsWritten, IsCutOff, IsFaulty}
+use Rattle.spki_guard.specs.declared.answers.Verdict.TheVariants.{Refused}
+use Rattle.spki_guard.specs.TextAnswers.{IsReply, IsAnswer, RefusesAnswer, IsAnswerApart, RefusesApart, RefusesAsLong, RefusesLong, RefusesForMemory, IsWritten, IsCutOff, IsFaulty}
 use Rattle.spki_guard.specs.declared.answers.Answer.{Answer}
-use Rattle.spki_guard.specs.declared.answers.Refusal.{Refusal}
-use Rattle.spki_guard.specs.declared.answers.Refusal.TheVariants as refusals
-use Rattle.spki_guard.specs.declared.replies.Reply.{Reply}
-use Rattle.spki_guard.specs.Lines.{refused_memory}
-use Rattle.spki_guard.specs.Inner.Replies.{reply_verdict, Prints, PrintsAs, Sends}
+use Rattle.spki_guard.specs.declared.answers.Answer.TheVariants as answer
+use Rattle.sexpr_core.specs.declared.fault.FormFault.TheVariants.{TooLong}
+use Rattle.spki_guard.specs.declared.refusals.Refusal.{Refusal}
+use Rattle.spki_guard.specs.declared.refusals.Refusal.TheVariants as refusals
+use Rattle.spki_guard.specs.Lines.{refused_line}
+use Rattle.spki_guard.specs.Inner.Prints.{answer_verdict, Prints, PrintsAs, Sends}
 use Rattle.metered_io.specs.declared.meters.Metered.{Metered}
-use Rattle.metered_io.specs.MeteredCalls.{inner_of, faults_of, counted, asks_of, flushed_of, Takes, TakesNone, SendsFront}
+use Rattle.metered_io.specs.MeteredCalls.{inner_of, faults_of, counted, asks_of, Takes, TakesNone, SendsFront}
 use Rattle.spki_guard.specs.declared.statuses.Status.{Status}
-use Rattle.spki_guard.specs.declared.statuses.Status.TheVariants.{ReadFault, WriteFault}
-use Rattle.spki_guard.specs.Program.{answer_status}
+use Rattle.spki_guard.specs.declared.statuses.Status.TheVariants.{Answered, ReadFault, WriteFault}
 use Rattle.std.proofs.KnownBytes.{Appends-trans}
 use Rattle.metered_io.proofs.Sent.{SendsFront-all}
 use Rattle.spki_guard.specs.declared.pages.PageSink.{PageSink}
@@ -29,49 +29,61 @@ ended_unless_refused command known left ended verdict output (inl reply) other =
 ended_unless_refused command known left ended verdict output (inr (inl reply)) other = absurd (other reply.verdict_is)
 ended_unless_refused command known left ended verdict output (inr (inr reply)) other = absurd (other reply.verdict_is)
 
--- ---- answers, from replies and refusals
+-- ---- answers, from what is printed, and from refusals
+
+module _ (IsOne : Verdict → List ℕ → Type 0) where
+  -- what is printed of an answer, where the line may also say that memory ran out
+  pub printed_is : ((v : Verdict) (o : List ℕ) → RefusesForMemory v o → IsOne v o) → (one : Answer) → PrintsAs IsOne one
+      → (v : Verdict) (o : List ℕ) → ((v ≡ answer_verdict one) × Prints one o) ⊎ RefusesForMemory v o → IsOne v o
+  printed_is memory one is v o (inl h) = subst (λ x. IsOne x o) (sym h.0) (is o h.1)
+  printed_is memory one is v o (inr h) = memory v o h
+
+-- of a decision, or that memory ran out
+pub printed_as : (IsOne : Verdict → List ℕ → Type 0) (one : Answer) → PrintsAs IsOne one → (v : Verdict) (o : List ℕ)
+    → ((v ≡ answer_verdict one) × Prints one o) ⊎ RefusesForMemory v o → IsOne v o ⊎ RefusesForMemory v o
+printed_as IsOne one is =
+    printed_is (λ v o. IsOne v o ⊎ RefusesForMemory v o) (λ v o h. inr h) one (λ o h. inl (is o h))
 
 module _ (command : Command) (text : List ℕ) where
-  pub refusal_answers : (refusal : Refusal) (verdict : Verdict) (output : List ℕ) → RefusesAnswer command text refusal → verdict ≡ Refused
-      → (output ≡ refused_line refusal) ⊎ (output ≡ refused_memory) → IsAnswer command text verdict output
-  refusal_answers refusal verdict output refused is (inl line) =
-      inr (record { refusal = refusal; refused = refused; verdict_is = is; line = line })
-  refusal_answers refusal verdict output refused is (inr line) =
-      inr (record { refusal = refusals.Memory; refused = tt; verdict_is = is; line = line })
+  -- of a refusal it is the line
+  pub refusal_answers : (refusal : Refusal) → RefusesAnswer command text refusal → PrintsAs (IsAnswer command text) (answer.Refused refusal)
+  refusal_answers refusal refused printed line = inr (record { refusal = refusal; refused = refused; verdict_is = refl; line = line })
 
-  -- one that is sent has its verdict and its octets
-  same_answer : (v w : Verdict) (o p : List ℕ) → v ≡ w → o ≡ p → IsAnswer command text w p → IsAnswer command text v o
-  same_answer v w o p e f h = subst (λ x. IsAnswer command text x o) (sym e) (subst (λ x. IsAnswer command text w x) (sym f) h)
+  -- of an answer to a text
+  pub printed_answers : (one : Answer) → PrintsAs (IsAnswer command text) one → (v : Verdict) (o : List ℕ)
+      → ((v ≡ answer_verdict one) × Prints one o) ⊎ RefusesForMemory v o → IsAnswer command text v o
+  printed_answers =
+      printed_is (IsAnswer command text)
+      (λ v o h. inr (record { refusal = refusals.Memory; refused = tt; verdict_is = h.verdict_is; line = h.line }))
 
-  pub refusal_sent : (refusal : Refusal) (answer : Answer) → RefusesAnswer command text refusal → answer.verdict ≡ Refused
-      → (output_octets answer.output ≡ refused_line refusal) ⊎ (output_octets answer.output ≡ refused_memory)
-      → (v : Verdict) (o : List ℕ) → (v ≡ answer.verdict) × (o ≡ output_octets answer.output) → IsAnswer command text v o
-  refusal_sent refusal answer refused is line v o h =
-      same_answer v answer.verdict o (output_octets answer.output) h.0 h.1
-      (refusal_answers refusal answer.verdict (output_octets answer.output) refused is line)
+module _ (text rows : List ℕ) where
+  -- the same with separate rows
+  pub refusal_apart : (refusal : Refusal) → RefusesApart text rows refusal → PrintsAs (IsAnswerApart text rows) (answer.Refused refusal)
+  refusal_apart refusal refused printed line = inr (record { refusal = refusal; refused = refused; verdict_is = refl; line = line })
 
-  pub reply_answers : (reply : Reply) → PrintsAs (AnswersRead command text) reply → (v : Verdict) (o : List ℕ)
-      → ((v ≡ reply_verdict reply) × Prints reply o) ⊎ RefusesForMemory v o → IsAnswer command text v o
-  reply_answers reply answered v o (inl h) = same_answer v (reply_verdict reply) o o h.0 refl (inl (answered o h.1))
-  reply_answers reply answered v o (inr h) =
-      inr (record { refusal = refusals.Memory; refused = tt; verdict_is = h.verdict_is; line = h.line })
+  pub printed_apart : (one : Answer) → PrintsAs (IsAnswerApart text rows) one → (v : Verdict) (o : List ℕ)
+      → ((v ≡ answer_verdict one) × Prints one o) ⊎ RefusesForMemory v o → IsAnswerApart text rows v o
+  printed_apart =
+      printed_is (IsAnswerApart text rows)
+      (λ v o h. inr (record { refusal = refusals.Memory; refused = tt; verdict_is = h.verdict_is; line = h.line }))
+
+-- the text is too long, or memory ran out
+pub printed_long : (one : Answer) (v : Verdict) (o : List ℕ) → one ≡ answer.Refused (refusals.Form TooLong)
+    → ((v ≡ answer_verdict one) × Prints one o) ⊎ RefusesForMemory v o → RefusesAsLong v o
+printed_long one v o e (inl h) = let is = rw e at h in record { verdict_is = is.0; line = inl is.1 }
+printed_long one v o e (inr h) = record { verdict_is = h.verdict_is; line = inr h.line }
+
+-- the reply if a text was not read
+pub unread_reply : (command : Command) (known left : Option (List ℕ)) (ended : Bool) (refusal : Refusal)
+    → RefusesLong known left Refused (refused_line refusal) ⊎ (refusal ≡ refusals.Memory) → (v : Verdict) (o : List ℕ)
+    → ((v ≡ Refused) × (o ≡ refused_line refusal)) ⊎ RefusesForMemory v o → IsReply command known left ended v o
+unread_reply command known left ended refusal is v o (inr h) = inr (inr h)
+unread_reply command known left ended refusal (inl long) v o (inl h) =
+    inr (inl (subst (λ x. RefusesLong known left x o) (sym h.0) (subst (λ x. RefusesLong known left Refused x) (sym h.1) long)))
+unread_reply command known left ended refusal (inr memory) v o (inl h) =
+    inr (inr (record { verdict_is = h.0; line = h.1 ∙ ap refused_line memory }))
 
 -- ---- what is sent, and the status that it has
-
--- the status of an answer says its verdict
-status_one : (a b : Verdict) → answer_status a ≡ answer_status b → a ≡ b
-status_one Done Done e = refl
-status_one No No e = refl
-status_one Refused Refused e = refl
-status_one a b e = cc
-
-no_write_fault : (v : Verdict) → answer_status v ≡ WriteFault → ⊥
-no_write_fault Done e = cc
-no_write_fault v e = cc
-
-no_read_fault : (v : Verdict) → answer_status v ≡ ReadFault → ⊥
-no_read_fault Done e = cc
-no_read_fault v e = cc
 
 module _ {W : Type 0} (contents : W → Option (List ℕ)) where
   -- what is said of what is sent may be weaker
@@ -89,27 +101,27 @@ module _ {W : Type 0} (contents : W → Option (List ℕ)) where
 
   module _ (P : Verdict → List ℕ → Type 0) (old mid new : Metered W) (status : Status) (same : inner_of mid ≡ inner_of old)
       (sent : Sends contents P mid new status) where
-    written_as : (v : Verdict) → status ≡ answer_status v
-        → ((status ≡ answer_status sent.verdict) × IsWritten contents mid new sent.output × (faults_of new ≡ faults_of mid))
+    written_as : (v : Verdict) → status ≡ Answered v
+        → ((status ≡ Answered sent.verdict) × IsWritten contents mid new sent.output × (faults_of new ≡ faults_of mid))
         ⊎ ((status ≡ WriteFault) × IsCutOff contents mid new sent.output)
         → (output : List ℕ) × P v output × IsWritten contents old new output
-    written_as v e (inl h) = search (rules, status_one, written_from)
-    written_as v e (inr h) = absurd (no_write_fault v (sym e ∙ h.0))
+    written_as v e (inl h) = let same_verdict : sent.verdict ≡ v = cc (h.0, e) in search (rules, written_from)
+    written_as v e (inr h) = absurd (let clash : Answered v ≡ WriteFault = sym e ∙ h.0 in cc)
 
-    pub sends_written : (v : Verdict) → status ≡ answer_status v → (output : List ℕ) × P v output × IsWritten contents old new output
+    pub sends_written : (v : Verdict) → status ≡ Answered v → (output : List ℕ) × P v output × IsWritten contents old new output
     sends_written v e = written_as v e sent.end
 
     cut_as : status ≡ WriteFault
-        → ((status ≡ answer_status sent.verdict) × IsWritten contents mid new sent.output × (faults_of new ≡ faults_of mid))
+        → ((status ≡ Answered sent.verdict) × IsWritten contents mid new sent.output × (faults_of new ≡ faults_of mid))
         ⊎ ((status ≡ WriteFault) × IsCutOff contents mid new sent.output)
         → (v : Verdict) × (output : List ℕ) × P v output × IsCutOff contents old new output
-    cut_as e (inl h) = absurd (no_write_fault sent.verdict (sym h.0 ∙ e))
+    cut_as e (inl h) = absurd (let clash : Answered sent.verdict ≡ WriteFault = sym h.0 ∙ e in cc)
     cut_as e (inr h) = (sent.verdict, sent.output, sent.is, cut_from old mid new sent.output same h.1)
 
     pub sends_cut : status ≡ WriteFault → (v : Verdict) × (output : List ℕ) × P v output × IsCutOff contents old new output
     sends_cut e = cut_as e sent.end
 
-    faultless_as : ((status ≡ answer_status sent.verdict) × IsWritten contents mid new sent.output × (faults_of new ≡ faults_of mid))
+    faultless_as : ((status ≡ Answered sent.verdict) × IsWritten contents mid new sent.output × (faults_of new ≡ faults_of mid))
         ⊎ ((status ≡ WriteFault) × IsCutOff contents mid new sent.output) → (status ≡ WriteFault) ⊎ (faults_of new ≡ faults_of mid)
     faultless_as (inl h) = inr h.2
     faultless_as (inr h) = inl h.0
@@ -118,9 +130,9 @@ module _ {W : Type 0} (contents : W → Option (List ℕ)) where
     sends_faultless = faultless_as sent.end
 
     unread_as : status ≡ ReadFault
-        → ((status ≡ answer_status sent.verdict) × IsWritten contents mid new sent.output × (faults_of new ≡ faults_of mid))
+        → ((status ≡ Answered sent.verdict) × IsWritten contents mid new sent.output × (faults_of new ≡ faults_of mid))
         ⊎ ((status ≡ WriteFault) × IsCutOff contents mid new sent.output) → ⊥
-    unread_as e (inl h) = no_read_fault sent.verdict (sym h.0 ∙ e)
+    unread_as e (inl h) = let clash : Answered sent.verdict ≡ ReadFault = sym h.0 ∙ e in cc
     unread_as e (inr h) = let clash : WriteFault ≡ ReadFault = sym h.0 ∙ e in cc
 
     pub sends_no_read_fault : status ≡ ReadFault → ⊥
@@ -128,7 +140,7 @@ module _ {W : Type 0} (contents : W → Option (List ℕ)) where
 
   -- a text that has an answer other than a refusal was read to its end
   pub sends_ended : (command : Command) (known left : Option (List ℕ)) (ended : Bool) (mid new : Metered W) (status : Status)
-      → Sends contents (IsReply command known left ended) mid new status → (v : Verdict) → status ≡ answer_status v → ¬ (v ≡ Refused)
+      → Sends contents (IsReply command known left ended) mid new status → (v : Verdict) → status ≡ Answered v → ¬ (v ≡ Refused)
       → IsTrue ended
   sends_ended command known left ended mid new status sent v e other = search (rules, sends_written, ended_unless_refused)
 
@@ -189,13 +201,9 @@ module _ {W : Type 0} (contents : W → Option (List ℕ)) where
         (last_front old (writer_of t) end sent (page_of t) octets rest (subst (λ w. Takes contents w (writer_of t) sent) from first) joined front)
         (subst (λ n. (0 < faults_of end) ⊎ (n ≤ asks_of end)) (taken.same_most ∙ most_is ∙ limit) faulty)
 
-  pub on_err : {A E P Q : Type 0} (r : Result A E) → (P → Q) → OnErr r P → OnErr r Q
-  on_err (Ok a) f h = tt
-  on_err (Err e) f h = f h
-
-  -- the same of the result of writing the last page
-  pub cut_pages : {A E : Type 0} (r : Result A E) (s t : PageSink W) (old end final : Metered W) (octets : List ℕ) (most : ℕ) → writer_of s ≡ old
+  -- the same of the writer behind the sink
+  pub cut_pages : (s t : PageSink W) (old end final : Metered W) (octets : List ℕ) (most : ℕ) → writer_of s ≡ old
       → page_of s ≡ [] → has_failed s ≡ false → asks_of old ≡ 0 → most_of s ≡ most → most ≡ length octets + 2097152
       → PageTakes contents s octets t → asks_of end ≤ max (asks_of (writer_of t)) (most_of t) → final ≡ end
-      → OnErr r (IsCutAfter contents (has_failed t) (writer_of t) end (page_of t) (most_of t)) → OnErr r (IsCutOff contents old final octets)
-  cut_pages r s t old end final octets most from empty ok unasked most_is limit taken asks same h = search (rules, on_err, front_written)
+      → IsCutAfter contents (has_failed t) (writer_of t) end (page_of t) (most_of t) → IsCutOff contents old final octets
+  cut_pages s t old end final octets most from empty ok unasked most_is limit taken asks same h = search (rules, front_written)

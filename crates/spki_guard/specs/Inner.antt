@@ -1,4 +1,4 @@
 -- Definitions that only the contracts of private functions cite.
 pub mod Capped
-pub mod Replies
+pub mod Prints
 pub mod Pages

@@ -32,6 +32,14 @@ use Rattle.spki_decision.specs.declared.reduction.EntryFold.TheVariants as folde
 use Rattle.spki_decision.specs.declared.explanation.Explanation.{Explanation}
 use Rattle.spki_decision.specs.declared.explanation.Explanation.TheVariants as explanation
 use Rattle.spki_service.specs.declared.failure.Failure.{Failure}
+use Rattle.spki_service.specs.declared.list_fault.AclFault.{AclFault}
+use Rattle.spki_service.specs.declared.list_fault.AclFault.TheVariants as lists
+use Rattle.spki_service.specs.declared.question.Part.{Part}
+use Rattle.spki_service.specs.declared.question.Part.TheVariants as parts
+use Rattle.spki_service.specs.declared.question.AskFault.{AskFault}
+use Rattle.spki_service.specs.declared.question.AskFault.TheVariants as questions
+use Rattle.spki_guard.specs.declared.refusals.Refusal.{Refusal}
+use Rattle.spki_guard.specs.declared.refusals.Refusal.TheVariants as refusals
 use Rattle.spki_guard.specs.declared.answers.Verdict.{Verdict}
 use Rattle.spki_guard.specs.declared.answers.Verdict.TheVariants.{Done, No}
 
@@ -170,20 +178,8 @@ kind_name kind.Memory = codes "Memory"
 -- a fault of an entry, a row or an item of a part
 abbrev pub refused_in : List ℕ → ℕ → CertFaultKind → List ℕ
 refused_in part n (kind.Tag fault) = refused_tag part n (tag_kind fault)
-refused_in part n kind.Shape = refused_item part n (codes "Shape")
-refused_in part n kind.UnknownVersion = refused_item part n (codes "UnknownVersion")
-refused_in part n kind.HashAlg = refused_item part n (codes "HashAlg")
-refused_in part n kind.DigestLength = refused_item part n (codes "DigestLength")
-refused_in part n kind.KeyUris = refused_item part n (codes "KeyUris")
-refused_in part n kind.Threshold = refused_item part n (codes "Threshold")
-refused_in part n kind.Keyholder = refused_item part n (codes "Keyholder")
-refused_in part n kind.Online = refused_item part n (codes "Online")
-refused_in part n kind.RelativeInEntry = refused_item part n (codes "RelativeInEntry")
-refused_in part n kind.BadDate = refused_item part n (codes "BadDate")
-refused_in part n kind.UnsignedCert = refused_item part n (codes "UnsignedCert")
-refused_in part n kind.StraySignature = refused_item part n (codes "StraySignature")
-refused_in part n kind.UnknownOp = refused_item part n (codes "UnknownOp")
 refused_in part n kind.Memory = refused_memory
+refused_in part n other = refused_item part n (kind_name other)
 
 -- a fault of a case
 abbrev pub refused_case : CaseFault → List ℕ
@@ -217,6 +213,42 @@ refused_intersect (intersect.First fault) = refused_item (codes "tag") 1 (tag_ki
 refused_intersect (intersect.Second fault) = refused_item (codes "tag") 2 (tag_kind fault)
 refused_intersect intersect.TooLarge = refused_large
 refused_intersect intersect.Memory = refused_memory
+
+-- a fault of a guard's access list
+abbrev pub refused_list : AclFault → List ℕ
+refused_list (lists.Form fault) = refused_form fault
+refused_list (lists.Acl fault) = refused_in (codes "acl") fault.item fault.kind
+refused_list lists.Memory = refused_memory
+
+-- the word for a part of a question
+abbrev pub part_word : Part → List ℕ
+part_word parts.Sequence = codes "sequence"
+part_word parts.Key = codes "key"
+part_word parts.Request = codes "request"
+part_word parts.Moment = codes "at"
+
+-- a fault of a question to a guard
+abbrev pub refused_question : AskFault → List ℕ
+refused_question questions.TooLong = refused_part (codes "question") (codes "TooLong")
+refused_question questions.TooManyCertificates = refused_part (codes "question") (codes "TooManyCertificates")
+refused_question questions.TooManyWords = refused_part (codes "question") (codes "TooManyWords")
+refused_question (questions.Form part fault) = refused_text (part_word part) fault
+refused_question (questions.Sequence fault) = refused_in (codes "sequence") fault.item fault.kind
+refused_question (questions.Key kind) = refused_part (codes "key") (kind_name kind)
+refused_question (questions.Request fault) = refused_part (codes "request") (tag_kind fault)
+refused_question (questions.Moment kind) = refused_part (codes "at") (kind_name kind)
+refused_question questions.Memory = refused_memory
+
+-- the line of a refusal
+abbrev pub refused_line : Refusal → List ℕ
+refused_line (refusals.Form fault) = refused_form fault
+refused_line (refusals.Intersect fault) = refused_intersect fault
+refused_line (refusals.Case fault) = refused_case fault
+refused_line (refusals.Decision fault) = refused_decision fault
+refused_line (refusals.Rows fault) = refused_rows fault
+refused_line (refusals.List fault) = refused_list fault
+refused_line (refusals.Question fault) = refused_question fault
+refused_line refusals.Memory = refused_memory
 
 -- ---- what is written for a case's reduction and explanation
 

@@ -3,7 +3,7 @@ use Rattle.std.specs.Prelude.{ℕ, ◌≡◌, ◌≢◌, ◌⊎◌, ◌≤◌, L
 use Rattle.spki_guard.specs.declared.answers.Verdict.{Verdict}
 use Rattle.spki_guard.specs.declared.answers.Verdict.TheVariants as verdict
 use Rattle.spki_guard.specs.declared.statuses.Status.{Status}
-use Rattle.spki_guard.specs.declared.statuses.Status.TheVariants.{Done, No, Refused, ReadFault, WriteFault}
+use Rattle.spki_guard.specs.declared.statuses.Status.TheVariants.{Answered, ReadFault, WriteFault}
 use Rattle.std.specs.declared.io.ErrorKind.{ErrorKind}
 use Rattle.std.specs.declared.io.ErrorKind.TheVariants.{InvalidData}
 use Rattle.metered_io.specs.declared.meters.Metered.{Metered}
@@ -18,17 +18,11 @@ use Rattle.spki_guard.specs.TextAnswers.{IsReply, IsFaulty, IsWritten, IsCutOff}
 
 -- ---- how a run ends, and the exit statuses
 
--- the status of a run that was not cut off
-abbrev pub answer_status : Verdict → Status
-answer_status verdict.Done = Done
-answer_status verdict.No = No
-answer_status verdict.Refused = Refused
-
 -- the exit status
 abbrev pub exit_code : Status → ℕ
-exit_code Done = 0
-exit_code No = 1
-exit_code Refused = 2
+exit_code (Answered verdict.Done) = 0
+exit_code (Answered verdict.No) = 1
+exit_code (Answered verdict.Refused) = 2
 exit_code ReadFault = 3
 exit_code WriteFault = 3
 
@@ -76,9 +70,7 @@ pub record IsUntouched {R : Type 0} (remaining : R → Option (List ℕ)) (old n
 
 -- what a run writes to standard error: why it was cut off, otherwise nothing
 abbrev pub IsReported : {E : Type 0} → (E → Option (List ℕ)) → Metered E → Metered E → Status → Type 0
-IsReported contents old new Done = IsSilent contents old new
-IsReported contents old new No = IsSilent contents old new
-IsReported contents old new Refused = IsSilent contents old new
+IsReported contents old new (Answered verdict) = IsSilent contents old new
 IsReported contents old new ReadFault = IsSaid contents old new (codes "spki: read fault" ++ 10 ∷ [])
 IsReported contents old new WriteFault = IsSaid contents old new (codes "spki: write fault" ++ 10 ∷ [])
 
@@ -97,13 +89,13 @@ pub record IsCommandRun {R W : Type 0} (remaining : R → Option (List ℕ)) (co
     (reader read : Metered R) (writer written_to : Metered W) (status : Status) : Type 0 where
   pub reader_asks : asks_of read ≤ 2097152
   pub no_more : (octets : List ℕ) × (length octets ≤ 1048577) × Gives remaining reader read octets
-  pub ended_at_done : status ≡ Done → IsTrue (ended_of read)
-  pub ended_at_no : status ≡ No → IsTrue (ended_of read)
+  pub ended_at_done : status ≡ Answered verdict.Done → IsTrue (ended_of read)
+  pub ended_at_no : status ≡ Answered verdict.No → IsTrue (ended_of read)
   pub read_fault : status ≡ ReadFault → IsFaulty read 2097152
   pub no_read_fault : (status ≡ ReadFault) ⊎ (faults_of read ≡ 0)
   pub no_write_fault : (status ≡ WriteFault) ⊎ (faults_of written_to ≡ 0)
   pub unwritten : status ≡ ReadFault → (asks_of written_to ≡ 0) × TakesNone contents writer written_to
-  pub written : (verdict : Verdict) → status ≡ answer_status verdict → (output : List ℕ)
+  pub written : (verdict : Verdict) → status ≡ Answered verdict → (output : List ℕ)
       × IsReply command (remaining (inner_of reader)) (remaining (inner_of read)) (ended_of read) verdict output
       × IsWritten contents writer written_to output
   pub write_fault : status ≡ WriteFault → (verdict : Verdict) × (output : List ℕ)

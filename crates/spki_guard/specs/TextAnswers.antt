@@ -1,6 +1,6 @@
 -- The answer of a command to a text, also to a case with a separate accepted list, the reply if the text comes from a
 -- reader, and how the output is written.
-use Rattle.std.specs.Prelude.{◌≡◌, ◌⊎◌, ℕ, List, [], ◌∷◌, ◌++◌, ◌+◌, ◌<◌, ◌≤◌, length, Option, IfSome, Bool, IsTrue}
+use Rattle.std.specs.Prelude.{◌≡◌, ◌⊎◌, ℕ, List, [], ◌∷◌, ◌++◌, ◌+◌, ◌<◌, ◌≤◌, length, Option, Some, None, IfSome, Bool, IsTrue, Vec}
 use Rattle.sexpr_core.specs.declared.fault.FormFault.TheVariants as form
 use Rattle.sexpr_core.specs.Value.{Value, canon}
 use Rattle.sexpr_core.specs.Reading.{transport}
@@ -9,11 +9,10 @@ use Rattle.sexpr_text.specs.declared.converter.Form.{Form}
 use Rattle.sexpr_text.specs.declared.converter.Form.TheVariants as forms
 use Rattle.spki_tag.specs.Tag.{Tag, tag_value}
 use Rattle.spki_case.specs.Case.{Case, Verified, accepted_by, IsCaseText, TextRefused, Row}
-use Rattle.spki_guard.specs.declared.answers.Refusal.{Refusal}
-use Rattle.spki_guard.specs.declared.answers.Refusal.TheVariants as refusals
-use Rattle.spki_guard.specs.declared.answers.Answer.{Answer}
-use Rattle.spki_guard.specs.declared.answers.Output as output
-use Rattle.spki_guard.specs.declared.answers.Output.TheVariants.{Made, Fixed}
+use Rattle.spki_guard.specs.declared.refusals.Refusal.{Refusal}
+use Rattle.spki_guard.specs.declared.refusals.Refusal.TheVariants as refusals
+use Rattle.std.specs.declared.alloc.Global.{Global}
+use Rattle.spki_guard.specs.declared.printed.Printed.{Printed}
 use Rattle.spki_words.specs.declared.commands.Command.{Command}
 use Rattle.spki_words.specs.declared.commands.Command.TheVariants.{Canonical, Advanced, Transport, Intersect, Reduce, Check, Explain}
 use Rattle.spki_guard.specs.declared.answers.Verdict.{Verdict}
@@ -27,7 +26,7 @@ use Rattle.spki_decision.specs.declared.explanation.Explanation.{Explanation}
 use Rattle.spki_decision.specs.Granted.{IsDecision, IsUnrefused, IsTooLarge, IsReduction, AreDated, EndAtDates, SomeTooLarge}
 use Rattle.spki_decision.specs.Explained.{IsExplanation}
 use Rattle.spki_service.specs.Questions.{RefusesForm}
-use Rattle.spki_guard.specs.Lines.{IsReductionReport, IsExplanationReport, yes_entry, no_line, refused_form, refused_intersect, refused_case, refused_rows, refused_decision, refused_memory}
+use Rattle.spki_guard.specs.Lines.{IsReductionReport, IsExplanationReport, yes_entry, no_line, refused_form, refused_line, refused_memory}
 use Rattle.spki_guard.specs.Intersect.{IsMetText, TextNotMet}
 use Rattle.sexpr_core.specs.declared.fault.FormFault.{FormFault}
 use Rattle.spki_case.specs.declared.cases.CaseFault.{CaseFault}
@@ -138,12 +137,11 @@ AnswersValue Explain v verdict output = Explains (canon v) verdict output
 
 -- What a refusal means for the value that was read, or rather for its canonical form. Memory means nothing.
 abbrev pub RefusesValue : Command → Value → Refusal → Type 0
-RefusesValue command v (refusals.Form fault) = ⊥
 RefusesValue command v (refusals.Intersect fault) = (command ≡ Intersect) × TextNotMet (canon v) fault
 RefusesValue command v (refusals.Case fault) = IsOnCase command × TextRefused (canon v) fault
 RefusesValue command v (refusals.Decision fault) = IsUndecided command (canon v) fault
-RefusesValue command v (refusals.Rows fault) = ⊥
 RefusesValue command v refusals.Memory = Unit {0}
+RefusesValue command v other = ⊥
 
 -- ---- texts
 
@@ -165,17 +163,8 @@ RefusesAnswer command text (refusals.Form fault) = RefusesForm text fault
 RefusesAnswer command text (refusals.Intersect fault) = RefusesRead command text (refusals.Intersect fault)
 RefusesAnswer command text (refusals.Case fault) = RefusesRead command text (refusals.Case fault)
 RefusesAnswer command text (refusals.Decision fault) = RefusesRead command text (refusals.Decision fault)
-RefusesAnswer command text (refusals.Rows fault) = ⊥
 RefusesAnswer command text refusals.Memory = Unit {0}
-
--- the line of a refusal
-abbrev pub refused_line : Refusal → List ℕ
-refused_line (refusals.Form fault) = refused_form fault
-refused_line (refusals.Intersect fault) = refused_intersect fault
-refused_line (refusals.Case fault) = refused_case fault
-refused_line (refusals.Decision fault) = refused_decision fault
-refused_line (refusals.Rows fault) = refused_rows fault
-refused_line refusals.Memory = refused_memory
+RefusesAnswer command text other = ⊥
 
 -- The text is refused, and the line is that of the refusal.
 pub record Refuses (command : Command) (text : List ℕ) (verdict : Verdict) (output : List ℕ) : Type 0 where
@@ -192,15 +181,15 @@ pub record RefusesAsLong (verdict : Verdict) (output : List ℕ) : Type 0 where
   pub verdict_is : verdict ≡ Refused
   pub line : (output ≡ refused_form form.TooLong) ⊎ (output ≡ refused_memory)
 
--- ---- answers of the code
+-- ---- answers that were printed
 
-abbrev pub output_octets : output.Output → List ℕ
-output_octets (Made octets) = octets.items
-output_octets (Fixed octets) = octets.now
+abbrev pub printed_octets : Option (Vec ℕ Global) → List ℕ
+printed_octets (Some octets) = octets.items
+printed_octets None = refused_memory
 
--- the octets of an answer
-abbrev pub written_by : Answer → List ℕ
-written_by answer = output_octets answer.output
+-- the octets of an answer that was printed
+abbrev pub written_by : Printed → List ℕ
+written_by printed = printed_octets printed.octets
 
 -- ---- the answer by a separate accepted list
 
@@ -275,22 +264,20 @@ RefusesRows rows_text fault = RefusesRowsForm rows_text fault ⊎ LacksRows rows
 
 -- What a refusal means for a case and for the text of the rows. Memory means nothing.
 abbrev pub RefusesBy : Case → List ℕ → Refusal → Type 0
-RefusesBy c rows_text (refusals.Form fault) = ⊥
-RefusesBy c rows_text (refusals.Intersect fault) = ⊥
-RefusesBy c rows_text (refusals.Case fault) = ⊥
 RefusesBy c rows_text (refusals.Rows fault) = RefusesRows rows_text fault
 RefusesBy c rows_text (refusals.Decision fault) = IsUndecidedBy c rows_text fault
 RefusesBy c rows_text refusals.Memory = Unit {0}
+RefusesBy c rows_text other = ⊥
 
 -- What a refusal means for the two texts. The first text has no value or is no case, whatever the second is. Or the first text is
 -- a case, and the second has no value or is no accepted list. Or both are read, and tags are too large. Memory means nothing.
 abbrev pub RefusesApart : List ℕ → List ℕ → Refusal → Type 0
 RefusesApart text rows_text (refusals.Form fault) = RefusesForm text fault
-RefusesApart text rows_text (refusals.Intersect fault) = ⊥
 RefusesApart text rows_text (refusals.Case fault) = LacksCase text fault
 RefusesApart text rows_text (refusals.Rows fault) = BehindCase text (λ c. RefusesRows rows_text fault)
 RefusesApart text rows_text (refusals.Decision fault) = BehindCase text (λ c. IsUndecidedBy c rows_text fault)
 RefusesApart text rows_text refusals.Memory = Unit {0}
+RefusesApart text rows_text other = ⊥
 
 -- One of the texts is refused, and the line is that of the refusal.
 pub record RefusesTexts (text rows_text : List ℕ) (verdict : Verdict) (output : List ℕ) : Type 0 where

@@ -3,11 +3,11 @@ ghost use Rattle.std.specs.Prelude.{◌≡◌, ◌++◌, ◌+◌, ◌<◌, ◌�
 ghost use Rattle.spki_decision.specs.declared.reduction.EntryFold.{EntryFold};
 ghost use Rattle.spki_guard.specs.TextAnswers.{written_by};
 ghost use Rattle.spki_guard.specs.Lines.{IsFoldLine, ReportsFolds};
-ghost use Rattle.spki_guard.specs.Inner.Replies.{HasPrinted, PrintsFolds, IsUnused, room_of, nothing_printed, AreLongFolds};
+ghost use Rattle.spki_guard.specs.Inner.Prints.{HasPrinted, PrintsFolds, IsUnused, room_of, nothing_printed, AreLongFolds};
 
 use crate::answers::{Answer, Output};
 use crate::capped_sink::CappedSink;
-use crate::replies::{Reply, whole_within};
+use crate::printed::Printed;
 use crate::reports::{is_done, print_fold, prove_line, verdict_of};
 use spki_decision::{EntryFold, GuardFault};
 use spki_service::FoldSink;
@@ -44,21 +44,21 @@ impl FoldPrinter {
     /// # Errors
     ///
     /// `TooLarge` if it has more. `Memory` if memory ran out.
-    pub(crate) fn end(self, alloc: Global, most: usize) -> Result<Answer, GuardFault>
+    pub(crate) fn end(self, alloc: Global, most: usize) -> Result<Printed, GuardFault>
         ensures report { (folds : List EntryFold) → HasPrinted most folds self
             → IfOk result (λ a. ReportsFolds folds a.verdict (written_by a) × (length (written_by a) ≤ most)) }
         ensures large { (folds : List EntryFold) → HasPrinted most folds self
             → IsErrOf result GuardFault.TooLarge → AreLongFolds folds most }
     {
         if self.count == 0 {
-            return whole_within(alloc, &Reply::NoEntries, most);
+            return Printed::within(alloc, &Answer::Done(Output::NoEntries), most);
         }
         if self.is_long {
             return Err(GuardFault::TooLarge);
         }
-        Ok(Answer {
+        Ok(Printed {
             verdict: verdict_of(self.some_done),
-            output: Output::Made(self.lines),
+            octets: Some(self.lines),
         })
     }
 }

@@ -1,21 +1,23 @@
 //! The answers to questions that were opened for a guard, as lines.
-ghost use Rattle.std.specs.Prelude.{◌≡◌, None, IfOk, IfErr};
+ghost use Rattle.std.specs.Prelude.{◌≡◌, ◌⊎◌, None, IfOk, IfErr};
 ghost use Rattle.spki_service.specs.GuardQuestions.{IsOpened, NoneMarked};
 ghost use Rattle.spki_service.specs.declared.question.Question.{Question};
 ghost use Rattle.spki_decision.specs.Until.{decision_of};
-ghost use Rattle.spki_guard.specs.TextAnswers.{IsLineOf, written_by};
+ghost use Rattle.spki_guard.specs.TextAnswers.{IsLineOf, RefusesForMemory, written_by};
 ghost use Rattle.spki_guard.specs.HeldQuestions.{IsAnswerHeld, IsGrantFor, GrantsHeld, MayGrant, IsUnreadQuestion};
 
-use crate::answers::{Answer, decision_line, out_of_memory};
-use crate::question_answers::{Query, answer_asked, refused_question};
+use crate::answers::answer_of_decision;
+use crate::printed::Printed;
+use crate::queries::Query;
+use crate::question_answers::{answer_asked, refused_question};
 use spki_service::{Grant, OwnedQuestion, Question, SharedGuard};
-use std::alloc::{AllocError, Global};
+use std::alloc::Global;
 
 /// The answer to a question that was opened.
 #[derive(Drop)]
 pub struct OpenedAnswer {
     /// The line or lines, with their verdict.
-    pub answer: Answer,
+    pub answer: Printed,
     /// What is granted, and until when, for a decision that is a yes. None for each other one, and for an explanation or a reduction.
     pub grant: Option<Grant>,
 }
@@ -32,7 +34,7 @@ pub fn open_question(
     alloc: Global,
     guard: &SharedGuard,
     question: &Question,
-) -> Result<OwnedQuestion, Answer>
+) -> Result<OwnedQuestion, Printed>
     ensures opened { IfOk result (IsOpened guard.now question.now) }
     ensures unmarked { IfOk result (λ o. NoneMarked o.marks.items) }
     ensures refused { IfErr result (λ a. IsUnreadQuestion guard.now question.now a.verdict (written_by a)) }
@@ -85,25 +87,20 @@ fn decide_opened(alloc: Global, opened: &OwnedQuestion) -> OpenedAnswer
         → IsGrantFor Query.Decide opened.now.guard q opened.now.marks.items result.answer.verdict result.grant }
 {
     let grant = opened.grant_by();
-    match granted_line(alloc, &grant) {
-        Ok(answer) => OpenedAnswer { answer, grant },
-        Err(_) => OpenedAnswer {
-            answer: out_of_memory(),
-            grant,
-        },
-    }
+    let answer = print_grant(alloc, &grant);
+    OpenedAnswer { answer, grant }
 }
 
-/// The line of the decision with this grant. Err if memory ran out.
-fn granted_line(alloc: Global, grant: &Option<Grant>) -> Result<Answer, AllocError>
-    ensures { IfOk result (λ a. IsLineOf (decision_of grant.now) a.verdict (written_by a)) }
+/// The line of the decision with this grant, or `refused Memory`.
+fn print_grant(alloc: Global, grant: &Option<Grant>) -> Printed
+    ensures { IsLineOf (decision_of grant.now) result.verdict (written_by result) ⊎ RefusesForMemory result.verdict (written_by result) }
 {
-    decision_line(alloc, Grant::decision(*grant))
+    Printed::of(alloc, &answer_of_decision(Grant::decision(*grant)))
 }
 
 /// Reads a question again that was opened, and answers it as `answer_asked` does. If memory runs out, the answer is
 /// `refused Memory`.
-fn answer_again(alloc: Global, query: Query, opened: &OwnedQuestion) -> Answer
+fn answer_again(alloc: Global, query: Query, opened: &OwnedQuestion) -> Printed
     ensures { (q : Question) → IsOpened opened.now.guard q opened.now
         → IsAnswerHeld query opened.now.guard q opened.now.marks.items result.verdict (written_by result) }
 {
@@ -118,7 +115,7 @@ fn answer_again(alloc: Global, query: Query, opened: &OwnedQuestion) -> Answer
 }
 
 /// An answer that is no decision.
-fn undecided(answer: Answer) -> OpenedAnswer
+fn undecided(answer: Printed) -> OpenedAnswer
     ensures { (result.answer ≡ answer) × (result.grant ≡ None) }
 {
     OpenedAnswer {

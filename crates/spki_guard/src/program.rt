@@ -5,6 +5,7 @@ ghost use Rattle.spki_words.specs.declared.words.WordsFault.{WordsFault};
 ghost use Rattle.std.specs.IoError.{error_kind};
 ghost use Rattle.spki_guard.specs.Program.{IsAskedCommand, IsNoText, IsUnasked, AreUnreadWords, IsSaid, IsReported, IsRefused, DoesCommand, SaysFault};
 
+use crate::lines::REFUSED_MEMORY;
 use crate::runs::run;
 use crate::statuses::Status;
 use metered_io::{Metered, write_whole};
@@ -95,7 +96,7 @@ fn report<E: Write>(errors: &mut Metered<E>, status: Status)
     match status {
         Status::ReadFault => say(errors, b"spki: read fault\n"),
         Status::WriteFault => say(errors, b"spki: write fault\n"),
-        Status::Done | Status::No | Status::Refused => errors.restart(),
+        Status::Answered(_) => errors.restart(),
     }
 }
 
@@ -131,7 +132,7 @@ fn write_words_fault<W: Write, E: Write>(
         }
         WordsFault::Memory => {
             errors.restart();
-            say(writer, b"refused Memory\n");
+            say(writer, REFUSED_MEMORY);
         }
     }
 }

@@ -1,17 +1,19 @@
 //! Runs a command, from the octets that are read to those that are written.
-ghost use Rattle.std.specs.Prelude.{◌≡◌, ℕ, ◌+◌, ◌<◌, ◌≤◌, ◌⊎◌, List, length, max, Option, Bool, IsTrue, IfNone, IfSome, OnSome, OnOk, OnErr};
+ghost use Rattle.std.specs.Prelude.{◌≡◌, ℕ, ◌+◌, ◌<◌, ◌≤◌, ◌⊎◌, List, length, max, Option, Bool, IsTrue, IfNone, IfSome, OnSome};
 ghost use Rattle.metered_io.specs.MeteredCalls.{inner_of, asks_of, faults_of, ended_of, Gives, TakesNone};
-ghost use Rattle.spki_guard.specs.TextAnswers.{IsAnswer, output_octets, IsReply, IsFaulty, IsWritten, IsCutOff, RefusesForMemory};
-ghost use Rattle.spki_guard.specs.Program.{answer_status};
-ghost use Rattle.spki_guard.specs.Inner.Replies.{reply_verdict, Prints, IsSourceOf, IsTextRead, Sends};
+ghost use Rattle.spki_guard.specs.TextAnswers.{IsAnswer, IsReply, IsFaulty, IsWritten, IsCutOff, RefusesForMemory};
+ghost use Rattle.spki_guard.specs.declared.answers.Verdict.{Verdict};
+ghost use Rattle.spki_guard.specs.Inner.Prints.{answer_verdict, Prints, IsTextRead, Sends};
 
-use crate::answers::{Answer, Output, Verdict, out_of_memory, refuse, reply_to};
+use crate::answers::{Answer, count_with, print_answer};
+use crate::commands::answer_source;
+use crate::lines::REFUSED_MEMORY;
 use crate::pages::PageSink;
-use crate::replies::{Reply, count_with, print_reply};
-use crate::sources::{Source, read_source};
+use crate::refusals::Refusal;
+use crate::sources::source_of;
 use crate::statuses::Status;
-use metered_io::{Metered, ReadFault, WriteFault, read_whole, write_whole};
-use sexpr_core::MOST_OCTETS;
+use metered_io::{Metered, ReadFault, read_whole};
+use sexpr_core::{FormFault, MOST_OCTETS};
 use spki_words::Command;
 use std::alloc::Global;
 use std::io::{Read, Write};
@@ -36,8 +38,8 @@ pub fn run<R: Read, W: Write>(
 ) -> Status
     ensures reader_asks { asks_of reader.new ≤ 2097152 }
     ensures no_more { (octets : List ℕ) × (length octets ≤ 1048577) × Gives R.remaining reader.old reader.new octets }
-    ensures ended_at_done { result ≡ Status.Done → IsTrue (ended_of reader.new) }
-    ensures ended_at_no { result ≡ Status.No → IsTrue (ended_of reader.new) }
+    ensures ended_at_done { result ≡ Status.Answered Verdict.Done → IsTrue (ended_of reader.new) }
+    ensures ended_at_no { result ≡ Status.Answered Verdict.No → IsTrue (ended_of reader.new) }
     ensures read_fault { result ≡ Status.ReadFault → IsFaulty reader.new 2097152 }
     ensures no_read_fault { (result ≡ Status.ReadFault) ⊎ (faults_of reader.new ≡ 0) }
     ensures no_write_fault { (result ≡ Status.WriteFault) ⊎ (faults_of writer.new ≡ 0) }
@@ -45,7 +47,7 @@ pub fn run<R: Read, W: Write>(
         × TakesNone W.contents writer.old writer.new }
 
     // With any other status there is a reply, and all of it or a beginning of it was written.
-    ensures written { (verdict : Verdict) → result ≡ answer_status verdict → (output : List ℕ)
+    ensures written { (verdict : Verdict) → result ≡ Status.Answered verdict → (output : List ℕ)
         × IsReply command (R.remaining (inner_of reader.old)) (R.remaining (inner_of reader.new)) (ended_of reader.new) verdict output
         × IsWritten W.contents writer.old writer.new output }
     ensures write_fault { result ≡ Status.WriteFault → (verdict : Verdict) × (output : List ℕ)
@@ -56,13 +58,13 @@ pub fn run<R: Read, W: Write>(
     writer.restart();
     match read_text(alloc, reader) {
         None => Status::ReadFault,
-        Some(read) => send_answer(alloc, command, &read, writer),
+        Some(read) => send_read(alloc, command, &read, writer),
     }
 }
 
 /// Reads a text to its end. None if the reader failed, or its count of calls reached 2,097,152. Inside, Err is the
-/// answer to a text of more than 1,048,576 octets, or for which memory ran out.
-fn read_text<R: Read>(alloc: Global, reader: &mut Metered<R>) -> Option<Result<Vec<u8>, Answer>>
+/// refusal of a text of more than 1,048,576 octets, or says that memory ran out.
+fn read_text<R: Read>(alloc: Global, reader: &mut Metered<R>) -> Option<Result<Vec<u8>, Refusal>>
     ensures asks { asks_of reader.new ≤ max (asks_of reader.old) 2097152 }
     ensures no_more { (octets : List ℕ) × (length octets ≤ 1048577) × Gives R.remaining reader.old reader.new octets }
     ensures fault { IfNone result ((0 < faults_of reader.new) ⊎ (2097152 ≤ asks_of reader.new)) }
@@ -72,20 +74,17 @@ fn read_text<R: Read>(alloc: Global, reader: &mut Metered<R>) -> Option<Result<V
     match read_whole(alloc, reader, MOST_OCTETS) {
         Ok(text) => Some(Ok(text)),
         Err(ReadFault::Failed) => None,
-        Err(ReadFault::TooLong) => Some(Err(Answer {
-            verdict: Verdict::Refused,
-            output: Output::Fixed(b"refused form TooLong\n"),
-        })),
-        Err(ReadFault::Memory) => Some(Err(out_of_memory())),
+        Err(ReadFault::TooLong) => Some(Err(Refusal::Form(FormFault::TooLong))),
+        Err(ReadFault::Memory) => Some(Err(Refusal::Memory)),
     }
 }
 
-/// Answers the text that `read_text` read, and writes the answer. If `read` is an answer already, writes that one.
-/// Returns its status, or `WriteFault` if the writer failed. The writer's count of calls must be 0.
-fn send_answer<W: Write>(
+/// Answers what `read_text` returned, and writes the answer. Returns its status, or `WriteFault` if the writer failed.
+/// The writer's count of calls must be 0.
+fn send_read<W: Write>(
     alloc: Global,
     command: Command,
-    read: &Result<Vec<u8>, Answer>,
+    read: &Result<Vec<u8>, Refusal>,
     writer: &mut Metered<W>,
 ) -> Status
     requires { asks_of writer.old ≡ 0 }
@@ -94,7 +93,7 @@ fn send_answer<W: Write>(
 {
     match read {
         Ok(text) => send_text(alloc, command, text, writer),
-        Err(answer) => send(writer, answer),
+        Err(refusal) => send(writer, &Answer::Refused(*refusal)),
     }
 }
 
@@ -109,95 +108,44 @@ fn send_text<W: Write>(
     requires { asks_of writer.old ≡ 0 }
     ensures { Sends W.contents (IsAnswer command text.now) writer.old writer.new result }
 {
-    match read_source(alloc, command, text) {
-        Ok(source) => {
-            let status = send_source(alloc, command, &source, writer);
-            drop(source);
-            status
-        }
-        Err(refusal) => send(writer, &refuse(alloc, refusal)),
-    }
+    let source = source_of(alloc, command, text);
+    let answer = answer_source(alloc, command, &source);
+    let status = send(writer, &answer);
+    drop(answer);
+    drop(source);
+    status
 }
 
-/// Answers a command from the source that `read_source` returned for it, and writes the answer. Returns its status, or
-/// `WriteFault` if the writer failed. The writer's count of calls must be 0.
-fn send_source<W: Write>(
-    alloc: Global,
-    command: Command,
-    source: &Source,
-    writer: &mut Metered<W>,
-) -> Status
-    requires unasked { asks_of writer.old ≡ 0 }
-    ensures { (text : List ℕ) → IsSourceOf command text source.now
-        → Sends W.contents (IsAnswer command text) writer.old writer.new result }
-{
-    match reply_to(alloc, command, source) {
-        Ok(reply) => {
-            let status = send_reply(writer, &reply);
-            drop(reply);
-            status
-        }
-        Err(refusal) => send(writer, &refuse(alloc, refusal)),
-    }
-}
-
-/// Writes a reply, and returns its status. `WriteFault` if the writer failed. The reply's octets are counted first, since
-/// the largest number of calls of the writer depends on them. If that number is over the greatest `u64`, `refused Memory`
-/// is written instead. The writer's count of calls must be 0.
-fn send_reply<W: Write>(writer: &mut Metered<W>, reply: &Reply) -> Status
-    requires { asks_of writer.old ≡ 0 }
-    ensures { Sends W.contents (λ verdict output. ((verdict ≡ reply_verdict reply.now) × Prints reply.now output)
-        ⊎ RefusesForMemory verdict output) writer.old writer.new result }
-{
-    match count_with(reply, WRITER_ASKS) {
-        Some(most) => send_pages(writer, reply, most),
-        None => send(writer, &out_of_memory()),
-    }
-}
-
-/// Writes a reply, page by page, and returns its status, or `WriteFault` if the writer failed. Writing fails when the
-/// writer's count of calls, `asks`, is `most`. The count must be 0, and `most` the number of the reply's octets plus
-/// 2,097,152.
-fn send_pages<W: Write>(writer: &mut Metered<W>, reply: &Reply, most: u64) -> Status
-    requires unasked { asks_of writer.old ≡ 0 }
-    requires most { (octets : List ℕ) → Prints reply.now octets → most ≡ length octets + 2097152 }
-    ensures { Sends W.contents (λ verdict output. (verdict ≡ reply_verdict reply.now) × Prints reply.now output)
-        writer.old writer.new result }
-{
-    if print_pages(writer, reply, most).is_err() {
-        return Status::WriteFault;
-    }
-    Status::from(reply.verdict())
-}
-
-/// Prints a reply to a writer, page by page, and flushes it. Err if a write or the flush failed. Writing fails when the
-/// writer's count of calls, `asks`, is `most`. The count must be 0, and `most` the number of the reply's octets plus
-/// 2,097,152.
-fn print_pages<W: Write>(
-    writer: &mut Metered<W>,
-    reply: &Reply,
-    most: u64,
-) -> Result<(), WriteFault>
-    requires unasked { asks_of writer.old ≡ 0 }
-    requires most { (octets : List ℕ) → Prints reply.now octets → most ≡ length octets + 2097152 }
-    ensures written { OnOk result ((octets : List ℕ) × Prints reply.now octets × IsWritten W.contents writer.old writer.new octets) }
-    ensures no_fault { OnOk result (faults_of writer.new ≡ faults_of writer.old) }
-    ensures cut_off { OnErr result ((octets : List ℕ) × Prints reply.now octets × IsCutOff W.contents writer.old writer.new octets) }
-{
-    let mut sink = PageSink::new(writer, most);
-    print_reply(reply, &mut sink);
-    sink.end()
-}
-
-/// Writes an answer, and returns its status, or `WriteFault` if the writer failed. The writer's count of calls must be
-/// 0.
+/// Writes an answer, and returns its status, or `WriteFault` if the writer failed. The answer's octets are counted first,
+/// since the largest number of calls of the writer depends on them. If that number is over the greatest `u64`, `refused
+/// Memory` is written instead. The writer's count of calls must be 0.
 fn send<W: Write>(writer: &mut Metered<W>, answer: &Answer) -> Status
     requires { asks_of writer.old ≡ 0 }
-    ensures { Sends W.contents (λ verdict output. (verdict ≡ answer.now.verdict) × (output ≡ output_octets answer.now.output))
+    ensures { Sends W.contents (λ verdict output. ((verdict ≡ answer_verdict answer.now) × Prints answer.now output)
+        ⊎ RefusesForMemory verdict output) writer.old writer.new result }
+{
+    match count_with(answer, WRITER_ASKS) {
+        Some(most) => send_pages(writer, answer, most),
+        None => {
+            let most = WRITER_ASKS + REFUSED_MEMORY.len() as u64;
+            send_pages(writer, &Answer::Refused(Refusal::Memory), most)
+        }
+    }
+}
+
+/// Prints an answer to a writer, page by page, and flushes it. Returns its status, or `WriteFault` if a write or the flush
+/// failed. Writing fails when the writer's count of calls, `asks`, is `most`. The count must be 0, and `most` the number of
+/// the answer's octets plus 2,097,152.
+fn send_pages<W: Write>(writer: &mut Metered<W>, answer: &Answer, most: u64) -> Status
+    requires unasked { asks_of writer.old ≡ 0 }
+    requires most { (octets : List ℕ) → Prints answer.now octets → most ≡ length octets + 2097152 }
+    ensures { Sends W.contents (λ verdict output. (verdict ≡ answer_verdict answer.now) × Prints answer.now output)
         writer.old writer.new result }
 {
-    if write_whole(writer, answer.output.as_slice()).is_err() {
-        return Status::WriteFault;
+    let mut sink = PageSink::new(writer, most);
+    print_answer(answer, &mut sink);
+    match sink.end() {
+        Ok(()) => Status::Answered(answer.verdict()),
+        Err(_) => Status::WriteFault,
     }
-    Status::from(answer.verdict)
 }

@@ -4,10 +4,13 @@ ghost use Rattle.sexpr_core.specs.Value.{Value, canon};
 ghost use Rattle.sexpr_text.specs.AdvancedForm.{IsTextWithin};
 ghost use Rattle.spki_case.specs.View.{model};
 ghost use Rattle.spki_guard.specs.TextAnswers.{RefusesAsLong, written_by, IsAnswerApart, DecidesApart, DecidesBy, RefusesApart, RefusesBy, RefusesRowsForm};
-ghost use Rattle.spki_guard.specs.declared.answers.Refusal.{Refusal};
+ghost use Rattle.spki_guard.specs.Inner.Prints.{PrintsAs};
+ghost use Rattle.spki_guard.specs.declared.refusals.Refusal.{Refusal};
 ghost use Rattle.spki_guard.specs.declared.answers.Verdict.{Verdict};
 
-use crate::answers::{Answer, Refusal, decision_line, refuse};
+use crate::answers::{Answer, answer_of_decision};
+use crate::printed::Printed;
+use crate::refusals::Refusal;
 use crate::sources::canonical_case;
 use sexpr_core::FormFault;
 use sexpr_text::{Form, convert};
@@ -23,20 +26,28 @@ use std::alloc::Global;
 /// text of the rows is read: its form, and then the rows. A refusal of the rows begins with `refused rows`. A text is
 /// TooLong exactly if it, or its canonical form, has more than 1,048,576 octets. If both texts are read, the line may
 /// still be `refused TooLarge`, as `decide` says. If memory ran out, it is `refused Memory`.
-pub fn check_accepted(alloc: Global, text: &[u8], rows: &[u8]) -> Answer
+pub fn check_accepted(alloc: Global, text: &[u8], rows: &[u8]) -> Printed
     ensures answer { IsAnswerApart text.now rows.now result.verdict (written_by result) }
     ensures too_long { 1048576 < length text.now → RefusesAsLong result.verdict (written_by result) }
 {
+    Printed::of(alloc, &answer_apart(alloc, text, rows))
+}
+
+/// The answer of `check_accepted`, before it is printed.
+fn answer_apart(alloc: Global, text: &[u8], rows: &[u8]) -> Answer<'static>
+    ensures answer { PrintsAs (IsAnswerApart text.now rows.now) result }
+    ensures too_long { 1048576 < length text.now → result ≡ Answer.Refused (Refusal.Form FormFault.TooLong) }
+{
     match checked(alloc, text, rows) {
         Ok(answer) => answer,
-        Err(refusal) => refuse(alloc, refusal),
+        Err(refusal) => Answer::Refused(refusal),
     }
 }
 
-/// The answer of `check_accepted`. Err if one of the texts is refused, the case is too large, or memory ran out. If the
+/// As `answer_apart`. Err if one of the texts is refused, the case is too large, or memory ran out. If the
 /// case's text is canonical, it is not converted.
-fn checked(alloc: Global, text: &[u8], rows: &[u8]) -> Result<Answer, Refusal>
-    ensures answered { IfOk result (λ a. DecidesApart text.now rows.now a.verdict (written_by a)) }
+fn checked(alloc: Global, text: &[u8], rows: &[u8]) -> Result<Answer<'static>, Refusal>
+    ensures answered { IfOk result (PrintsAs (DecidesApart text.now rows.now)) }
     ensures refused { IfErr result (λ refusal. RefusesApart text.now rows.now refusal) }
     ensures too_long { 1048576 < length text.now → IsErrOf result (Refusal.Form FormFault.TooLong) }
 {
@@ -47,8 +58,8 @@ fn checked(alloc: Global, text: &[u8], rows: &[u8]) -> Result<Answer, Refusal>
 }
 
 /// As `checked`, if the case's text is not canonical: it is converted to canonical form first.
-fn checked_converted(alloc: Global, text: &[u8], rows: &[u8]) -> Result<Answer, Refusal>
-    ensures answered { IfOk result (λ a. DecidesApart text.now rows.now a.verdict (written_by a)) }
+fn checked_converted(alloc: Global, text: &[u8], rows: &[u8]) -> Result<Answer<'static>, Refusal>
+    ensures answered { IfOk result (PrintsAs (DecidesApart text.now rows.now)) }
     ensures refused { IfErr result (λ refusal. RefusesApart text.now rows.now refusal) }
     ensures too_long { 1048576 < length text.now → IsErrOf result (Refusal.Form FormFault.TooLong) }
 {
@@ -59,15 +70,15 @@ fn checked_converted(alloc: Global, text: &[u8], rows: &[u8]) -> Result<Answer, 
 
 /// Decides a case by the accepted list in `rows`, a text in any form, and not by its own. Err if `rows` is refused, the
 /// case is too large, or memory ran out.
-fn decide_by_rows(alloc: Global, case: &Case, rows: &[u8]) -> Result<Answer, Refusal>
-    ensures answered { IfOk result (λ a. DecidesBy (model case.now) rows.now a.verdict (written_by a)) }
+fn decide_by_rows(alloc: Global, case: &Case, rows: &[u8]) -> Result<Answer<'static>, Refusal>
+    ensures answered { IfOk result (PrintsAs (DecidesBy (model case.now) rows.now)) }
     ensures refused { IfErr result (λ refusal. RefusesBy (model case.now) rows.now refusal) }
 {
     let octets = canonical_rows(alloc, rows)?;
     let accepted = AcceptedTable::read(alloc, &octets)?;
     let decided = decide(alloc, case, &accepted);
     drop(accepted);
-    Ok(decision_line(alloc, decided?)?)
+    Ok(answer_of_decision(decided?))
 }
 
 /// Returns the canonical form of `rows`, a text in any form. Err if it has no value within the limits, or memory ran

@@ -1,55 +1,54 @@
 //! What a command reads of a text.
-ghost use Rattle.std.specs.Prelude.{◌≡◌, ◌≢◌, ◌↔◌, ◌<◌, length, IsTrue, IfOk, IfErr, IfSome, IsNone, IsOkAnd, IsErrOf, MatchOption};
+ghost use Rattle.std.specs.Prelude.{◌≡◌, ◌≢◌, ◌↔◌, ◌<◌, length, IsTrue, IfOk, IfErr, IfSome, IsNone, IsOkAnd, IsErrOf};
 ghost use Rattle.sexpr_core.specs.Value.{Value};
 ghost use Rattle.sexpr_text.specs.AdvancedForm.{IsTextWithin, written};
 ghost use Rattle.spki_case.specs.Case.{IsCaseText, ValueRefused, IsTextOf};
 ghost use Rattle.spki_case.specs.View.{model};
-ghost use Rattle.spki_guard.specs.TextAnswers.{form_of, IsOnCase, RefusesAnswer};
-ghost use Rattle.spki_guard.specs.Inner.Replies.{command_of, IsSourceOf};
-ghost use Rattle.spki_guard.specs.declared.answers.Refusal.{Refusal};
+ghost use Rattle.spki_guard.specs.TextAnswers.{form_of, RefusesAnswer};
+ghost use Rattle.spki_guard.specs.Inner.Prints.{IsSourceOf};
+ghost use Rattle.spki_guard.specs.declared.refusals.Refusal.{Refusal};
 
-use crate::answers::Refusal;
+use crate::queries::{Query, query_of};
+use crate::refusals::Refusal;
 use sexpr_core::{FormFault, MOST_OCTETS};
 use sexpr_text::{Form, convert};
 use spki_case::{Case, CaseFault};
 use spki_words::Command;
 use std::alloc::Global;
 
-/// A command for a case.
-#[derive(Clone, Copy)]
-pub(crate) enum CaseCommand {
-    /// Reduce it.
-    Reduce,
-    /// Decide it.
-    Check,
-    /// Explain it.
-    Explain,
-}
-
-/// What a command reads of a text, and its reply borrows from.
+/// What a command reads of a text, and its answer borrows from.
 #[derive(Drop)]
 pub(crate) enum Source<'a> {
-    /// The case of a text that is canonical, and the command for it.
-    CanonicalCase(CaseCommand, Case<'a>),
+    /// The case of a text that is canonical, and what the command asks of it.
+    CanonicalCase(Query, Case<'a>),
     /// The value of the text in the form that the command needs.
     Converted(Vec<u8>),
+    /// The text is refused.
+    Refused(Refusal),
 }
 
-/// Reads a text for a command. A case is read from it directly if the text is canonical. Otherwise the text is
-/// converted to the form that the command needs. Err says why the text is refused, or that memory ran out. For more
-/// than 1,048,576 octets it is `Form(TooLong)`.
-pub(crate) fn read_source<'a>(
-    alloc: Global,
-    command: Command,
-    text: &'a [u8],
-) -> Result<Source<'a>, Refusal>
+/// Reads a text for a command. A text of more than 1,048,576 octets is refused as `Form(TooLong)`. If memory ran out, the
+/// refusal is `Memory`.
+pub(crate) fn source_of<'a>(alloc: Global, command: Command, text: &'a [u8]) -> Source<'a>
+    ensures read { IsSourceOf command text.entry.now result }
+    ensures too_long { 1048576 < length text.entry.now → result ≡ Source.Refused (Refusal.Form FormFault.TooLong) }
+{
+    match read_source(alloc, command, text) {
+        Ok(source) => source,
+        Err(refusal) => Source::Refused(refusal),
+    }
+}
+
+/// As `source_of`. A case is read directly if the text is canonical. Otherwise the text is converted to the form that the
+/// command needs. Err says why the text is refused, or that memory ran out.
+fn read_source<'a>(alloc: Global, command: Command, text: &'a [u8]) -> Result<Source<'a>, Refusal>
     ensures read { IfOk result (IsSourceOf command text.entry.now) }
     ensures refused { IfErr result (λ refusal. RefusesAnswer command text.entry.now refusal) }
     ensures too_long { 1048576 < length text.entry.now → IsErrOf result (Refusal.Form FormFault.TooLong) }
 {
-    if let Some(own) = case_command(command) {
+    if let Some(query) = query_of(command) {
         if let Some(case) = canonical_case(alloc, text)? {
-            return Ok(Source::CanonicalCase(own, case));
+            return Ok(Source::CanonicalCase(query, case));
         }
     }
     Ok(Source::Converted(converted(alloc, command, text)?))
@@ -64,21 +63,6 @@ fn converted(alloc: Global, command: Command, text: &[u8]) -> Result<Vec<u8>, Re
 {
     let octets = convert(alloc, form_of(command), text)?;
     Ok(octets)
-}
-
-/// The command as one that reads a case: `reduce`, `check` or `explain`. None for the others.
-fn case_command(command: Command) -> Option<CaseCommand>
-    ensures { MatchOption result (IsOnCase command → ⊥) (λ own. command ≡ command_of own) }
-{
-    match command {
-        Command::Canonical => None,
-        Command::Advanced => None,
-        Command::Transport => None,
-        Command::Intersect => None,
-        Command::Reduce => Some(CaseCommand::Reduce),
-        Command::Check => Some(CaseCommand::Check),
-        Command::Explain => Some(CaseCommand::Explain),
-    }
 }
 
 /// Whether a fault is `Form`: that of a text that is not canonical within the limits, and not that of the case in it.

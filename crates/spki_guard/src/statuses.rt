@@ -1,19 +1,15 @@
 //! How a run ends.
 
 ghost use Rattle.std.specs.Prelude.{◌≡◌};
-ghost use Rattle.spki_guard.specs.Program.{answer_status, exit_code};
+ghost use Rattle.spki_guard.specs.Program.{exit_code};
 
 use crate::answers::Verdict;
 
 /// How a run ended.
 #[derive(Clone, Copy, Debug, PartialEq, Eq)]
 pub enum Status {
-    /// Yes, or the output is what the command is for.
-    Done,
-    /// No.
-    No,
-    /// The text or its contents are refused.
-    Refused,
+    /// The whole answer was written. It has this verdict.
+    Answered(Verdict),
     /// The reader failed.
     ReadFault,
     /// The writer failed.
@@ -26,23 +22,10 @@ impl Status {
         ensures { result ≡ exit_code self }
     {
         match self {
-            Status::Done => 0,
-            Status::No => 1,
-            Status::Refused => 2,
+            Status::Answered(Verdict::Done) => 0,
+            Status::Answered(Verdict::No) => 1,
+            Status::Answered(Verdict::Refused) => 2,
             Status::ReadFault | Status::WriteFault => 3,
-        }
-    }
-}
-
-impl From<Verdict> for Status {
-    ghost from_gives = { λ verdict status. status ≡ answer_status verdict };
-
-    /// The status of the same name.
-    fn from(verdict: Verdict) -> Status {
-        match verdict {
-            Verdict::Done => Status::Done,
-            Verdict::No => Status::No,
-            Verdict::Refused => Status::Refused,
         }
     }
 }

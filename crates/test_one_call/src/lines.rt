@@ -2,7 +2,7 @@
 
 use crate::streams;
 use spki_guard::{
-    Answer, IntersectFault, OpenedAnswer, OwnedQuestion, Query, SharedGuard, Verdict,
+    IntersectFault, OpenedAnswer, OwnedQuestion, Printed, Query, SharedGuard, Verdict,
     answer_opened, check_accepted, intersect, is_granted, is_possible, open_question,
 };
 use std::alloc::Global;
@@ -33,13 +33,13 @@ fn intersection(alloc: Global, text: &[u8]) -> Reply {
 }
 
 /// The verdict of an answer and its line.
-fn line(alloc: Global, answer: Answer) -> Reply {
+fn line(alloc: Global, answer: Printed) -> Reply {
     let reply = verdict_and_line(alloc, &answer);
     drop(answer);
     reply
 }
 
-fn verdict_and_line(alloc: Global, answer: &Answer) -> Reply {
+fn verdict_and_line(alloc: Global, answer: &Printed) -> Reply {
     if answer.verdict == Verdict::Refused && answer.octets() == b"refused Memory\n".as_slice() {
         return Err(Failure::Memory);
     }

@@ -1,15 +1,15 @@
 use Rattle.std.proofs.Common.{inr, ◌<◌, length, subst}
-use Rattle.spki_guard.specs.Inner.Replies.{reply_verdict}
+use Rattle.spki_guard.specs.Inner.Prints.{answer_verdict}
 use Rattle.spki_guard.proofs.question_answers.explained.Goals as goal
 
 pub returns-clause-large : goal.returns-clause-large
 returns-clause-large c e =
-    let (octets, prints, long) = c.whole_within.ensures.large e in
+    let (octets, prints, long) = c.within.ensures.large e in
     inr (record {
       explanation = c.in_ok-explanation.explanation;
       is = c.in_ok-explanation.ensures;
-      verdict = reply_verdict c.reply_of_explanation.result;
+      verdict = answer_verdict c.answer_of_explanation-answer.result;
       lines = octets;
-      report = c.reply_of_explanation.ensures octets prints;
+      report = c.answer_of_explanation-answer.ensures octets prints;
       long = subst (λ n. n < length octets) c.most_answer.ensures long;
     })

@@ -1,0 +1,150 @@
+//! The answers of the commands to a text.
+ghost use Rattle.std.specs.Prelude.{◌≡◌, List, ◌<◌, ℕ, length, IfOk, IfErr, IsErrOf};
+ghost use Rattle.sexpr_core.specs.Value.{Value, canon};
+ghost use Rattle.sexpr_text.specs.AdvancedForm.{written};
+ghost use Rattle.spki_case.specs.Case.{IsCaseText};
+ghost use Rattle.spki_case.specs.View.{model};
+ghost use Rattle.spki_guard.specs.TextAnswers.{form_of, IsAnswer, AnswersValue, RefusesValue, AnswersRead, RefusesAnswer, RefusesAsLong, Decides, Reduces, Explains, written_by};
+ghost use Rattle.spki_guard.specs.Inner.Prints.{PrintsAs, command_of, IsSourceOf};
+
+use crate::answers::{
+    Answer, Output, answer_of_decision, answer_of_explanation, answer_of_reduction,
+};
+use crate::intersection::intersect;
+use crate::printed::Printed;
+use crate::queries::Query;
+use crate::refusals::Refusal;
+use crate::sources::{Source, source_of};
+use sexpr_core::syntax::wrap_octets;
+use spki_case::Case;
+use spki_decision::{decide, explain, reduce_case};
+use spki_words::Command;
+use std::alloc::Global;
+
+/// Answers a whole text, in any of the three forms, with what `run` writes for it. For more than 1,048,576 octets the
+/// answer is `refused form TooLong`. If memory ran out, it is `refused Memory`.
+pub fn answer_text(alloc: Global, command: Command, text: &[u8]) -> Printed
+    ensures answer { IsAnswer command text.now result.verdict (written_by result) }
+    ensures too_long { 1048576 < length text.now → RefusesAsLong result.verdict (written_by result) }
+{
+    let source = source_of(alloc, command, text);
+    let answer = answer_source(alloc, command, &source);
+    let printed = Printed::of(alloc, &answer);
+    drop(answer);
+    drop(source);
+    printed
+}
+
+/// Answers a command from the source that `source_of` returned for it. Nothing is printed yet.
+pub(crate) fn answer_source<'s, 't: 's>(
+    alloc: Global,
+    command: Command,
+    source: &'s Source<'t>,
+) -> Answer<'s>
+    ensures answer { (text : List ℕ) → IsSourceOf command text source.entry.now → PrintsAs (IsAnswer command text) result }
+    ensures refused { (refusal : Refusal) → source.entry.now ≡ Source.Refused refusal → result ≡ Answer.Refused refusal }
+{
+    match try_answer(alloc, command, source) {
+        Ok(answer) => answer,
+        Err(refusal) => Answer::Refused(refusal),
+    }
+}
+
+/// The answer of a command to the source that `source_of` returned for it. Err says why the text is refused, or that
+/// memory ran out.
+fn try_answer<'s, 't: 's>(
+    alloc: Global,
+    command: Command,
+    source: &'s Source<'t>,
+) -> Result<Answer<'s>, Refusal>
+    ensures answered { (text : List ℕ) → IsSourceOf command text source.entry.now
+        → IfOk result (PrintsAs (AnswersRead command text)) }
+    ensures refused { (text : List ℕ) → IsSourceOf command text source.entry.now
+        → IfErr result (λ refusal. RefusesAnswer command text refusal) }
+    ensures unread { (refusal : Refusal) → source.entry.now ≡ Source.Refused refusal → IsErrOf result refusal }
+{
+    match source {
+        Source::CanonicalCase(query, case) => answer_case(alloc, *query, case),
+        Source::Converted(octets) => answer_octets(alloc, command, octets),
+        Source::Refused(refusal) => Err(*refusal),
+    }
+}
+
+/// The answer of a command to `octets`: a value, written in the form that the command needs (`form_of`). Err says why
+/// the value is refused, or that memory ran out.
+fn answer_octets<'o>(
+    alloc: Global,
+    command: Command,
+    octets: &'o [u8],
+) -> Result<Answer<'o>, Refusal>
+    ensures answered { (v : Value) → octets.entry.now ≡ written (form_of command) v
+        → IfOk result (PrintsAs (AnswersValue command v)) }
+    ensures refused { (v : Value) → octets.entry.now ≡ written (form_of command) v
+        → IfErr result (λ refusal. RefusesValue command v refusal) }
+{
+    match command {
+        Command::Canonical => Ok(Answer::Done(Output::Octets(octets))),
+        Command::Advanced => Ok(Answer::Done(Output::Line(octets))),
+        Command::Transport => Ok(Answer::Done(Output::Made(wrap_octets(alloc, octets)?))),
+        Command::Intersect => Ok(Answer::Done(Output::Tag(intersect(alloc, octets)?))),
+        Command::Reduce => answer_canonical(alloc, Query::Reduce, octets),
+        Command::Check => answer_canonical(alloc, Query::Decide, octets),
+        Command::Explain => answer_canonical(alloc, Query::Explain, octets),
+    }
+}
+
+/// The answer of `reduce`, `check` or `explain` to the canonical text of a case. Err says why the text is refused, or
+/// that memory ran out.
+fn answer_canonical<'o>(alloc: Global, query: Query, text: &'o [u8]) -> Result<Answer<'o>, Refusal>
+    ensures answered { (v : Value) → text.entry.now ≡ canon v
+        → IfOk result (PrintsAs (AnswersValue (command_of query) v)) }
+    ensures refused { (v : Value) → text.entry.now ≡ canon v → IfErr result (λ refusal. RefusesValue (command_of query) v refusal) }
+{
+    let case = Case::read(alloc, text)?;
+    let answer = answer_case(alloc, query, &case);
+    drop(case);
+    answer
+}
+
+/// The answer of `reduce`, `check` or `explain` to a case that was read. Err is `TooLarge` or `Memory`.
+fn answer_case<'a>(alloc: Global, query: Query, case: &Case<'a>) -> Result<Answer<'a>, Refusal>
+    ensures answered { (v : Value) → IsCaseText (canon v) (model case.now)
+        → IfOk result (PrintsAs (AnswersValue (command_of query) v)) }
+    ensures refused { (v : Value) → IsCaseText (canon v) (model case.now)
+        → IfErr result (λ refusal. RefusesValue (command_of query) v refusal) }
+{
+    match query {
+        Query::Reduce => reduce(alloc, case),
+        Query::Decide => check(alloc, case),
+        Query::Explain => explain_case(alloc, case),
+    }
+}
+
+/// Decides a case by its accepted list. The answer is `yes entry N` or `no`. Err is `TooLarge` or `Memory`.
+fn check<'a>(alloc: Global, case: &Case<'a>) -> Result<Answer<'a>, Refusal>
+    ensures answered { (text : List ℕ) → IsCaseText text (model case.now) → IfOk result (PrintsAs (Decides text)) }
+    ensures refused { (v : Value) → IsCaseText (canon v) (model case.now) → IfErr result (λ refusal. RefusesValue Command.Check v refusal) }
+{
+    let decision = decide(alloc, case, case.accepted())?;
+    Ok(answer_of_decision(decision))
+}
+
+/// Reduces a case by its accepted list. The answer has a line for each entry, `no entries`, or one line for the
+/// certificate that fails. Err is `TooLarge` or `Memory`.
+fn reduce<'a>(alloc: Global, case: &Case<'a>) -> Result<Answer<'a>, Refusal>
+    ensures answered { (text : List ℕ) → IsCaseText text (model case.now) → IfOk result (PrintsAs (Reduces text)) }
+    ensures refused { (v : Value) → IsCaseText (canon v) (model case.now) → IfErr result (λ refusal. RefusesValue Command.Reduce v refusal) }
+{
+    let reduction = reduce_case(alloc, case, case.accepted())?;
+    Ok(answer_of_reduction(reduction))
+}
+
+/// Explains a case by its accepted list. The answer has a line for each entry, `no entries`, or one line for the
+/// certificate that fails. Err is `TooLarge` or `Memory`.
+fn explain_case<'a>(alloc: Global, case: &Case<'a>) -> Result<Answer<'a>, Refusal>
+    ensures answered { (text : List ℕ) → IsCaseText text (model case.now) → IfOk result (PrintsAs (Explains text)) }
+    ensures refused { (v : Value) → IsCaseText (canon v) (model case.now) → IfErr result (λ refusal. RefusesValue Command.Explain v refusal) }
+{
+    let explanation = explain(alloc, case, case.accepted())?;
+    Ok(answer_of_explanation(explanation))
+}
