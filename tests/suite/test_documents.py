@@ -13,7 +13,7 @@ import re
 import unittest
 from collections.abc import Callable, Iterator
 
-from harness import claims
+from harness import claims, ways
 from harness.support import TOP, output_of, text_of
 
 PAGES = ["*.md", "docs/*.md", "examples/*.md", "apps/**/*.md", "crates/*/CALLING.md"]
@@ -145,6 +145,10 @@ class Documents(unittest.TestCase):
     def test_claims(self) -> None:
         sources = claims.Sources(below_crates("src/**/*.rt"), below_crates("specs/**/*.antt"))
         self.assertEqual(list(claims.faults("docs/PROOFS.md", sources)), [])
+
+    def test_ways(self) -> None:
+        """Each call that docs/ARCHITECTURE.md lists on the way from octets to an answer stands in the function of its row."""
+        self.assertEqual(list(ways.faults("docs/ARCHITECTURE.md", ways.bodies_of(below_crates("src/**/*.rt")))), [])
 
     def test_calls_for_c(self) -> None:
         self.assertEqual(list(claims.unclaimed("docs/PROOFS.md", "crates/spki_c/spki.h", "crates/spki_c/spki.c")), [])
