@@ -193,9 +193,13 @@ func TestVerifiedBefore(t *testing.T) {
 		}
 	}
 	var events []guard.Event
-	_, _ = made.Logged(func(event guard.Event) { events = append(events, event) }).DecideVerified(question, verified(t, made, shows, 0, 1))
+	known := verified(t, made, shows, 0, 1)
+	_, _ = made.Logged(func(event guard.Event) { events = append(events, event); event.Question.Sequence[1] ^= 1 }).DecideVerified(question, known)
 	if len(events) != 1 || !events[0].Decision.Granted() {
 		t.Errorf("%v", events)
+	}
+	if !bytes.Equal(known.Sequence(), shows.Sequence) {
+		t.Errorf("the function of the log changed what is verified: %q", known.Sequence())
 	}
 }
 

@@ -63,8 +63,13 @@ func (g *Guard) DecideVerified(question Question, verified Verified) (Decision, 
 	if len(question.Sequence) > 0 {
 		return Decision{}, ErrMisused
 	}
-	question.Sequence = verified.text()
-	return g.told(question, func() (Decision, error) { return g.decideVerified(&question, verified) })
+	asked := question
+	asked.Sequence = verified.text()
+	if g.log != nil {
+		// (a copy, which the function of the log may change)
+		question.Sequence = verified.Sequence()
+	}
+	return g.told(question, func() (Decision, error) { return g.decideVerified(&asked, verified) })
 }
 
 func (g *Guard) decideVerified(question *Question, verified Verified) (Decision, error) {
