@@ -1,4 +1,7 @@
 //! Keys, hashes, names, certificates and access lists (RFC 2693).
+//!
+//! `read_acl`, `read_sequence`, `read_key`, `read_hash` and `read_date` take a document and the number of a node. They are only for programs in
+//! Rattle that use this library.
 #![tactic(auto)]
 
 mod acl;

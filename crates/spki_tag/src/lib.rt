@@ -1,4 +1,6 @@
 //! Authorization tags and requests (RFC 2693, section 6.3.1).
+//!
+//! `Tag::read`, `Ground::read` and `Tag::write` are only for programs in Rattle that use this library.
 #![tactic(auto)]
 
 mod equality;
