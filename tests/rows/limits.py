@@ -120,7 +120,7 @@ def products():
 
 
 def work():
-    """Entries and certificates whose work is 3,000,000,000, and more. Each of 30 entries has 1,000 nodes, each of which costs 15 times the 4 nodes of
+    """Entries and certificates whose work is 2,200,000,000, and more. Each of 22 entries has 1,000 nodes, each of which costs 15 times the 4 nodes of
     the first certificate, its 4 tags and its 99,936 octets. Then nothing is left of the tags. The second certificate has 336 nodes, so that the
     product of all is over 1,000,000."""
     def chain_of(more, *tags):
@@ -132,12 +132,12 @@ def work():
     second = f"(* set r {numbered(334)})"
     asked = {"asks": key("b"), "request": "r"}
     for more, answer in ((0, NO), (1, refused("TooLarge"))):
-        yield f"the work of 30 entries, {more} octets more", "check", case(each * 30, *chain_of(more, second), **asked), answer
-        yield f"an entry that grants before, {more} octets more", "check", case(grants + each * 30, *chain_of(more, second), **asked), YES
+        yield f"the work of 22 entries, {more} octets more", "check", case(each * 22, *chain_of(more, second), **asked), answer
+        yield f"an entry that grants before, {more} octets more", "check", case(grants + each * 22, *chain_of(more, second), **asked), YES
     for command in ("explain", "reduce"):
-        yield "the work of 30 entries, 1 octet more", command, case(each * 30, *chain_of(1, second), **asked), refused("TooLarge")
-    yield "31 entries whose product of nodes is 4,000", "check", case(each * 31, *chain_of(1), **asked), NO
-    yield "31 entries and a certificate for all requests", "check", case(each * 31, *chain_of(1, "(*)"), **asked), NO
+        yield "the work of 22 entries, 1 octet more", command, case(each * 22, *chain_of(1, second), **asked), refused("TooLarge")
+    yield "23 entries whose product of nodes is 4,000", "check", case(each * 23, *chain_of(1), **asked), NO
+    yield "23 entries and a certificate for all requests", "check", case(each * 23, *chain_of(1, "(*)"), **asked), NO
 
 
 def octets(words):

@@ -80,7 +80,7 @@ module _ (verified : Verified) where
     moment = codes "2024-01-01_00:00:00";
     policy = Open;
     most_nodes = 1000000;
-    most_work = 3000000000;
+    most_work = 2200000000;
     uncounted = 1000000;
   }
 

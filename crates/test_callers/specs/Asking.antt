@@ -18,6 +18,6 @@ asked_case entries items question = record {
   moment = question.moment;
   policy = Strict;
   most_nodes = 1000000;
-  most_work = 3000000000;
+  most_work = 2200000000;
   uncounted = 1000000;
 }
