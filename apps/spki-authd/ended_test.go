@@ -50,11 +50,11 @@ func TestFewerEnded(t *testing.T) {
 	s := newSite(t, "")
 	s.config.Ended = written(t, "ended", sealed(digestOfText(s.toBob)+"\n"))
 	for _, row := range []struct {
-		lines    string
-		mayLose  bool
-		isRight  bool
-		isStill  bool
-		evidence string
+		lines           string
+		allowFewerEnded bool
+		isRight         bool
+		isStill         bool
+		evidence        string
 	}{
 		{digestOfText(s.toBob) + "\n", false, true, true, "the same"}, {"", false, false, true, "none"},
 		{digestOfText(s.toCarol) + "\n", false, false, true, "another one"},
@@ -64,7 +64,7 @@ func TestFewerEnded(t *testing.T) {
 		if err := os.WriteFile(s.config.Ended, []byte(sealed(row.lines)), 0o600); err != nil {
 			t.Fatal(err)
 		}
-		err := s.keeper.reload(s.config, row.mayLose, s.now())
+		err := s.keeper.reload(s.config, row.allowFewerEnded, s.now())
 		if (err == nil) != row.isRight || err != nil && !strings.Contains(err.Error(), "-reload -fewer") {
 			t.Errorf("%s: %v", row.evidence, err)
 		}

@@ -28,7 +28,8 @@ func newHeads(connection io.Reader) *heads {
 	return &heads{all: bufio.NewReaderSize(connection, roomForRequest)}
 }
 
-// next reads a request. A line `Content-Length:` without a number is refused: net/http drops it, and others may read a body behind it.
+// next reads a request: by net/http from the buffer where its lines fit in that, and otherwise from a copy of them. A line `Content-Length:` without
+// a number is refused: net/http drops it, and others may read a body behind it.
 func (h *heads) next() (*http.Request, error) {
 	isWhole, isClear, err := h.peekLines()
 	if err == nil && !isWhole {

@@ -188,7 +188,7 @@ func TestOtherCertificate(t *testing.T) {
 		}
 	}()
 	config.secret = []byte(strings.Repeat("s", 32))
-	if err := config.answers(); err == nil || !strings.Contains(err.Error(), "another certificate") {
+	if err := config.checkAnswers(); err == nil || !strings.Contains(err.Error(), "another certificate") {
 		t.Error(err)
 	}
 }
