@@ -125,7 +125,7 @@ func (a *access) hasEnded(certificate digest) bool {
 func (a *access) checkStoresFresh() error {
 	for _, each := range a.lists {
 		if each.store != nil {
-			if err := each.store.isFresh(); err != nil {
+			if err := each.store.checkFresh(); err != nil {
 				return err
 			}
 		}

@@ -111,7 +111,7 @@ func (d *daemon) health() (string, error) {
 	fmt.Fprintf(&text, "clock: went back %d times\n", d.clock.times.Load())
 	for _, each := range present.lists {
 		if each.store != nil {
-			line, fault := each.store.told()
+			line, fault := each.store.statusLine()
 			text.WriteString(line)
 			if fault != nil {
 				faults = append(faults, fault.Error())

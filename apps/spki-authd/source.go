@@ -166,7 +166,7 @@ func (s *store) test(out io.Writer) error {
 	if err := s.pollOnce(); err != nil {
 		return err
 	}
-	text, err := s.told()
+	text, err := s.statusLine()
 	fmt.Fprint(out, text)
 	return err
 }
