@@ -9,7 +9,7 @@ import (
 	"conguraki/spki/guard"
 )
 
-// verifies asks a cache of a signature.
+// verifies asks a cache whether a signature is valid, and whether it knew that.
 func verifies(c *cache, signed guard.Signature, verify guard.Verify) (isValid, wasKnown bool) {
 	return c.verifies(signed, sha256.Sum256(signed.Message), verify)
 }

@@ -20,14 +20,14 @@ type site struct {
 	log                        journal
 }
 
-// newSite makes a site, with more fields of a configuration.
+// newSite makes a site. `fields` are more fields of its configuration, each after a comma, or empty.
 func newSite(t testing.TB, fields string) *site {
 	t.Helper()
 	made := &site{alice: newPerson(t), bob: newPerson(t), carol: newPerson(t), mallory: newPerson(t)}
 	list := "(3:acl(5:entry" + made.alice.key + propagates + "(3:tag" + prefix("read", "/web/") + ")))"
 	made.toBob = made.alice.certificate(made.bob, prefix("read", "/web/docs/"), propagates)
 	made.toCarol = made.bob.certificate(made.carol, prefix("read", "/web/docs/a/"), "")
-	text := `{"listen": "unix:/run/x/s", "server": "nginx", "list": "` + written(t, "acl", list) + `", "log": "/log",
+	text := `{"listen": "unix:/run/x/s", "server": "nginx", "list": "` + writeFile(t, "acl", list) + `", "log": "/log",
 		"requests": [{"prefix": "/", "methods": {"GET": "read", "PUT": "write"}, "request": ["files", "{method}", "{path}"]}]` + fields + `}`
 	config, err := parseConfig([]byte(text))
 	if err != nil {
@@ -41,10 +41,10 @@ func newSite(t testing.TB, fields string) *site {
 	return made
 }
 
-// sequencesShown returns what Bob and Carol show.
+// sequencesShown returns the sequences that Bob and Carol show.
 func (s *site) sequencesShown() (bob, carol string) {
-	bobs := s.alice.signed(s.toBob)
-	return sequence(bobs), sequence(bobs, s.bob.signed(s.toCarol))
+	bobs := s.alice.sign(s.toBob)
+	return sequence(bobs), sequence(bobs, s.bob.sign(s.toCarol))
 }
 
 // ask returns the answer to a request with these headers, in pairs of name and value.
@@ -56,7 +56,7 @@ func (s *site) ask(pairs ...string) *http.Response {
 	return s.told(request)
 }
 
-// told returns what the web server is told of a request.
+// told has the site answer a request, and returns the response that the web server gets.
 func (s *site) told(request *http.Request) *http.Response {
 	made := s.answerTo(request)
 	response, err := http.ReadResponse(bufio.NewReader(bytes.NewReader(made.response(nil, time.Now(), false))), request)
@@ -66,7 +66,7 @@ func (s *site) told(request *http.Request) *http.Response {
 	return response
 }
 
-// by returns the answer to a person who shows a sequence, or none.
+// by returns the response to a request of a person who shows a sequence, which is empty for none.
 func (s *site) by(who person, method, target, sequence string) *http.Response {
 	pairs := []string{"X-Original-Method", method, "X-Original-URI", target, "X-Client-Cert", who.escaped()}
 	if sequence != "" {
@@ -149,8 +149,8 @@ func TestHeadersAndLog(t *testing.T) {
 
 func TestForgedSignatures(t *testing.T) {
 	s := newSite(t, "")
-	forged := s.mallory.signed(s.alice.certificate(s.mallory, prefix("read", "/web/"), propagates))
-	own := s.mallory.signed(s.mallory.certificate(s.mallory, prefix("read", "/web/"), propagates))
+	forged := s.mallory.sign(s.alice.certificate(s.mallory, prefix("read", "/web/"), propagates))
+	own := s.mallory.sign(s.mallory.certificate(s.mallory, prefix("read", "/web/"), propagates))
 	asAlice := strings.Replace(forged, s.mallory.key+"(7:sig-val", s.alice.key+"(7:sig-val", 1)
 	for name, shown := range map[string]string{"by Mallory's key": forged, "from Mallory": own, "by Alice's key": asAlice} {
 		for turn := 0; turn < 2; turn++ {
@@ -191,7 +191,7 @@ func TestWrongHeaders(t *testing.T) {
 
 func TestManyCertificates(t *testing.T) {
 	s := newSite(t, "")
-	one := s.alice.signed(s.toBob)
+	one := s.alice.sign(s.toBob)
 	many := make([]string, 17)
 	for place := range many {
 		many[place] = one
@@ -231,7 +231,7 @@ func TestEndedCertificates(t *testing.T) {
 	if met := s.by(s.carol, "GET", "/web/docs/a/b", carols); met.StatusCode != 200 {
 		t.Fatal(met.StatusCode)
 	}
-	s.config.Ended = written(t, "ended", sealed(digestOfText(s.toCarol)+" # stolen\n"))
+	s.config.Ended = writeFile(t, "ended", withLastLine(digestOfText(s.toCarol)+" # stolen\n"))
 	if err := s.keeper.reload(s.config, false, s.now()); err != nil {
 		t.Fatal(err)
 	}
@@ -291,7 +291,7 @@ func TestExplanationsAreBounded(t *testing.T) {
 	if err := s.keeper.reload(s.config, false, s.now()); err != nil {
 		t.Fatal(err)
 	}
-	shows := sequence(s.alice.signed(s.alice.certificate(s.bob, set, "")))
+	shows := sequence(s.alice.sign(s.alice.certificate(s.bob, set, "")))
 	for place := 0; place < 8; place++ {
 		wanted := "refused TooLarge"
 		if place >= saved*3 {
@@ -314,7 +314,7 @@ func TestTime(t *testing.T) {
 	until := s.alice.certificateUntil(s.bob, prefix("read", "/web/"), "2026-01-01_00:00:00")
 	for year, wanted := range map[int]int{2025: 200, 2027: 403} {
 		s.now = func() time.Time { return time.Date(year, 1, 1, 0, 0, 0, 0, time.UTC) }
-		if met := s.by(s.bob, "GET", "/web/x", sequence(s.alice.signed(until))); met.StatusCode != wanted {
+		if met := s.by(s.bob, "GET", "/web/x", sequence(s.alice.sign(until))); met.StatusCode != wanted {
 			t.Errorf("%d: %d, %+v", year, met.StatusCode, s.lastLine(t))
 		}
 	}

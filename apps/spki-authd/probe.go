@@ -64,7 +64,7 @@ func probeSite(address string, isStopped bool, out io.Writer) error {
 	}
 	made := &probe{base: base, isStopped: isStopped, out: out}
 	for _, each := range askers {
-		if err := made.asks(each); err != nil {
+		if err := made.sendAll(each); err != nil {
 			return err
 		}
 	}
@@ -88,7 +88,7 @@ func baseOf(address string) (*url.URL, error) {
 
 // asks sends all requests of an asker, and prints how often each status was the answer. An asker whose protocol or key the server does not take is
 // left out.
-func (p *probe) asks(by asker) error {
+func (p *probe) sendAll(by asker) error {
 	first, err := by.send(p.base, tries[0])
 	if err != nil && by.mayFail {
 		fmt.Fprintf(p.out, "%s: left out, the server gives no answer: %v\n", by.name, err)
