@@ -35,13 +35,13 @@ func (c *config) signaturesOf(sequence string, key guard.ProvenKey, now time.Tim
 	if err := markFirst(asked, len(signatures)); err != nil {
 		return nil, err
 	}
-	// (by a list without entries it says nothing but which certificate does not stand)
-	stops, err := asked.Explain()
+	// (with a list without entries the only reason can be a certificate that does not count)
+	explanation, err := asked.Explain()
 	if err != nil {
 		return nil, err
 	}
-	for _, stop := range stops.Reasons() {
-		return nil, fmt.Errorf("%w: %v", errUnkept, stop)
+	if reasons := explanation.Reasons(); len(reasons) > 0 {
+		return nil, fmt.Errorf("%w: %v", errUnkept, reasons[0])
 	}
 	if len(signatures) == 0 {
 		return nil, errEmpty

@@ -48,8 +48,8 @@ func (c *config) checkAnswers() error {
 		return err
 	}
 	defer response.Body.Close()
-	if met := response.Header.Get("X-Spki-Answer"); met != string(answerRefused) && met != string(answerUnknown) {
-		return fmt.Errorf("%s: the answer is %d, %q", c.Listen, response.StatusCode, met)
+	if said := response.Header.Get("X-Spki-Answer"); said != string(answerRefused) && said != string(answerUnknown) {
+		return fmt.Errorf("%s: the answer is %d, %q", c.Listen, response.StatusCode, said)
 	}
 	return nil
 }
