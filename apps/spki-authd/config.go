@@ -178,7 +178,7 @@ func (c *config) check() error {
 	return nil
 }
 
-// checkLog says what is wrong in the file of grants.
+// checkLog says what is wrong in `log` and `log_sync`.
 func (c *config) checkLog() error {
 	if !strings.HasPrefix(c.Log, "/") {
 		return fmt.Errorf(`"log" is %q, and must be /PATH: the file that gets a line before each grant`, c.Log)

@@ -66,7 +66,7 @@ var (
 	errSlow  = errors.New("the request did not end in time")
 )
 
-// newDoor returns a door with at most so many connections.
+// newDoor returns a door for the answers of a decider, with at most as many connections as its configuration has.
 func newDoor(decider *decider) *door {
 	places := make(chan struct{}, decider.config.Limits.Connections)
 	return &door{decider: decider, places: places, isShut: make(chan struct{}), open: map[net.Conn]*visit{}, isEmpty: make(chan struct{})}

@@ -61,7 +61,8 @@ func (d *decider) decide(asked *asked, now time.Time) record {
 	if err != nil {
 		return made.ended(answerRefused, err)
 	}
-	if made.Key = client.name; proof != nil {
+	made.Key = client.name
+	if proof != nil {
 		made.Proof = bySignature
 	}
 	if !d.byKey.allows(client.name, now) {

@@ -48,7 +48,8 @@ func (o *object) take(token json.Token) error {
 	if !o.isNamed {
 		return nil
 	}
-	if o.isValue = !o.isValue; !o.isValue {
+	o.isValue = !o.isValue
+	if !o.isValue {
 		return nil
 	}
 	name := strings.ToLower(fmt.Sprint(token))

@@ -88,7 +88,8 @@ func (h *heads) Read(into []byte) (int, error) {
 
 // readLines reads the lines up to the first that is empty, and says whether none of them gives a body's length without a number.
 func (h *heads) readLines() (isClear bool, err error) {
-	if h.lines = h.lines[:0]; cap(h.lines) > mostKept {
+	h.lines = h.lines[:0]
+	if cap(h.lines) > mostKept {
 		h.lines = nil
 	}
 	begin := 0

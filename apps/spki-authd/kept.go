@@ -173,7 +173,7 @@ func (c *chains) whyNotBeside(others []keptChain, text string) answer {
 	return ""
 }
 
-// chainOf returns a sequence, given in transport form, that is kept from a time on.
+// chainOf returns a sequence in transport form as it is kept from a time on: for so many days, or until the first of its certificates ends.
 func (c *chains) chainOf(text string, from time.Time) keptChain {
 	until := from.AddDate(0, 0, c.Days)
 	if end, hasEnd := endOf(text); hasEnd && end.Before(until) {
@@ -215,7 +215,8 @@ func (k *kept) current(key string, now time.Time) []keptChain {
 			k.octets -= len(each.text)
 		}
 	}
-	if k.byKey[key] = left; len(left) == 0 {
+	k.byKey[key] = left
+	if len(left) == 0 {
 		delete(k.byKey, key)
 	}
 	return left
@@ -279,7 +280,8 @@ func (d *decider) judgeAll(made *record, key guard.ProvenKey, path string, asked
 	}
 	for _, each := range shown {
 		next := begun
-		if d.judge(&next, key, path, each.text, now); next.Answer == answerYes {
+		d.judge(&next, key, path, each.text, now)
+		if next.Answer == answerYes {
 			next.Kept = "used"
 			*made = next
 			return

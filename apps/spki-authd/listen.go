@@ -15,7 +15,7 @@ const (
 	tlsScheme  = "tls:"
 )
 
-// checkEntrance says what is wrong in who may ask: it must be the web server alone. The web server in turn must know that it is this daemon that
+// checkEntrance says what is wrong in `listen` and the fields for it. Only the web server may be able to ask, and it must know that this daemon
 // answers: by the folder of a socket, or by a certificate.
 func (c *config) checkEntrance() error {
 	if path := strings.TrimPrefix(c.Listen, unixScheme); path != c.Listen {
@@ -40,7 +40,7 @@ func (c *config) checkEntrance() error {
 	return nil
 }
 
-// checkSocket says what is wrong in a Unix socket.
+// checkSocket says what is wrong in the fields for a Unix socket at a path.
 func (c *config) checkSocket(path string) error {
 	mode, err := modeOf(c.SocketMode)
 	if err != nil || !strings.HasPrefix(path, "/") {

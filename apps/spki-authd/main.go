@@ -81,7 +81,7 @@ func run(given []string, out, messages io.Writer) int {
 	return statusDone
 }
 
-// wordsOf reads the words of the command line.
+// wordsOf reads the words of the command line, and writes to `messages` what is wrong in them.
 func wordsOf(given []string, messages io.Writer) (words, error) {
 	var made words
 	flags := flag.NewFlagSet("spki-authd", flag.ContinueOnError)

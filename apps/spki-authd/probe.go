@@ -39,8 +39,8 @@ const (
 // another host, too many requests, too long a header, and a method or a version that it does not have.
 var denials = map[int]bool{400: true, 401: true, 403: true, 405: true, 421: true, 429: true, 431: true, 501: true, 505: true}
 
-// verdictOf says what a status means. What is neither a denial nor a fault of the server is a grant, also 404: that there is no such file is said
-// behind the decision, and so is 301, 304, 409, 412 or 416.
+// verdictOf says what a status means. What is neither a denial nor a fault of the server counts as granted, also 301, 304, 404, 409, 412 and 416: a
+// server says these after the decision.
 func verdictOf(status int) verdict {
 	switch {
 	case denials[status]:
@@ -51,8 +51,8 @@ func verdictOf(status int) verdict {
 	return isGranted
 }
 
-// probeSite asks the site at an address, with the daemon or, in a second call, without it. It says what was granted, and returns nil only if that
-// is nothing, and if the answers show that the daemon was asked.
+// probeSite sends the site at an address requests that it must deny, and prints those that it grants. isStopped says that the daemon is stopped
+// meanwhile. The error is nil only if nothing was granted, and if the answers show that the daemon was asked, or was stopped.
 func probeSite(address string, isStopped bool, out io.Writer) error {
 	base, err := baseOf(address)
 	if err != nil {
@@ -80,13 +80,14 @@ func baseOf(address string) (*url.URL, error) {
 	if base.Host == "" || base.User != nil || base.RawQuery != "" || base.Fragment != "" {
 		return nil, errBase
 	}
-	if base.Path = strings.TrimSuffix(base.Path, "/"); base.RawPath != "" {
+	base.Path = strings.TrimSuffix(base.Path, "/")
+	if base.RawPath != "" {
 		return nil, errBase
 	}
 	return base, nil
 }
 
-// asks sends all requests of an asker, and prints how often each status was the answer. An asker whose protocol or key the server does not take is
+// sendAll sends all requests of an asker, and prints how often each status was the answer. An asker whose protocol or key the server does not take is
 // left out.
 func (p *probe) sendAll(by asker) error {
 	first, err := by.send(p.base, tries[0])

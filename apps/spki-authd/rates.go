@@ -45,7 +45,8 @@ func (r *rates) allows(who string, now time.Time) bool {
 	if since := now.Sub(has.at).Seconds(); since > 0 {
 		has.left += since * r.perSecond
 	}
-	if has.at = now; has.left > saved*r.perSecond {
+	has.at = now
+	if has.left > saved*r.perSecond {
 		has.left = saved * r.perSecond
 	}
 	if has.left < 1 {

@@ -154,7 +154,7 @@ type second struct {
 // The second that was written last. To write one takes a microsecond.
 var present atomic.Pointer[second]
 
-// secondOf returns how a moment's second is written.
+// secondOf returns the texts of a moment's second, which are kept until another second is asked for.
 func secondOf(moment time.Time) *second {
 	if known := present.Load(); known != nil && known.unix == moment.Unix() {
 		return known

@@ -35,7 +35,7 @@ type sequences struct {
 	kept *recent[string, *shown]
 }
 
-// newSequences returns what keeps sequences. If no signatures are kept, no sequences are.
+// newSequences returns what keeps sequences. `cache` is the number of signatures that are kept: with 0 no sequences are kept either.
 func newSequences(cache int) *sequences {
 	if cache == 0 {
 		return &sequences{newRecent[string, *shown](0)}
@@ -43,7 +43,7 @@ func newSequences(cache int) *sequences {
 	return &sequences{newRecent[string, *shown](mostShown)}
 }
 
-// of returns a sequence whose signatures are known to be valid, by its text as it was shown, or nil.
+// of returns a sequence whose signatures are known to be valid, by its text as it was shown, or nil. An empty text is nothingShown.
 func (s *sequences) of(text string) *shown {
 	if text == "" {
 		return nothingShown
@@ -52,7 +52,7 @@ func (s *sequences) of(text string) *shown {
 	return known
 }
 
-// add keeps a sequence whose signatures are all valid, by which a guard has decided.
+// add keeps a sequence, if it is not too long. Its signatures are all valid, and a guard has decided by it.
 func (s *sequences) add(text string, made *shown) {
 	if len(text) > mostShownOctets || s.kept.half == 0 {
 		return

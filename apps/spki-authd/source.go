@@ -147,18 +147,18 @@ func (p *place) read(policy guard.Policy, c *config) (*list, error) {
 	if p.Source.store == nil {
 		return readList(p.List, policy, c.Limits)
 	}
-	of := p.Source.store
-	if of.opened == nil {
-		reader, err := openReader(of, c.Limits.time()/partOfGrant)
+	options := p.Source.store
+	if options.opened == nil {
+		reader, err := openReader(options, c.Limits.time()/partOfGrant)
 		if err != nil {
 			return nil, err
 		}
-		if of.opened, err = newStore(of, reader, c.open, time.Now); err != nil {
+		if options.opened, err = newStore(options, reader, c.open, time.Now); err != nil {
 			return nil, err
 		}
-		go of.opened.poll()
+		go options.opened.poll()
 	}
-	return &list{store: of.opened, digest: hexDigest([]byte(p.List))}, nil
+	return &list{store: options.opened, digest: hexDigest([]byte(p.List))}, nil
 }
 
 // test polls a store once and prints how it is, or returns why it cannot be used.

@@ -21,7 +21,7 @@ type signals struct {
 	reload, reopen, end chan os.Signal
 }
 
-// listenToSignals takes the signals from now on. A reader of the log that is gone ends nothing.
+// listenToSignals takes the signals from now on. SIGPIPE is ignored: the daemon goes on where the reader of its lines is gone.
 func listenToSignals() signals {
 	made := signals{make(chan os.Signal, 1), make(chan os.Signal, 1), make(chan os.Signal, 1)}
 	signal.Ignore(syscall.SIGPIPE)

@@ -16,9 +16,9 @@ import (
 // A store decides by the entries that are in a database. A decision needs only those whose principal is the key of the first issuer, or the
 // client's key where no certificate is shown: docs/PROOFS.md, `decided_by_kept`. What was read is kept until a change of these entries is polled.
 type store struct {
-	of     *storeOf
-	reader reader
-	open   func(list []byte) (*guard.Guard, error)
+	options *storeOf
+	reader  reader
+	open    func(list []byte) (*guard.Guard, error)
 	// A guard without entries, which lists the signatures of a question.
 	empty *guard.Guard
 	now   func() time.Time
@@ -102,14 +102,14 @@ var (
 	errHostile = errors.New("a row of the store is not one entry: `spki-store check` says which")
 )
 
-// newStore returns a store that was not read yet.
-func newStore(of *storeOf, reader reader, open func(list []byte) (*guard.Guard, error), now func() time.Time) (*store, error) {
+// newStore returns a store that was not read yet. `open` opens a list of entries, which are one behind the other.
+func newStore(options *storeOf, reader reader, open func(list []byte) (*guard.Guard, error), now func() time.Time) (*store, error) {
 	empty, err := open(nil)
 	if err != nil {
 		return nil, err
 	}
-	return &store{of: of, reader: reader, open: open, empty: empty, now: now, firsts: newRecent[string, string](mostShown),
-		kept: newKeptRows(*of.CacheMiB << 20), ended: map[digest]struct{}{}, fault: errNever}, nil
+	return &store{options: options, reader: reader, open: open, empty: empty, now: now, firsts: newRecent[string, string](mostShown),
+		kept: newKeptRows(*options.CacheMiB << 20), ended: map[digest]struct{}{}, fault: errNever}, nil
 }
 
 // list returns the list of the entries that a question can need. It fails where the store is stale, and where the question is refused.
@@ -251,7 +251,7 @@ func (s *store) checkFresh() error {
 		return fmt.Errorf("store: %w", s.fault)
 	}
 	age, err := s.seen.age(s.now())
-	if err == nil && age > s.of.stale() {
+	if err == nil && age > s.options.stale() {
 		err = fmt.Errorf("%w: its last beat is %v old", errStale, age.Round(time.Millisecond))
 	}
 	if err != nil && s.fault != nil {

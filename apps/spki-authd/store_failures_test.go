@@ -55,9 +55,9 @@ func newTimeline(t *testing.T) *timeline {
 		t.Skip("tests/suite/test_store_failures.py names servers")
 	}
 	made := &timeline{rig: newRig(t, failingPatience), end: make(chan struct{}), past: []*version{{map[int]string{}, time.Now(), time.Time{}}}}
-	made.store.of.StaleSeconds = failingStale
+	made.store.options.StaleSeconds = failingStale
 	for _, host := range strings.Split(os.Getenv(envWriters), ",") {
-		of := *made.store.of
+		of := *made.store.options
 		of.Host, of.Root, of.Connections = host, "", 1
 		opened, err := openReader(&of, failingPatience)
 		if err != nil {
@@ -83,7 +83,7 @@ func (l *timeline) transact(texts []string, values ...driver.Value) (rows [][]dr
 			given = nil
 		}
 		taken.statements[0] = nil
-		err = taken.ask(0, strings.ReplaceAll(text, "@", l.store.of.Schema), func(row []driver.Value) error {
+		err = taken.ask(0, strings.ReplaceAll(text, "@", l.store.options.Schema), func(row []driver.Value) error {
 			// (the octets of a row are valid until the next one)
 			made := append([]driver.Value(nil), row...)
 			for place, value := range made {

@@ -53,7 +53,8 @@ func (k *keptRows) add(name digest, places [][]byte, rows *list, octets int) boo
 	for _, place := range places {
 		k.byPlace[string(place)] = element
 	}
-	for k.size += row.size; k.size > k.most; {
+	k.size += row.size
+	for k.size > k.most {
 		k.remove(k.order.Back())
 	}
 	return true

@@ -95,7 +95,7 @@ func (a *access) digestNow() string {
 // storeFamilies are the metrics of a store.
 var storeFamilies = []struct {
 	name, kind, help string
-	of               func(s *store) any
+	valueOf          func(s *store) any
 }{
 	{"store_stale", "gauge", "1 if the store is stale, and each decision by it 503.", func(s *store) any { return number(s.checkFresh() != nil) }},
 	{"store_change", "gauge", "The number of the last change that was polled.", func(s *store) any { return s.seenNow().changes }},
@@ -116,7 +116,7 @@ func (e *exposition) stores(present *access) {
 				e.family(family.name, family.kind, family.help)
 				isBegun = true
 			}
-			e.value(family.name, fmt.Sprintf("{list=\"%d\"}", place+1), family.of(each.store))
+			e.value(family.name, fmt.Sprintf("{list=\"%d\"}", place+1), family.valueOf(each.store))
 		}
 	}
 }

@@ -61,15 +61,15 @@ const (
 	microseconds = "(extract(epoch FROM c.moment) * 1000000)::bigint"
 )
 
-// openReader returns what reads a store. It connects when it is asked first.
-func openReader(of *storeOf, patience time.Duration) (reader, error) {
-	connector, err := pq.NewConnector(of.settings())
+// openReader returns what reads a store, and waits for each answer no longer than `patience`. It connects when it is asked first.
+func openReader(options *storeOf, patience time.Duration) (reader, error) {
+	connector, err := pq.NewConnector(options.settings())
 	if err != nil {
 		return nil, err
 	}
 	connector.Dialer(dialer{patience})
-	made := &pool{connector: connector, patience: patience, slots: make(chan *link, of.Connections)}
-	for count := 0; count < of.Connections; count++ {
+	made := &pool{connector: connector, patience: patience, slots: make(chan *link, options.Connections)}
+	for count := 0; count < options.Connections; count++ {
 		made.slots <- nil
 	}
 	for ask, text := range map[int]string{
@@ -84,7 +84,7 @@ func openReader(of *storeOf, patience time.Duration) (reader, error) {
 		askKeep:   "SELECT @.keep($1, $2, $3, $4, $5)",
 	} {
 		// (the name of the schema was checked)
-		made.texts[ask] = strings.ReplaceAll(text, "@", of.Schema)
+		made.texts[ask] = strings.ReplaceAll(text, "@", options.Schema)
 	}
 	return made, nil
 }
@@ -244,7 +244,8 @@ func (p *pool) since(number int64) (made news, err error) {
 			return err
 		}
 		moment, _ := row[5].(int64)
-		if made.token = moment; at == number {
+		made.token = moment
+		if at == number {
 			made.first = moment
 			return err
 		}

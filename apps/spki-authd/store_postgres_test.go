@@ -87,7 +87,7 @@ func (r *rig) runStatement(text string, values ...driver.Value) (first int64) {
 		return 0
 	}
 	link.statements = [asks]driver.Stmt{}
-	err = link.ask(0, fmt.Sprintf(text, r.store.of.Schema), func(row []driver.Value) error { first, _ = row[0].(int64); return nil }, values)
+	err = link.ask(0, fmt.Sprintf(text, r.store.options.Schema), func(row []driver.Value) error { first, _ = row[0].(int64); return nil }, values)
 	r.writer.slots <- link
 	if err != nil {
 		r.t.Error(err)

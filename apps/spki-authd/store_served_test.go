@@ -84,7 +84,7 @@ func TestStoreServed(t *testing.T) {
 // populate makes people, puts their entries into the store, and makes the request of each.
 func (l *load) populate() {
 	f := newFigures(l.T, 1)
-	writer, err := openReader(f.store.of, time.Minute)
+	writer, err := openReader(f.store.options, time.Minute)
 	if err != nil {
 		l.Fatal(err)
 	}
@@ -96,7 +96,7 @@ func (l *load) populate() {
 	}
 	added, err := entries.Value()
 	if err == nil {
-		err = runAt(writer.(*pool), "INSERT INTO "+f.store.of.Schema+".entries (text) SELECT * FROM unnest($1::bytea[])", added)
+		err = runAt(writer.(*pool), "INSERT INTO "+f.store.options.Schema+".entries (text) SELECT * FROM unnest($1::bytea[])", added)
 	}
 	if err != nil {
 		l.Fatal(err)

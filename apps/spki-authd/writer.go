@@ -72,7 +72,7 @@ const looksInPatience = 20
 
 var errHangs = errors.New("the log takes no line in time")
 
-// newWriter returns a writer, which begins at once.
+// newWriter returns a writer, which begins at once. `eachSecond` may be nil.
 func newWriter(to sink, patience time.Duration, eachSecond func()) *writer {
 	made := &writer{to: to, patience: patience, commands: make(chan func()), wakes: make(chan struct{}, 1), eachSecond: eachSecond}
 	made.watchdog = time.AfterFunc(patience, made.endLate)
@@ -170,7 +170,8 @@ func (w *writer) endLate() {
 		w.failed.Add(uint64(each.count))
 	}
 	w.waiting = left
-	if w.isWatched = false; w.present != nil || len(left) > 0 {
+	w.isWatched = false
+	if w.present != nil || len(left) > 0 {
 		w.watch()
 	}
 }
