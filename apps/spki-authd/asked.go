@@ -61,22 +61,25 @@ func (c *config) askedOf(request *http.Request) (made asked, err error) {
 			return made, err
 		}
 	}
-	if c.Headers.URI != "" {
-		made.target, err = required(request, c.Headers.URI)
-	} else if !strings.HasPrefix(made.target, c.PathPrefix) {
-		err = errPrefix
-	}
-	if err != nil {
+	if made.target, err = c.targetOf(request); err != nil {
 		return made, err
-	}
-	if c.Headers.URI == "" {
-		made.target = made.target[len(c.PathPrefix):]
 	}
 	if made.certificate, err = only(request, c.Headers.Certificate); err != nil {
 		return made, err
 	}
 	made.sequence, err = c.sequenceOf(request)
 	return made, err
+}
+
+// targetOf returns the target that the client asks for: from a header, or that of the request itself behind path_prefix.
+func (c *config) targetOf(request *http.Request) (string, error) {
+	if c.Headers.URI != "" {
+		return required(request, c.Headers.URI)
+	}
+	if !strings.HasPrefix(request.RequestURI, c.PathPrefix) {
+		return request.RequestURI, errPrefix
+	}
+	return request.RequestURI[len(c.PathPrefix):], nil
 }
 
 // hostOf returns the host that the client asks for, in small letters without a port. Where neither a rule nor a list depends on the host, one that is
