@@ -180,6 +180,7 @@ func TestStates(t *testing.T) {
 // A line of Prometheus' text format, of a value or about a family.
 var metric = regexp.MustCompile(`^(# (HELP|TYPE) [a-z_]+ .+|[a-z_]+(\{[a-z]+="[^"\\]*"(,[a-z]+="[^"\\]*")*\})? [0-9.e+-]+)$`)
 
+// TestMetrics sends six requests, and compares what -metrics prints with what became of them.
 func TestMetrics(t *testing.T) {
 	s := serveHere(t, "")
 	s.grants = s.daemon.granted.write

@@ -14,6 +14,7 @@ const (
 	ofOneLine = "71e6362df11a023066db92cd17270d94cea7a9664d1757bd041464d2d3a03002"
 )
 
+// TestEnded reads right files of ended certificates, and compares the number of their digests.
 func TestEnded(t *testing.T) {
 	for text, wanted := range map[string]int{
 		"end 0 " + ofNothing + "\n": 0, oneDigest + "\nend 1 " + ofOneLine + "\n": 1, withLastLine("# ended early\n\n" + oneDigest + "\n" + otherDigest + " # Carol's, stolen\n" + oneDigest + "\n"): 3,
@@ -25,6 +26,7 @@ func TestEnded(t *testing.T) {
 	}
 }
 
+// TestWrongEnded reads files of ended certificates that are cut, changed or wrong: each is refused.
 func TestWrongEnded(t *testing.T) {
 	whole := withLastLine(oneDigest + "\n" + otherDigest + "\n")
 	for name, text := range map[string]string{

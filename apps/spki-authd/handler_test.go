@@ -86,6 +86,7 @@ func (s *site) lastLine(t testing.TB) record {
 	return made
 }
 
+// TestAnswers asks for each person with certificates of several people, and compares the status.
 func TestAnswers(t *testing.T) {
 	s := newSite(t, "")
 	bobs, carols := s.sequencesShown()
@@ -117,6 +118,7 @@ func TestAnswers(t *testing.T) {
 	}
 }
 
+// TestHeadersAndLog compares the headers of answers and the lines of the log. No line has a whole key or certificate.
 func TestHeadersAndLog(t *testing.T) {
 	s := newSite(t, "")
 	bobs, _ := s.sequencesShown()
@@ -147,6 +149,7 @@ func TestHeadersAndLog(t *testing.T) {
 	}
 }
 
+// TestForgedSignatures shows certificates whose signatures are not those of Alice's key: each is denied, also the second time.
 func TestForgedSignatures(t *testing.T) {
 	s := newSite(t, "")
 	forged := s.mallory.sign(s.alice.certificate(s.mallory, prefix("read", "/web/"), propagates))
@@ -161,6 +164,7 @@ func TestForgedSignatures(t *testing.T) {
 	}
 }
 
+// TestWrongHeaders asks with headers that are absent, there twice or wrong, and compares the status.
 func TestWrongHeaders(t *testing.T) {
 	s := newSite(t, "")
 	bobs, _ := s.sequencesShown()
@@ -189,6 +193,7 @@ func TestWrongHeaders(t *testing.T) {
 	}
 }
 
+// TestManyCertificates shows as many certificates as may be, and one more, which is refused.
 func TestManyCertificates(t *testing.T) {
 	s := newSite(t, "")
 	one := s.alice.sign(s.toBob)
@@ -203,6 +208,7 @@ func TestManyCertificates(t *testing.T) {
 	}
 }
 
+// TestSecretOfServer asks with the secret of the web server, with others and without one.
 func TestSecretOfServer(t *testing.T) {
 	s := newSite(t, "")
 	s.config.secret = []byte("0123456789abcdef0123456789abcdef")
@@ -243,6 +249,7 @@ func TestEndedCertificates(t *testing.T) {
 	}
 }
 
+// TestReloads replaces the list by a wrong one, which changes nothing, and by an empty one, by which Alice has no right.
 func TestReloads(t *testing.T) {
 	s := newSite(t, "")
 	if err := os.WriteFile(s.config.List, []byte("(acl (entry))"), 0o600); err != nil {
@@ -309,6 +316,7 @@ func TestExplanationsAreBounded(t *testing.T) {
 	}
 }
 
+// TestTime asks before and after the end of a certificate.
 func TestTime(t *testing.T) {
 	s := newSite(t, "")
 	until := s.alice.certificateUntil(s.bob, prefix("read", "/web/"), "2026-01-01_00:00:00")
@@ -329,6 +337,7 @@ func TestPanicIsAFailure(t *testing.T) {
 	}
 }
 
+// TestEnvoy asks as Envoy does, whose requests have the client's target behind path_prefix.
 func TestEnvoy(t *testing.T) {
 	s := newSite(t, "")
 	text := strings.Replace(strings.Replace(least, "nginx", "envoy", 1), "{", `{"path_prefix": "/auth", `, 1)

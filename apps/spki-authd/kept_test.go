@@ -75,6 +75,7 @@ func (s *site) keeps(t testing.TB, who person) bool {
 	return len(found) > 0
 }
 
+// TestKeptChains leaves certificates and asks, with and without showing some, one after the other, and once more after a start of the daemon.
 func TestKeptChains(t *testing.T) {
 	s := newKeeping(t)
 	bobs, carols := s.sequencesShown()
@@ -257,7 +258,8 @@ func TestNoncesOfLeaving(t *testing.T) {
 	}
 }
 
-// What is put is kept only if it is signed as it came, once, and short. Whatever its headers say of another request or client counts nothing.
+// TestPutAttacks leaves certificates in wrong ways. They are kept only if they are signed as they came, once, and short. What the headers say of
+// another request or client counts nothing.
 func TestPutAttacks(t *testing.T) {
 	s := newKeeping(t)
 	bobs, _ := s.sequencesShown()
@@ -330,6 +332,7 @@ func TestPutAttacks(t *testing.T) {
 	}
 }
 
+// TestKeptChainsEnd leaves a certificate that ends in ten days and one without an end, and counts after some days what is still kept.
 func TestKeptChainsEnd(t *testing.T) {
 	s := newKeeping(t)
 	begun := time.Now()
@@ -359,7 +362,7 @@ func TestKeptChainsEnd(t *testing.T) {
 	}
 }
 
-// What is in the folder and was not written by the daemon, as half a file or one of another name, is left out.
+// TestKeptFiles reads a folder with files that the daemon has not written, such as half a file or one of another name: they are left out.
 func TestKeptFiles(t *testing.T) {
 	s := newKeeping(t)
 	bobs, _ := s.sequencesShown()

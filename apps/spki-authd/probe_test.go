@@ -60,7 +60,7 @@ func hasSuffix(suffix string) func(*http.Request) bool {
 	return func(request *http.Request) bool { return strings.HasSuffix(request.URL.Path, suffix) }
 }
 
-// Each hole is found, and what denies passes.
+// TestProbe probes sites with a hole, each of which is found, and sites that deny all.
 func TestProbe(t *testing.T) {
 	for name, each := range map[string]struct {
 		isHole         func(*http.Request) bool
@@ -105,7 +105,7 @@ func TestProbe(t *testing.T) {
 	}
 }
 
-// No path is asked for twice, and each is one that was drawn by chance. So is the second path of COPY and MOVE.
+// TestProbePaths compares the paths that are asked for: none is asked for twice, and each is drawn by chance. So is the second path of COPY and MOVE.
 func TestProbePaths(t *testing.T) {
 	seconds := map[string]bool{}
 	_, _, paths := probeHandler(t, func(answer http.ResponseWriter, request *http.Request) {
@@ -131,7 +131,7 @@ func TestProbePaths(t *testing.T) {
 	}
 }
 
-// A request that is one too many is sent again.
+// TestProbeAgain answers some requests by 429: they are sent again.
 func TestProbeAgain(t *testing.T) {
 	count := 0
 	status, said, _ := probeHandler(t, func(answer http.ResponseWriter, _ *http.Request) {
@@ -146,7 +146,7 @@ func TestProbeAgain(t *testing.T) {
 	}
 }
 
-// What is no address of a folder, and a flag that goes with another one.
+// TestProbeWords probes what is no address of a folder, and gives a flag without the one that it goes with.
 func TestProbeWords(t *testing.T) {
 	for _, words := range [][]string{{"-probe", "files"}, {"-probe", "ftp://localhost/"}, {"-probe", "https://u:p@localhost/"},
 		{"-probe", "https://localhost/?x"}, {"-probe", "https:///x"}, {"-probe", "https://localhost/%2F/"}} {

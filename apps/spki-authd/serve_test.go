@@ -92,6 +92,7 @@ func (s *served) get(t *testing.T, target string) int {
 	return response.StatusCode
 }
 
+// TestReloadsUnderLoad reads the list again and again beside requests, each of which gets its right answer.
 func TestReloadsUnderLoad(t *testing.T) {
 	s := serveHere(t, "")
 	var all sync.WaitGroup
@@ -116,6 +117,8 @@ func TestReloadsUnderLoad(t *testing.T) {
 	all.Wait()
 }
 
+// TestConnectionsAreBounded opens more connections than may be, by clients that never send the rest of a request. Another client is answered after
+// them.
 func TestConnectionsAreBounded(t *testing.T) {
 	s := serveHere(t, `, "limits": {"connections": 2, "seconds": 1}`)
 	var waiting []net.Conn
@@ -339,6 +342,7 @@ func (s *served) lines() int {
 	return strings.Count(s.log.String(), "\n")
 }
 
+// TestSockets opens sockets where a daemon listens, where a file is, and where an ended daemon has left one.
 func TestSockets(t *testing.T) {
 	s := serveHere(t, "")
 	if about, err := os.Stat(s.socket); err != nil || about.Mode().Perm() != 0o600 {
@@ -368,6 +372,7 @@ func TestSockets(t *testing.T) {
 	listener.Close()
 }
 
+// TestWords runs the program with several command lines, and compares the status and what is printed.
 func TestWords(t *testing.T) {
 	list, bad := writeFile(t, "acl", "(acl (entry (public-key (test a)) (tag (*))))"), writeFile(t, "bad", "(acl (entry))")
 	config := writeFile(t, "config", strings.Replace(strings.Replace(least, "/acl", list, 1), `"/log"`, `"`+filepath.Join(t.TempDir(), "log")+`"`, 1))

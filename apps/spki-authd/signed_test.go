@@ -55,6 +55,7 @@ func without(pairs []string, name string) []string {
 	return made
 }
 
+// TestSigned asks with signed requests, right ones and changed ones, and compares the status and the reason.
 func TestSigned(t *testing.T) {
 	s := newSite(t, ofSite)
 	bobs, _ := s.sequencesShown()
@@ -102,7 +103,7 @@ func TestSigned(t *testing.T) {
 	}
 }
 
-// Who is denied fills no store: the nonce of a denied request is still free.
+// TestNoncesOfDenials has a signed request denied, which fills no store: its nonce is still free.
 func TestNoncesOfDenials(t *testing.T) {
 	s := newSite(t, `, "signatures": {"names": ["files.example.org"], "nonces": 1}`)
 	denied := s.mallory.signs(t, "GET", "files.example.org", "/web/x", "", nil)
@@ -119,6 +120,7 @@ func TestNoncesOfDenials(t *testing.T) {
 	}
 }
 
+// TestSignaturesAreOff sends a signed request where none are read, and reads wrong settings of signatures.
 func TestSignaturesAreOff(t *testing.T) {
 	s := newSite(t, "")
 	if met := s.ask(s.alice.signs(t, "GET", "files.example.org", "/web/x", "", nil)...); met.StatusCode != http.StatusUnauthorized {

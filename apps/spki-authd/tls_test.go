@@ -131,7 +131,7 @@ func TestCertificatesAreReadAgain(t *testing.T) {
 	}
 }
 
-// TestEntrances has who may ask, and how the web server knows that it is the daemon that answers.
+// TestEntrances reads configurations of who may ask, and of how the web server knows that it is the daemon that answers.
 func TestEntrances(t *testing.T) {
 	files := `"tls": {"certificate": "/c", "key": "/k"}`
 	secret := `"secret_file": "/s"`
