@@ -8,7 +8,7 @@ import (
 	"conguraki/spki/guard"
 )
 
-// A decider answers what the web server asks.
+// A decider answers what the web server asks. Each yes is one of a guard: the library's checker of requests by an access list.
 type decider struct {
 	config    *config
 	keys      *keys
@@ -178,20 +178,20 @@ func (d *decider) decideAnew(made *record, question guard.Question, path, sequen
 	defer opened.Close()
 	signatures := opened.Signatures()
 	found := shownBy(signatures)
-	standing, err := found.notEnded(access)
+	notEnded, err := found.notEnded(access)
 	if err != nil {
 		return guard.Decision{}, err
 	}
 	made.List, made.numbers, made.Certificates = at.digest, at.numbers, found.names
-	if standing < len(signatures) {
-		made.Certificates = found.names[:standing+1]
-		made.setEnded(found.names[standing])
+	if notEnded < len(signatures) {
+		made.Certificates = found.names[:notEnded+1]
+		made.setEnded(found.names[notEnded])
 	}
-	valid, canHelp := 0, standing == len(signatures) && opened.Possible()
+	valid, canHelp := 0, notEnded == len(signatures) && opened.Possible()
 	if canHelp {
 		valid = d.countValid(made, found, signatures)
 	} else {
-		made.Unverified = standing
+		made.Unverified = notEnded
 	}
 	if err := markFirst(opened, valid); err != nil {
 		return guard.Decision{}, err

@@ -34,7 +34,8 @@ const (
 	usualPath                       = "/.well-known/spki-chain"
 )
 
-// A chainKeeper has the sequences that clients have left. They give nothing by themselves: each request is decided by them as if it had shown them.
+// A chainKeeper has the sequences of certificates that clients have left. They give nothing by themselves: each request is decided by them as if it
+// had shown them.
 type chainKeeper interface {
 	// of returns the sequences of a key that have not ended. Here and below, `key` is the SHA-256 digest of a key in hexadecimal digits.
 	of(key string, now time.Time) ([]keptChain, error)

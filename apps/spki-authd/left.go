@@ -124,14 +124,14 @@ func (d *decider) checkLeft(made *record, key guard.ProvenKey, sequence string) 
 	}
 	found := shownBy(signatures)
 	made.Certificates = found.names
-	standing, err := found.notEnded(d.keeper.present.Load())
+	notEnded, err := found.notEnded(d.keeper.present.Load())
 	if err != nil {
 		return err
 	}
-	if standing < len(signatures) {
-		return fmt.Errorf("%w: certificate %s has ended", errUnkept, found.names[standing])
+	if notEnded < len(signatures) {
+		return fmt.Errorf("%w: certificate %s has ended", errUnkept, found.names[notEnded])
 	}
-	isSubject, err := d.config.names(subjectOf(signatures[standing-1].Message), key, d.now())
+	isSubject, err := d.config.names(subjectOf(signatures[notEnded-1].Message), key, d.now())
 	if err != nil {
 		return err
 	}

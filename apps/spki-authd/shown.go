@@ -8,9 +8,9 @@ import (
 	"conguraki/spki/guard"
 )
 
-// A shown is a sequence whose signatures are all valid. Which signatures a guard lists depends on the sequence and the policy alone, the policy
-// of a daemon does not change, and a signature stays valid. So nothing in it can become wrong. It says nothing of the key, the request, the time,
-// the list and the ended certificates: each question is decided anew.
+// A shown is a sequence of certificates whose signatures are all valid. Which signatures a guard lists depends on the sequence and the policy alone,
+// the policy of a daemon does not change, and a signature stays valid. So nothing in it can become wrong. It says nothing of the key, the request,
+// the time, the list and the ended certificates: each question is decided anew.
 type shown struct {
 	// The sequence as it was shown, and from the second time on in canonical form: with its signatures, which are valid, and its octets alone.
 	verified guard.Verified

@@ -49,8 +49,8 @@ type reader interface {
 	renew()
 }
 
-// A storeState says which state of the store something is of: the number of its last change, the time of that change, which tells one history from another, and
-// the number and the time of the last beat, in microseconds since 1970.
+// A storeState is a state of the store: the number of its last change, the time of that change, which tells one history from another, and the number
+// and the time of the last beat, which `spki-store beat` writes each second. Times are in microseconds since 1970.
 type storeState struct {
 	changes, token, beat, beaten int64
 }
