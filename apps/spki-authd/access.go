@@ -31,7 +31,7 @@ type reloaded struct {
 	fault error
 }
 
-// readAccess reads the access lists of a configuration and its file of ended certificates. After an error no list stays open.
+// readAccess reads the access lists of a configuration and its file of ended certificates. After an error no list in a file stays open.
 func readAccess(c *config, now time.Time) (*access, error) {
 	policy, err := policyOf(c.Policy)
 	if err != nil {

@@ -144,7 +144,7 @@ func (d *decider) ask(question guard.Question, host, path string) (*access, *lis
 }
 
 // withList calls `use` with the access and the list that are in force for a host and a path, and returns both. A list in a store has only what the
-// question needs. If a reload closes the list at that moment, `use` is called again, with the new one.
+// question needs. If the list is closed at that moment, as by a reload, `use` is called again, with the one in its place.
 func (d *decider) withList(question *guard.Question, host, path string, use func(present *access, at *list) error) (*access, *list, error) {
 	for {
 		present, at, err := d.keeper.at(host, path)

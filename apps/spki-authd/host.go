@@ -40,7 +40,7 @@ func hostOf(text string) (string, error) {
 	return host, nil
 }
 
-// isPort says whether a text is empty or has at most five digits.
+// isPort says whether a text is a number of at most five digits, or empty.
 func isPort(text string) bool {
 	for place := 0; place < len(text); place++ {
 		if text[place] < '0' || text[place] > '9' {

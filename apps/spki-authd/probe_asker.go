@@ -83,7 +83,7 @@ type answered struct {
 }
 
 // askersOf returns the askers of a site: one without a key and one with a key that nobody knows, by each protocol of its address. Without TLS there
-// is only the first.
+// is only one without a key.
 func askersOf(base *url.URL) ([]asker, error) {
 	if base.Scheme == "http" {
 		return []asker{newAsker("HTTP/1.1 without TLS", 1, nil)}, nil

@@ -112,7 +112,8 @@ func newStore(options *storeOf, reader reader, open func(list []byte) (*guard.Gu
 		kept: newKeptRows(*options.CacheMiB << 20), ended: map[digest]struct{}{}, fault: errNever}, nil
 }
 
-// list returns the list of the entries that a question can need. It fails where the store is stale, and where the question is refused.
+// list returns the list of the entries that a question can need. It fails where the store is stale or cannot be read, and where the question is
+// refused.
 func (s *store) list(question *guard.Question) (*list, error) {
 	key, err := s.keyOf(question)
 	if err != nil {

@@ -79,7 +79,7 @@ func newRig(t *testing.T, patience time.Duration) *rig {
 	return made
 }
 
-// runStatement runs a statement, in which %s is the schema, and returns the first value of its last row.
+// runStatement runs a statement, in which %s is the schema, and returns the first value of its row, or 0 after an error.
 func (r *rig) runStatement(text string, values ...driver.Value) (first int64) {
 	link, err := r.writer.take()
 	if err != nil {
