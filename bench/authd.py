@@ -44,38 +44,38 @@ def arguments():
     return asked.parse_args()
 
 
-def measured(site, seconds):
-    """The figures of each way to ask, taken one after the other, twice, of which the better one counts."""
-    found = {}
+def measure_ways(site, seconds):
+    """The figures of each way to ask, by its name. Each way is measured twice, and the better figures count."""
+    best = {}
     for _ in range(2):
         for name, port in zip(WAYS, site.nginx):
-            met = site.load(port, seconds, CONNECTIONS)
-            if name not in found or met.rate > found[name].rate:
-                found[name] = met
-    for name, met in found.items():
-        print(f"{name:<20}{met}", flush=True)
-    return found
+            figures = site.load(port, seconds, CONNECTIONS)
+            if name not in best or figures.rate > best[name].rate:
+                best[name] = figures
+    for name, figures in best.items():
+        print(f"{name:<20}{figures}", flush=True)
+    return best
 
 
-def processor_time(site, daemon, seconds):
-    """The processor time of a request in the handler and in the daemon, in µs. Other programs change it less than they change a rate."""
+def print_processor_time(site, daemon, seconds):
+    """Prints the processor time of a request in the handler and in the daemon. Other programs change it less than they change a rate."""
     for name, process, port in (("handler", site.handler, site.nginx[1]), ("daemon", daemon, site.nginx[2])):
         before = processor_seconds(process)
-        met = site.load(port, seconds, CONNECTIONS)
-        print(f"{name}: {(processor_seconds(process) - before) / met.requests * 1e6:.0f} µs of processor time a request", flush=True)
+        figures = site.load(port, seconds, CONNECTIONS)
+        print(f"{name}: {(processor_seconds(process) - before) / figures.requests * 1e6:.0f} µs of processor time a request", flush=True)
 
 
-def at_half(site, seconds, full):
-    """The figures at about half of the load: each connection waits before each request, some time that is drawn."""
+def at_half_load(site, seconds, full):
+    """The figures at about half of the rate of `full`, which are figures too: each connection waits some random time before each request."""
     connections = 4 * CONNECTIONS
     delay = round(1000 * connections / (full.rate / 2))
-    met = site.load(site.nginx[2], seconds, connections, delay)
-    print(f"{'daemon, half load':<20}{met}", flush=True)
-    return met
+    figures = site.load(site.nginx[2], seconds, connections, delay)
+    print(f"{'daemon, half load':<20}{figures}", flush=True)
+    return figures
 
 
-def soaked(site, process, seconds):
-    """The figures under load with a reload each second, and the resident memory after each reload."""
+def run_soak(site, process, seconds):
+    """The figures under load with a reload each second, and a list of the daemon's resident memory after each reload, in KiB."""
     found = []
     load = threading.Thread(target=lambda: found.append(site.load(site.nginx[2], seconds, CONNECTIONS)))
     load.start()
@@ -89,31 +89,31 @@ def soaked(site, process, seconds):
 
 
 def growth(memory):
-    """By how much the memory has grown since it settled: the means of what comes after it, of the first and of the last part."""
+    """The memory in the last quarter since it settled, divided by that in the first quarter. Before that it grows in any case."""
     settled = memory[round(len(memory) * SETTLED):]
     part = max(1, len(settled) // 4)
     return sum(settled[-part:]) / sum(settled[:part])
 
 
 def run_raced(site):
-    """What is wrong under load with the race detector."""
+    """Asks a daemon with the race detector under load, and returns a list of what is wrong, which is empty if nothing is."""
     site.build("-race")
     process = site.start_all()
-    met, _ = soaked(site, process, RACE_SECONDS)
+    figures, _ = run_soak(site, process, RACE_SECONDS)
     site.end()
-    print(f"{'race detector':<20}{met}, status {process.returncode}", flush=True)
+    print(f"{'race detector':<20}{figures}, status {process.returncode}", flush=True)
     said = site.said(site.program)
-    return [f"a race, or wrong answers: {said}"] if "DATA RACE" in said or met.errors or process.returncode else []
+    return [f"a race, or wrong answers: {said}"] if "DATA RACE" in said or figures.errors or process.returncode else []
 
 
 def faults_of(site, asked):
-    """All that is measured, and what is wrong in it."""
+    """Measures and prints all figures, and returns a list of what is wrong in them, which is empty if nothing is."""
     site.build()
     process = site.start_all()
-    figures = measured(site, asked.seconds)
-    processor_time(site, process, asked.seconds)
-    half = at_half(site, asked.seconds, figures["nginx and daemon"])
-    soak, memory = soaked(site, process, asked.soak)
+    figures = measure_ways(site, asked.seconds)
+    print_processor_time(site, process, asked.seconds)
+    half = at_half_load(site, asked.seconds, figures["nginx and daemon"])
+    soak, memory = run_soak(site, process, asked.soak)
     site.end()
     print(f"{f'{asked.soak} s of reloads':<20}{soak}; {memory[0] / 1024:.0f} MiB at first, {max(memory) / 1024:.0f} at most, "
           f"{memory[-1] / 1024:.0f} at last, grown by {growth(memory):.3f} since it settled", flush=True)
@@ -122,7 +122,7 @@ def faults_of(site, asked):
     wrong = [f"nginx and daemon: {judged:.2f}, under {LEAST_RATIO} of the handler's requests"] if judged < LEAST_RATIO else []
     wrong += [f"p99 over {MOST_P99} ms"] if half.p99 > MOST_P99 else []
     wrong += ["the memory grows"] if growth(memory) > MOST_GROWTH else []
-    wrong += [f"{name}: wrong answers" for name, met in {**figures, "half": half, "soak": soak}.items() if met.errors]
+    wrong += [f"{name}: wrong answers" for name, each in {**figures, "half": half, "soak": soak}.items() if each.errors]
     return wrong + run_raced(site)
 
 

@@ -67,7 +67,7 @@ SERVER = """    server {{ listen 127.0.0.1:{port}; root {room}; {ask}
 
 
 class Figures:
-    """What wrk has measured."""
+    """What wrk has measured, by the line `figures` of its output: requests, their rate a second, percentiles in ms, and errors."""
 
     def __init__(self, said):
         found = re.search(r"^figures (\d+) (\d+) (\d+) (\d+) (\d+)$", said, re.MULTILINE)
@@ -81,7 +81,7 @@ class Figures:
 
 
 def connected(at):
-    """A connection to a port of loopback, or to a Unix socket."""
+    """A connection to a port of loopback, which is a number, or to a Unix socket, which is a path."""
     if isinstance(at, int):
         return socket.create_connection(("127.0.0.1", at))
     client = socket.socket(socket.AF_UNIX)
@@ -94,14 +94,14 @@ def connected(at):
 
 
 def free_ports(count):
-    """Ports of loopback that nobody has."""
+    """Numbers of ports of loopback at which nobody listens."""
     with contextlib.ExitStack() as stack:
         sockets = [stack.enter_context(socket.create_server(("127.0.0.1", 0))) for _ in range(count)]
         return [it.getsockname()[1] for it in sockets]
 
 
 class Site:
-    """The files and the programs."""
+    """The files and the programs in the folder `room`. `nginx` has the ports for nginx alone, with the handler, and with the daemon."""
 
     def __init__(self, room, library):
         self.room, self.library, self.running = room, library, []
@@ -125,7 +125,7 @@ class Site:
     # ---- certificates
 
     def make_certificates(self):
-        """Writes the list, whose last entry is the root's, and the chains from the root to the client."""
+        """Writes the list, whose last entry is the root's, and the chains from the root to the client, and makes the client's TLS certificate."""
         private = new_private("ed25519")
         signers, client = [FileSigner(new_private("ed25519")) for _ in range(3)], FileSigner(private)
         others = b"".join(b"(5:entry(10:public-key(4:test%d:%d))(3:tag(5:files)))" % (len(str(place)), place) for place in range(ENTRIES - 1))
@@ -137,7 +137,7 @@ class Site:
         self.certificate = urllib.parse.quote(self_signed(private))
 
     def chain(self, keys, number):
-        """A sequence in transport form, of three certificates that no other chain has."""
+        """A sequence in transport form, of three certificates that no other number has. The keys are those of the root, two others and the client."""
         tag = [b"tag", [b"files", b"read", [b"*", b"prefix", b"/web/"]]]
         items = [b"sequence"]
         for signer, subject in zip(keys, keys[1:]):
@@ -149,19 +149,19 @@ class Site:
     # ---- programs
 
     def build(self, *flags):
-        """Builds the daemon and the handler."""
+        """Builds the daemon, with these flags of Go, and the handler."""
         self.program = golang.build_daemon(self.library, self.path("spki-authd"), *flags)
         golang.go(BENCH, ["build", "-o", self.path("yes"), "yes.go"], self.library).check_returncode()
 
     def config(self):
-        """The path of the daemon's configuration."""
+        """Writes the daemon's configuration, and returns its path."""
         rules = [{"prefix": "/", "methods": {"GET": "read"}, "request": ["files", "{method}", "{path}"]}]
         return self.write("config.json", json.dumps({
             "listen": f"unix:{self.path('authd.socket')}", "server": "nginx", "list": self.list, "requests": rules, "cache": CACHE,
             "log": self.path("grants.log"), "log_sync": SYNC}))
 
     def start(self, *words, at, **environment):
-        """Starts a program that listens on a port of loopback, or on a Unix socket."""
+        """Starts a program, and waits until it listens at a port of loopback or at a Unix socket."""
         with open(self.path(f"{os.path.basename(words[0])}.out"), "ab") as out:
             process = subprocess.Popen(words, stdin=subprocess.DEVNULL, stdout=out, stderr=out, env={**os.environ, **environment})
         self.running.append(process)
@@ -177,11 +177,11 @@ class Site:
             return file.read()[-2000:]
 
     def start_daemon(self):
-        """Starts the daemon."""
+        """Starts the daemon, and returns its process."""
         return self.start(self.program, "-config", self.config(), at=self.path("authd.socket"), **UNIT)
 
     def start_all(self):
-        """Starts all programs, and returns the daemon."""
+        """Starts the daemon, the handler and nginx, and returns the daemon's process."""
         daemon = self.start_daemon()
         with contextlib.suppress(FileNotFoundError):
             os.remove(self.path("yes.socket"))
@@ -195,7 +195,7 @@ class Site:
         return daemon
 
     def end(self):
-        """Ends what was started."""
+        """Ends the programs that were started."""
         for process in self.running:
             process.terminate()
             process.wait(30)
@@ -204,14 +204,14 @@ class Site:
     # ---- load
 
     def load(self, port, seconds, connections, delay=0):
-        """What wrk measures at a port."""
+        """What wrk measures at a port of nginx. Each connection waits `delay` ms before a request, on average."""
         script = self.write("load.lua", LUA % (HOT, self.path("shown"), 2 * delay))
         words = ["wrk", "-t", "2", "-c", str(connections), "-d", f"{seconds}s", "--timeout", "10s", "-s", script, f"http://127.0.0.1:{port}"]
         return Figures(subprocess.run(words, stdout=subprocess.PIPE, stderr=subprocess.STDOUT, text=True).stdout)
 
 
 def self_signed(private):
-    """A TLS certificate of a key, in PEM."""
+    """A TLS certificate of a private key that this key has signed, in PEM."""
     from cryptography import x509
     from cryptography.hazmat.primitives.serialization import Encoding
     name, now = x509.Name([]), datetime.now(timezone.utc)
@@ -226,7 +226,7 @@ def resident(process):
 
 
 def processor_seconds(process):
-    """The processor time that a process has used."""
+    """The processor time that a process has used, in seconds."""
     with open(f"/proc/{process.pid}/stat", encoding="ascii") as stat:
         user, system = stat.read().rpartition(")")[2].split()[11:13]
     return (int(user) + int(system)) / os.sysconf("SC_CLK_TCK")

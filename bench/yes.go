@@ -1,5 +1,5 @@
-// Command yes answers 200 to each request, on a Unix socket: what an authorization daemon costs is measured beside it. Its times and the most octets
-// of a header are those of spki-authd.
+// Command yes answers 200 to each request, at the path of a Unix socket: what an authorization daemon costs is measured beside it. Its times and the
+// most octets of a header are those of spki-authd.
 package main
 
 import (

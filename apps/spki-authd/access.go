@@ -31,7 +31,7 @@ type reloaded struct {
 	fault error
 }
 
-// readAccess reads the lists and the digests of a configuration.
+// readAccess reads the access lists of a configuration and its file of ended certificates. After an error no list in a file stays open.
 func readAccess(c *config, now time.Time) (*access, error) {
 	policy, err := policyOf(c.Policy)
 	if err != nil {
@@ -82,7 +82,7 @@ func (a *access) digestOfLists() string {
 	return hex.EncodeToString(hash.Sum(nil))
 }
 
-// entries returns the number of entries of all lists.
+// entries returns the number of entries of all lists in files. Those in a store are not counted.
 func (a *access) entries() int {
 	count := 0
 	for _, each := range a.lists {
@@ -93,7 +93,7 @@ func (a *access) entries() int {
 	return count
 }
 
-// close frees the lists, once the questions that they were asked are closed too.
+// close frees the lists in files, each once the questions that it was asked are closed. Stores stay open: the next access uses them too.
 func (a *access) close() {
 	for _, each := range a.lists {
 		if each.store == nil {
@@ -102,17 +102,17 @@ func (a *access) close() {
 	}
 }
 
-// listOf returns the list that decides for a host and a path, or nil.
+// listOf returns the list that decides for a host and a path, or nil if none does.
 func (a *access) listOf(host, path string) *list {
 	for _, each := range a.lists {
-		if each.is(host, path) {
+		if each.fits(host, path) {
 			return each
 		}
 	}
 	return nil
 }
 
-// hasEnded says whether the certificate with a digest has ended early.
+// hasEnded says whether a certificate has ended early: the file of ended certificates or a store has its digest.
 func (a *access) hasEnded(certificate digest) bool {
 	_, hasEnded := a.ended.digests[certificate]
 	for _, each := range a.lists {
@@ -121,11 +121,11 @@ func (a *access) hasEnded(certificate digest) bool {
 	return hasEnded
 }
 
-// areStoresFresh says which store is stale. What has ended in one counts for all lists.
-func (a *access) areStoresFresh() error {
+// checkStoresFresh returns an error if a store is stale. What has ended in one store counts for all lists, so each must be fresh.
+func (a *access) checkStoresFresh() error {
 	for _, each := range a.lists {
 		if each.store != nil {
-			if err := each.store.isFresh(); err != nil {
+			if err := each.store.checkFresh(); err != nil {
 				return err
 			}
 		}
@@ -133,10 +133,10 @@ func (a *access) areStoresFresh() error {
 	return nil
 }
 
-// reload reads the files of a configuration again. If one of them is refused, the old ones stay. So they do if a certificate that has ended would
-// count again, unless that is wanted. Questions under way end with those they began with.
-func (k *keeper) reload(c *config, mayLose bool, now time.Time) error {
-	err := k.replace(c, mayLose, now)
+// reload reads the files of a configuration again, and records the outcome and counts it. It keeps the old files if one is refused, or if an ended
+// certificate is no longer listed and allowFewerEnded is false. Questions under way end with those they began with.
+func (k *keeper) reload(c *config, allowFewerEnded bool, now time.Time) error {
+	err := k.replace(c, allowFewerEnded, now)
 	k.last.Store(&reloaded{now, err})
 	k.all.Add(1)
 	if err != nil {
@@ -145,8 +145,8 @@ func (k *keeper) reload(c *config, mayLose bool, now time.Time) error {
 	return err
 }
 
-// replace reads the files and replaces what was read before.
-func (k *keeper) replace(c *config, mayLose bool, now time.Time) error {
+// replace reads the files and replaces what was read before. After an error, which reload describes, nothing is replaced.
+func (k *keeper) replace(c *config, allowFewerEnded bool, now time.Time) error {
 	certificate, err := c.TLS.read()
 	if err != nil {
 		return err
@@ -156,7 +156,7 @@ func (k *keeper) replace(c *config, mayLose bool, now time.Time) error {
 		return err
 	}
 	old := k.present.Load()
-	if old != nil && !mayLose {
+	if old != nil && !allowFewerEnded {
 		if lost := made.ended.lost(old.ended); lost > 0 {
 			made.close()
 			return fmt.Errorf("%s: %d digests that are in force are missing: `spki-authd -reload -fewer` has these certificates count again", c.Ended, lost)
@@ -170,7 +170,7 @@ func (k *keeper) replace(c *config, mayLose bool, now time.Time) error {
 	return nil
 }
 
-// at returns the present access, and the list in it that decides for a host and a path.
+// at returns the present access, and the list in it that decides for a host and a path, or errNoList if none does.
 func (k *keeper) at(host, path string) (*access, *list, error) {
 	present := k.present.Load()
 	if at := present.listOf(host, path); at != nil {

@@ -36,9 +36,9 @@ var (
 	errTooLong  = errors.New("the headers have more octets than header_octets")
 )
 
-// askedOf reads the headers of a request.
+// askedOf reads what the web server asks from the headers of its request. With an error it returns what it has read until then, for the log.
 func (c *config) askedOf(request *http.Request) (made asked, err error) {
-	if err := c.isServer(request); err != nil {
+	if err := c.checkServer(request); err != nil {
 		return made, err
 	}
 	if octetsOf(request.Header) > c.Limits.HeaderOctets {
@@ -61,16 +61,8 @@ func (c *config) askedOf(request *http.Request) (made asked, err error) {
 			return made, err
 		}
 	}
-	if c.Headers.URI != "" {
-		made.target, err = required(request, c.Headers.URI)
-	} else if !strings.HasPrefix(made.target, c.PathPrefix) {
-		err = errPrefix
-	}
-	if err != nil {
+	if made.target, err = c.targetOf(request); err != nil {
 		return made, err
-	}
-	if c.Headers.URI == "" {
-		made.target = made.target[len(c.PathPrefix):]
 	}
 	if made.certificate, err = only(request, c.Headers.Certificate); err != nil {
 		return made, err
@@ -79,7 +71,19 @@ func (c *config) askedOf(request *http.Request) (made asked, err error) {
 	return made, err
 }
 
-// hostOf returns the host that the client asks for. Where neither a rule nor a list depends on it, it may be missing.
+// targetOf returns the target that the client asks for: from a header, or that of the request itself behind path_prefix.
+func (c *config) targetOf(request *http.Request) (string, error) {
+	if c.Headers.URI != "" {
+		return required(request, c.Headers.URI)
+	}
+	if !strings.HasPrefix(request.RequestURI, c.PathPrefix) {
+		return request.RequestURI, errPrefix
+	}
+	return request.RequestURI[len(c.PathPrefix):], nil
+}
+
+// hostOf returns the host that the client asks for, in small letters without a port. Where neither a rule nor a list depends on the host, one that is
+// missing or not clear is returned empty, and is no error.
 func (c *config) hostOf(request *http.Request) (string, error) {
 	text := request.Host
 	if c.Headers.Host != "" {
@@ -95,7 +99,7 @@ func (c *config) hostOf(request *http.Request) (string, error) {
 	return host, err
 }
 
-// addressOf returns the client's address. It must be there where addresses have a rate.
+// addressOf returns the client's address, or an empty text if the web server does not say it. It must be there where addresses have a rate.
 func (c *config) addressOf(request *http.Request) (string, error) {
 	if c.Limits.AddressRate > 0 {
 		return required(request, c.Headers.Address)
@@ -103,8 +107,8 @@ func (c *config) addressOf(request *http.Request) (string, error) {
 	return only(request, c.Headers.Address)
 }
 
-// isServer says whether a request comes from the web server: it has the secret, if there is one.
-func (c *config) isServer(request *http.Request) error {
+// checkServer returns errSecret unless a request comes from the web server: it has the secret, if the configuration has one.
+func (c *config) checkServer(request *http.Request) error {
 	if len(c.secret) == 0 {
 		return nil
 	}
@@ -115,7 +119,8 @@ func (c *config) isServer(request *http.Request) error {
 	return nil
 }
 
-// sequenceOf returns the certificates that the client sends, or nothing: in `Authorization: SPKI {..}` or in a header of their own.
+// sequenceOf returns the certificates that the client sends in transport form, or an empty text: from `Authorization: SPKI {..}` or from a header of
+// their own. With both it fails.
 func (c *config) sequenceOf(request *http.Request) (string, error) {
 	own, err := only(request, c.Headers.Sequence)
 	if err != nil {
@@ -140,7 +145,7 @@ func (c *config) sequenceOf(request *http.Request) (string, error) {
 	return "", errSequence
 }
 
-// required returns the value of a header that is there once and is not empty.
+// required returns the value of a header, which must be there once and not be empty.
 func required(request *http.Request, name string) (string, error) {
 	value, err := only(request, name)
 	if err == nil && value == "" {
@@ -149,7 +154,7 @@ func required(request *http.Request, name string) (string, error) {
 	return value, err
 }
 
-// only returns the value of a header, or nothing if it is not there. It must not be there twice: a client could have sent one of them.
+// only returns the value of a header, or an empty text if it is not there. If it is there twice, a client could have sent one of them: then it fails.
 func only(request *http.Request, name string) (string, error) {
 	values := request.Header[name]
 	if len(values) == 0 {
@@ -162,7 +167,7 @@ func only(request *http.Request, name string) (string, error) {
 	return value, nil
 }
 
-// octetsOf returns the octets of headers.
+// octetsOf returns how many octets the names and values of headers have together.
 func octetsOf(header http.Header) int {
 	octets := 0
 	for name, values := range header {

@@ -28,7 +28,7 @@ func newCache(most int) *cache {
 	return &cache{newRecent[digest, struct{}](most)}
 }
 
-// verifies says whether a signature is valid, and whether that was known before. The digest of its message is known.
+// verifies says whether a signature is valid, and whether that was known before. `message` is the digest of signed.Message, which callers have.
 func (c *cache) verifies(signed guard.Signature, message digest, verify guard.Verify) (isValid, wasKnown bool) {
 	name := digestOf(signed, message)
 	if _, wasKnown := c.valid.get(name); wasKnown {
@@ -44,7 +44,8 @@ func (c *cache) verifies(signed guard.Signature, message digest, verify guard.Ve
 // The octets that the key, the digest and the value of most signatures have together.
 const roomForSignature = 512
 
-// digestOf returns the digest of a signature. The length of the key goes in front, so that no two signatures have the same octets.
+// digestOf returns the digest of a signature's key, its message's digest and its value. The length of the key goes in front, so that no two
+// signatures have the same octets.
 func digestOf(signed guard.Signature, message digest) digest {
 	var room [roomForSignature]byte
 	binary.BigEndian.PutUint64(room[:], uint64(len(signed.Key)))

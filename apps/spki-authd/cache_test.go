@@ -9,7 +9,7 @@ import (
 	"conguraki/spki/guard"
 )
 
-// verifies asks a cache of a signature.
+// verifies asks a cache whether a signature is valid, and whether it knew that.
 func verifies(c *cache, signed guard.Signature, verify guard.Verify) (isValid, wasKnown bool) {
 	return c.verifies(signed, sha256.Sum256(signed.Message), verify)
 }
@@ -38,6 +38,7 @@ func TestCacheKeepsValidSignatures(t *testing.T) {
 	}
 }
 
+// TestCacheTellsPartsApart asks for signatures whose parts, one behind the other, are the octets of one that is kept. None of them is known.
 func TestCacheTellsPartsApart(t *testing.T) {
 	made, valid := newCache(10), func(guard.Signature) bool { return true }
 	verifies(made, guard.Signature{Key: []byte("ab"), Message: []byte("c"), Value: []byte("d")}, valid)
@@ -69,6 +70,7 @@ func TestCacheIsBounded(t *testing.T) {
 	}
 }
 
+// TestCacheInGoroutines asks one cache at the same time for more signatures than it keeps, some of which are not valid.
 func TestCacheInGoroutines(t *testing.T) {
 	made := newCache(50)
 	var all sync.WaitGroup

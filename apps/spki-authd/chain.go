@@ -9,7 +9,7 @@ import (
 	"conguraki/spki/guard"
 )
 
-// open opens a list of these entries, by the policy and the limits of all lists.
+// open opens an access list with the policy and the limits of all lists. `entries` are in canonical form, one behind the other, or nil for none.
 func (c *config) open(entries []byte) (*guard.Guard, error) {
 	policy, err := policyOf(c.Policy)
 	if err != nil {
@@ -18,8 +18,8 @@ func (c *config) open(entries []byte) (*guard.Guard, error) {
 	return guard.Open(append(append([]byte("(3:acl"), entries...), ')'), policy, c.Limits.ofQuestion())
 }
 
-// signaturesOf returns the signatures of a sequence of certificates, of which there is one, whatever a list gives. Each certificate stands if they
-// are all valid.
+// signaturesOf returns the signatures of a sequence's certificates, at least one, whatever access list is in force. It fails with errUnkept if there
+// is none, or if a certificate would not count even if all signatures were valid. `key` and `now` only complete the question to the library.
 func (c *config) signaturesOf(sequence string, key guard.ProvenKey, now time.Time) ([]guard.Signature, error) {
 	empty, err := c.open(nil)
 	if err != nil {
@@ -35,13 +35,13 @@ func (c *config) signaturesOf(sequence string, key guard.ProvenKey, now time.Tim
 	if err := markFirst(asked, len(signatures)); err != nil {
 		return nil, err
 	}
-	// (by a list without entries it says nothing but which certificate does not stand)
-	stops, err := asked.Explain()
+	// (with a list without entries the only reason can be a certificate that does not count)
+	explanation, err := asked.Explain()
 	if err != nil {
 		return nil, err
 	}
-	for _, stop := range stops.Reasons() {
-		return nil, fmt.Errorf("%w: %v", errUnkept, stop)
+	if reasons := explanation.Reasons(); len(reasons) > 0 {
+		return nil, fmt.Errorf("%w: %v", errUnkept, reasons[0])
 	}
 	if len(signatures) == 0 {
 		return nil, errEmpty
@@ -49,8 +49,8 @@ func (c *config) signaturesOf(sequence string, key guard.ProvenKey, now time.Tim
 	return signatures, nil
 }
 
-// names says whether a principal names a key: by itself or by a hash that the policy allows. The library decides, by a list with an entry for this
-// principal alone.
+// names says whether a principal names a key: by itself or by a hash that the policy allows. The library decides, by a list with one entry, which
+// gives this principal everything.
 func (c *config) names(principal []byte, key guard.ProvenKey, now time.Time) (bool, error) {
 	if !bytes.HasPrefix(principal, []byte("(10:public-key")) && !bytes.HasPrefix(principal, []byte("(4:hash")) {
 		return false, nil
@@ -67,7 +67,7 @@ func (c *config) names(principal []byte, key guard.ProvenKey, now time.Time) (bo
 // anyWords are a request that only a right to everything contains.
 var anyWords = []string{"any", "request"}
 
-// subjectOf returns the subject of a certificate, which the library has read, in canonical form.
+// subjectOf returns the subject of a certificate in canonical form, or nil if it has none. The library must have read the certificate before.
 func subjectOf(certificate []byte) []byte {
 	const begin, field = "(", "(7:subject"
 	for rest := certificate[len(begin):]; len(rest) > 0; rest = rest[lengthOf(rest):] {
@@ -78,7 +78,7 @@ func subjectOf(certificate []byte) []byte {
 	return nil
 }
 
-// lengthOf returns the octets of the value that a canonical text begins with, or of the rest where it begins with none.
+// lengthOf returns the number of octets of the value at the beginning of a canonical text, or of the whole text if no whole value is there.
 func lengthOf(text []byte) int {
 	depth := 0
 	for place := 0; place < len(text); {

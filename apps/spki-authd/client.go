@@ -49,12 +49,12 @@ const (
 	mostLength = 4096
 )
 
-// newKeys returns what reads keys in a form.
+// newKeys returns keys that read certificates in one of the forms, by its name.
 func newKeys(name string) *keys {
 	return &keys{forms[name], newRecent[string, client](mostKeys)}
 }
 
-// of returns the client that a certificate is of.
+// of returns the client whose certificate a header has. `text` is the header's value.
 func (k *keys) of(text string) (client, error) {
 	if kept, isKept := k.read.get(text); isKept {
 		return kept, nil
@@ -67,7 +67,8 @@ func (k *keys) of(text string) (client, error) {
 	return made, err
 }
 
-// keyOf returns the SPKI key of the client's certificate. Only the key counts: who holds it has shown that to the web server.
+// keyOf returns the SPKI key of the client's certificate. It fails with errCertificate if that cannot be read, and with errKey for another kind of
+// key. Only the key counts: who holds it has shown that to the web server.
 func keyOf(text string, form form) ([]byte, error) {
 	octets, err := form(text)
 	if err != nil {
@@ -128,8 +129,8 @@ func ofForwarded(text string) ([]byte, error) {
 	return ofEscapedPEM(found[0])
 }
 
-// fieldOf returns the value that a text begins with, in quotes or not, and what follows its semicolon. A comma would begin another element,
-// which another proxy wrote.
+// fieldOf returns the value that a text begins with, in quotes or not, and what follows its semicolon. A comma is refused: it would begin another
+// element, which another proxy wrote.
 func fieldOf(text string) (value, rest string, err error) {
 	if !strings.HasPrefix(text, `"`) {
 		value, rest, _ = strings.Cut(text, ";")
@@ -145,7 +146,8 @@ func fieldOf(text string) (value, rest string, err error) {
 	return value, strings.TrimPrefix(rest, ";"), nil
 }
 
-// quoted returns the text up to the next quote, in which a backslash stands before a quote or a backslash, and what follows.
+// quoted returns the text up to the next quote, without each backslash that precedes another character, and what follows that quote. If there is no
+// such quote, isQuoted is false.
 func quoted(text string) (value, rest string, isQuoted bool) {
 	var made strings.Builder
 	for place := 0; place < len(text); place++ {

@@ -10,6 +10,7 @@ import (
 	"testing"
 )
 
+// TestForms reads the key of Alice's certificate in the form of each web server.
 func TestForms(t *testing.T) {
 	alice, bob := newPerson(t), newPerson(t)
 	encoded := base64.StdEncoding.EncodeToString(alice.der)
@@ -26,6 +27,7 @@ func TestForms(t *testing.T) {
 	}
 }
 
+// TestWrongForms reads what is not one certificate in the form of a web server: each is refused.
 func TestWrongForms(t *testing.T) {
 	alice, bob := newPerson(t), newPerson(t)
 	encoded, quote := base64.StdEncoding.EncodeToString(alice.der), `"`
@@ -48,6 +50,7 @@ func TestWrongForms(t *testing.T) {
 	}
 }
 
+// TestKindsOfKeys reads certificates with keys of several kinds, of which only some may be used.
 func TestKindsOfKeys(t *testing.T) {
 	p256, err := ecdsa.GenerateKey(elliptic.P256(), rand.Reader)
 	if err != nil {

@@ -7,13 +7,14 @@ import (
 
 // A clock notes whether the time of day goes back: then certificates that have ended count again.
 type clock struct {
+	// The moment that was noted last, in nanoseconds since 1970, and how often it was earlier than the one before.
 	last, times atomic.Int64
 }
 
 // By how much the time of one request may be before that of another that was noted earlier.
 const backAtLeast = time.Second
 
-// note notes a moment, and says whether it is before the one that was noted last.
+// note notes a moment, and says whether it is more than backAtLeast before the one that was noted last.
 func (c *clock) note(now time.Time) bool {
 	last := c.last.Swap(now.UnixNano())
 	if now.UnixNano() >= last-int64(backAtLeast) {

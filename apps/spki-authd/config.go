@@ -90,7 +90,7 @@ func readConfig(path string) (*config, error) {
 	return made, err
 }
 
-// parseConfig reads the text of a configuration: one object, of known fields, each once.
+// parseConfig reads the text of a configuration: one object, of known fields, each once. It sets the fields that were left out, and checks all.
 func parseConfig(octets []byte) (*config, error) {
 	if err := checkFields(octets); err != nil {
 		return nil, err
@@ -108,7 +108,7 @@ func parseConfig(octets []byte) (*config, error) {
 	return made, made.check()
 }
 
-// setUsual puts in what was left out.
+// setUsual sets each field that was left out to its usual value.
 func (c *config) setUsual() {
 	c.nameLists()
 	setText(&c.SocketMode, "0660")
@@ -136,12 +136,12 @@ func (c *config) setUsual() {
 	}
 }
 
-// all returns the limits one by one.
+// all returns pointers to the limits, always in this order.
 func (l *limits) all() []*int {
 	return []*int{&l.Octets, &l.Certificates, &l.Words, &l.HeaderOctets, &l.PathOctets, &l.Connections, &l.Seconds, &l.KeyRate, &l.AddressRate, &l.ExplainRate}
 }
 
-// setText sets a text that was left out.
+// setText sets a text to a usual one if it is empty.
 func setText(text *string, usual string) {
 	if *text == "" {
 		*text = usual
@@ -178,7 +178,7 @@ func (c *config) check() error {
 	return nil
 }
 
-// checkLog says what is wrong in the file of grants.
+// checkLog says what is wrong in `log` and `log_sync`.
 func (c *config) checkLog() error {
 	if !strings.HasPrefix(c.Log, "/") {
 		return fmt.Errorf(`"log" is %q, and must be /PATH: the file that gets a line before each grant`, c.Log)
@@ -189,7 +189,7 @@ func (c *config) checkLog() error {
 	return nil
 }
 
-// policyOf returns the policy of a word.
+// policyOf returns the policy that a word of the configuration means.
 func policyOf(word string) (guard.Policy, error) {
 	switch word {
 	case "strict":
@@ -200,7 +200,7 @@ func policyOf(word string) (guard.Policy, error) {
 	return guard.Strict, fmt.Errorf(`"policy" is %q, and must be strict or allow-sha1`, word)
 }
 
-// ofQuestion returns the limits that a guard has.
+// ofQuestion returns those limits that the library checks for each question.
 func (l limits) ofQuestion() guard.Limits {
 	return guard.Limits{Octets: l.Octets, Certificates: l.Certificates, Words: l.Words}
 }

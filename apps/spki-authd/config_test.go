@@ -22,7 +22,7 @@ func TestLeastConfig(t *testing.T) {
 	}
 }
 
-// with replaces the beginning of the least configuration.
+// with returns the least configuration with more fields in front, such as `"cache": 0`.
 func with(fields string) string {
 	return strings.Replace(least, "{", "{"+fields+", ", 1)
 }
@@ -47,12 +47,12 @@ func TestWrongConfigs(t *testing.T) {
 
 func TestSecrets(t *testing.T) {
 	const secret = "0123456789abcdef0123456789abcdef"
-	path := written(t, "secret", secret+"\n")
+	path := writeFile(t, "secret", secret+"\n")
 	if met, err := readSecret(path); err != nil || string(met) != secret {
 		t.Errorf("%q, %v", met, err)
 	}
 	for _, text := range []string{"", "short\n", secret + " x", secret + "\n" + secret, secret + "\x00"} {
-		if _, err := readSecret(written(t, "secret", text)); err == nil {
+		if _, err := readSecret(writeFile(t, "secret", text)); err == nil {
 			t.Errorf("%q is a secret", text)
 		}
 	}

@@ -66,7 +66,7 @@ var (
 	errSlow  = errors.New("the request did not end in time")
 )
 
-// newDoor returns a door with at most so many connections.
+// newDoor returns a door for the answers of a decider, with at most as many connections as its configuration has.
 func newDoor(decider *decider) *door {
 	places := make(chan struct{}, decider.config.Limits.Connections)
 	return &door{decider: decider, places: places, isShut: make(chan struct{}), open: map[net.Conn]*visit{}, isEmpty: make(chan struct{})}
@@ -108,7 +108,7 @@ func (d *door) takePlace() {
 	}
 }
 
-// closeIdle has one idle connection end, if there is one.
+// closeIdle ends one idle connection, if there is one.
 func (d *door) closeIdle() {
 	d.mutex.Lock()
 	defer d.mutex.Unlock()
@@ -119,7 +119,7 @@ func (d *door) closeIdle() {
 	}
 }
 
-// endIdle has a connection end if it is idle, and says whether it is.
+// endIdle ends a connection if it is idle, and says whether it was.
 func (v *visit) endIdle() bool {
 	v.mutex.Lock()
 	defer v.mutex.Unlock()
@@ -131,7 +131,7 @@ func (v *visit) endIdle() bool {
 	return true
 }
 
-// enter notes a connection.
+// enter adds a connection, which has taken its place, to those that are open.
 func (d *door) enter(connection net.Conn) *visit {
 	made := &visit{connection: connection}
 	d.mutex.Lock()
@@ -151,8 +151,8 @@ func (d *door) leave(connection net.Conn) {
 	<-d.places
 }
 
-// note notes what a connection does from now on, and until when it may. Where a deadline was set, a later one takes its place: a request may have
-// come at that moment.
+// note sets the stage of a connection, and until when that may last. Where a deadline was set, a later one replaces it: a request may have come at
+// that moment. It fails if the deadline cannot be set, as when the connection is closed.
 func (d *door) note(visit *visit, stage stage) error {
 	visit.mutex.Lock()
 	defer visit.mutex.Unlock()
@@ -163,7 +163,7 @@ func (d *door) note(visit *visit, stage stage) error {
 	return nil
 }
 
-// patience returns how long a connection may do something.
+// patience returns how long a connection may stay in a stage.
 func (d *door) patience(stage stage) time.Duration {
 	isEnding := d.isEnding.Load()
 	switch {
@@ -177,7 +177,7 @@ func (d *door) patience(stage stage) time.Duration {
 	return d.decider.config.Limits.time()
 }
 
-// watch ends the time of connections, until the last one is closed.
+// watch ends connections whose time is over, until the last one is closed.
 func (d *door) watch() {
 	looks := time.NewTicker(d.decider.config.Limits.time() / looksInTime)
 	defer looks.Stop()
@@ -191,7 +191,7 @@ func (d *door) watch() {
 	}
 }
 
-// endLate ends the time of each connection that has had it.
+// endLate ends each connection whose time is over.
 func (d *door) endLate(now time.Time) {
 	d.mutex.Lock()
 	defer d.mutex.Unlock()
@@ -200,7 +200,7 @@ func (d *door) endLate(now time.Time) {
 	}
 }
 
-// endLate ends the time of a connection that has had it.
+// endLate ends a connection if its time is over: by a deadline that has passed, its reads and writes fail.
 func (v *visit) endLate(now time.Time) {
 	v.mutex.Lock()
 	defer v.mutex.Unlock()
@@ -210,7 +210,8 @@ func (v *visit) endLate(now time.Time) {
 	}
 }
 
-// end waits until each request is answered that was sent before the listener was closed.
+// end waits until each request is answered that was sent before the listener was closed, which the caller does first. It fails if the context ends
+// before that.
 func (d *door) end(until context.Context) error {
 	d.isEnding.Store(true)
 	d.mutex.Lock()
@@ -227,7 +228,7 @@ func (d *door) end(until context.Context) error {
 	}
 }
 
-// endSoon gives a connection little time to send another request.
+// endSoon gives a connection that has no request little time to send another one.
 func (d *door) endSoon(visit *visit) {
 	visit.mutex.Lock()
 	defer visit.mutex.Unlock()
@@ -236,7 +237,7 @@ func (d *door) endSoon(visit *visit) {
 	}
 }
 
-// answerAll answers the requests of a connection.
+// answerAll answers the requests of a connection, and closes it then.
 func (d *door) answerAll(visit *visit) {
 	connection := visit.connection
 	defer d.leave(connection)
@@ -275,7 +276,7 @@ func (d *door) answerOne(connection net.Conn, reader *heads) bool {
 		made = d.decider.endAs(answerRefused, errOther)
 	} else {
 		isPut := d.decider.config.isPut(request)
-		isLast = isPut || request.Close || !request.ProtoAtLeast(1, 1) || !hasNoBody(request)
+		isLast = isPut || request.Close || !request.ProtoAtLeast(1, 1) || skipBody(request)
 		made = d.decider.answerTo(request)
 		if isPut {
 			passOver(request)
@@ -289,18 +290,18 @@ func (d *door) answerOne(connection net.Conn, reader *heads) bool {
 	return err == nil && !isLast
 }
 
-// hasNoBody passes over the body of a request, and says whether there was none. Behind a body no other request is read: what a web server takes
-// for a body can then be no request.
-func hasNoBody(request *http.Request) bool {
+// skipBody passes over the body of a request, and says whether it has one. Behind a body no other request is read: what a web server takes for a body
+// can then be no request.
+func skipBody(request *http.Request) (hasBody bool) {
 	if request.ContentLength == 0 {
-		return true
+		return false
 	}
 	passOver(request)
-	return false
+	return true
 }
 
-// passOver reads what is left of a body, unless its client waits to be asked for it. Where octets are left unread, the end of the connection may
-// reach the web server before the answer.
+// passOver reads what is left of a body, unless its client waits to be asked for it (`Expect`). Where octets are left unread, the end of the
+// connection may reach the web server before the answer.
 func passOver(request *http.Request) {
 	if request.Header.Get("Expect") == "" {
 		// (what is longer, or ends early, is left)

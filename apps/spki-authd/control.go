@@ -39,7 +39,7 @@ type order struct {
 
 var errOrder = errors.New("this is no order")
 
-// checkControl says what is wrong in the name of the control socket.
+// checkControl says what is wrong in the path of the control socket.
 func (c *config) checkControl() error {
 	if c.Control == c.Listen || !strings.HasPrefix(c.controlPath(), "/") || c.controlPath() == c.Control {
 		return fmt.Errorf(`"control" is %q, and must be unix:/PATH, another one than "listen"`, c.Control)
@@ -52,7 +52,7 @@ func (c *config) controlPath() string {
 	return strings.TrimPrefix(c.Control, unixScheme)
 }
 
-// serveControl obeys until the listener is closed.
+// serveControl does the orders of all clients of the control socket, until its listener is closed.
 func (d *daemon) serveControl(listener net.Listener) {
 	for {
 		connection, err := listener.Accept()
@@ -67,7 +67,7 @@ func (d *daemon) serveControl(listener net.Listener) {
 	}
 }
 
-// obey does what one line says.
+// obey reads an order from a connection, does it, and writes the answer.
 func (d *daemon) obey(connection net.Conn) {
 	defer connection.Close()
 	if connection.SetDeadline(time.Now().Add(timeToObey)) != nil {
@@ -77,7 +77,7 @@ func (d *daemon) obey(connection net.Conn) {
 	if err != nil {
 		return
 	}
-	text, err := d.ordered(strings.TrimSuffix(line, "\n"))
+	text, err := d.doOrder(strings.TrimSuffix(line, "\n"))
 	first := isDone
 	if err != nil {
 		first = isNotDone + strings.ReplaceAll(err.Error(), "\n", ", ")
@@ -85,8 +85,8 @@ func (d *daemon) obey(connection net.Conn) {
 	fmt.Fprintf(connection, "%s\n%s", first, text)
 }
 
-// ordered does what an order says, and returns the text of its answer.
-func (d *daemon) ordered(what string) (string, error) {
+// doOrder does one of the orders above, and returns the text of its answer.
+func (d *daemon) doOrder(what string) (string, error) {
 	switch what {
 	case orderHealth:
 		return d.health()
@@ -103,7 +103,7 @@ func (d *daemon) ordered(what string) (string, error) {
 	return "", errOrder
 }
 
-// inMain does something in the main loop, and returns how it ended.
+// inMain has the main loop call a function, and returns its error, or another one if the main loop is busy.
 func (d *daemon) inMain(what func(*daemon) error) error {
 	asked := order{what, make(chan error, 1)}
 	select {
@@ -114,7 +114,7 @@ func (d *daemon) inMain(what func(*daemon) error) error {
 	}
 }
 
-// give gives an order to the daemon of a control socket, and returns the text of its answer.
+// give sends an order to the daemon of a control socket, and returns the text of its answer. The error says why the order was not done.
 func give(path, what string) (string, error) {
 	connection, err := net.DialTimeout("unix", path, timeToObey)
 	if err != nil {

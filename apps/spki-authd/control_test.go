@@ -13,19 +13,19 @@ import (
 	"testing"
 )
 
-// said runs the program with words behind the configuration of a site, and returns its status and what it says.
-func (s *served) said(t *testing.T, words ...string) (status int, out, messages string) {
+// runProgram runs spki-authd with these words and a configuration of a site, and returns its status and what it writes.
+func (s *served) runProgram(t *testing.T, words ...string) (status int, out, messages string) {
 	t.Helper()
 	text := strings.Replace(strings.Replace(least, "/run/x/s", s.socket, 1), `"/log"`, `"`+s.config.Log+`"`, 1)
 	var to, fault bytes.Buffer
-	status = run(append(words, "-config", written(t, "config", text)), &to, &fault)
+	status = run(append(words, "-config", writeFile(t, "config", text)), &to, &fault)
 	return status, to.String(), fault.String()
 }
 
 // TestReloadsThatAreRefused has lists read again over the control socket. The status says whether they are in force.
 func TestReloadsThatAreRefused(t *testing.T) {
 	s := serveHere(t, "")
-	s.config.Ended = written(t, "ended", sealed(oneDigest+"\n"))
+	s.config.Ended = writeFile(t, "ended", withLastLine(oneDigest+"\n"))
 	list, err := os.ReadFile(s.config.List)
 	if err != nil {
 		t.Fatal(err)
@@ -37,23 +37,23 @@ func TestReloadsThatAreRefused(t *testing.T) {
 		said        string
 		isWell      bool
 	}{
-		{string(list), sealed(oneDigest + "\n"), []string{"-reload"}, 0, "", true},
-		{"(acl (entry))", sealed(oneDigest + "\n"), []string{"-reload"}, 1, "refused acl 1 Shape", false},
-		{string(list), sealed(""), []string{"-reload"}, 1, "1 digests that are in force are missing", false},
+		{string(list), withLastLine(oneDigest + "\n"), []string{"-reload"}, 0, "", true},
+		{"(acl (entry))", withLastLine(oneDigest + "\n"), []string{"-reload"}, 1, "refused acl 1 Shape", false},
+		{string(list), withLastLine(""), []string{"-reload"}, 1, "1 digests that are in force are missing", false},
 		{string(list), "", []string{"-reload", "-fewer"}, 1, "its last line is not", false},
-		{string(list), sealed(""), []string{"-reload", "-fewer"}, 0, "", true},
+		{string(list), withLastLine(""), []string{"-reload", "-fewer"}, 0, "", true},
 		{string(list), oneDigest + "\n", []string{"-reload"}, 1, "its last line is not", false},
-		{string(list), sealed(oneDigest + "\n"), []string{"-reload"}, 0, "", true},
+		{string(list), withLastLine(oneDigest + "\n"), []string{"-reload"}, 0, "", true},
 	} {
 		for path, text := range map[string]string{s.config.List: row.list, s.config.Ended: row.ended} {
 			if err := os.WriteFile(path, []byte(text), 0o600); err != nil {
 				t.Fatal(err)
 			}
 		}
-		if status, _, messages := s.said(t, row.words...); status != row.status || !strings.Contains(messages, row.said) {
+		if status, _, messages := s.runProgram(t, row.words...); status != row.status || !strings.Contains(messages, row.said) {
 			t.Errorf("%+v: %d, %s", row, status, messages)
 		}
-		status, out, messages := s.said(t, "-health")
+		status, out, messages := s.runProgram(t, "-health")
 		if (status == 0) != row.isWell || !strings.Contains(messages, row.said) || !strings.Contains(out, "list: "+hexDigest(list)+"\n") {
 			t.Errorf("%+v: %d, %s, %s", row, status, out, messages)
 		}
@@ -67,7 +67,7 @@ func TestReloadsThatAreRefused(t *testing.T) {
 func TestHealth(t *testing.T) {
 	s := serveHere(t, "")
 	s.grants = s.daemon.granted.write
-	status, out, messages := s.said(t, "-health")
+	status, out, messages := s.runProgram(t, "-health")
 	for _, wanted := range []string{
 		s.socket + ": answers\n", "\nlast reload: ", ", done\n", "\nreloads: 0, refused 0\n", "\nlists: 1, entries 1, read ", "\nended: 0, " + ofNothing + "\n",
 		"\nlog of grants: lines 0, failures 0\n", "\nclock: went back 0 times\n",
@@ -83,10 +83,10 @@ func TestHealth(t *testing.T) {
 	if met := s.get(t, "/web/x"); met != 503 {
 		t.Errorf("a full disk: %d", met)
 	}
-	if status, out, messages := s.said(t, "-health"); status != 1 || !strings.Contains(messages, "takes no lines") || !strings.Contains(out, "failures 1") {
+	if status, out, messages := s.runProgram(t, "-health"); status != 1 || !strings.Contains(messages, "takes no lines") || !strings.Contains(out, "failures 1") {
 		t.Errorf("%d, %q, %q", status, out, messages)
 	}
-	none := written(t, "config", strings.Replace(least, "/run/x/s", s.socket+"2", 1))
+	none := writeFile(t, "config", strings.Replace(least, "/run/x/s", s.socket+"2", 1))
 	var to, fault bytes.Buffer
 	if status := run([]string{"-health", "-config", none}, &to, &fault); status != statusRefused {
 		t.Errorf("nobody is there: %d, %q", status, to.String())
@@ -131,8 +131,8 @@ func TestReopenedByOrder(t *testing.T) {
 		}
 		if wanted == "signal" {
 			s.daemon.signals.reopen <- os.Interrupt
-			s.said(t, "-reload")
-		} else if status, _, messages := s.said(t, wanted); status != 0 {
+			s.runProgram(t, "-reload")
+		} else if status, _, messages := s.runProgram(t, wanted); status != 0 {
 			t.Error(messages)
 		}
 		s.get(t, "/web/y")
@@ -162,12 +162,12 @@ func TestStates(t *testing.T) {
 		t.Errorf("%d, %q", status, out)
 	}
 	two.config.List = one.config.List
-	two.said(t, "-reload")
+	two.runProgram(t, "-reload")
 	if status, out := compared(); status != 0 {
 		t.Errorf("%d, %q", status, out)
 	}
-	two.config.Ended = written(t, "ended", sealed(oneDigest+"\n"))
-	two.said(t, "-reload")
+	two.config.Ended = writeFile(t, "ended", withLastLine(oneDigest+"\n"))
+	two.runProgram(t, "-reload")
 	if status, out := compared(); status != 1 || !strings.Contains(out, "ended 1 "+ofOneLine) {
 		t.Errorf("%d, %q", status, out)
 	}
@@ -180,6 +180,7 @@ func TestStates(t *testing.T) {
 // A line of Prometheus' text format, of a value or about a family.
 var metric = regexp.MustCompile(`^(# (HELP|TYPE) [a-z_]+ .+|[a-z_]+(\{[a-z]+="[^"\\]*"(,[a-z]+="[^"\\]*")*\})? [0-9.e+-]+)$`)
 
+// TestMetrics sends six requests, and compares what -metrics prints with what became of them.
 func TestMetrics(t *testing.T) {
 	s := serveHere(t, "")
 	s.grants = s.daemon.granted.write
@@ -191,7 +192,7 @@ func TestMetrics(t *testing.T) {
 	_, carols := s.sequencesShown()
 	s.by(s.mallory, "GET", "/web/docs/b", carols)
 	s.by(s.mallory, "GET", "//", "")
-	status, out, messages := s.said(t, "-metrics")
+	status, out, messages := s.runProgram(t, "-metrics")
 	if status != 0 {
 		t.Fatal(messages)
 	}

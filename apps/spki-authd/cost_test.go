@@ -17,12 +17,12 @@ func TestCostToStrangers(t *testing.T) {
 		return verify.Signature(signed)
 	}
 	bobs, carols := s.sequencesShown()
-	own := s.mallory.signed(s.mallory.certificate(s.mallory, prefix("read", "/web/"), propagates))
+	own := s.mallory.sign(s.mallory.certificate(s.mallory, prefix("read", "/web/"), propagates))
 	many := make([]string, 16)
 	for place := range many {
 		many[place] = own
 	}
-	forged := s.mallory.signed(s.alice.certificate(s.mallory, prefix("read", "/web/"), ""))
+	forged := s.mallory.sign(s.alice.certificate(s.mallory, prefix("read", "/web/"), ""))
 	asAlice := strings.Replace(forged, s.mallory.key+"(7:sig-val", s.alice.key+"(7:sig-val", 1)
 	for _, row := range []struct {
 		name, shown, path string

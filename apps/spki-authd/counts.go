@@ -39,7 +39,7 @@ func newCounts(rules int) *counts {
 	return made
 }
 
-// note counts one answer.
+// note counts one answer, and the time that it took.
 func (c *counts) note(made *record, took time.Duration) {
 	for place, answer := range answers {
 		if answer == made.Answer {
@@ -55,7 +55,7 @@ func (c *counts) note(made *record, took time.Duration) {
 	c.seconds.note(took)
 }
 
-// note counts one time.
+// note counts one time in its bucket.
 func (h *histogram) note(took time.Duration) {
 	place := 0
 	for place < len(bounds) && took > bounds[place] {

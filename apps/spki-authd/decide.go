@@ -8,7 +8,7 @@ import (
 	"conguraki/spki/guard"
 )
 
-// A decider answers what the web server asks.
+// A decider answers what the web server asks. Each yes is one of a guard: the library's checker of requests by an access list.
 type decider struct {
 	config    *config
 	keys      *keys
@@ -61,7 +61,8 @@ func (d *decider) decide(asked *asked, now time.Time) record {
 	if err != nil {
 		return made.ended(answerRefused, err)
 	}
-	if made.Key = client.name; proof != nil {
+	made.Key = client.name
+	if proof != nil {
 		made.Proof = bySignature
 	}
 	if !d.byKey.allows(client.name, now) {
@@ -84,13 +85,14 @@ func (d *decider) decide(asked *asked, now time.Time) record {
 	return d.takeNonce(made, proof)
 }
 
-// shownTarget returns what the log has of a target that is not clear. A query may have a password or a token, and is left out.
+// shownTarget returns what the log has of a target that is refused. A query may have a password or a token, and is left out.
 func shownTarget(target string) string {
 	path, _, _ := strings.Cut(target, "?")
 	return cut(path, mostTarget)
 }
 
-// judge asks the guard, and adds what it says to a record.
+// judge asks the guard whether a key may make the request in a record, and sets the record's answer, which is `no` before. `sequence` is in transport
+// form, or empty if no certificate is shown.
 func (d *decider) judge(made *record, key guard.ProvenKey, path, sequence string, now time.Time) {
 	question := guard.Question{Key: key, Words: made.Request, Time: now}
 	var decision guard.Decision
@@ -131,7 +133,7 @@ func (d *decider) decideKnown(made *record, question guard.Question, path string
 	return decision, err
 }
 
-// ask opens a question at the present list of a host and a path.
+// ask opens a question at the list that is in force for a host and a path, and returns it with the access and the list. The caller closes it.
 func (d *decider) ask(question guard.Question, host, path string) (*access, *list, *guard.Asked, error) {
 	var opened *guard.Asked
 	present, at, err := d.withList(&question, host, path, func(_ *access, at *list) (err error) {
@@ -141,7 +143,8 @@ func (d *decider) ask(question guard.Question, host, path string) (*access, *lis
 	return present, at, opened, err
 }
 
-// withList has the present list of a host and a path used for a question. If it is closed at that moment, the one that has taken its place is used.
+// withList calls `use` with the access and the list that are in force for a host and a path, and returns both. A list in a store has only what the
+// question needs. If the list is closed at that moment, as by a reload, `use` is called again, with the one in its place.
 func (d *decider) withList(question *guard.Question, host, path string, use func(present *access, at *list) error) (*access, *list, error) {
 	for {
 		present, at, err := d.keeper.at(host, path)
@@ -161,8 +164,8 @@ func (d *decider) withList(question *guard.Question, host, path string, use func
 	}
 }
 
-// decideAnew opens a question, and verifies its signatures only if the request is granted where all of them are valid. So whoever gets no right
-// by them, whatever they are, costs no verification. If all of them are valid, the sequence is kept.
+// decideAnew opens a question, and verifies its signatures only if the request is granted where all of them are valid. So whoever gets no right by
+// them, valid or not, costs no verification. If all of them are valid, the sequence is kept for later requests.
 func (d *decider) decideAnew(made *record, question guard.Question, path, sequence string) (guard.Decision, error) {
 	question.Sequence = nothingShown.text
 	if sequence != "" {
@@ -175,20 +178,20 @@ func (d *decider) decideAnew(made *record, question guard.Question, path, sequen
 	defer opened.Close()
 	signatures := opened.Signatures()
 	found := shownBy(signatures)
-	standing, err := found.notEnded(access)
+	notEnded, err := found.notEnded(access)
 	if err != nil {
 		return guard.Decision{}, err
 	}
 	made.List, made.numbers, made.Certificates = at.digest, at.numbers, found.names
-	if standing < len(signatures) {
-		made.Certificates = found.names[:standing+1]
-		made.setEnded(found.names[standing])
+	if notEnded < len(signatures) {
+		made.Certificates = found.names[:notEnded+1]
+		made.setEnded(found.names[notEnded])
 	}
-	valid, canHelp := 0, standing == len(signatures) && opened.Possible()
+	valid, canHelp := 0, notEnded == len(signatures) && opened.Possible()
 	if canHelp {
-		valid = d.verified(made, found, signatures)
+		valid = d.countValid(made, found, signatures)
 	} else {
-		made.Unverified = standing
+		made.Unverified = notEnded
 	}
 	if err := markFirst(opened, valid); err != nil {
 		return guard.Decision{}, err
@@ -204,8 +207,9 @@ func (d *decider) decideAnew(made *record, question guard.Question, path, sequen
 	return decision, err
 }
 
-// explained returns why a request that was decided is denied, unless many were just before. Signatures that were not verified, since they could
-// not help, count as valid: so the reasons are what else is missing. What is marked here is asked for reasons alone.
+// explained returns why a request that was decided is denied, or notExplained if that was asked too often just before. Signatures that were not
+// verified, since they could not help, count as valid: so the reasons are what else is missing. These marks come after the decision, and change only
+// the reasons.
 func (d *decider) explained(r *record, opened *guard.Asked) string {
 	if !d.explaining.allows("", d.now()) {
 		return notExplained
@@ -217,8 +221,9 @@ func (d *decider) explained(r *record, opened *guard.Asked) string {
 	return reasonsOf(explanation, err, r.number)
 }
 
-// verified returns how many signatures are valid, up to the first that is not.
-func (d *decider) verified(made *record, found *shown, signatures []guard.Signature) int {
+// countValid verifies signatures up to the first that is not valid, and returns how many are. The record gets the number of those that were known,
+// and the certificate whose signature is not valid.
+func (d *decider) countValid(made *record, found *shown, signatures []guard.Signature) int {
 	for place, signed := range signatures {
 		isValid, wasKnown := d.cache.verifies(signed, found.digests[place], d.verify)
 		if !wasKnown {
@@ -236,7 +241,7 @@ func (d *decider) verified(made *record, found *shown, signatures []guard.Signat
 	return len(signatures)
 }
 
-// answerOf returns the answer where a guard has none: what is refused is refused, and a fault of the daemon is a failure.
+// answerOf returns the answer to a request whose decision failed: `refused` for what the client has sent, and `failed` for a fault of the daemon.
 func answerOf(err error) answer {
 	if errors.Is(err, guard.ErrRefused) && !errors.Is(err, guard.ErrMemory) || errors.Is(err, errUnkept) {
 		return answerRefused
@@ -244,7 +249,7 @@ func answerOf(err error) answer {
 	return answerFailed
 }
 
-// reasonsOf returns why a request is denied, without the entries for other keys. The number of an entry follows from its place.
+// reasonsOf returns why a request is denied, without the entries for other keys. `number` returns the number of an entry by its place in the guard.
 func reasonsOf(explanation guard.Explanation, err error, number func(place int) int) string {
 	if err != nil {
 		return err.Error()
@@ -262,7 +267,7 @@ func reasonsOf(explanation guard.Explanation, err error, number func(place int) 
 	return cut(strings.Join(lines, ", "), mostReasons)
 }
 
-// cut returns at most so many octets of a text.
+// cut returns a text, or so many octets of it and `..` if it is longer.
 func cut(text string, most int) string {
 	if len(text) <= most {
 		return text

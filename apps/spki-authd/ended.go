@@ -24,8 +24,8 @@ var nothingEnded = &ended{digest: hexDigest(nil)}
 var errLastLine = errors.New("its last line is not `end COUNT SHA256` for the lines before it: `spki-cert end --ended FILE` writes it")
 
 // endedOf reads a file of ended certificates. Each line is empty, begins with `#`, or is a digest of 64 hexadecimal digits in small letters, behind
-// which ` # ` and a comment may be. The last line has the number of digests and the digest of all octets before it: a file that was cut, or
-// that somebody has added a line to, is none.
+// which ` # ` and a comment may be. The last line has the number of digests and the digest of all octets before it: a file that was cut, or that
+// somebody has added a line to, is refused.
 func endedOf(text []byte) (*ended, error) {
 	body, last, isWhole := lastLineOf(text)
 	if !isWhole {
@@ -43,7 +43,7 @@ func endedOf(text []byte) (*ended, error) {
 	return made, nil
 }
 
-// lastLineOf returns the lines before the last one, and the last one, which must end.
+// lastLineOf returns the lines before the last one, and the last one without its line feed. If that has none, isWhole is false.
 func lastLineOf(text []byte) (body []byte, last string, isWhole bool) {
 	if !bytes.HasSuffix(text, []byte("\n")) {
 		return nil, "", false
@@ -52,7 +52,7 @@ func lastLineOf(text []byte) (body []byte, last string, isWhole bool) {
 	return text[:begin], string(text[begin : len(text)-1]), true
 }
 
-// add adds what a line has.
+// add adds the digest of a line, if it is not empty and no comment.
 func (e *ended) add(line string) error {
 	if line == "" || line[0] == '#' {
 		return nil
@@ -68,7 +68,7 @@ func (e *ended) add(line string) error {
 	return nil
 }
 
-// lost returns the number of digests of an older file that are gone.
+// lost returns how many digests of an older file this one lacks.
 func (e *ended) lost(older *ended) int {
 	lost := 0
 	for each := range older.digests {

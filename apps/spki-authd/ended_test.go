@@ -14,10 +14,11 @@ const (
 	ofOneLine = "71e6362df11a023066db92cd17270d94cea7a9664d1757bd041464d2d3a03002"
 )
 
+// TestEnded reads right files of ended certificates, and compares the number of their digests.
 func TestEnded(t *testing.T) {
 	for text, wanted := range map[string]int{
-		"end 0 " + ofNothing + "\n": 0, oneDigest + "\nend 1 " + ofOneLine + "\n": 1, sealed("# ended early\n\n" + oneDigest + "\n" + otherDigest + " # Carol's, stolen\n" + oneDigest + "\n"): 3,
-		sealed(oneDigest + " # # see sha256 of the release\n"): 1, sealed("#\n"): 0, sealed("\n\n"): 0,
+		"end 0 " + ofNothing + "\n": 0, oneDigest + "\nend 1 " + ofOneLine + "\n": 1, withLastLine("# ended early\n\n" + oneDigest + "\n" + otherDigest + " # Carol's, stolen\n" + oneDigest + "\n"): 3,
+		withLastLine(oneDigest + " # # see sha256 of the release\n"): 1, withLastLine("#\n"): 0, withLastLine("\n\n"): 0,
 	} {
 		if ended, err := endedOf([]byte(text)); err != nil || ended.count != wanted {
 			t.Errorf("%q: %v, %v", text, ended, err)
@@ -25,16 +26,17 @@ func TestEnded(t *testing.T) {
 	}
 }
 
+// TestWrongEnded reads files of ended certificates that are cut, changed or wrong: each is refused.
 func TestWrongEnded(t *testing.T) {
-	whole := sealed(oneDigest + "\n" + otherDigest + "\n")
+	whole := withLastLine(oneDigest + "\n" + otherDigest + "\n")
 	for name, text := range map[string]string{
 		"empty": "", "no last line": oneDigest + "\n", "cut": whole[:65], "cut in the last line": whole[:len(whole)-9], "no line feed": whole[:len(whole)-1],
 		"a line more": whole + oneDigest + "\n", "a line before": oneDigest + "\n" + whole, "an empty line more": whole + "\n",
 		"twice": whole + whole, "another number": strings.Replace(whole, "end 2", "end 3", 1), "zeros": strings.Replace(whole, "end 2", "end 02", 1),
-		"another digest": strings.Replace(whole, otherDigest, oneDigest, 1), "a large letter": sealed(strings.ToUpper(otherDigest) + "\n"),
-		"short": sealed(oneDigest[1:] + "\n"), "long": sealed(oneDigest + "0a\n"), "two in a line": sealed(oneDigest + " " + otherDigest + "\n"),
-		"a text": sealed("sha256 of the release\n"), "behind a text": sealed("sha256 " + oneDigest + "\n"), "a space before": sealed(" " + oneDigest + "\n"),
-		"no space": sealed(oneDigest + "# x\n"), "a carriage return": sealed(oneDigest + "\r\n"), "spaces": sealed("  \n"), "half": sealed(oneDigest + " #x\n"),
+		"another digest": strings.Replace(whole, otherDigest, oneDigest, 1), "a large letter": withLastLine(strings.ToUpper(otherDigest) + "\n"),
+		"short": withLastLine(oneDigest[1:] + "\n"), "long": withLastLine(oneDigest + "0a\n"), "two in a line": withLastLine(oneDigest + " " + otherDigest + "\n"),
+		"a text": withLastLine("sha256 of the release\n"), "behind a text": withLastLine("sha256 " + oneDigest + "\n"), "a space before": withLastLine(" " + oneDigest + "\n"),
+		"no space": withLastLine(oneDigest + "# x\n"), "a carriage return": withLastLine(oneDigest + "\r\n"), "spaces": withLastLine("  \n"), "half": withLastLine(oneDigest + " #x\n"),
 	} {
 		if _, err := endedOf([]byte(text)); err == nil {
 			t.Errorf("%s: %.200q is read", name, text)
@@ -48,23 +50,23 @@ func TestWrongEnded(t *testing.T) {
 // TestFewerEnded reads files of ended certificates one after the other: what has ended stays so, unless one reload says otherwise.
 func TestFewerEnded(t *testing.T) {
 	s := newSite(t, "")
-	s.config.Ended = written(t, "ended", sealed(digestOfText(s.toBob)+"\n"))
+	s.config.Ended = writeFile(t, "ended", withLastLine(digestOfText(s.toBob)+"\n"))
 	for _, row := range []struct {
-		lines    string
-		mayLose  bool
-		isRight  bool
-		isStill  bool
-		evidence string
+		lines           string
+		allowFewerEnded bool
+		isRight         bool
+		isStill         bool
+		evidence        string
 	}{
 		{digestOfText(s.toBob) + "\n", false, true, true, "the same"}, {"", false, false, true, "none"},
 		{digestOfText(s.toCarol) + "\n", false, false, true, "another one"},
 		{digestOfText(s.toCarol) + "\n" + digestOfText(s.toBob) + "\n", false, true, true, "one more"},
 		{digestOfText(s.toCarol) + "\n", true, true, false, "one fewer, as wanted"}, {"", false, false, false, "none, later"},
 	} {
-		if err := os.WriteFile(s.config.Ended, []byte(sealed(row.lines)), 0o600); err != nil {
+		if err := os.WriteFile(s.config.Ended, []byte(withLastLine(row.lines)), 0o600); err != nil {
 			t.Fatal(err)
 		}
-		err := s.keeper.reload(s.config, row.mayLose, s.now())
+		err := s.keeper.reload(s.config, row.allowFewerEnded, s.now())
 		if (err == nil) != row.isRight || err != nil && !strings.Contains(err.Error(), "-reload -fewer") {
 			t.Errorf("%s: %v", row.evidence, err)
 		}

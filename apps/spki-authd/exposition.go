@@ -10,7 +10,7 @@ type exposition struct {
 	strings.Builder
 }
 
-// family begins the values of one name.
+// family writes the lines before the values of one metric. `kind` is counter, gauge or histogram.
 func (e *exposition) family(name, kind, help string) {
 	fmt.Fprintf(e, "# HELP spki_authd_%s %s\n# TYPE spki_authd_%s %s\n", name, help, name, kind)
 }
@@ -20,13 +20,13 @@ func (e *exposition) value(name, labels string, value any) {
 	fmt.Fprintf(e, "spki_authd_%s%s %v\n", name, labels, value)
 }
 
-// single writes a family of one value.
+// single writes a metric of one value.
 func (e *exposition) single(name, kind, help string, value any) {
 	e.family(name, kind, help)
 	e.value(name, "", value)
 }
 
-// histogram writes a family of times.
+// histogram writes a metric of times in seconds. Each bucket also counts the shorter times, as Prometheus requires.
 func (e *exposition) histogram(name, help string, times *histogram) {
 	e.family(name, "histogram", help)
 	sum := uint64(0)
@@ -42,7 +42,7 @@ func (e *exposition) histogram(name, help string, times *histogram) {
 	e.value(name+"_count", "", sum)
 }
 
-// exposition returns all metrics.
+// exposition returns all metrics of the daemon.
 func (d *daemon) exposition() string {
 	made, present, last := new(exposition), d.keeper.present.Load(), d.keeper.last.Load()
 	made.family("decisions_total", "counter", "Answers by answer and by the number of the rule, which is 0 where no rule was reached.")
@@ -74,7 +74,7 @@ func (d *daemon) exposition() string {
 	return made.String()
 }
 
-// number returns 1 for what is so.
+// number returns 1 for true, and 0 for false.
 func number(isSo bool) int {
 	if isSo {
 		return 1

@@ -9,8 +9,8 @@ import (
 	"strings"
 )
 
-// checkFields says whether an object of a configuration has a field twice. encoding/json would take the last one, whichever a reader sees first.
-// Upper and lower case are the same to it.
+// checkFields returns an error if an object of a configuration has a field twice. encoding/json would take the last one, whichever a reader sees
+// first. Upper and lower case are the same to it.
 func checkFields(octets []byte) error {
 	decoder := json.NewDecoder(bytes.NewReader(octets))
 	var open []*object
@@ -37,18 +37,19 @@ func checkFields(octets []byte) error {
 	}
 }
 
-// An object is one that is being read, or an array.
+// An object is an object or an array of JSON up to some token. Only an object has names, and isValue is true where a value comes next.
 type object struct {
 	isNamed, isValue bool
 	seen             map[string]bool
 }
 
-// take notes a name or a value of an object.
+// take notes the next token, and fails if it is a name that the object has already.
 func (o *object) take(token json.Token) error {
 	if !o.isNamed {
 		return nil
 	}
-	if o.isValue = !o.isValue; !o.isValue {
+	o.isValue = !o.isValue
+	if !o.isValue {
 		return nil
 	}
 	name := strings.ToLower(fmt.Sprint(token))

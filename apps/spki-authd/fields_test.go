@@ -5,7 +5,7 @@ import (
 	"testing"
 )
 
-// TestFieldsThatAreThereTwice has fields twice, of which encoding/json takes the last one.
+// TestFieldsThatAreThereTwice reads objects with a field that is there twice, of which encoding/json takes the last one. They are refused.
 func TestFieldsThatAreThereTwice(t *testing.T) {
 	for _, text := range []string{
 		with(`"list": "/other"`), with(`"LIST": "/other"`), with(`"limits": {"seconds": 1, "seconds": 2}`), with(`"policy": "allow-sha1", "policy": "strict"`),

@@ -14,7 +14,7 @@ var (
 	errLong   = errors.New("more octets than may be")
 )
 
-// mustBeFile says whether something is an ordinary file.
+// mustBeFile returns errNoFile if what Stat has returned is no ordinary file, and the error of Stat if that failed.
 func mustBeFile(about fs.FileInfo, err error) error {
 	if err == nil && !about.Mode().IsRegular() {
 		err = errNoFile

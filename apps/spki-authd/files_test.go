@@ -35,12 +35,12 @@ func TestNoFiles(t *testing.T) {
 func TestLongLists(t *testing.T) {
 	begin, end := "(3:acl", ")"
 	longest := begin + strings.Repeat(" ", mostList-len(begin)-len(end)) + end
-	if made, err := readList(written(t, "acl", longest), 0, usualLimits); err == nil {
+	if made, err := readList(writeFile(t, "acl", longest), 0, usualLimits); err == nil {
 		made.guard.Close()
 	} else if strings.Contains(err.Error(), "split") {
 		t.Error(err)
 	}
-	_, err := readList(written(t, "acl", longest+" "), 0, usualLimits)
+	_, err := readList(writeFile(t, "acl", longest+" "), 0, usualLimits)
 	if err == nil || !strings.Contains(err.Error(), `split the list by host or prefix ("lists"), or keep its entries in a store`) {
 		t.Error(err)
 	}

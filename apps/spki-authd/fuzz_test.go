@@ -50,8 +50,8 @@ func FuzzHeaders(f *testing.F) {
 func FuzzSequence(f *testing.F) {
 	s := newSite(f, "")
 	people := []person{s.alice, s.bob, s.carol, s.mallory}
-	bobs := s.alice.signed(s.toBob)
-	for who, shown := range []string{"", bobs, bobs + s.bob.signed(s.toCarol), s.mallory.signed(s.toBob)} {
+	bobs := s.alice.sign(s.toBob)
+	for who, shown := range []string{"", bobs, bobs + s.bob.sign(s.toCarol), s.mallory.sign(s.toBob)} {
 		f.Add(uint8(who), "/web/docs/a/b", []byte("(8:sequence"+shown+")"))
 	}
 	f.Fuzz(func(t *testing.T, who uint8, target string, octets []byte) {
@@ -70,8 +70,8 @@ func FuzzSequence(f *testing.F) {
 // certificates give.
 func FuzzLeft(f *testing.F) {
 	s := newSite(f, `, "chains": {"folder": "`+f.TempDir()+`"}`+ofSite)
-	bobs, hashed := s.alice.signed(s.toBob), s.alice.gives(s.bob.hashOfKey(), prefix("read", "/web/docs/"), "(7:comment[1:x]1:y)")
-	for _, shown := range []string{"", bobs, hashed, s.bob.key + bobs, bobs + s.bob.signed(s.toCarol), s.alice.defines("builders", s.bob.key)} {
+	bobs, hashed := s.alice.sign(s.toBob), s.alice.gives(s.bob.hashOfKey(), prefix("read", "/web/docs/"), "(7:comment[1:x]1:y)")
+	for _, shown := range []string{"", bobs, hashed, s.bob.key + bobs, bobs + s.bob.sign(s.toCarol), s.alice.defines("builders", s.bob.key)} {
 		f.Add([]byte("(8:sequence" + shown + ")"))
 	}
 	f.Fuzz(func(t *testing.T, octets []byte) {
@@ -85,7 +85,7 @@ func FuzzLeft(f *testing.F) {
 			!bytes.Contains(canonical, []byte(s.bob.hashOfKey()))) {
 			t.Errorf("kept: %q", octets)
 		}
-		if s.asks(s.bob, "/web/docs/b", "") == 200 {
+		if s.statusFor(s.bob, "/web/docs/b", "") == 200 {
 			s.mustBeGranted(t, "GET", s.lastLine(t))
 		}
 	})
@@ -145,7 +145,7 @@ func FuzzConnection(f *testing.F) {
 	})
 }
 
-// mustBeGranted says whether a person may read a path: by what the certificates say, and by nothing that the daemon computes.
+// mustBeGranted fails unless a line of the log may be a grant: by what the certificates say, and by nothing that the daemon computes.
 func (s *site) mustBeGranted(t *testing.T, method string, line record) {
 	t.Helper()
 	folders := map[string]string{s.alice.key: "/web/", s.bob.key: "/web/docs/", s.carol.key: "/web/docs/a/"}

@@ -15,22 +15,22 @@ func (d *decider) answerTo(request *http.Request) record {
 	made := d.answer(request, begun)
 	took := d.now().Sub(begun)
 	made.Time, made.Microseconds = stamp(begun), took.Microseconds()
-	d.logged(&made)
+	d.logAnswer(&made)
 	d.clock.note(begun)
 	d.counts.note(&made, d.now().Sub(begun))
 	return made
 }
 
-// endAs returns the answer to what cannot be decided, and logs it.
+// endAs logs and counts the answer to a request that cannot be read or decided, and returns its record.
 func (d *decider) endAs(answer answer, fault error) record {
 	made := record{Time: stamp(d.now())}.ended(answer, fault)
-	d.logged(&made)
+	d.logAnswer(&made)
 	d.counts.note(&made, 0)
 	return made
 }
 
-// logged sets the status of an answer, and logs it. Without a line in the file of grants a grant is a failure. Other lines may be lost.
-func (d *decider) logged(made *record) {
+// logAnswer sets the status of an answer, and logs it. A grant that cannot be logged becomes a failure. Other lines may be lost.
+func (d *decider) logAnswer(made *record) {
 	room := rooms.Get().(*[]byte)
 	defer rooms.Put(room)
 	made.Status = made.Answer.status(d.config.RefusedStatus)
@@ -47,7 +47,7 @@ func (d *decider) logged(made *record) {
 	d.rest(*room)
 }
 
-// answer returns the record of a request at a moment. A panic is a failure.
+// answer reads a request and decides it at a moment, without logging. A panic is a failure.
 func (d *decider) answer(request *http.Request, now time.Time) (made record) {
 	defer func() {
 		if fault := recover(); fault != nil {

@@ -20,14 +20,14 @@ type site struct {
 	log                        journal
 }
 
-// newSite makes a site, with more fields of a configuration.
+// newSite makes a site. `fields` are more fields of its configuration, each after a comma, or empty.
 func newSite(t testing.TB, fields string) *site {
 	t.Helper()
 	made := &site{alice: newPerson(t), bob: newPerson(t), carol: newPerson(t), mallory: newPerson(t)}
 	list := "(3:acl(5:entry" + made.alice.key + propagates + "(3:tag" + prefix("read", "/web/") + ")))"
 	made.toBob = made.alice.certificate(made.bob, prefix("read", "/web/docs/"), propagates)
 	made.toCarol = made.bob.certificate(made.carol, prefix("read", "/web/docs/a/"), "")
-	text := `{"listen": "unix:/run/x/s", "server": "nginx", "list": "` + written(t, "acl", list) + `", "log": "/log",
+	text := `{"listen": "unix:/run/x/s", "server": "nginx", "list": "` + writeFile(t, "acl", list) + `", "log": "/log",
 		"requests": [{"prefix": "/", "methods": {"GET": "read", "PUT": "write"}, "request": ["files", "{method}", "{path}"]}]` + fields + `}`
 	config, err := parseConfig([]byte(text))
 	if err != nil {
@@ -41,10 +41,10 @@ func newSite(t testing.TB, fields string) *site {
 	return made
 }
 
-// sequencesShown returns what Bob and Carol show.
+// sequencesShown returns the sequences that Bob and Carol show.
 func (s *site) sequencesShown() (bob, carol string) {
-	bobs := s.alice.signed(s.toBob)
-	return sequence(bobs), sequence(bobs, s.bob.signed(s.toCarol))
+	bobs := s.alice.sign(s.toBob)
+	return sequence(bobs), sequence(bobs, s.bob.sign(s.toCarol))
 }
 
 // ask returns the answer to a request with these headers, in pairs of name and value.
@@ -56,7 +56,7 @@ func (s *site) ask(pairs ...string) *http.Response {
 	return s.told(request)
 }
 
-// told returns what the web server is told of a request.
+// told has the site answer a request, and returns the response that the web server gets.
 func (s *site) told(request *http.Request) *http.Response {
 	made := s.answerTo(request)
 	response, err := http.ReadResponse(bufio.NewReader(bytes.NewReader(made.response(nil, time.Now(), false))), request)
@@ -66,7 +66,7 @@ func (s *site) told(request *http.Request) *http.Response {
 	return response
 }
 
-// by returns the answer to a person who shows a sequence, or none.
+// by returns the response to a request of a person who shows a sequence, which is empty for none.
 func (s *site) by(who person, method, target, sequence string) *http.Response {
 	pairs := []string{"X-Original-Method", method, "X-Original-URI", target, "X-Client-Cert", who.escaped()}
 	if sequence != "" {
@@ -86,6 +86,7 @@ func (s *site) lastLine(t testing.TB) record {
 	return made
 }
 
+// TestAnswers asks for each person with certificates of several people, and compares the status.
 func TestAnswers(t *testing.T) {
 	s := newSite(t, "")
 	bobs, carols := s.sequencesShown()
@@ -117,6 +118,7 @@ func TestAnswers(t *testing.T) {
 	}
 }
 
+// TestHeadersAndLog compares the headers of answers and the lines of the log. No line has a whole key or certificate.
 func TestHeadersAndLog(t *testing.T) {
 	s := newSite(t, "")
 	bobs, _ := s.sequencesShown()
@@ -147,10 +149,11 @@ func TestHeadersAndLog(t *testing.T) {
 	}
 }
 
+// TestForgedSignatures shows certificates whose signatures are not those of Alice's key: each is denied, also the second time.
 func TestForgedSignatures(t *testing.T) {
 	s := newSite(t, "")
-	forged := s.mallory.signed(s.alice.certificate(s.mallory, prefix("read", "/web/"), propagates))
-	own := s.mallory.signed(s.mallory.certificate(s.mallory, prefix("read", "/web/"), propagates))
+	forged := s.mallory.sign(s.alice.certificate(s.mallory, prefix("read", "/web/"), propagates))
+	own := s.mallory.sign(s.mallory.certificate(s.mallory, prefix("read", "/web/"), propagates))
 	asAlice := strings.Replace(forged, s.mallory.key+"(7:sig-val", s.alice.key+"(7:sig-val", 1)
 	for name, shown := range map[string]string{"by Mallory's key": forged, "from Mallory": own, "by Alice's key": asAlice} {
 		for turn := 0; turn < 2; turn++ {
@@ -161,6 +164,7 @@ func TestForgedSignatures(t *testing.T) {
 	}
 }
 
+// TestWrongHeaders asks with headers that are absent, there twice or wrong, and compares the status.
 func TestWrongHeaders(t *testing.T) {
 	s := newSite(t, "")
 	bobs, _ := s.sequencesShown()
@@ -189,9 +193,10 @@ func TestWrongHeaders(t *testing.T) {
 	}
 }
 
+// TestManyCertificates shows as many certificates as may be, and one more, which is refused.
 func TestManyCertificates(t *testing.T) {
 	s := newSite(t, "")
-	one := s.alice.signed(s.toBob)
+	one := s.alice.sign(s.toBob)
 	many := make([]string, 17)
 	for place := range many {
 		many[place] = one
@@ -203,6 +208,7 @@ func TestManyCertificates(t *testing.T) {
 	}
 }
 
+// TestSecretOfServer asks with the secret of the web server, with others and without one.
 func TestSecretOfServer(t *testing.T) {
 	s := newSite(t, "")
 	s.config.secret = []byte("0123456789abcdef0123456789abcdef")
@@ -231,7 +237,7 @@ func TestEndedCertificates(t *testing.T) {
 	if met := s.by(s.carol, "GET", "/web/docs/a/b", carols); met.StatusCode != 200 {
 		t.Fatal(met.StatusCode)
 	}
-	s.config.Ended = written(t, "ended", sealed(digestOfText(s.toCarol)+" # stolen\n"))
+	s.config.Ended = writeFile(t, "ended", withLastLine(digestOfText(s.toCarol)+" # stolen\n"))
 	if err := s.keeper.reload(s.config, false, s.now()); err != nil {
 		t.Fatal(err)
 	}
@@ -243,6 +249,7 @@ func TestEndedCertificates(t *testing.T) {
 	}
 }
 
+// TestReloads replaces the list by a wrong one, which changes nothing, and by an empty one, by which Alice has no right.
 func TestReloads(t *testing.T) {
 	s := newSite(t, "")
 	if err := os.WriteFile(s.config.List, []byte("(acl (entry))"), 0o600); err != nil {
@@ -291,7 +298,7 @@ func TestExplanationsAreBounded(t *testing.T) {
 	if err := s.keeper.reload(s.config, false, s.now()); err != nil {
 		t.Fatal(err)
 	}
-	shows := sequence(s.alice.signed(s.alice.certificate(s.bob, set, "")))
+	shows := sequence(s.alice.sign(s.alice.certificate(s.bob, set, "")))
 	for place := 0; place < 8; place++ {
 		wanted := "refused TooLarge"
 		if place >= saved*3 {
@@ -309,12 +316,13 @@ func TestExplanationsAreBounded(t *testing.T) {
 	}
 }
 
+// TestTime asks before and after the end of a certificate.
 func TestTime(t *testing.T) {
 	s := newSite(t, "")
 	until := s.alice.certificateUntil(s.bob, prefix("read", "/web/"), "2026-01-01_00:00:00")
 	for year, wanted := range map[int]int{2025: 200, 2027: 403} {
 		s.now = func() time.Time { return time.Date(year, 1, 1, 0, 0, 0, 0, time.UTC) }
-		if met := s.by(s.bob, "GET", "/web/x", sequence(s.alice.signed(until))); met.StatusCode != wanted {
+		if met := s.by(s.bob, "GET", "/web/x", sequence(s.alice.sign(until))); met.StatusCode != wanted {
 			t.Errorf("%d: %d, %+v", year, met.StatusCode, s.lastLine(t))
 		}
 	}
@@ -329,6 +337,7 @@ func TestPanicIsAFailure(t *testing.T) {
 	}
 }
 
+// TestEnvoy asks as Envoy does, whose requests have the client's target behind path_prefix.
 func TestEnvoy(t *testing.T) {
 	s := newSite(t, "")
 	text := strings.Replace(strings.Replace(least, "nginx", "envoy", 1), "{", `{"path_prefix": "/auth", `, 1)

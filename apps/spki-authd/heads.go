@@ -28,7 +28,8 @@ func newHeads(connection io.Reader) *heads {
 	return &heads{all: bufio.NewReaderSize(connection, roomForRequest)}
 }
 
-// next reads a request. A line `Content-Length:` without a number is refused: net/http drops it, and others may read a body behind it.
+// next reads a request: by net/http from the buffer where its lines fit in that, and otherwise from a copy of them. A line `Content-Length:` without
+// a number is refused: net/http drops it, and others may read a body behind it.
 func (h *heads) next() (*http.Request, error) {
 	isWhole, isClear, err := h.peekLines()
 	if err == nil && !isWhole {
@@ -87,7 +88,8 @@ func (h *heads) Read(into []byte) (int, error) {
 
 // readLines reads the lines up to the first that is empty, and says whether none of them gives a body's length without a number.
 func (h *heads) readLines() (isClear bool, err error) {
-	if h.lines = h.lines[:0]; cap(h.lines) > mostKept {
+	h.lines = h.lines[:0]
+	if cap(h.lines) > mostKept {
 		h.lines = nil
 	}
 	begin := 0

@@ -8,7 +8,7 @@ import (
 	"testing/iotest"
 )
 
-// readAll returns what is read of requests that come one after the other: of each its method and body, and at last why there is none.
+// readAll reads requests that come one after the other, and returns the method and the body of each, and at last the error after them.
 func readAll(from io.Reader) (read []string) {
 	reader := newHeads(from)
 	for {

@@ -17,10 +17,10 @@ import (
 // healthID is the number of the request by which a daemon is asked whether it answers.
 const healthID = "spki-authd-health"
 
-// checkHealth asks the daemon of a configuration for something that it refuses, and says whether it does, and then how it is. Nothing is decided by
-// that, and no request is ever answered with 200 to say that all is well: a web server could take that for a yes.
+// checkHealth tests that the daemon of a configuration answers, and prints its state. It sends a request that is refused: nothing is decided by that,
+// and no request is ever answered with 200 to say that all is well, since a web server could take that for a yes.
 func checkHealth(config *config, out io.Writer) error {
-	if err := config.answers(); err != nil {
+	if err := config.checkAnswers(); err != nil {
 		return err
 	}
 	fmt.Fprintf(out, "%s: answers\n", config.Listen)
@@ -29,8 +29,8 @@ func checkHealth(config *config, out io.Writer) error {
 	return err
 }
 
-// answers asks the daemon of a configuration for something that it refuses, and says whether it does.
-func (c *config) answers() error {
+// checkAnswers sends the daemon of a configuration a request that it must refuse, and fails if it does not.
+func (c *config) checkAnswers() error {
 	request, err := http.NewRequest(http.MethodGet, c.scheme()+"://spki-authd/", nil)
 	if err != nil {
 		return err
@@ -48,8 +48,8 @@ func (c *config) answers() error {
 		return err
 	}
 	defer response.Body.Close()
-	if met := response.Header.Get("X-Spki-Answer"); met != string(answerRefused) && met != string(answerUnknown) {
-		return fmt.Errorf("%s: the answer is %d, %q", c.Listen, response.StatusCode, met)
+	if said := response.Header.Get("X-Spki-Answer"); said != string(answerRefused) && said != string(answerUnknown) {
+		return fmt.Errorf("%s: the answer is %d, %q", c.Listen, response.StatusCode, said)
 	}
 	return nil
 }
@@ -85,7 +85,7 @@ func (c *config) client() (*http.Client, error) {
 	return &http.Client{Timeout: c.Limits.time(), Transport: transport}, err
 }
 
-// health says how the daemon is. The error says what an operator must look after.
+// health returns the state of the daemon, for people. The error says what an operator must look after.
 func (d *daemon) health() (string, error) {
 	d.clock.note(d.now())
 	var text strings.Builder
@@ -111,7 +111,7 @@ func (d *daemon) health() (string, error) {
 	fmt.Fprintf(&text, "clock: went back %d times\n", d.clock.times.Load())
 	for _, each := range present.lists {
 		if each.store != nil {
-			line, fault := each.store.told()
+			line, fault := each.store.statusLine()
 			text.WriteString(line)
 			if fault != nil {
 				faults = append(faults, fault.Error())

@@ -12,8 +12,8 @@ var errHost = errors.New("the host is missing or not clear")
 // The most octets of a host, as DNS has them.
 const mostHost = 253
 
-// hostOf returns the host of a request in small letters, without its port. It has letters, digits, dots and hyphens, or is an address of IPv6 in
-// brackets. A dot at the end, which some servers drop, is refused.
+// hostOf returns the host of a request in small letters, without its port, or errHost. It has letters, digits, dots, hyphens and underscores, or is
+// an address of IPv6 in brackets. A dot at the end, which some servers drop, is refused.
 func hostOf(text string) (string, error) {
 	host := text
 	if at := strings.LastIndexByte(text, ':'); at >= 0 && !strings.HasSuffix(text, "]") {
@@ -40,7 +40,7 @@ func hostOf(text string) (string, error) {
 	return host, nil
 }
 
-// isPort says whether a text is the number of a port, or nothing.
+// isPort says whether a text is a number of at most five digits, or empty.
 func isPort(text string) bool {
 	for place := 0; place < len(text); place++ {
 		if text[place] < '0' || text[place] > '9' {

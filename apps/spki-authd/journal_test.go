@@ -48,7 +48,7 @@ func (j *journal) Reset() {
 	j.text.Reset()
 }
 
-// fail has each grant fail from now on, or not any more.
+// fail has each later grant fail with a fault, or with none if that is nil.
 func (j *journal) fail(fault error) {
 	j.mutex.Lock()
 	defer j.mutex.Unlock()

@@ -34,13 +34,14 @@ const (
 	usualPath                       = "/.well-known/spki-chain"
 )
 
-// A chainKeeper has the sequences that clients have left. They give nothing by themselves: each request is decided by them as if it had shown them.
+// A chainKeeper has the sequences of certificates that clients have left. They give nothing by themselves: each request is decided by them as if it
+// had shown them.
 type chainKeeper interface {
-	// of returns the sequences of a key.
+	// of returns the sequences of a key that have not ended. Here and below, `key` is the SHA-256 digest of a key in hexadecimal digits.
 	of(key string, now time.Time) ([]keptChain, error)
-	// becomes says what becomes of a sequence that add would not keep, or nothing.
-	becomes(key string, chain keptChain, now time.Time) (answer, error)
-	// add keeps a sequence of a key, and says what became of it. None is replaced.
+	// whyNotAdded returns the answer to a sequence that add would not keep, or an empty one if it would.
+	whyNotAdded(key string, chain keptChain, now time.Time) (answer, error)
+	// add keeps a sequence for a key, if it can, and returns the answer to that. None is replaced.
 	add(key string, chain keptChain, now time.Time) answer
 }
 
@@ -61,7 +62,7 @@ type keptChain struct {
 	until      time.Time
 }
 
-// check says what is wrong in the settings.
+// check sets what was left out, and says what is wrong. isSigned says whether requests can be signed, without which nothing can be left.
 func (c *chains) check(isSigned bool) error {
 	if c == nil {
 		return nil
@@ -87,7 +88,7 @@ func (c *chains) check(isSigned bool) error {
 	return nil
 }
 
-// openChains opens the folder or the store of the sequences that clients have left, or nothing if they can leave none.
+// openChains opens the folder or the store of the sequences that clients have left, or returns nil if they can leave none.
 func openChains(c *config, now time.Time) (chainKeeper, error) {
 	switch {
 	case c.Chains == nil:
@@ -119,7 +120,8 @@ func openKept(c *chains, now time.Time) (*kept, error) {
 	return made, err
 }
 
-// read reads the file of a sequence.
+// read reads the file of a sequence, and removes it if the sequence has ended. Without room for it, or if the daemon has not written it, it is left
+// out.
 func (k *kept) read(path string, now time.Time) {
 	key, name := filepath.Base(filepath.Dir(path)), filepath.Base(path)
 	octets, err := readFile(path, mostShownOctets)
@@ -139,17 +141,17 @@ func (k *kept) read(path string, now time.Time) {
 }
 
 // put keeps a sequence in memory, behind those of the key that end before it. The mutex is held, or nobody else knows the store.
-func (k *kept) put(key string, made keptChain) {
+func (k *kept) put(key string, chain keptChain) {
 	// (readers still have the old ones)
-	all := append(append([]keptChain(nil), k.byKey[key]...), made)
+	all := append(append([]keptChain(nil), k.byKey[key]...), chain)
 	sort.SliceStable(all, func(first, second int) bool { return all[first].until.Before(all[second].until) })
 	k.byKey[key] = all
-	k.octets += len(made.text)
+	k.octets += len(chain.text)
 }
 
-// remove removes the file of a sequence. One that stays is found too old at the next start.
-func (k *kept) remove(key string, made keptChain) {
-	os.Remove(filepath.Join(k.Folder, key, made.name))
+// remove removes the file of a sequence, and the folder of its key if that is empty then. A file that stays is found too old at the next start.
+func (k *kept) remove(key string, chain keptChain) {
+	os.Remove(filepath.Join(k.Folder, key, chain.name))
 	os.Remove(filepath.Join(k.Folder, key))
 }
 
@@ -159,8 +161,8 @@ func (k *kept) hasRoom(key string, octets int) bool {
 	return len(k.byKey[key]) < k.Each && (isKnown || len(k.byKey) < k.Keys) && k.octets+octets <= mostLeft
 }
 
-// beside says what becomes of a sequence where others are kept for its key: nothing yet, where it is new and finds room.
-func (c *chains) beside(others []keptChain, text string) answer {
+// whyNotBeside returns `known` if a sequence is among those of its key, `full` if these are as many as may be, and otherwise an empty answer.
+func (c *chains) whyNotBeside(others []keptChain, text string) answer {
 	for _, other := range others {
 		if other.text == text {
 			return answerKnown
@@ -172,7 +174,7 @@ func (c *chains) beside(others []keptChain, text string) answer {
 	return ""
 }
 
-// chainOf returns a sequence that is kept from a time on.
+// chainOf returns a sequence in transport form as it is kept from a time on: for so many days, or until the first of its certificates ends.
 func (c *chains) chainOf(text string, from time.Time) keptChain {
 	until := from.AddDate(0, 0, c.Days)
 	if end, hasEnd := endOf(text); hasEnd && end.Before(until) {
@@ -183,7 +185,8 @@ func (c *chains) chainOf(text string, from time.Time) keptChain {
 
 var notAfter = regexp.MustCompile(`\(9:not-after19:(\d{4}-\d\d-\d\d_\d\d:\d\d:\d\d)\)`)
 
-// endOf returns the first end of the certificates of a sequence. A text in a tag that looks so ends it too, which does no harm.
+// endOf returns the earliest end of the certificates of a sequence, if one has an end. A text in a tag that looks so counts as an end too, which does
+// no harm.
 func endOf(text string) (end time.Time, hasEnd bool) {
 	// (what is no base64 is refused before)
 	octets, _ := base64.StdEncoding.DecodeString(strings.Trim(strings.Join(strings.Fields(text), ""), "{}"))
@@ -195,7 +198,7 @@ func endOf(text string) (end time.Time, hasEnd bool) {
 	return end, hasEnd
 }
 
-// of returns the sequences of a key.
+// of returns the sequences of a key that have not ended.
 func (k *kept) of(key string, now time.Time) ([]keptChain, error) {
 	k.mutex.Lock()
 	defer k.mutex.Unlock()
@@ -213,33 +216,34 @@ func (k *kept) current(key string, now time.Time) []keptChain {
 			k.octets -= len(each.text)
 		}
 	}
-	if k.byKey[key] = left; len(left) == 0 {
+	k.byKey[key] = left
+	if len(left) == 0 {
 		delete(k.byKey, key)
 	}
 	return left
 }
 
-// becomes says what becomes of a sequence that add would not keep, or nothing.
-func (k *kept) becomes(key string, chain keptChain, now time.Time) (answer, error) {
+// whyNotAdded returns the answer to a sequence that add would not keep, or an empty one if it would.
+func (k *kept) whyNotAdded(key string, chain keptChain, now time.Time) (answer, error) {
 	k.mutex.Lock()
 	defer k.mutex.Unlock()
-	return k.unkept(key, chain, now), nil
+	return k.whyNotAddedLocked(key, chain, now), nil
 }
 
-// unkept is becomes. The mutex is held.
-func (k *kept) unkept(key string, chain keptChain, now time.Time) answer {
-	became := k.beside(k.current(key, now), chain.text)
+// whyNotAddedLocked is whyNotAdded where the mutex is held.
+func (k *kept) whyNotAddedLocked(key string, chain keptChain, now time.Time) answer {
+	became := k.whyNotBeside(k.current(key, now), chain.text)
 	if became == "" && !k.hasRoom(key, len(chain.text)) {
 		return answerFull
 	}
 	return became
 }
 
-// add keeps a sequence of a key, and says what became of it. None is replaced.
+// add keeps a sequence for a key, if it can, and returns the answer to that. None is replaced.
 func (k *kept) add(key string, chain keptChain, now time.Time) answer {
 	k.mutex.Lock()
 	defer k.mutex.Unlock()
-	if became := k.unkept(key, chain, now); became != "" {
+	if became := k.whyNotAddedLocked(key, chain, now); became != "" {
 		return became
 	}
 	if k.write(key, chain) != nil {
@@ -250,19 +254,20 @@ func (k *kept) add(key string, chain keptChain, now time.Time) answer {
 }
 
 // write writes the file of a sequence, whole or not at all.
-func (k *kept) write(key string, made keptChain) error {
+func (k *kept) write(key string, chain keptChain) error {
 	folder := filepath.Join(k.Folder, key)
 	if err := os.MkdirAll(folder, 0o700); err != nil {
 		return err
 	}
-	path := filepath.Join(folder, made.name)
-	if err := os.WriteFile(path+".new", []byte(made.text), 0o600); err != nil {
+	path := filepath.Join(folder, chain.name)
+	if err := os.WriteFile(path+".new", []byte(chain.text), 0o600); err != nil {
 		return err
 	}
 	return os.Rename(path+".new", path)
 }
 
-// judgeAll decides by what a request shows. Where it shows nothing and gets nothing, each sequence that is kept for its key is tried.
+// judgeAll decides by the certificates that a request shows. Where it shows none and the list alone grants nothing, each sequence that is kept for
+// its key is tried, until one grants the request.
 func (d *decider) judgeAll(made *record, key guard.ProvenKey, path string, asked *asked, now time.Time) {
 	begun := *made
 	d.judge(made, key, path, asked.sequence, now)
@@ -276,7 +281,8 @@ func (d *decider) judgeAll(made *record, key guard.ProvenKey, path string, asked
 	}
 	for _, each := range shown {
 		next := begun
-		if d.judge(&next, key, path, each.text, now); next.Answer == answerYes {
+		d.judge(&next, key, path, each.text, now)
+		if next.Answer == answerYes {
 			next.Kept = "used"
 			*made = next
 			return

@@ -19,12 +19,12 @@ import (
 func newKeeping(t *testing.T) *site {
 	t.Helper()
 	s := newSite(t, `, "chains": {"folder": "`+t.TempDir()+`", "each": 2}`+ofSite)
-	s.opens(t)
+	s.reopenChains(t)
 	return s
 }
 
-// opens reads what is kept, as at a start.
-func (s *site) opens(t *testing.T) {
+// reopenChains reads the folder of kept certificates, as the daemon does at its start.
+func (s *site) reopenChains(t *testing.T) {
 	t.Helper()
 	made, err := openKept(s.config.Chains, s.now())
 	if err != nil {
@@ -33,8 +33,8 @@ func (s *site) opens(t *testing.T) {
 	s.chains = made
 }
 
-// asks returns the status of a request by a TLS certificate.
-func (s *site) asks(who person, target, sequence string) int {
+// statusFor returns the status of a request to read a target by a TLS certificate. `sequence` is empty if none is shown.
+func (s *site) statusFor(who person, target, sequence string) int {
 	pairs := []string{"X-Original-Method", "GET", "X-Original-URI", target, "X-Client-Cert", who.escaped()}
 	if sequence != "" {
 		pairs = append(pairs, "X-Spki-Sequence", sequence)
@@ -42,7 +42,7 @@ func (s *site) asks(who person, target, sequence string) int {
 	return s.ask(pairs...).StatusCode
 }
 
-// put returns a request that leaves certificates.
+// put returns a request by which a person leaves certificates, with its signature.
 func (p person) put(t testing.TB, target, sequence string) *http.Request {
 	t.Helper()
 	request := httptest.NewRequest(http.MethodPut, target, strings.NewReader(sequence))
@@ -58,14 +58,14 @@ func (p person) put(t testing.TB, target, sequence string) *http.Request {
 	return request
 }
 
-// leaves returns the status of a request that leaves certificates, and the answer.
+// leaves sends the site a request by which a person leaves certificates, and returns the status and the answer.
 func (s *site) leaves(t testing.TB, who person, sequence string) (int, answer) {
 	t.Helper()
 	met := s.told(who.put(t, usualPath, sequence))
 	return met.StatusCode, answer(met.Header.Get("X-Spki-Answer"))
 }
 
-// keeps says whether a sequence is kept for a person's key.
+// keeps says whether any sequence is kept for a person's key.
 func (s *site) keeps(t testing.TB, who person) bool {
 	t.Helper()
 	found, err := s.chains.of(hexDigest([]byte(who.key)), s.now())
@@ -75,11 +75,12 @@ func (s *site) keeps(t testing.TB, who person) bool {
 	return len(found) > 0
 }
 
+// TestKeptChains leaves certificates and asks, with and without showing some, one after the other, and once more after a start of the daemon.
 func TestKeptChains(t *testing.T) {
 	s := newKeeping(t)
 	bobs, carols := s.sequencesShown()
-	other := sequence(s.alice.signed(s.alice.certificate(s.bob, prefix("read", "/web/other/"), "")))
-	third := sequence(s.alice.signed(s.alice.certificate(s.bob, prefix("read", "/web/third/"), "")))
+	other := sequence(s.alice.sign(s.alice.certificate(s.bob, prefix("read", "/web/other/"), "")))
+	third := sequence(s.alice.sign(s.alice.certificate(s.bob, prefix("read", "/web/third/"), "")))
 	const put = "PUT"
 	for _, row := range []struct {
 		name, target, sequence string
@@ -113,32 +114,32 @@ func TestKeptChains(t *testing.T) {
 		if row.target == put {
 			status, met = s.leaves(t, row.who, row.sequence)
 		} else {
-			status = s.asks(row.who, row.target, row.sequence)
+			status = s.statusFor(row.who, row.target, row.sequence)
 		}
 		if status != row.status || met != row.answer {
 			t.Errorf("%s: %d %q, wanted %d %q: %+v", row.name, status, met, row.status, row.answer, s.lastLine(t))
 		}
 	}
-	s.opens(t)
-	if status := s.asks(s.bob, "/web/docs/b", ""); status != 200 || s.lastLine(t).Kept != "used" {
+	s.reopenChains(t)
+	if status := s.statusFor(s.bob, "/web/docs/b", ""); status != 200 || s.lastLine(t).Kept != "used" {
 		t.Error("after a start: ", status, s.lastLine(t))
 	}
 }
 
-// hashOfKey writes the hash that names a person's key.
+// hashOfKey returns the hash that names a person's key, in canonical form.
 func (p person) hashOfKey() string {
 	digest := sha256.Sum256([]byte(p.key))
 	return "(4:hash6:sha256" + str(string(digest[:])) + ")"
 }
 
-// gives writes a certificate for another subject than a key.
+// gives returns a signed certificate for a subject in canonical form, such as a hash. `more` has further fields, or is empty.
 func (p person) gives(subject, tag, more string) string {
-	return p.signed("(4:cert(6:issuer" + p.key + ")" + more + "(7:subject" + subject + ")(3:tag" + tag + "))")
+	return p.sign("(4:cert(6:issuer" + p.key + ")" + more + "(7:subject" + subject + ")(3:tag" + tag + "))")
 }
 
-// defines writes a certificate by which a name of a person is a subject.
+// defines returns a signed certificate by which a name of a person means a subject.
 func (p person) defines(name, subject string) string {
-	return p.signed("(4:cert(6:issuer(4:name" + p.key + str(name) + "))(7:subject" + subject + "))")
+	return p.sign("(4:cert(6:issuer(4:name" + p.key + str(name) + "))(7:subject" + subject + "))")
 }
 
 // TestWhatIsKept leaves chains of each kind. Each certificate must be signed, and the subject of the last one be the key that signs the request.
@@ -146,9 +147,9 @@ func TestWhatIsKept(t *testing.T) {
 	s := newKeeping(t)
 	tag := prefix("read", "/web/")
 	name := "(4:name" + s.alice.key + "8:builders)"
-	toBob, toName := s.alice.signed(s.toBob), s.alice.gives(name, tag, "")
+	toBob, toName := s.alice.sign(s.toBob), s.alice.gives(name, tag, "")
 	isBob := s.alice.defines("builders", s.bob.key)
-	forged := s.mallory.signed(s.alice.certificate(s.bob, tag, ""))
+	forged := s.mallory.sign(s.alice.certificate(s.bob, tag, ""))
 	asAlice := strings.Replace(forged, s.mallory.key+"(7:sig-val", s.alice.key+"(7:sig-val", 1)
 	digest := sha512.Sum512([]byte(s.bob.key))
 	for _, row := range []struct {
@@ -165,12 +166,12 @@ func TestWhatIsKept(t *testing.T) {
 		{"a definition of a name of a name", "", []string{
 			s.alice.gives("(4:name"+s.alice.key+"4:team8:builders)", tag, ""), s.alice.defines("team", s.carol.key), s.carol.defines("builders", s.bob.key)}},
 		{"keys beside certificates", "", []string{s.alice.key, toBob, s.carol.key}},
-		{"certificates that do not join", "", []string{s.mallory.signed(s.mallory.certificate(s.carol, tag, "")), toBob}},
-		{"a stranger's own", "", []string{s.mallory.signed(s.mallory.certificate(s.bob, tag, ""))}},
-		{"what is not yet valid", "", []string{s.alice.signed("(4:cert(6:issuer" + s.alice.key + ")(7:subject" + s.bob.key + ")(3:tag" + tag +
+		{"certificates that do not join", "", []string{s.mallory.sign(s.mallory.certificate(s.carol, tag, "")), toBob}},
+		{"a stranger's own", "", []string{s.mallory.sign(s.mallory.certificate(s.bob, tag, ""))}},
+		{"what is not yet valid", "", []string{s.alice.sign("(4:cert(6:issuer" + s.alice.key + ")(7:subject" + s.bob.key + ")(3:tag" + tag +
 			")(5:valid(10:not-before19:9000-01-01_00:00:00)))")}},
-		{"another key", "is not the key", []string{s.alice.signed(s.alice.certificate(s.carol, tag, ""))}},
-		{"another key behind it", "is not the key", []string{toBob, s.bob.signed(s.toCarol)}},
+		{"another key", "is not the key", []string{s.alice.sign(s.alice.certificate(s.carol, tag, ""))}},
+		{"another key behind it", "is not the key", []string{toBob, s.bob.sign(s.toCarol)}},
 		{"the hash of another key", "is not the key", []string{s.alice.gives(s.carol.hashOfKey(), tag, "")}},
 		{"a key in a comment", "is not the key", []string{s.alice.gives(s.carol.key, tag, "(7:comment(7:subject"+s.bob.key+"))")}},
 		{"a name", "is not the key", []string{toName}},
@@ -183,9 +184,9 @@ func TestWhatIsKept(t *testing.T) {
 		{"another's signature", "item 1 SignerDiffers", []string{forged}},
 		{"another digest", "item 1 DigestDiffers", []string{strings.Replace(toBob, "/web/docs/", "/web/dogs/", 1)}},
 		{"an issuer that is not shown", "item 3 KeyNotShown", []string{
-			toBob, s.alice.signed(strings.Replace(s.toBob, s.alice.key, s.alice.hashOfKey(), 1))}},
+			toBob, s.alice.sign(strings.Replace(s.toBob, s.alice.key, s.alice.hashOfKey(), 1))}},
 		{"keys alone", "there is none", []string{s.bob.key}},
-		{"what is past its end", "past its end", []string{s.alice.signed(s.alice.certificateUntil(s.bob, tag, "2020-01-01_00:00:00"))}},
+		{"what is past its end", "past its end", []string{s.alice.sign(s.alice.certificateUntil(s.bob, tag, "2020-01-01_00:00:00"))}},
 		{"no signature", "refused sequence 1 UnsignedCert", []string{s.toBob}},
 	} {
 		s.chains = &kept{chains: chains{Folder: t.TempDir(), Each: 2, Keys: 2, Days: 9}, byKey: map[string][]keptChain{}}
@@ -204,7 +205,7 @@ func TestWhatIsKept(t *testing.T) {
 func TestEndedIsNotKept(t *testing.T) {
 	s := newKeeping(t)
 	bobs, _ := s.sequencesShown()
-	s.config.Ended = written(t, "ended", sealed(digestOfText(s.toBob)+" # stolen\n"))
+	s.config.Ended = writeFile(t, "ended", withLastLine(digestOfText(s.toBob)+" # stolen\n"))
 	if err := s.keeper.reload(s.config, false, s.now()); err != nil {
 		t.Fatal(err)
 	}
@@ -217,15 +218,15 @@ func TestEndedIsNotKept(t *testing.T) {
 func TestStrangersLeave(t *testing.T) {
 	s := newKeeping(t)
 	s.config.Chains.Keys = 2
-	s.opens(t)
+	s.reopenChains(t)
 	verified := s.counts.verified.Load()
 	for place, wanted := range []answer{answerKept, answerKept, answerFull, answerFull} {
 		stranger := newPerson(t)
-		shown := sequence(s.mallory.signed(s.mallory.certificate(stranger, prefix("read", "/web/"), "")))
+		shown := sequence(s.mallory.sign(s.mallory.certificate(stranger, prefix("read", "/web/"), "")))
 		if _, met := s.leaves(t, stranger, shown); met != wanted {
 			t.Errorf("%d: %s, wanted %s", place, met, wanted)
 		}
-		if s.asks(stranger, "/web/x", "") != 401 || s.asks(stranger, "/web/x", shown) != 403 {
+		if s.statusFor(stranger, "/web/x", "") != 401 || s.statusFor(stranger, "/web/x", shown) != 403 {
 			t.Error("a stranger is granted something")
 		}
 	}
@@ -233,7 +234,7 @@ func TestStrangersLeave(t *testing.T) {
 		t.Errorf("%d signatures were verified", made)
 	}
 	bobs, _ := s.sequencesShown()
-	if s.asks(s.bob, "/web/docs/b", bobs) != 200 {
+	if s.statusFor(s.bob, "/web/docs/b", bobs) != 200 {
 		t.Error("what a request brings itself does not count")
 	}
 	full := &kept{chains: *s.config.Chains, byKey: map[string][]keptChain{}, octets: mostLeft - 9}
@@ -245,10 +246,10 @@ func TestStrangersLeave(t *testing.T) {
 // TestNoncesOfLeaving fills the nonces of those who leave certificates. Those of requests that are granted stay free.
 func TestNoncesOfLeaving(t *testing.T) {
 	s := newSite(t, `, "chains": {"folder": "`+t.TempDir()+`"}, "signatures": {"names": ["files.example.org"], "nonces": 1}`)
-	s.opens(t)
+	s.reopenChains(t)
 	for place, wanted := range []answer{answerKept, answerRefused} {
 		stranger := newPerson(t)
-		if _, met := s.leaves(t, stranger, sequence(s.mallory.signed(s.mallory.certificate(stranger, prefix("read", "/"), "")))); met != wanted {
+		if _, met := s.leaves(t, stranger, sequence(s.mallory.sign(s.mallory.certificate(stranger, prefix("read", "/"), "")))); met != wanted {
 			t.Errorf("%d: %s, %+v", place, met, s.lastLine(t))
 		}
 	}
@@ -257,13 +258,14 @@ func TestNoncesOfLeaving(t *testing.T) {
 	}
 }
 
-// What is put is kept only if it is signed as it came, once, and short. Whatever its headers say of another request or client counts nothing.
+// TestPutAttacks leaves certificates in wrong ways. They are kept only if they are signed as they came, once, and short. What the headers say of
+// another request or client counts nothing.
 func TestPutAttacks(t *testing.T) {
 	s := newKeeping(t)
 	bobs, _ := s.sequencesShown()
 	const target = usualPath
 	long := strings.Repeat(" ", mostShownOctets+1-len(bobs)) + bobs
-	other := sequence(s.alice.signed(s.alice.certificate(s.bob, prefix("read", "/web/docs/"), "")))
+	other := sequence(s.alice.sign(s.alice.certificate(s.bob, prefix("read", "/web/docs/"), "")))
 	body := func(text string) func(*http.Request) {
 		return func(it *http.Request) {
 			it.Body, it.ContentLength = io.NopCloser(strings.NewReader(text)), int64(len(text))
@@ -330,12 +332,13 @@ func TestPutAttacks(t *testing.T) {
 	}
 }
 
+// TestKeptChainsEnd leaves a certificate that ends in ten days and one without an end, and counts after some days what is still kept.
 func TestKeptChainsEnd(t *testing.T) {
 	s := newKeeping(t)
 	begun := time.Now()
 	end := begun.AddDate(0, 0, 10).UTC().Format("2006-01-02_15:04:05")
-	short := sequence(s.alice.signed(s.alice.certificateUntil(s.bob, prefix("read", "/web/docs/"), end)))
-	long := sequence(s.alice.signed(s.alice.certificate(s.bob, prefix("read", "/web/docs/"), "")))
+	short := sequence(s.alice.sign(s.alice.certificateUntil(s.bob, prefix("read", "/web/docs/"), end)))
+	long := sequence(s.alice.sign(s.alice.certificate(s.bob, prefix("read", "/web/docs/"), "")))
 	for _, text := range []string{short, long} {
 		if _, kept := s.leaves(t, s.bob, text); kept != answerKept {
 			t.Error(kept)
@@ -359,7 +362,7 @@ func TestKeptChainsEnd(t *testing.T) {
 	}
 }
 
-// What is in the folder and was not written by the daemon, as half a file or one of another name, is left out.
+// TestKeptFiles reads a folder with files that the daemon has not written, such as half a file or one of another name: they are left out.
 func TestKeptFiles(t *testing.T) {
 	s := newKeeping(t)
 	bobs, _ := s.sequencesShown()
@@ -373,8 +376,8 @@ func TestKeptFiles(t *testing.T) {
 			t.Fatal(err)
 		}
 	}
-	s.opens(t)
-	if status := s.asks(s.bob, "/web/docs/b", ""); status != 401 {
+	s.reopenChains(t)
+	if status := s.statusFor(s.bob, "/web/docs/b", ""); status != 401 {
 		t.Error(status)
 	}
 	ofStore := &storeOf{Host: "/run", Database: "d", User: "u"}

@@ -46,16 +46,17 @@ func openLedger(path, syncs string) (*ledger, error) {
 	return made, made.open()
 }
 
-// open opens or makes the file, which must be one and be written by nobody else. A file whose last line was cut gets a new line.
+// open opens or makes the file, which must be an ordinary one that no other daemon writes. If its last line was cut, the next line begins behind a
+// line feed.
 func (l *ledger) open() error {
-	if err := mayBeLedger(l.path); err != nil {
+	if err := checkLedgerPath(l.path); err != nil {
 		return err
 	}
 	opened, err := os.OpenFile(l.path, os.O_RDWR|os.O_APPEND|os.O_CREATE|syscall.O_NONBLOCK, modeOfLedger)
 	if err != nil {
 		return err
 	}
-	isCut, size, err := stateOf(opened)
+	isCut, size, err := lockLedger(opened)
 	if err == nil {
 		err = syncFolder(filepath.Dir(l.path))
 	}
@@ -67,8 +68,8 @@ func (l *ledger) open() error {
 	return nil
 }
 
-// mayBeLedger says what is wrong in a path at which a ledger is or will be.
-func mayBeLedger(path string) error {
+// checkLedgerPath says what is wrong in a path at which a ledger is or will be.
+func checkLedgerPath(path string) error {
 	about, err := os.Stat(path)
 	if errors.Is(err, fs.ErrNotExist) {
 		_, err = os.Stat(filepath.Dir(path))
@@ -80,8 +81,8 @@ func mayBeLedger(path string) error {
 	return err
 }
 
-// mayWrite says whether this user may write a file, or make it.
-func mayWrite(path string) error {
+// checkWritable returns an error unless this user may write a file, or make it.
+func checkWritable(path string) error {
 	const toWrite = 2
 	if _, err := os.Stat(path); errors.Is(err, fs.ErrNotExist) {
 		path = filepath.Dir(path)
@@ -92,8 +93,9 @@ func mayWrite(path string) error {
 	return nil
 }
 
-// stateOf takes a file for this daemon alone, and says whether its last line is cut, and how long it is.
-func stateOf(opened *os.File) (isCut bool, size int64, err error) {
+// lockLedger locks a file for this daemon alone, and returns whether its last line is cut, and how many octets it has. It fails if another daemon has
+// locked it.
+func lockLedger(opened *os.File) (isCut bool, size int64, err error) {
 	about, err := opened.Stat()
 	if err == nil && !about.Mode().IsRegular() {
 		err = fs.ErrInvalid
@@ -141,7 +143,7 @@ func (l *ledger) write(lines []byte) error {
 	return nil
 }
 
-// prepare makes a ledger that was removed again, and tries again what was not written to the disk.
+// prepare makes a ledger again that was removed, and fails if what was written before is still not on the disk.
 func (l *ledger) prepare() error {
 	about, err := l.file.Stat()
 	if err != nil {
@@ -157,7 +159,7 @@ func (l *ledger) prepare() error {
 	return l.fault
 }
 
-// beat writes to the disk what was written since the last time.
+// beat writes to the disk, with `seconds`, what was written since the last time. The writer calls it each second.
 func (l *ledger) beat() {
 	if l.syncs == syncSeconds && (l.isDirty || l.fault != nil) {
 		l.fault = l.file.Sync()

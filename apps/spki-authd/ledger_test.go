@@ -11,7 +11,8 @@ import (
 	"time"
 )
 
-// A failing file writes part of what it is given, and fails, as a full disk does. It may not be cut or not be written to its disk.
+// A failing file fails as a full disk does where a write has more octets than `room`, which is -1 for no limit. It may not be cut or not be written
+// to its disk.
 type failing struct {
 	*os.File
 	room                  int
@@ -43,12 +44,12 @@ func (f *failing) Sync() error {
 	return f.File.Sync()
 }
 
-// opened opens a ledger whose file can fail.
-func opened(t *testing.T, syncs, text string) (*ledger, *failing) {
+// openFailing opens a ledger with a text, and returns it with its file, which fails once that is asked of it.
+func openFailing(t *testing.T, syncs, text string) (*ledger, *failing) {
 	t.Helper()
 	path := filepath.Join(t.TempDir(), "log")
 	if text != "" {
-		path = written(t, "log", text)
+		path = writeFile(t, "log", text)
 	}
 	made, err := openLedger(path, syncs)
 	if err != nil {
@@ -60,8 +61,8 @@ func opened(t *testing.T, syncs, text string) (*ledger, *failing) {
 	return made, to
 }
 
-// has says whether a ledger's file has a text.
-func (l *ledger) has(t *testing.T, wanted string) {
+// mustHave reports an error unless a ledger's file has this text.
+func (l *ledger) mustHave(t *testing.T, wanted string) {
 	t.Helper()
 	if met, err := os.ReadFile(l.path); err != nil || string(met) != wanted {
 		t.Errorf("%q, %v, wanted %q", met, err, wanted)
@@ -71,7 +72,7 @@ func (l *ledger) has(t *testing.T, wanted string) {
 // TestFullDisk writes two lines of which the second is cut. It is removed, or the next one does not join it.
 func TestFullDisk(t *testing.T) {
 	for isUncut, wanted := range map[bool]string{false: "one\nthree\n", true: "one\ntw\nthree\n"} {
-		made, to := opened(t, syncNever, "")
+		made, to := openFailing(t, syncNever, "")
 		if err := made.write([]byte("one\n")); err != nil {
 			t.Fatal(err)
 		}
@@ -83,7 +84,7 @@ func TestFullDisk(t *testing.T) {
 		if err := made.write([]byte("three\n")); err != nil {
 			t.Error(err)
 		}
-		made.has(t, wanted)
+		made.mustHave(t, wanted)
 	}
 }
 
@@ -104,7 +105,7 @@ func (f *filled) Write(octets []byte) (int, error) {
 // TestFullDiskOfMany has many hand lines over while a disk is full again and again. The file has those that are said to be written, whole and once,
 // and no others.
 func TestFullDiskOfMany(t *testing.T) {
-	made, to := opened(t, syncNever, "")
+	made, to := openFailing(t, syncNever, "")
 	made.file = &filled{File: to.File}
 	writer := newWriter(made, time.Minute, nil)
 	var all sync.WaitGroup
@@ -140,7 +141,7 @@ func TestFullDiskOfMany(t *testing.T) {
 
 // TestCutLedger opens a file whose last line was cut, as by a machine that was switched off.
 func TestCutLedger(t *testing.T) {
-	made, to := opened(t, syncNever, "one\ntw")
+	made, to := openFailing(t, syncNever, "one\ntw")
 	to.room = 0
 	if made.write([]byte("three\n")) == nil {
 		t.Error("a full disk takes a line")
@@ -151,13 +152,13 @@ func TestCutLedger(t *testing.T) {
 			t.Fatal(err)
 		}
 	}
-	made.has(t, "one\ntw\nfour\nfive\n")
+	made.mustHave(t, "one\ntw\nfour\nfive\n")
 }
 
 // TestSyncs writes where the disk takes nothing. With `each` that is no line; with `seconds` no further one, until the disk takes them.
 func TestSyncs(t *testing.T) {
 	for syncs, row := range map[string]struct{ first, second bool }{syncNever: {true, true}, syncSeconds: {true, false}, syncEach: {false, false}} {
-		made, to := opened(t, syncs, "")
+		made, to := openFailing(t, syncs, "")
 		to.isNotWritten = true
 		if err := made.write([]byte("one\n")); (err == nil) != row.first {
 			t.Errorf("%s: %v", syncs, err)
@@ -171,13 +172,13 @@ func TestSyncs(t *testing.T) {
 			t.Errorf("%s: %v", syncs, err)
 		}
 		wanted := map[string]string{syncNever: "one\ntwo\nthree\n", syncSeconds: "one\nthree\n", syncEach: "three\n"}[syncs]
-		made.has(t, wanted)
+		made.mustHave(t, wanted)
 	}
 }
 
 // TestReopened renames, removes and empties a file that is written.
 func TestReopened(t *testing.T) {
-	made, _ := opened(t, syncSeconds, "")
+	made, _ := openFailing(t, syncSeconds, "")
 	write := func(line string) {
 		if err := made.write([]byte(line)); err != nil {
 			t.Error(err)
@@ -195,18 +196,18 @@ func TestReopened(t *testing.T) {
 		}
 	}
 	write("three\n")
-	made.has(t, "three\n")
+	made.mustHave(t, "three\n")
 	if met, err := os.ReadFile(old); err != nil || string(met) != "one\ntwo\n" {
 		t.Errorf("%q, %v", met, err)
 	}
 	os.Remove(made.path)
 	write("four\n")
-	made.has(t, "four\n")
+	made.mustHave(t, "four\n")
 	if err := os.Truncate(made.path, 0); err != nil {
 		t.Fatal(err)
 	}
 	write("five\n")
-	made.has(t, "five\n")
+	made.mustHave(t, "five\n")
 	if err := os.Rename(filepath.Dir(made.path), filepath.Dir(made.path)+".gone"); err != nil {
 		t.Fatal(err)
 	}
@@ -218,7 +219,7 @@ func TestReopened(t *testing.T) {
 
 // TestNoLedgers opens what is no file, or what another daemon has.
 func TestNoLedgers(t *testing.T) {
-	made, _ := opened(t, syncNever, "")
+	made, _ := openFailing(t, syncNever, "")
 	room := t.TempDir()
 	fifo := filepath.Join(room, "fifo")
 	if err := syscall.Mkfifo(fifo, 0o600); err != nil {

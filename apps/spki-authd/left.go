@@ -28,7 +28,8 @@ var (
 	errSubject = fmt.Errorf("%w: the subject of the last one is not the key that has signed the request", errUnkept)
 )
 
-// isPut says whether a request leaves certificates, and asks nothing. A web server asks by GET, but Envoy by the client's method.
+// isPut says whether a request leaves certificates in place of asking. Where a web server asks by GET, each PUT does. Envoy asks by the client's
+// method, so there only a PUT to the path of certificates does.
 func (c *config) isPut(request *http.Request) bool {
 	return request.Method == http.MethodPut && (c.Headers.Method != "" || c.isPlace(request))
 }
@@ -38,9 +39,10 @@ func (c *config) isPlace(request *http.Request) bool {
 	return c.Chains != nil && request.RequestURI == c.Chains.Path
 }
 
-// leftOf reads such a request. Its body is read last, and only if it is short enough.
+// leftOf reads a request that leaves certificates. Its body is read last, and only if it is short enough. With an error it returns what it has read
+// until then, for the log.
 func (c *config) leftOf(request *http.Request) (made asked, err error) {
-	if err := c.isServer(request); err != nil {
+	if err := c.checkServer(request); err != nil {
 		return made, err
 	}
 	if !c.isPlace(request) {
@@ -67,7 +69,7 @@ func (c *config) leftOf(request *http.Request) (made asked, err error) {
 	return made, err
 }
 
-// bodyOf reads a body whose length is given and short.
+// bodyOf reads a body, or fails with errLength if its length is not given, is too long or is wrong.
 func bodyOf(request *http.Request) ([]byte, error) {
 	if request.ContentLength < 1 || request.ContentLength > mostShownOctets {
 		return nil, errLength
@@ -79,7 +81,7 @@ func bodyOf(request *http.Request) ([]byte, error) {
 	return body, nil
 }
 
-// shownIn returns a sequence of any form in the one text that it has in transport form.
+// shownIn returns the sequence of a body, in whatever form that is, in transport form. It fails with errChain.
 func shownIn(body []byte) (string, error) {
 	canonical, err := guard.Canonical(body)
 	made := "{" + base64.StdEncoding.EncodeToString(canonical) + "}"
@@ -89,8 +91,8 @@ func shownIn(body []byte) (string, error) {
 	return made, nil
 }
 
-// leave keeps the certificates that a client leaves. Strangers can leave some too, of keys that they made. So these requests have nonces of their own,
-// and what is known or finds no room is not verified.
+// leave keeps the certificates that a client leaves, and returns their record. Strangers can leave some too, of keys that they made. So these
+// requests have nonces of their own, and what is known or finds no room is not verified.
 func (d *decider) leave(made record, key guard.ProvenKey, proof *httpsig.Proof, asked *asked) record {
 	made.Target = asked.target
 	if err := d.signed.leaving.Take(proof); err != nil {
@@ -101,7 +103,7 @@ func (d *decider) leave(made record, key guard.ProvenKey, proof *httpsig.Proof, 
 		return made.ended(answerRefused, errPast)
 	}
 	var err error
-	if made.Answer, err = d.chains.becomes(made.Key, chain, d.now()); err != nil {
+	if made.Answer, err = d.chains.whyNotAdded(made.Key, chain, d.now()); err != nil {
 		return made.ended(answerFailed, err)
 	}
 	if made.Answer != "" {
@@ -122,14 +124,14 @@ func (d *decider) checkLeft(made *record, key guard.ProvenKey, sequence string) 
 	}
 	found := shownBy(signatures)
 	made.Certificates = found.names
-	standing, err := found.notEnded(d.keeper.present.Load())
+	notEnded, err := found.notEnded(d.keeper.present.Load())
 	if err != nil {
 		return err
 	}
-	if standing < len(signatures) {
-		return fmt.Errorf("%w: certificate %s has ended", errUnkept, found.names[standing])
+	if notEnded < len(signatures) {
+		return fmt.Errorf("%w: certificate %s has ended", errUnkept, found.names[notEnded])
 	}
-	isSubject, err := d.config.names(subjectOf(signatures[standing-1].Message), key, d.now())
+	isSubject, err := d.config.names(subjectOf(signatures[notEnded-1].Message), key, d.now())
 	if err != nil {
 		return err
 	}

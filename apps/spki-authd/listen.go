@@ -15,7 +15,7 @@ const (
 	tlsScheme  = "tls:"
 )
 
-// checkEntrance says what is wrong in who may ask: it must be the web server alone. The web server in turn must know that it is this daemon that
+// checkEntrance says what is wrong in `listen` and the fields for it. Only the web server may be able to ask, and it must know that this daemon
 // answers: by the folder of a socket, or by a certificate.
 func (c *config) checkEntrance() error {
 	if path := strings.TrimPrefix(c.Listen, unixScheme); path != c.Listen {
@@ -40,7 +40,7 @@ func (c *config) checkEntrance() error {
 	return nil
 }
 
-// checkSocket says what is wrong in a Unix socket.
+// checkSocket says what is wrong in the fields for a Unix socket at a path.
 func (c *config) checkSocket(path string) error {
 	mode, err := modeOf(c.SocketMode)
 	if err != nil || !strings.HasPrefix(path, "/") {
@@ -49,18 +49,18 @@ func (c *config) checkSocket(path string) error {
 	if c.TLS != nil {
 		return errors.New(`"tls" is for a port`)
 	}
-	return c.mayBeOpenTo(mode)
+	return c.checkMode(mode)
 }
 
-// mayBeOpenTo says whether a socket may have a mode.
-func (c *config) mayBeOpenTo(mode fs.FileMode) error {
+// checkMode returns an error if everyone may write to a socket of this mode and there is no secret.
+func (c *config) checkMode(mode fs.FileMode) error {
 	if mode&0o007 != 0 && c.SecretFile == "" {
 		return errors.New("everyone may write to the socket by its mode, and there is no secret_file")
 	}
 	return nil
 }
 
-// modeOf reads the mode of a socket.
+// modeOf reads the mode of a socket, such as 0660. It fails if the mode has more than the rights to read and to write.
 func modeOf(text string) (fs.FileMode, error) {
 	mode, err := strconv.ParseUint(text, 8, 12)
 	if err == nil && mode&^0o666 != 0 {
@@ -75,13 +75,13 @@ func (c *config) listen() (net.Listener, error) {
 	if err == nil && listener != nil {
 		err = c.checkInherited(listener)
 	} else if err == nil {
-		listener, err = c.opened()
+		listener, err = c.openEntrance()
 	}
 	if err == nil {
 		err = widen(listener)
 	}
 	if err != nil {
-		return nil, closed(listener, err)
+		return nil, closeAfter(listener, err)
 	}
 	if c.TLS == nil {
 		return listener, nil
@@ -89,16 +89,16 @@ func (c *config) listen() (net.Listener, error) {
 	return c.TLS.around(listener), nil
 }
 
-// closed closes a listener after a fault.
-func closed(listener net.Listener, fault error) error {
+// closeAfter closes a listener, which may be nil, and returns the fault after which it does.
+func closeAfter(listener net.Listener, fault error) error {
 	if listener != nil {
 		listener.Close()
 	}
 	return fault
 }
 
-// opened opens the socket or the port.
-func (c *config) opened() (net.Listener, error) {
+// openEntrance opens the socket or the port of the configuration.
+func (c *config) openEntrance() (net.Listener, error) {
 	if address := strings.TrimPrefix(c.Listen, tlsScheme); address != c.Listen {
 		return net.Listen("tcp", address)
 	}
@@ -108,7 +108,7 @@ func (c *config) opened() (net.Listener, error) {
 		return nil, err
 	}
 	if err := c.setOwner(path); err != nil {
-		return nil, closed(listener, err)
+		return nil, closeAfter(listener, err)
 	}
 	return listener, nil
 }

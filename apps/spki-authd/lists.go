@@ -26,7 +26,7 @@ type list struct {
 	// Where the entries are in a store: what reads it, or, of those that a question needs, their numbers.
 	store   *store
 	numbers []int
-	// Whether one question alone is asked at it.
+	// Whether it is closed after one question.
 	isPassing bool
 }
 
@@ -51,7 +51,7 @@ func (c *config) checkLists() error {
 	return nil
 }
 
-// check says what is wrong in a place behind others.
+// check says what is wrong in a place, also if it is never reached behind the places before it.
 func (p *place) check(before []place) error {
 	if p.List == "" || p.Host != "" && !isHost(p.Host) {
 		return errors.New("a place has a list, and a host in small letters or none")
@@ -67,7 +67,7 @@ func (p *place) check(before []place) error {
 	return nil
 }
 
-// places returns the places of all lists.
+// places returns the places of all lists. A single list has the place of all hosts and paths.
 func (c *config) places() []place {
 	if c.List != "" {
 		return []place{{Prefix: "/", List: c.List, Source: c.Source}}
@@ -75,12 +75,12 @@ func (c *config) places() []place {
 	return c.Lists
 }
 
-// is says whether a place is that of a request.
-func (p *place) is(host, path string) bool {
+// fits says whether a place is for the host and the path of a request.
+func (p *place) fits(host, path string) bool {
 	return (p.Host == "" || p.Host == host) && strings.HasPrefix(path, p.Prefix)
 }
 
-// readList reads the file of an access list.
+// readList reads the file of an access list. The caller closes its guard.
 func readList(path string, policy guard.Policy, limits limits) (*list, error) {
 	octets, err := readFile(path, mostList)
 	if errors.Is(err, errLong) {

@@ -24,12 +24,12 @@ func TestHosts(t *testing.T) {
 	}
 }
 
-// twoSites returns a site with two hosts: on the one Alice may read, on the other Bob. Below /api/ of each it is Carol.
+// twoSites returns a site with a list for each of two hosts: Alice may read on a.example, Bob on b.example. Below /web/api/ of both it is Carol.
 func twoSites(t *testing.T) *site {
 	t.Helper()
 	s := newSite(t, "")
 	list := func(who person) string {
-		return written(t, "acl", "(3:acl(5:entry"+who.key+propagates+"(3:tag"+prefix("read", "/web/")+")))")
+		return writeFile(t, "acl", "(3:acl(5:entry"+who.key+propagates+"(3:tag"+prefix("read", "/web/")+")))")
 	}
 	s.config.List, s.config.Lists = "", []place{
 		{Prefix: "/web/api/", List: list(s.carol)}, {Host: "a.example", List: list(s.alice)}, {Host: "b.example", List: list(s.bob)},
@@ -46,7 +46,7 @@ func twoSites(t *testing.T) *site {
 // TestListsOfHosts asks each host with each right. No right on one of them counts on the other.
 func TestListsOfHosts(t *testing.T) {
 	s := twoSites(t)
-	toMallory := s.alice.signed(s.alice.certificate(s.mallory, prefix("read", "/web/"), ""))
+	toMallory := s.alice.sign(s.alice.certificate(s.mallory, prefix("read", "/web/"), ""))
 	for name, row := range map[string]struct {
 		host         string
 		who          person

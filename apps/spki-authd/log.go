@@ -16,7 +16,7 @@ var rooms = sync.Pool{New: func() any {
 	return &made
 }}
 
-// line returns the record as a line of JSON, in some room: what encoding/json writes, which takes four times as long.
+// line returns the record as a line of JSON, in `room`, which is overwritten: what encoding/json writes, which takes four times as long.
 func (r *record) line(room []byte) []byte {
 	line := fields(room[:0])
 	line.text("time", r.Time, true)
@@ -44,7 +44,7 @@ func (r *record) line(room []byte) []byte {
 // A fields is an object of JSON up to some field.
 type fields []byte
 
-// name begins a field.
+// name writes the name of the next field.
 func (f *fields) name(name string) {
 	begin := byte(',')
 	if len(*f) == 0 {
@@ -61,7 +61,7 @@ func (f *fields) text(name, value string, isNeeded bool) {
 	}
 }
 
-// texts writes a field with texts, if there are any.
+// texts writes a field with an array of texts, if there are any.
 func (f *fields) texts(name string, values []string) {
 	if len(values) == 0 {
 		return
@@ -103,7 +103,7 @@ var plain = func() (made [256]bool) {
 	return made
 }()
 
-// isPlain says whether a text has only such characters.
+// isPlain says whether a text has only characters that JSON writes as they are.
 func isPlain(text string) bool {
 	for place := 0; place < len(text); place++ {
 		if !plain[text[place]] {

@@ -26,7 +26,7 @@ func TestLines(t *testing.T) {
 	}
 }
 
-// TestLogThatCannotBeWritten asks where no grant can be logged: it is none. A denial stays what it is.
+// TestLogThatCannotBeWritten asks where no grant can be logged: what would be granted fails. A denial stays what it is.
 func TestLogThatCannotBeWritten(t *testing.T) {
 	s := newSite(t, "")
 	if met := s.by(s.alice, "GET", "/web/x", ""); met.StatusCode != 200 {
@@ -65,6 +65,7 @@ func TestLogThatHangs(t *testing.T) {
 	}
 }
 
+// TestNumbersOfRequests asks with numbers in X-Request-Id, and compares what the log has of them.
 func TestNumbersOfRequests(t *testing.T) {
 	s := newSite(t, "")
 	alice := []string{"X-Original-Method", "GET", "X-Original-URI", "/web/x", "X-Client-Cert", s.alice.escaped()}

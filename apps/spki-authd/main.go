@@ -81,7 +81,7 @@ func run(given []string, out, messages io.Writer) int {
 	return statusDone
 }
 
-// wordsOf reads the words of the command line.
+// wordsOf reads the words of the command line, and writes to `messages` what is wrong in them.
 func wordsOf(given []string, messages io.Writer) (words, error) {
 	var made words
 	flags := flag.NewFlagSet("spki-authd", flag.ContinueOnError)
@@ -110,7 +110,7 @@ func wordsOf(given []string, messages io.Writer) (words, error) {
 	return made, err
 }
 
-// check says what is wrong in the words beside the flags, or in flags together.
+// check says what is wrong in flags together. There must be no words beside the flags.
 func (w *words) check(rest []string) error {
 	switch {
 	case len(rest) > 0:
@@ -125,7 +125,7 @@ func (w *words) check(rest []string) error {
 	return nil
 }
 
-// order returns what the daemon of the configuration is ordered, or nothing.
+// order returns the order that the flags give to the running daemon, or an empty text if they give none.
 func (w *words) order() string {
 	switch {
 	case w.isReload && w.isFewer:
@@ -142,7 +142,7 @@ func (w *words) order() string {
 	return ""
 }
 
-// askDaemon asks the daemon of a configuration how it is, or gives it an order.
+// askDaemon prints the health of the daemon of a configuration, or gives it an order and prints its answer.
 func askDaemon(words words, out io.Writer) error {
 	config, err := readConfig(words.config)
 	if err != nil {
@@ -156,7 +156,7 @@ func askDaemon(words words, out io.Writer) error {
 	return err
 }
 
-// checkList says how many entries an access list has.
+// checkList prints how many entries an access list has, or returns why it is refused.
 func checkList(path string, out io.Writer) error {
 	read, err := readList(path, guard.Strict, usualLimits)
 	if err != nil {

@@ -47,7 +47,7 @@ func inherited() (net.Listener, error) {
 	return net.FileListener(file)
 }
 
-// checkInherited says whether a socket of the service manager is that of the configuration. The manager has set its mode and its group.
+// checkInherited returns an error if a socket of the service manager is not that of the configuration. The manager has set its mode and its group.
 func (c *config) checkInherited(listener net.Listener) error {
 	address := listener.Addr()
 	wanted := unixScheme + address.String()
@@ -65,14 +65,14 @@ func (c *config) checkInherited(listener net.Listener) error {
 	if err != nil {
 		return err
 	}
-	if err := c.hasGroup(about); err != nil {
+	if err := c.checkGroup(about); err != nil {
 		return err
 	}
-	return c.mayBeOpenTo(about.Mode().Perm())
+	return c.checkMode(about.Mode().Perm())
 }
 
-// hasGroup says whether a socket has the group of the configuration, which may name none.
-func (c *config) hasGroup(about fs.FileInfo) error {
+// checkGroup returns an error if a socket has another group than that of the configuration, which may name none.
+func (c *config) checkGroup(about fs.FileInfo) error {
 	if c.SocketGroup == "" {
 		return nil
 	}

@@ -38,7 +38,7 @@ func pathOf(target string, most int) (string, error) {
 
 // decoded decodes each `%XX`, once, and refuses the characters that no path has.
 func decoded(sent string) (string, error) {
-	if isOfPaths(sent) {
+	if hasPathOctets(sent) {
 		return sent, nil
 	}
 	path := make([]byte, 0, len(sent))
@@ -59,7 +59,7 @@ func decoded(sent string) (string, error) {
 	return string(path), nil
 }
 
-// isOfPath has the characters that a path may have.
+// isOfPath has true for each octet that a path may have.
 var isOfPath = func() (made [256]bool) {
 	for octet := ' '; octet <= '~'; octet++ {
 		made[octet] = !strings.ContainsRune(`%\;?#`, octet)
@@ -67,8 +67,8 @@ var isOfPath = func() (made [256]bool) {
 	return made
 }()
 
-// isOfPaths says whether a text has only such characters.
-func isOfPaths(text string) bool {
+// hasPathOctets says whether each octet of a text is one of isOfPath.
+func hasPathOctets(text string) bool {
 	for place := 0; place < len(text); place++ {
 		if !isOfPath[text[place]] {
 			return false
@@ -81,7 +81,7 @@ func isHexadecimal(octet byte) bool {
 	return '0' <= octet && octet <= '9' || 'a' <= octet|0x20 && octet|0x20 <= 'f'
 }
 
-// digit returns the value of a hexadecimal digit.
+// digit returns the value of an octet that isHexadecimal.
 func digit(octet byte) byte {
 	if octet <= '9' {
 		return octet - '0'

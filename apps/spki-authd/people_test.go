@@ -29,7 +29,7 @@ type person struct {
 	der     []byte
 }
 
-// newPerson makes a person.
+// newPerson makes a person with a new key.
 func newPerson(t testing.TB) person {
 	t.Helper()
 	public, private, err := ed25519.GenerateKey(rand.Reader)
@@ -69,30 +69,31 @@ func (p person) inBraces() string {
 	return "{" + base64.StdEncoding.EncodeToString([]byte(p.key)) + "}"
 }
 
-// str writes a string in canonical form.
+// str returns a string in canonical form, as 3:abc.
 func str(octets string) string {
 	return fmt.Sprintf("%d:%s", len(octets), octets)
 }
 
-// certificate writes a certificate in canonical form, by which a person gives a right to another one.
+// certificate returns a certificate in canonical form, not signed, by which a person gives another one a right. `more` has further fields, or is
+// empty.
 func (p person) certificate(to person, tag, more string) string {
 	return "(4:cert(6:issuer" + p.key + ")(7:subject" + to.key + ")" + more + "(3:tag" + tag + "))"
 }
 
-// certificateUntil writes a certificate that ends.
+// certificateUntil returns a certificate as certificate does, which ends at a time such as 2030-01-31_12:00:00.
 func (p person) certificateUntil(to person, tag, end string) string {
 	return "(4:cert(6:issuer" + p.key + ")(7:subject" + to.key + ")(3:tag" + tag + ")(5:valid(9:not-after" + str(end) + ")))"
 }
 
-// signed returns a certificate with its signature.
-func (p person) signed(certificate string) string {
+// sign returns a certificate with this person's signature behind it.
+func (p person) sign(certificate string) string {
 	digest := sha256.Sum256([]byte(certificate))
 	octets := ed25519.Sign(p.private, []byte(certificate))
 	value := "(7:sig-val(5:eddsa(1:r" + str(string(octets[:32])) + ")(1:s" + str(string(octets[32:])) + ")))"
 	return certificate + "(9:signature(4:hash6:sha256" + str(string(digest[:])) + ")" + p.key + value + ")"
 }
 
-// sequence returns certificates as a client sends them.
+// sequence returns signed certificates as one sequence in transport form, as a client sends them.
 func sequence(signed ...string) string {
 	return "{" + base64.StdEncoding.EncodeToString([]byte("(8:sequence"+strings.Join(signed, "")+")")) + "}"
 }
@@ -103,13 +104,13 @@ func digestOfText(certificate string) string {
 	return hex.EncodeToString(digest[:])
 }
 
-// prefix writes the tag of the files that a word may be done to, below a path.
+// prefix returns the tag of all files below a path, for a word such as read.
 func prefix(word, path string) string {
 	return "(5:files" + str(word) + "(1:*6:prefix" + str(path) + "))"
 }
 
-// sealed returns the lines of ended certificates with their last line.
-func sealed(lines string) string {
+// withLastLine returns lines of ended certificates with the last line that such a file must have.
+func withLastLine(lines string) string {
 	digests := 0
 	for _, line := range strings.Split(lines, "\n") {
 		if line != "" && line[0] != '#' {
@@ -122,8 +123,8 @@ func sealed(lines string) string {
 // propagates lets the subject delegate.
 const propagates = "(9:propagate)"
 
-// written writes a file, and returns its path.
-func written(t testing.TB, name, text string) string {
+// writeFile writes a file in a folder of its own, and returns its path.
+func writeFile(t testing.TB, name, text string) string {
 	t.Helper()
 	path := filepath.Join(t.TempDir(), name)
 	if err := os.WriteFile(path, []byte(text), 0o600); err != nil {

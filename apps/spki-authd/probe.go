@@ -39,8 +39,8 @@ const (
 // another host, too many requests, too long a header, and a method or a version that it does not have.
 var denials = map[int]bool{400: true, 401: true, 403: true, 405: true, 421: true, 429: true, 431: true, 501: true, 505: true}
 
-// verdictOf says what a status means. What is neither a denial nor a fault of the server is a grant, also 404: that there is no such file is said
-// behind the decision, and so is 301, 304, 409, 412 or 416.
+// verdictOf says what a status means. What is neither a denial nor a fault of the server counts as granted, also 301, 304, 404, 409, 412 and 416: a
+// server says these after the decision.
 func verdictOf(status int) verdict {
 	switch {
 	case denials[status]:
@@ -51,8 +51,8 @@ func verdictOf(status int) verdict {
 	return isGranted
 }
 
-// probeSite asks the site at an address, with the daemon or, in a second call, without it. It says what was granted, and returns nil only if that
-// is nothing, and if the answers show that the daemon was asked.
+// probeSite sends the site at an address requests that it must deny, and prints those that it grants. isStopped says that the daemon is stopped
+// meanwhile. The error is nil only if nothing was granted, and if the answers show that the daemon was asked, or was stopped.
 func probeSite(address string, isStopped bool, out io.Writer) error {
 	base, err := baseOf(address)
 	if err != nil {
@@ -64,14 +64,14 @@ func probeSite(address string, isStopped bool, out io.Writer) error {
 	}
 	made := &probe{base: base, isStopped: isStopped, out: out}
 	for _, each := range askers {
-		if err := made.asks(each); err != nil {
+		if err := made.sendAll(each); err != nil {
 			return err
 		}
 	}
 	return made.end()
 }
 
-// baseOf reads the address of a folder.
+// baseOf reads the address of a folder, or fails with errBase.
 func baseOf(address string) (*url.URL, error) {
 	base, err := url.Parse(address)
 	if err != nil || base.Scheme != "https" && base.Scheme != "http" {
@@ -80,14 +80,16 @@ func baseOf(address string) (*url.URL, error) {
 	if base.Host == "" || base.User != nil || base.RawQuery != "" || base.Fragment != "" {
 		return nil, errBase
 	}
-	if base.Path = strings.TrimSuffix(base.Path, "/"); base.RawPath != "" {
+	base.Path = strings.TrimSuffix(base.Path, "/")
+	if base.RawPath != "" {
 		return nil, errBase
 	}
 	return base, nil
 }
 
-// asks sends all requests of an asker, and prints how often each status was the answer.
-func (p *probe) asks(by asker) error {
+// sendAll sends all requests of an asker, and prints how often each status was the answer. An asker whose protocol or key the server does not take is
+// left out.
+func (p *probe) sendAll(by asker) error {
 	first, err := by.send(p.base, tries[0])
 	if err != nil && by.mayFail {
 		fmt.Fprintf(p.out, "%s: left out, the server gives no answer: %v\n", by.name, err)
@@ -118,24 +120,24 @@ func (p *probe) asks(by asker) error {
 			p.note(by, answer, counts)
 		}
 	}
-	fmt.Fprintf(p.out, "%s: %s\n", by.name, listed(counts))
+	fmt.Fprintf(p.out, "%s: %s\n", by.name, countsAsText(counts))
 	return nil
 }
 
-// note counts an answer, and says if it is a grant.
-func (p *probe) note(by asker, met answered, counts map[string]int) {
+// note counts an answer, also in `counts` by its status, and prints it if it is a grant.
+func (p *probe) note(by asker, answer answered, counts map[string]int) {
 	p.sent++
-	counts[fmt.Sprint(met.status)]++
-	switch verdictOf(met.status) {
+	counts[fmt.Sprint(answer.status)]++
+	switch verdictOf(answer.status) {
 	case isFailed:
 		p.failed++
 	case isGranted:
 		p.granted++
-		fmt.Fprintf(p.out, "granted: %s %s is %d: %s%s\n", met.try.method, met.target, met.status, by.name, met.left())
+		fmt.Fprintf(p.out, "granted: %s %s is %d: %s%s\n", answer.try.method, answer.target, answer.status, by.name, answer.left())
 	}
 }
 
-// end says what all answers show.
+// end returns errGranted if anything was granted, and errShown if the daemon was to be stopped and was not. Otherwise it prints the total.
 func (p *probe) end() error {
 	switch {
 	case p.granted > 0:
@@ -147,7 +149,7 @@ func (p *probe) end() error {
 	return nil
 }
 
-// left says what a granted request may have made.
+// left returns what is printed behind a grant that may have made something, or an empty text.
 func (a answered) left() string {
 	if a.status/100 != 2 || !a.try.makes {
 		return ""
@@ -155,8 +157,8 @@ func (a answered) left() string {
 	return "; remove what it has made"
 }
 
-// listed prints how often each answer was met.
-func listed(counts map[string]int) string {
+// countsAsText returns how often each status was the answer, as `401 20 times, 405 3 times`.
+func countsAsText(counts map[string]int) string {
 	names := make([]string, 0, len(counts))
 	for name := range counts {
 		names = append(names, name)
@@ -168,7 +170,7 @@ func listed(counts map[string]int) string {
 	return strings.Join(names, ", ")
 }
 
-// header returns the header of a request for a second path, where the method needs one.
+// header returns the header of a request. `second` is the name of the second path, for methods that need one.
 func (t try) header(base *url.URL, second string) http.Header {
 	header := http.Header{"User-Agent": {"spki-authd -probe"}}
 	for name, value := range t.more {

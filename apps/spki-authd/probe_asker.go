@@ -43,10 +43,10 @@ var tries = append([]try{
 	{method: "GET", more: map[string]string{"Authorization": "Basic cHJvYmU6cHJvYmU="}},
 	{method: "GET", more: map[string]string{"Cache-Control": "only-if-cached, max-stale"}},
 	{method: "POST", body: textBody, makes: true, more: map[string]string{"X-Http-Method-Override": "PUT"}},
-}, named("{}/", "{}/{}", "{}/index.html", "{}.html", "{}.css", "{}.js", "{}.png", "{}.php", "{}.json", "{}.txt", ".{}", "{}?{}")...)
+}, triesFor("{}/", "{}/{}", "{}/index.html", "{}.html", "{}.css", "{}.js", "{}.png", "{}.php", "{}.json", "{}.txt", ".{}", "{}?{}")...)
 
-// named returns requests that read and write paths of these forms.
-func named(paths ...string) (made []try) {
+// triesFor returns two requests for each of these paths: one that reads it, and one that writes it.
+func triesFor(paths ...string) (made []try) {
 	for _, path := range paths {
 		made = append(made, try{method: "GET", path: path}, try{method: "PUT", path: path, body: textBody, makes: true})
 	}
@@ -82,7 +82,8 @@ type answered struct {
 	status, protocol int
 }
 
-// askersOf returns who asks: nobody, and a key that nobody knows, by each protocol of the address.
+// askersOf returns the askers of a site: one without a key and one with a key that nobody knows, by each protocol of its address. Without TLS there
+// is only one without a key.
 func askersOf(base *url.URL) ([]asker, error) {
 	if base.Scheme == "http" {
 		return []asker{newAsker("HTTP/1.1 without TLS", 1, nil)}, nil
@@ -112,7 +113,7 @@ func newAsker(name string, protocol int, own *tls.Certificate) asker {
 	return asker{name, protocol, own != nil, client}
 }
 
-// newStrange makes a key, and a certificate for TLS that it signs itself.
+// newStrange makes a new key, and a certificate for TLS that this key has signed.
 func newStrange() (*tls.Certificate, error) {
 	private, err := ecdsa.GenerateKey(elliptic.P256(), rand.Reader)
 	if err != nil {
@@ -124,7 +125,7 @@ func newStrange() (*tls.Certificate, error) {
 	return &tls.Certificate{Certificate: [][]byte{octets}, PrivateKey: private}, err
 }
 
-// send sends a request, for a path that nobody has asked for before. Where it is one too many, it waits and sends it again.
+// send sends a request, for a path that nobody has asked for before. While the answer is 429, it waits and sends another one, up to mostAgain times.
 func (a asker) send(base *url.URL, each try) (answered, error) {
 	if each.isOld && a.protocol != 1 {
 		return answered{}, errNotSent
@@ -141,17 +142,17 @@ func (a asker) send(base *url.URL, each try) (answered, error) {
 	}
 }
 
-// sendOnce sends a request once.
+// sendOnce sends a request once, for a new path. What was asked and the status of the answer are returned, but not its body.
 func (a asker) sendOnce(base *url.URL, each try) (made answered, err error) {
 	path := each.path
 	if path == "" {
 		path = "{}"
 	}
-	target, err := fresh(base, path)
+	target, err := freshAddress(base, path)
 	if err != nil {
 		return made, err
 	}
-	second, err := drawn()
+	second, err := randomName()
 	if err != nil {
 		return made, err
 	}
@@ -170,10 +171,10 @@ func (a asker) sendOnce(base *url.URL, each try) (made answered, err error) {
 	return answered{each, request.URL.RequestURI(), response.StatusCode, response.ProtoMajor}, nil
 }
 
-// fresh returns the address of a path of some form, with names that are drawn by chance.
-func fresh(base *url.URL, path string) (string, error) {
+// freshAddress returns the address of a path, in which each `{}` is replaced by a name that is drawn by chance.
+func freshAddress(base *url.URL, path string) (string, error) {
 	for strings.Contains(path, "{}") {
-		name, err := drawn()
+		name, err := randomName()
 		if err != nil {
 			return "", err
 		}
@@ -182,8 +183,8 @@ func fresh(base *url.URL, path string) (string, error) {
 	return base.String() + "/" + path, nil
 }
 
-// drawn returns a name that nobody has used before.
-func drawn() (string, error) {
+// randomName returns a name that nobody has used before.
+func randomName() (string, error) {
 	var octets [16]byte
 	_, err := rand.Read(octets[:])
 	return "spki-probe-" + hex.EncodeToString(octets[:]), err

@@ -12,8 +12,8 @@ import (
 	"time"
 )
 
-// probed starts a site with some handler, probes it, and returns the status, what was said, and the paths that were asked for.
-func probed(t *testing.T, handler func(http.ResponseWriter, *http.Request), words ...string) (status int, said string, paths []string) {
+// probeHandler probes a site that a handler answers, and returns the exit status, what was printed, and the paths that were asked for.
+func probeHandler(t *testing.T, handler func(http.ResponseWriter, *http.Request), words ...string) (status int, said string, paths []string) {
 	t.Helper()
 	var mutex sync.Mutex
 	server := httptest.NewUnstartedServer(http.HandlerFunc(func(answer http.ResponseWriter, request *http.Request) {
@@ -34,7 +34,7 @@ func probed(t *testing.T, handler func(http.ResponseWriter, *http.Request), word
 	return status, out.String() + messages.String(), paths
 }
 
-// denies answers 401, except where a hole is: there the status is another one.
+// denies returns a handler that answers 401, except where a hole is: there it answers another status.
 func denies(isHole func(*http.Request) bool, status int) func(http.ResponseWriter, *http.Request) {
 	return func(answer http.ResponseWriter, request *http.Request) {
 		if isHole(request) {
@@ -48,7 +48,7 @@ func denies(isHole func(*http.Request) bool, status int) func(http.ResponseWrite
 func never(*http.Request) bool  { return false }
 func always(*http.Request) bool { return true }
 
-// isMethod says that the hole is for one method.
+// isMethod returns a hole that is for one method.
 func isMethod(method string) func(*http.Request) bool {
 	return func(request *http.Request) bool { return request.Method == method }
 }
@@ -60,7 +60,7 @@ func hasSuffix(suffix string) func(*http.Request) bool {
 	return func(request *http.Request) bool { return strings.HasSuffix(request.URL.Path, suffix) }
 }
 
-// Each hole is found, and what denies passes.
+// TestProbe probes sites with a hole, each of which is found, and sites that deny all.
 func TestProbe(t *testing.T) {
 	for name, each := range map[string]struct {
 		isHole         func(*http.Request) bool
@@ -94,7 +94,7 @@ func TestProbe(t *testing.T) {
 		"too many for ever":         {isMethod("PUT"), 429, statusRefused, "", "each answer to PUT is 429"},
 	} {
 		t.Run(name, func(t *testing.T) {
-			status, said, paths := probed(t, denies(each.isHole, each.answer), strings.Fields(each.words)...)
+			status, said, paths := probeHandler(t, denies(each.isHole, each.answer), strings.Fields(each.words)...)
 			if status != each.status || !strings.Contains(said, each.said) {
 				t.Errorf("status %d, and must be %d with %q: %s", status, each.status, each.said, said)
 			}
@@ -105,10 +105,10 @@ func TestProbe(t *testing.T) {
 	}
 }
 
-// No path is asked for twice, and each is one that was drawn by chance. So is the second path of COPY and MOVE.
+// TestProbePaths compares the paths that are asked for: none is asked for twice, and each is drawn by chance. So is the second path of COPY and MOVE.
 func TestProbePaths(t *testing.T) {
 	seconds := map[string]bool{}
-	_, _, paths := probed(t, func(answer http.ResponseWriter, request *http.Request) {
+	_, _, paths := probeHandler(t, func(answer http.ResponseWriter, request *http.Request) {
 		if second := request.Header.Get("Destination"); second != "" {
 			seconds[second] = true
 		}
@@ -131,10 +131,10 @@ func TestProbePaths(t *testing.T) {
 	}
 }
 
-// A request that is one too many is sent again.
+// TestProbeAgain answers some requests by 429: they are sent again.
 func TestProbeAgain(t *testing.T) {
 	count := 0
-	status, said, _ := probed(t, func(answer http.ResponseWriter, _ *http.Request) {
+	status, said, _ := probeHandler(t, func(answer http.ResponseWriter, _ *http.Request) {
 		if count++; count%3 != 0 {
 			answer.WriteHeader(http.StatusTooManyRequests)
 			return
@@ -146,7 +146,7 @@ func TestProbeAgain(t *testing.T) {
 	}
 }
 
-// What is no address of a folder, and a flag that goes with another one.
+// TestProbeWords probes what is no address of a folder, and gives a flag without the one that it goes with.
 func TestProbeWords(t *testing.T) {
 	for _, words := range [][]string{{"-probe", "files"}, {"-probe", "ftp://localhost/"}, {"-probe", "https://u:p@localhost/"},
 		{"-probe", "https://localhost/?x"}, {"-probe", "https:///x"}, {"-probe", "https://localhost/%2F/"}} {

@@ -8,9 +8,9 @@ import (
 // A rates has how often each key, or each address, may ask: so often a second, and at first or after a pause twice as often. What has not asked for
 // long is forgotten, and may then ask as at first.
 type rates struct {
-	mutex  sync.Mutex
-	second float64
-	known  *recent[string, *bucket]
+	mutex     sync.Mutex
+	perSecond float64
+	known     *recent[string, *bucket]
 }
 
 // A bucket has the requests that are left, as they were at a moment.
@@ -26,27 +26,28 @@ const (
 )
 
 // newRates returns rates of so many requests a second. With 0 each request is allowed.
-func newRates(second int) *rates {
-	return &rates{second: float64(second), known: newRecent[string, *bucket](mostKnown)}
+func newRates(perSecond int) *rates {
+	return &rates{perSecond: float64(perSecond), known: newRecent[string, *bucket](mostKnown)}
 }
 
-// allows says whether one more request is allowed, and takes it. A clock that goes back gives nothing.
+// allows says whether a key or an address may make one more request, and counts that. A clock that goes back gives nothing.
 func (r *rates) allows(who string, now time.Time) bool {
-	if r.second == 0 {
+	if r.perSecond == 0 {
 		return true
 	}
 	r.mutex.Lock()
 	defer r.mutex.Unlock()
 	has, isKnown := r.known.get(who)
 	if !isKnown {
-		has = &bucket{left: saved * r.second, at: now}
+		has = &bucket{left: saved * r.perSecond, at: now}
 		r.known.add(who, has)
 	}
 	if since := now.Sub(has.at).Seconds(); since > 0 {
-		has.left += since * r.second
+		has.left += since * r.perSecond
 	}
-	if has.at = now; has.left > saved*r.second {
-		has.left = saved * r.second
+	has.at = now
+	if has.left > saved*r.perSecond {
+		has.left = saved * r.perSecond
 	}
 	if has.left < 1 {
 		return false

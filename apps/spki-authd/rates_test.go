@@ -7,6 +7,7 @@ import (
 	"time"
 )
 
+// TestRates asks as two clients at several times, and counts how many requests are allowed.
 func TestRates(t *testing.T) {
 	made, now := newRates(5), time.Unix(1_000_000, 0)
 	count := func(who string, times int) (allowed int) {
@@ -82,6 +83,7 @@ func TestLimited(t *testing.T) {
 	}
 }
 
+// TestClock notes moments, of which one is far before the one noted last.
 func TestClock(t *testing.T) {
 	var made clock
 	begin := time.Unix(1_000_000, 0)

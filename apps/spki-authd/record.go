@@ -51,7 +51,7 @@ type record struct {
 	numbers []int
 }
 
-// number returns the number of the entry at a place from 1, and 0 for 0.
+// number returns the number of an entry by its place in the guard, from 1, and 0 for 0. Where entries are in a store, it is that in the store.
 func (r *record) number(place int) int {
 	if place > 0 && place <= len(r.numbers) {
 		return r.numbers[place-1]
@@ -59,13 +59,13 @@ func (r *record) number(place int) int {
 	return place
 }
 
-// ended returns the record of a request that a fault ends.
+// ended returns the record with an answer, and with the fault that is the reason of it.
 func (r record) ended(answer answer, fault error) record {
 	r.Answer, r.Reason = answer, fault.Error()
 	return r
 }
 
-// setKnown says by which list and by which of the certificates whose signatures are known a request is decided: up to the first that has ended.
+// setKnown notes the list, and the certificates whose signatures are known. `valid` of them precede the first that has ended, which is noted too.
 func (r *record) setKnown(at *list, known *shown, valid int) {
 	r.List, r.numbers, r.Certificates, r.Cached = at.digest, at.numbers, known.names, valid
 	if valid < len(known.names) {
@@ -74,12 +74,13 @@ func (r *record) setKnown(at *list, known *shown, valid int) {
 	}
 }
 
-// setEnded says which certificate has ended early.
+// setEnded notes as the reason that a certificate has ended early.
 func (r *record) setEnded(certificate string) {
 	r.Reason = "certificate " + certificate + " has ended"
 }
 
-// status returns the status of an answer. Only yes is 200: no web server takes certificates that are kept for a grant.
+// status returns the HTTP status of an answer, where `refused` is `refused_status`. Only yes is 200: no web server takes certificates that are kept
+// for a grant.
 func (a answer) status(refused int) int {
 	switch a {
 	case answerYes:
@@ -103,8 +104,8 @@ func (a answer) status(refused int) int {
 	return http.StatusServiceUnavailable
 }
 
-// response returns what the web server is told, in some room. It has no body, so it is the same for HEAD. The headers have digits, words of the
-// daemon and lines of the library alone, and nothing that a client sent. After the last answer the connection is closed.
+// response returns what the web server is told, in `room`, which is overwritten. It has no body, so it is the same for HEAD. The headers have digits,
+// words of the daemon and lines of the library alone, and nothing that a client sent. After the last answer the connection is closed.
 func (r *record) response(room []byte, now time.Time, isLast bool) []byte {
 	made := append(room[:0], "HTTP/1.1 "...)
 	made = strconv.AppendInt(made, int64(r.Status), 10)
@@ -153,7 +154,7 @@ type second struct {
 // The second that was written last. To write one takes a microsecond.
 var present atomic.Pointer[second]
 
-// secondOf returns how a moment's second is written.
+// secondOf returns the texts of a moment's second, which are kept until another second is asked for.
 func secondOf(moment time.Time) *second {
 	if known := present.Load(); known != nil && known.unix == moment.Unix() {
 		return known

@@ -54,7 +54,7 @@ func (r rule) check() error {
 	return nil
 }
 
-// checkPrefix says what is wrong in the beginning of paths.
+// checkPrefix says what is wrong in a prefix of paths.
 func checkPrefix(prefix string) error {
 	if !strings.HasPrefix(prefix, "/") || !strings.HasSuffix(prefix, "/") {
 		return errors.New("a prefix begins and ends with `/`")
@@ -78,8 +78,8 @@ func (r rule) needsHost() bool {
 	return false
 }
 
-// requestOf returns the strings of the request that a host, a method and a path mean, and the number of the rule that says it. They are nil if no
-// rule does.
+// requestOf returns the strings of the request that a host, a method and a path mean, and the number of the first rule that fits, from 1. With no
+// rule these are nil and 0. A rule that lacks the method gives nil and its number.
 func requestOf(rules []rule, host, method, path string) (request []string, number int) {
 	for place, rule := range rules {
 		if rule.Host != "" && rule.Host != host || !strings.HasPrefix(path, rule.Prefix) {

@@ -35,7 +35,7 @@ type daemon struct {
 	backs int64
 }
 
-// open opens the logs.
+// open opens the log of grants, and begins to write that log, other answers and messages.
 func (d *daemon) open(out, messages io.Writer) error {
 	ledger, err := openLedger(d.config.Log, d.config.LogSync)
 	if err != nil {
@@ -59,21 +59,21 @@ func (d *daemon) listenAndServe() error {
 	}
 	control, err := openSocket(d.config.controlPath())
 	if err != nil {
-		return closed(listener, err)
+		return closeAfter(listener, err)
 	}
 	defer control.Close()
 	go d.serveControl(control)
 	return d.serve(listener)
 }
 
-// close writes what is not yet written.
+// close writes the lines that wait, and closes the log of grants.
 func (d *daemon) close() {
 	d.other.flush()
 	d.messages.flush()
 	d.granted.do(d.ledger.close)
 }
 
-// serve answers until a signal ends it. Questions under way are answered.
+// serve answers until a signal ends it, and does orders and signals meanwhile. Questions under way are answered.
 func (d *daemon) serve(listener net.Listener) error {
 	door := newDoor(d.decider)
 	go door.serve(listener)
@@ -116,10 +116,10 @@ func (d *daemon) end(listener net.Listener, door *door) error {
 	return err
 }
 
-// reload reads the files again, and says so to the service manager and in a message.
-func (d *daemon) reload(mayLose bool) error {
+// reload reads the files again, as the keeper's reload, and says so to the service manager and in a message.
+func (d *daemon) reload(allowFewerEnded bool) error {
 	_ = notify("RELOADING=1")
-	err := d.keeper.reload(d.config, mayLose, d.now())
+	err := d.keeper.reload(d.config, allowFewerEnded, d.now())
 	d.tell("reloaded", err)
 	_ = notify(d.statusLine() + "\nREADY=1")
 	return err
@@ -145,7 +145,7 @@ func (d *daemon) statusLine() string {
 	return made
 }
 
-// tell writes what the daemon did, with the lists that it has now.
+// tell writes a message on what the daemon did, or did not because of a fault, with the lists that it has now.
 func (d *daemon) tell(what string, fault error) {
 	present := d.keeper.present.Load()
 	made := event{

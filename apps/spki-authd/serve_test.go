@@ -26,7 +26,7 @@ type served struct {
 	open []net.Conn
 }
 
-// serveHere begins to answer.
+// serveHere returns a site that a daemon in this process answers for at a socket, until the test ends. `fields` are those of newSite.
 func serveHere(t *testing.T, fields string) *served {
 	t.Helper()
 	room := t.TempDir()
@@ -72,7 +72,7 @@ func waitFor(t *testing.T, path string) {
 	t.Fatal("nobody listens at ", path)
 }
 
-// get returns the status of a request by Alice.
+// get returns the status of a request by Alice to read a target, or 0 after an error.
 func (s *served) get(t *testing.T, target string) int {
 	request, err := http.NewRequest(http.MethodGet, "http://daemon/", nil)
 	if err != nil {
@@ -92,6 +92,7 @@ func (s *served) get(t *testing.T, target string) int {
 	return response.StatusCode
 }
 
+// TestReloadsUnderLoad reads the list again and again beside requests, each of which gets its right answer.
 func TestReloadsUnderLoad(t *testing.T) {
 	s := serveHere(t, "")
 	var all sync.WaitGroup
@@ -116,6 +117,8 @@ func TestReloadsUnderLoad(t *testing.T) {
 	all.Wait()
 }
 
+// TestConnectionsAreBounded opens more connections than may be, by clients that never send the rest of a request. Another client is answered after
+// them.
 func TestConnectionsAreBounded(t *testing.T) {
 	s := serveHere(t, `, "limits": {"connections": 2, "seconds": 1}`)
 	var waiting []net.Conn
@@ -159,7 +162,7 @@ func TestOtherRequests(t *testing.T) {
 		"late body": "GET / HTTP/1.1\r\nHost: x\r\nContent-Length: 9\r\nExpect: 100-continue\r\n\r\n",
 	} {
 		before := s.lines()
-		octets := s.sent(t, text)
+		octets := s.exchange(t, text)
 		if bytes.Contains(octets, []byte(" 200 ")) || len(octets) > 0 && !bytes.Contains(octets, []byte("\r\nX-Spki-Answer: ")) {
 			t.Errorf("%s: %q", name, octets)
 		}
@@ -172,8 +175,8 @@ func TestOtherRequests(t *testing.T) {
 	}
 }
 
-// sent returns what the daemon answers to octets, until it closes the connection.
-func (s *served) sent(t *testing.T, text string) []byte {
+// exchange sends the daemon a text, and returns all that it answers until it closes the connection.
+func (s *served) exchange(t *testing.T, text string) []byte {
 	t.Helper()
 	connection, err := net.Dial("unix", s.socket)
 	if err != nil {
@@ -186,7 +189,7 @@ func (s *served) sent(t *testing.T, text string) []byte {
 	return octets
 }
 
-// request returns a request by Alice, with more lines in its header.
+// request returns the text of an HTTP request that asks whether Alice may read a target. `more` has lines for its header.
 func (s *served) request(method, target, more string) string {
 	return method + " / HTTP/1.1\r\nHost: x\r\nX-Original-Method: GET\r\nX-Original-URI: " + target + "\r\nX-Client-Cert: " + s.alice.escaped() + "\r\n" +
 		more + "\r\n"
@@ -195,7 +198,7 @@ func (s *served) request(method, target, more string) string {
 // TestRequestsInOneConnection sends requests one behind the other. Each is answered in its turn, without a body.
 func TestRequestsInOneConnection(t *testing.T) {
 	s := serveHere(t, "")
-	octets := s.sent(t, s.request("GET", "/web/x", "")+s.request("HEAD", "/web/../x", "")+s.request("GET", "/x", "")+
+	octets := s.exchange(t, s.request("GET", "/web/x", "")+s.request("HEAD", "/web/../x", "")+s.request("GET", "/x", "")+
 		s.request("GET", "/web/y", "Connection: close\r\n")+s.request("GET", "/web/z", ""))
 	var met []string
 	for _, answer := range strings.Split(string(octets), "\r\n\r\n") {
@@ -224,7 +227,7 @@ func TestWaitingConnections(t *testing.T) {
 	if _, err := first.Read(make([]byte, 1)); err != nil {
 		t.Fatal(err)
 	}
-	if octets := s.sent(t, s.request("GET", "/web/y", "Connection: close\r\n")); !bytes.HasPrefix(octets, []byte("HTTP/1.1 200 ")) || s.lines() != 2 {
+	if octets := s.exchange(t, s.request("GET", "/web/y", "Connection: close\r\n")); !bytes.HasPrefix(octets, []byte("HTTP/1.1 200 ")) || s.lines() != 2 {
 		t.Errorf("beside an idle one: %q, %d lines", octets, s.lines())
 	}
 	busy, err := net.Dial("unix", s.socket)
@@ -235,7 +238,7 @@ func TestWaitingConnections(t *testing.T) {
 		t.Fatal(err)
 	}
 	answered := make(chan []byte)
-	go func() { answered <- s.sent(t, s.request("GET", "/web/y", "Connection: close\r\n")) }()
+	go func() { answered <- s.exchange(t, s.request("GET", "/web/y", "Connection: close\r\n")) }()
 	select {
 	case octets := <-answered:
 		t.Errorf("answered beside a busy one: %q", octets)
@@ -339,6 +342,7 @@ func (s *served) lines() int {
 	return strings.Count(s.log.String(), "\n")
 }
 
+// TestSockets opens sockets where a daemon listens, where a file is, and where an ended daemon has left one.
 func TestSockets(t *testing.T) {
 	s := serveHere(t, "")
 	if about, err := os.Stat(s.socket); err != nil || about.Mode().Perm() != 0o600 {
@@ -347,7 +351,7 @@ func TestSockets(t *testing.T) {
 	if _, err := s.config.listen(); err == nil {
 		t.Error("two daemons have one socket")
 	}
-	file := written(t, "file", "x")
+	file := writeFile(t, "file", "x")
 	s2 := *s.config
 	s2.Listen = unixScheme + file
 	if _, err := s2.listen(); err == nil {
@@ -368,9 +372,10 @@ func TestSockets(t *testing.T) {
 	listener.Close()
 }
 
+// TestWords runs the program with several command lines, and compares the status and what is printed.
 func TestWords(t *testing.T) {
-	list, bad := written(t, "acl", "(acl (entry (public-key (test a)) (tag (*))))"), written(t, "bad", "(acl (entry))")
-	config := written(t, "config", strings.Replace(strings.Replace(least, "/acl", list, 1), `"/log"`, `"`+filepath.Join(t.TempDir(), "log")+`"`, 1))
+	list, bad := writeFile(t, "acl", "(acl (entry (public-key (test a)) (tag (*))))"), writeFile(t, "bad", "(acl (entry))")
+	config := writeFile(t, "config", strings.Replace(strings.Replace(least, "/acl", list, 1), `"/log"`, `"`+filepath.Join(t.TempDir(), "log")+`"`, 1))
 	for line, wanted := range map[string]struct {
 		status    int
 		out, said string

@@ -46,7 +46,7 @@ const (
 	authorization = "Authorization"
 )
 
-// setUsual puts in what was left out. Names are the same in upper and lower case.
+// setUsual sets the names that were left out. Names are the same in upper and lower case.
 func (h *headers) setUsual(usual headers) {
 	usual.Sequence, usual.Secret, usual.ID, usual.Address = usualSequence, usualSecret, usualID, usualAddress
 	for place, name := range h.all() {
@@ -55,7 +55,7 @@ func (h *headers) setUsual(usual headers) {
 	}
 }
 
-// all returns the names one by one.
+// all returns pointers to the names, always in this order.
 func (h *headers) all() []*string {
 	return []*string{&h.Method, &h.URI, &h.Certificate, &h.Sequence, &h.Secret, &h.ID, &h.Host, &h.Address}
 }

@@ -8,9 +8,9 @@ import (
 	"conguraki/spki/guard"
 )
 
-// A shown is a sequence whose signatures are all valid. Which signatures a guard lists depends on the sequence and the policy alone, the policy
-// of a daemon does not change, and a signature stays valid. So nothing in it can become wrong. It says nothing of the key, the request, the time,
-// the list and the ended certificates: each question is decided anew.
+// A shown is a sequence of certificates whose signatures are all valid. Which signatures a guard lists depends on the sequence and the policy alone,
+// the policy of a daemon does not change, and a signature stays valid. So nothing in it can become wrong. It says nothing of the key, the request,
+// the time, the list and the ended certificates: each question is decided anew.
 type shown struct {
 	// The sequence as it was shown, and from the second time on in canonical form: with its signatures, which are valid, and its octets alone.
 	verified guard.Verified
@@ -35,7 +35,7 @@ type sequences struct {
 	kept *recent[string, *shown]
 }
 
-// newSequences returns what keeps sequences. If no signatures are kept, no sequences are.
+// newSequences returns what keeps sequences. `cache` is the number of signatures that are kept: with 0 no sequences are kept either.
 func newSequences(cache int) *sequences {
 	if cache == 0 {
 		return &sequences{newRecent[string, *shown](0)}
@@ -43,7 +43,7 @@ func newSequences(cache int) *sequences {
 	return &sequences{newRecent[string, *shown](mostShown)}
 }
 
-// of returns a sequence whose signatures are known to be valid, or nil.
+// of returns a sequence whose signatures are known to be valid, by its text as it was shown, or nil. An empty text is nothingShown.
 func (s *sequences) of(text string) *shown {
 	if text == "" {
 		return nothingShown
@@ -52,7 +52,7 @@ func (s *sequences) of(text string) *shown {
 	return known
 }
 
-// add keeps a sequence whose signatures are all valid, by which a guard has decided.
+// add keeps a sequence, if it is not too long. Its signatures are all valid, and a guard has decided by it.
 func (s *sequences) add(text string, made *shown) {
 	if len(text) > mostShownOctets || s.kept.half == 0 {
 		return
@@ -61,7 +61,8 @@ func (s *sequences) add(text string, made *shown) {
 	s.kept.add(text, made)
 }
 
-// canonical returns the sequence in canonical form, which takes as long to make as a decision. So a sequence that is shown once has none.
+// canonical returns the valid signatures of a sequence and its text in canonical form. To make that takes as long as a decision, so it is made when
+// the sequence is shown for the second time.
 func (s *shown) canonical() (guard.Verified, []byte) {
 	s.again.Do(func() {
 		if canonical, err := s.verified.Canonical(); err == nil {
@@ -71,7 +72,7 @@ func (s *shown) canonical() (guard.Verified, []byte) {
 	return s.verified, s.text
 }
 
-// shownBy returns a sequence by its signatures, without its text.
+// shownBy returns a sequence with the digests of its certificates, by its signatures. It has no text yet.
 func shownBy(signatures []guard.Signature) *shown {
 	made := &shown{digests: make([]digest, len(signatures)), names: make([]string, len(signatures))}
 	for place, signed := range signatures {
@@ -81,10 +82,11 @@ func shownBy(signatures []guard.Signature) *shown {
 	return made
 }
 
-// notEnded returns the number of certificates up to the first that has ended early, or a fault where a store that says which have is stale.
+// notEnded returns how many certificates precede the first that has ended early, or the number of all. It fails if a store, which can say that one
+// has ended, is stale.
 func (s *shown) notEnded(access *access) (int, error) {
 	if len(s.digests) > 0 {
-		if err := access.areStoresFresh(); err != nil {
+		if err := access.checkStoresFresh(); err != nil {
 			return 0, err
 		}
 	}
@@ -96,7 +98,7 @@ func (s *shown) notEnded(access *access) (int, error) {
 	return len(s.digests), nil
 }
 
-// markFirst marks the first signatures of a question, as many as are valid.
+// markFirst marks the first signatures of a question as valid, so many.
 func markFirst(opened *guard.Asked, valid int) error {
 	for place := 0; place < valid; place++ {
 		if err := opened.Mark(place); err != nil {

@@ -13,7 +13,8 @@ func (s *site) kept() int {
 	return len(s.sequences.kept.old) + len(s.sequences.kept.young)
 }
 
-// mustBe asks three times. If the sequence is valid, it is kept for the second question, and a yes to that for the third.
+// mustBe asks three times, and reports an error unless each status is the one that is wanted. A valid sequence is kept after the first question, and
+// put into canonical form at the second. The last line of the log is returned.
 func (s *site) mustBe(t *testing.T, what string, who person, target, shown string, wanted int) record {
 	t.Helper()
 	for turn := 1; turn <= 3; turn++ {
@@ -86,7 +87,7 @@ func TestKeptSequencesAndEndedCertificates(t *testing.T) {
 	s.mustBe(t, "before", s.carol, "/web/docs/a/b", carols, 200)
 	s.mustBe(t, "before", s.bob, "/web/docs/b", bobs, 200)
 	for place, certificate := range []string{s.toBob, s.toCarol} {
-		s.config.Ended = written(t, "ended", sealed(digestOfText(certificate)+"\n"))
+		s.config.Ended = writeFile(t, "ended", withLastLine(digestOfText(certificate)+"\n"))
 		if err := s.keeper.reload(s.config, true, s.now()); err != nil {
 			t.Fatal(err)
 		}
@@ -109,7 +110,7 @@ func TestKeptSequencesAndTime(t *testing.T) {
 	s := newSite(t, "")
 	s.now = func() time.Time { return time.Date(2026, 1, 1, 0, 0, 0, 0, time.UTC) }
 	until := s.alice.certificateUntil(s.bob, prefix("read", "/web/"), "2026-01-01_00:00:00")
-	shown := sequence(s.alice.signed(until))
+	shown := sequence(s.alice.sign(until))
 	s.mustBe(t, "in its last second", s.bob, "/web/x", shown, 200)
 	s.now = func() time.Time { return time.Date(2026, 1, 1, 0, 0, 1, 0, time.UTC) }
 	s.mustBe(t, "a second later", s.bob, "/web/x", shown, 403)
@@ -117,16 +118,16 @@ func TestKeptSequencesAndTime(t *testing.T) {
 
 func TestOnlyValidSequencesAreKept(t *testing.T) {
 	s := newSite(t, "")
-	forged := s.mallory.signed(s.alice.certificate(s.mallory, prefix("read", "/web/"), propagates))
+	forged := s.mallory.sign(s.alice.certificate(s.mallory, prefix("read", "/web/"), propagates))
 	asAlice := strings.Replace(forged, s.mallory.key+"(7:sig-val", s.alice.key+"(7:sig-val", 1)
 	s.mustBe(t, "a forged one", s.mallory, "/web/x", sequence(asAlice), 403)
-	s.mustBe(t, "a right one and a forged one", s.mallory, "/web/x", sequence(s.alice.signed(s.toBob), asAlice), 403)
+	s.mustBe(t, "a right one and a forged one", s.mallory, "/web/x", sequence(s.alice.sign(s.toBob), asAlice), 403)
 	s.mustBe(t, "no text", s.mallory, "/web/x", "{AAAA}", 400)
 	if s.kept() != 0 {
 		t.Errorf("%d sequences are kept", s.kept())
 	}
 	ended := newSite(t, "")
-	ended.config.Ended = written(t, "ended", sealed(digestOfText(ended.toBob)+"\n"))
+	ended.config.Ended = writeFile(t, "ended", withLastLine(digestOfText(ended.toBob)+"\n"))
 	if err := ended.keeper.reload(ended.config, true, ended.now()); err != nil {
 		t.Fatal(err)
 	}

@@ -31,7 +31,7 @@ type signed struct {
 	names map[string]string
 }
 
-// check says what is wrong in the names.
+// check says what is wrong in the names. Without signatures nothing is.
 func (s *signatures) check() error {
 	if s == nil {
 		return nil
@@ -50,7 +50,7 @@ func (s *signatures) check() error {
 	return nil
 }
 
-// newSigned returns what verifies requests, or nil if none are signed.
+// newSigned returns what verifies signed requests, or nil if the configuration has none.
 func newSigned(c *config, now func() time.Time) *signed {
 	if c.Signatures == nil {
 		return nil
@@ -72,15 +72,16 @@ func newSigned(c *config, now func() time.Time) *signed {
 	return made
 }
 
-// is says whether a request is to be proved by its signature: signatures are read, and it has one of the fields.
-func (s *signed) is(asked *asked) bool {
+// isSigned says whether a request is to be proved by its signature: signatures are read, and it has one of the fields.
+func (s *signed) isSigned(asked *asked) bool {
 	return s != nil && len(asked.header["Signature"])+len(asked.header["Signature-Input"]) > 0
 }
 
-// clientOf returns the client of a request: of its signature, or else of its certificate of TLS. A signature that is refused is not passed over,
-// whatever certificate is there: behind another proxy that would be the proxy's.
+// clientOf returns the client of a request: of its signature, with the proof, or else of its certificate of TLS, without one. A signature that is
+// refused is not passed over, whatever certificate is there: behind another proxy that would be the proxy's. Without either it fails with
+// errNoCertificate.
 func (d *decider) clientOf(asked *asked) (client, *httpsig.Proof, error) {
-	if d.signed.is(asked) {
+	if d.signed.isSigned(asked) {
 		message := httpsig.Message{
 			Method: asked.method, Authority: d.signed.names[asked.host], Target: asked.target, Header: asked.header, Body: asked.left,
 		}
@@ -97,7 +98,8 @@ func (d *decider) clientOf(asked *asked) (client, *httpsig.Proof, error) {
 	return made, nil, err
 }
 
-// takeNonce uses up the nonce of a request that is granted: so only who holds a right fills the store. What was used before is refused.
+// takeNonce uses up the nonce of a signed request that is granted: so only who holds a right fills the store of nonces. One that was used before is
+// refused. Without a proof the record stays as it is.
 func (d *decider) takeNonce(made record, proof *httpsig.Proof) record {
 	if proof == nil || made.Answer != answerYes {
 		return made

@@ -12,7 +12,8 @@ import (
 
 const ofSite = `, "signatures": {"names": ["files.example.org", "files.example.net:8443"]}`
 
-// signs returns the fields of a person's request, in pairs of name and value, as nginx passes them on.
+// signs returns the headers of a request that a person has signed, in pairs of name and value, as nginx passes them on. `sequence` and `body` may be
+// empty.
 func (p person) signs(t testing.TB, method, authority, target, sequence string, body []byte) []string {
 	t.Helper()
 	signer, err := httpsig.NewSigner(p.private)
@@ -32,8 +33,8 @@ func (p person) signs(t testing.TB, method, authority, target, sequence string, 
 	return pairs
 }
 
-// changed returns pairs with another value.
-func changed(pairs []string, name, value string) []string {
+// withValue returns pairs of name and value, with another value for a name.
+func withValue(pairs []string, name, value string) []string {
 	made := append([]string{}, pairs...)
 	for place := 0; place < len(made); place += 2 {
 		if strings.EqualFold(made[place], name) {
@@ -43,7 +44,7 @@ func changed(pairs []string, name, value string) []string {
 	return made
 }
 
-// without returns pairs without those of a name.
+// without returns pairs of name and value, without those of a name.
 func without(pairs []string, name string) []string {
 	var made []string
 	for place := 0; place < len(pairs); place += 2 {
@@ -54,6 +55,7 @@ func without(pairs []string, name string) []string {
 	return made
 }
 
+// TestSigned asks with signed requests, right ones and changed ones, and compares the status and the reason.
 func TestSigned(t *testing.T) {
 	s := newSite(t, ofSite)
 	bobs, _ := s.sequencesShown()
@@ -71,20 +73,20 @@ func TestSigned(t *testing.T) {
 		{"Alice reads, sent again", reads, 400, "nonce-seen"},
 		{"Alice reads, by another's certificate", append(alices("GET", "/web/x", ""), "X-Client-Cert", s.mallory.escaped()), 200, ""},
 		{"Bob reads, by another name", bob, 200, ""},
-		{"Bob's without his chain", changed(bob, "X-Spki-Sequence", ""), 400, "invalid-signature"},
-		{"Bob's to the first name", changed(bob, "X-Original-Host", "files.example.org"), 400, "invalid-signature"},
-		{"another path", changed(alices("GET", "/web/x", ""), "X-Original-URI", "/web/y"), 400, "invalid-signature"},
-		{"another method", changed(alices("GET", "/web/x", ""), "X-Original-Method", "HEAD"), 400, "invalid-signature"},
-		{"another host", changed(alices("GET", "/web/x", ""), "X-Original-Host", "evil.example"), 400, "other-authority"},
-		{"no host", changed(alices("GET", "/web/x", ""), "X-Original-Host", ""), 400, "other-authority"},
+		{"Bob's without his chain", withValue(bob, "X-Spki-Sequence", ""), 400, "invalid-signature"},
+		{"Bob's to the first name", withValue(bob, "X-Original-Host", "files.example.org"), 400, "invalid-signature"},
+		{"another path", withValue(alices("GET", "/web/x", ""), "X-Original-URI", "/web/y"), 400, "invalid-signature"},
+		{"another method", withValue(alices("GET", "/web/x", ""), "X-Original-Method", "HEAD"), 400, "invalid-signature"},
+		{"another host", withValue(alices("GET", "/web/x", ""), "X-Original-Host", "evil.example"), 400, "other-authority"},
+		{"no host", withValue(alices("GET", "/web/x", ""), "X-Original-Host", ""), 400, "other-authority"},
 		{"Alice writes without the right", alices("PUT", "/web/x", "abc"), 401, ""},
-		{"PUT made of GET", changed(alices("GET", "/web/x", ""), "X-Original-Method", "PUT"), 400, "body-without-digest"},
-		{"a bad signature, a certificate", append(changed(alices("GET", "/web/x", ""), "Signature", "spki=:AAAA:"), "X-Client-Cert", s.alice.escaped()),
+		{"PUT made of GET", withValue(alices("GET", "/web/x", ""), "X-Original-Method", "PUT"), 400, "body-without-digest"},
+		{"a bad signature, a certificate", append(withValue(alices("GET", "/web/x", ""), "Signature", "spki=:AAAA:"), "X-Client-Cert", s.alice.escaped()),
 			400, "invalid-signature"},
 		{"half a signature beside a certificate", []string{"X-Original-Method", "GET", "X-Original-URI", "/web/x", "X-Original-Host", "files.example.org",
 			"Signature", "spki=:AAAA:", "X-Client-Cert", s.alice.escaped()}, 400, "malformed"},
 		{"no key", without(alices("GET", "/web/x", ""), "X-Spki-Public-Key"), 400, "absent-field"},
-		{"another's key", changed(alices("GET", "/web/x", ""), "X-Spki-Public-Key", s.bob.inBraces()), 400, "other-key"},
+		{"another's key", withValue(alices("GET", "/web/x", ""), "X-Spki-Public-Key", s.bob.inBraces()), 400, "other-key"},
 		{"two keys", append(alices("GET", "/web/x", ""), "X-Spki-Public-Key", s.alice.inBraces()), 400, "repeated-field"},
 		{"two signatures", append(alices("GET", "/web/x", ""), "Signature", "spki=:AAAA:"), 400, "repeated-field"},
 		{"a certificate alone", []string{"X-Original-Method", "GET", "X-Original-URI", "/web/x", "X-Client-Cert", s.alice.escaped()}, 200, ""},
@@ -101,7 +103,7 @@ func TestSigned(t *testing.T) {
 	}
 }
 
-// Who is denied fills no store: the nonce of a denied request is still free.
+// TestNoncesOfDenials has a signed request denied, which fills no store: its nonce is still free.
 func TestNoncesOfDenials(t *testing.T) {
 	s := newSite(t, `, "signatures": {"names": ["files.example.org"], "nonces": 1}`)
 	denied := s.mallory.signs(t, "GET", "files.example.org", "/web/x", "", nil)
@@ -118,6 +120,7 @@ func TestNoncesOfDenials(t *testing.T) {
 	}
 }
 
+// TestSignaturesAreOff sends a signed request where none are read, and reads wrong settings of signatures.
 func TestSignaturesAreOff(t *testing.T) {
 	s := newSite(t, "")
 	if met := s.ask(s.alice.signs(t, "GET", "files.example.org", "/web/x", "", nil)...); met.StatusCode != http.StatusUnauthorized {

@@ -25,7 +25,8 @@ func openSocket(path string) (net.Listener, error) {
 	return net.Listen("unix", path)
 }
 
-// widen lets more connections wait. Go takes the length of the queue from /proc/sys, and where that is hidden 128, at which clients are refused.
+// widen lets mostWaiting connections wait. Go takes the length of the queue from /proc/sys, and where that is hidden 128, at which clients are
+// refused.
 func widen(listener net.Listener) error {
 	raw, isSystem := listener.(syscall.Conn)
 	if !isSystem {

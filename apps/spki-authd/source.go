@@ -76,7 +76,7 @@ func (s *source) name() string {
 	return "postgres " + s.store.Schema + " at " + s.store.Host
 }
 
-// check puts in what was left out, and says what is wrong.
+// check sets what was left out, and says what is wrong.
 func (s *storeOf) check() error {
 	setText(&s.Schema, usualSchema)
 	for field, usual := range map[*int]int{&s.Port: usualPort, &s.StaleSeconds: usualStale, &s.Connections: usualConnections} {
@@ -108,12 +108,12 @@ func (s *storeOf) isSocket() bool {
 	return strings.HasPrefix(s.Host, "/")
 }
 
-// stale returns the age from which on a state of the store decides nothing.
+// stale returns the age from which on a state of the store is too old to decide by.
 func (s *storeOf) stale() time.Duration {
 	return time.Duration(s.StaleSeconds) * time.Second
 }
 
-// settings returns the settings as a driver takes them, for a server of its own certificate if it is not at a socket.
+// settings returns the settings as a driver takes them. A server that is not at a socket must show a certificate for its host.
 func (s *storeOf) settings() string {
 	made := []string{"sslmode=disable"}
 	if !s.isSocket() {
@@ -141,31 +141,32 @@ func (c *config) nameLists() {
 	}
 }
 
-// read reads a list, or opens its store. A store that does not answer is none that cannot be read: requests are answered with 503 until it does.
+// read reads a list, or opens its store and begins to poll it. That a store does not answer is no error here: requests are answered with 503 until it
+// does.
 func (p *place) read(policy guard.Policy, c *config) (*list, error) {
 	if p.Source.store == nil {
 		return readList(p.List, policy, c.Limits)
 	}
-	of := p.Source.store
-	if of.opened == nil {
-		reader, err := openReader(of, c.Limits.time()/partOfGrant)
+	options := p.Source.store
+	if options.opened == nil {
+		reader, err := openReader(options, c.Limits.time()/partOfGrant)
 		if err != nil {
 			return nil, err
 		}
-		if of.opened, err = newStore(of, reader, c.open, time.Now); err != nil {
+		if options.opened, err = newStore(options, reader, c.open, time.Now); err != nil {
 			return nil, err
 		}
-		go of.opened.poll()
+		go options.opened.poll()
 	}
-	return &list{store: of.opened, digest: hexDigest([]byte(p.List))}, nil
+	return &list{store: options.opened, digest: hexDigest([]byte(p.List))}, nil
 }
 
-// test says how the store is, or why it cannot be used.
+// test polls a store once and prints how it is, or returns why it cannot be used.
 func (s *store) test(out io.Writer) error {
 	if err := s.pollOnce(); err != nil {
 		return err
 	}
-	text, err := s.told()
+	text, err := s.statusLine()
 	fmt.Fprint(out, text)
 	return err
 }

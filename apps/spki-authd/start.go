@@ -21,7 +21,7 @@ type signals struct {
 	reload, reopen, end chan os.Signal
 }
 
-// listenToSignals takes the signals from now on. A reader of the log that is gone ends nothing.
+// listenToSignals takes the signals from now on. SIGPIPE is ignored: the daemon goes on where the reader of its lines is gone.
 func listenToSignals() signals {
 	made := signals{make(chan os.Signal, 1), make(chan os.Signal, 1), make(chan os.Signal, 1)}
 	signal.Ignore(syscall.SIGPIPE)
@@ -31,7 +31,7 @@ func listenToSignals() signals {
 	return made
 }
 
-// start reads the configuration and answers until a signal ends it.
+// start reads the configuration and answers until a signal ends the daemon. With -test it only reads and tests the files.
 func start(words words, out, messages io.Writer) error {
 	signals := listenToSignals()
 	debug.SetGCPercent(gcPercent)
@@ -62,7 +62,7 @@ func start(words words, out, messages io.Writer) error {
 	return made.listenAndServe()
 }
 
-// newDecider returns a decider without an access list.
+// newDecider returns a decider without an access list, which is read later.
 func newDecider(config *config) *decider {
 	made := &decider{
 		config: config, keys: newKeys(config.CertificateForm), cache: newCache(*config.Cache), sequences: newSequences(*config.Cache), now: time.Now,
@@ -73,12 +73,12 @@ func newDecider(config *config) *decider {
 	return made
 }
 
-// test says what is in the files of a configuration, or what else is wrong.
+// test prints the number of entries of each list, or returns what is wrong in the log's path, the socket's group or a store.
 func (d *decider) test(out io.Writer) error {
-	if err := mayBeLedger(d.config.Log); err != nil {
+	if err := checkLedgerPath(d.config.Log); err != nil {
 		return err
 	}
-	if err := mayWrite(d.config.Log); err != nil {
+	if err := checkWritable(d.config.Log); err != nil {
 		return err
 	}
 	if d.config.SocketGroup != "" {

@@ -15,7 +15,7 @@ func (d *daemon) state() string {
 	return fmt.Sprintf("list %s entries %d ended %d %s\n", present.digestNow(), present.entries(), present.ended.count, present.ended.digest)
 }
 
-// checkStates prints the states of daemons by their control sockets, and says whether they are the same.
+// checkStates prints the states of daemons by their control sockets, and fails with errStates if they differ.
 func checkStates(controls []string, out io.Writer) error {
 	seen := map[string]bool{}
 	for _, each := range controls {

@@ -16,9 +16,9 @@ import (
 // A store decides by the entries that are in a database. A decision needs only those whose principal is the key of the first issuer, or the
 // client's key where no certificate is shown: docs/PROOFS.md, `decided_by_kept`. What was read is kept until a change of these entries is polled.
 type store struct {
-	of     *storeOf
-	reader reader
-	open   func(list []byte) (*guard.Guard, error)
+	options *storeOf
+	reader  reader
+	open    func(list []byte) (*guard.Guard, error)
 	// A guard without entries, which lists the signatures of a question.
 	empty *guard.Guard
 	now   func() time.Time
@@ -35,22 +35,22 @@ type store struct {
 
 // A reader asks the database. Each call is one statement, and so of one state.
 type reader interface {
-	// rows returns the entries that are found by one of these.
+	// rows returns the entries that are found by one of these digests, which placesOf has made.
 	rows(places [][]byte) (found, error)
-	// since returns the changes from this number on, and the state.
+	// since returns the changes after that with this number, the time of that one, and the state.
 	since(number int64) (news, error)
 	// whole returns all ended certificates, and the state.
 	whole() (news, error)
 	// chains returns the sequences that are kept for a key.
 	chains(key digest) ([]keptChain, error)
-	// keep keeps a sequence for a key, within the limits of a daemon, and says what became of it.
+	// keep keeps a sequence for a key, if the limits of a daemon let it, and returns the answer to that.
 	keep(key digest, chain keptChain, limits *chains) (answer, error)
 	// renew closes the connections.
 	renew()
 }
 
-// A storeState says which state of the store something is of: the number of its last change, the time of that change, which tells one history from another, and
-// the number and the time of the last beat, in microseconds since 1970.
+// A storeState is a state of the store: the number of its last change, the time of that change, which tells one history from another, and the number
+// and the time of the last beat, which `spki-store beat` writes each second. Times are in microseconds since 1970.
 type storeState struct {
 	changes, token, beat, beaten int64
 }
@@ -65,7 +65,7 @@ type found struct {
 // A news has changes, or all ended certificates.
 type news struct {
 	storeState
-	// Whether the change from which on was asked is there, with the time that it had.
+	// The time of the change with the number that was asked for, or 0 if there is no such change.
 	first   int64
 	changed [][]byte
 	ended   []digest
@@ -102,23 +102,24 @@ var (
 	errHostile = errors.New("a row of the store is not one entry: `spki-store check` says which")
 )
 
-// newStore returns a store that was not read yet.
-func newStore(of *storeOf, reader reader, open func(list []byte) (*guard.Guard, error), now func() time.Time) (*store, error) {
+// newStore returns a store that was not read yet. `open` opens a list of entries, which are one behind the other.
+func newStore(options *storeOf, reader reader, open func(list []byte) (*guard.Guard, error), now func() time.Time) (*store, error) {
 	empty, err := open(nil)
 	if err != nil {
 		return nil, err
 	}
-	return &store{of: of, reader: reader, open: open, empty: empty, now: now, firsts: newRecent[string, string](mostShown),
-		kept: newKeptRows(*of.CacheMiB << 20), ended: map[digest]struct{}{}, fault: errNever}, nil
+	return &store{options: options, reader: reader, open: open, empty: empty, now: now, firsts: newRecent[string, string](mostShown),
+		kept: newKeptRows(*options.CacheMiB << 20), ended: map[digest]struct{}{}, fault: errNever}, nil
 }
 
-// list returns the list of the entries that a question can need. It ends with a fault where the store is stale.
+// list returns the list of the entries that a question can need. It fails where the store is stale or cannot be read, and where the question is
+// refused.
 func (s *store) list(question *guard.Question) (*list, error) {
 	key, err := s.keyOf(question)
 	if err != nil {
 		return nil, err
 	}
-	if err := s.isFresh(); err != nil {
+	if err := s.checkFresh(); err != nil {
 		return nil, err
 	}
 	name := sha256.Sum256(key)
@@ -127,7 +128,7 @@ func (s *store) list(question *guard.Question) (*list, error) {
 	}
 	made, err := s.read(name, key)
 	if err == nil {
-		err = s.isFresh()
+		err = s.checkFresh()
 	}
 	s.noteRead(err)
 	if err != nil {
@@ -136,7 +137,7 @@ func (s *store) list(question *guard.Question) (*list, error) {
 	return made, nil
 }
 
-// keyOf returns the key whose entries a question needs.
+// keyOf returns the key whose entries a question needs: that of the first issuer, or the client's key if no signature is listed.
 func (s *store) keyOf(question *guard.Question) ([]byte, error) {
 	text := string(question.Sequence)
 	first, isKnown := s.firsts.get(text)
@@ -160,7 +161,7 @@ func (s *store) keyOf(question *guard.Question) ([]byte, error) {
 	return []byte(first), nil
 }
 
-// read reads the entries of a key, and keeps them if no later state was polled meanwhile.
+// read reads the entries of a key, whose digest `name` is, and keeps them if no later state was polled meanwhile.
 func (s *store) read(name digest, key []byte) (*list, error) {
 	before := s.seenNow()
 	places := placesOf(key)
@@ -182,7 +183,7 @@ func (s *store) read(name digest, key []byte) (*list, error) {
 	return made, nil
 }
 
-// listOf returns a list of entries, and its octets.
+// listOf returns the list of entries that were found, and how many octets these have.
 func (s *store) listOf(found found) (*list, int, error) {
 	size := 0
 	for _, text := range found.texts {
@@ -209,13 +210,13 @@ func (s *store) listOf(found found) (*list, int, error) {
 	return &list{guard: opened, numbers: found.numbers, digest: fmt.Sprintf("change %d", found.changes)}, size, nil
 }
 
-// placesOf returns what the principals are found by that can name a key.
+// placesOf returns the digests of a key by SHA-1, SHA-256 and SHA-512, in this order. The entries whose principals name the key are found by them.
 func placesOf(key []byte) [][]byte {
 	first, second, third := sha1.Sum(key), sha256.Sum256(key), sha512.Sum512(key)
 	return [][]byte{first[:], second[:], third[:]}
 }
 
-// keptOf returns a list that is kept, or nil.
+// keptOf returns the list that is kept for a key, by the digest of the key, or nil.
 func (s *store) keptOf(name digest) *list {
 	s.mutex.Lock()
 	defer s.mutex.Unlock()
@@ -226,7 +227,7 @@ func (s *store) keptOf(name digest) *list {
 	return kept
 }
 
-// noteRead counts what became of reading rows.
+// noteRead counts that rows were read, or could not be because of a fault.
 func (s *store) noteRead(err error) {
 	s.mutex.Lock()
 	defer s.mutex.Unlock()
@@ -243,15 +244,15 @@ func (s *store) seenNow() seen {
 	return s.seen
 }
 
-// isFresh says whether the state that was polled last is young enough to decide by.
-func (s *store) isFresh() error {
+// checkFresh returns an error if the state that was polled last is too old to decide by, or if none was polled.
+func (s *store) checkFresh() error {
 	s.mutex.RLock()
 	defer s.mutex.RUnlock()
 	if s.seen.at.IsZero() {
 		return fmt.Errorf("store: %w", s.fault)
 	}
 	age, err := s.seen.age(s.now())
-	if err == nil && age > s.of.stale() {
+	if err == nil && age > s.options.stale() {
 		err = fmt.Errorf("%w: its last beat is %v old", errStale, age.Round(time.Millisecond))
 	}
 	if err != nil && s.fault != nil {

@@ -26,12 +26,12 @@ const (
 	knownFor = 2 * time.Second
 )
 
-// newStoredChains returns what finds sequences in a store.
+// newStoredChains returns what keeps sequences in a store.
 func newStoredChains(c *chains, reader reader) *storedChains {
 	return &storedChains{c, reader, newRecent[string, readChains](mostRead)}
 }
 
-// of returns the sequences of a key that have not ended.
+// of returns the sequences of a key that have not ended. What the store has said is used again for knownFor.
 func (s *storedChains) of(key string, now time.Time) (left []keptChain, err error) {
 	read, isKnown := s.known.get(key)
 	if age := now.Sub(read.at); !isKnown || age < 0 || age > knownFor {
@@ -49,13 +49,14 @@ func (s *storedChains) of(key string, now time.Time) (left []keptChain, err erro
 	return left, nil
 }
 
-// becomes says what becomes of a sequence beside those of its key, or nothing. Whether there is room for its key the store says.
-func (s *storedChains) becomes(key string, chain keptChain, now time.Time) (answer, error) {
+// whyNotAdded returns the answer to a sequence that add would not keep beside those of its key, or an empty one. Whether there is room for one more
+// key only the store says.
+func (s *storedChains) whyNotAdded(key string, chain keptChain, now time.Time) (answer, error) {
 	others, err := s.of(key, now)
-	return s.beside(others, chain.text), err
+	return s.whyNotBeside(others, chain.text), err
 }
 
-// add keeps a sequence of a key.
+// add has the store keep a sequence for a key, and returns its answer. What was known of the key is forgotten.
 func (s *storedChains) add(key string, chain keptChain, _ time.Time) answer {
 	became, err := s.reader.keep(digestIn(key), chain, s.chains)
 	if err != nil {
@@ -65,7 +66,7 @@ func (s *storedChains) add(key string, chain keptChain, _ time.Time) answer {
 	return became
 }
 
-// digestIn returns a digest that is written in hexadecimal digits.
+// digestIn returns the digest that a text has in hexadecimal digits. The text must be one of a digest.
 func digestIn(text string) (made digest) {
 	_, _ = hex.Decode(made[:], []byte(text))
 	return made

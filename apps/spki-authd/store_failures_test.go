@@ -48,16 +48,16 @@ type timeline struct {
 	past      []*version
 }
 
-// newTimeline opens the store that the environment names, and what writes to it.
+// newTimeline opens the store that the environment names, and the servers by which it is changed.
 func newTimeline(t *testing.T) *timeline {
 	t.Helper()
 	if os.Getenv(envWriters) == "" {
 		t.Skip("tests/suite/test_store_failures.py names servers")
 	}
 	made := &timeline{rig: newRig(t, failingPatience), end: make(chan struct{}), past: []*version{{map[int]string{}, time.Now(), time.Time{}}}}
-	made.store.of.StaleSeconds = failingStale
+	made.store.options.StaleSeconds = failingStale
 	for _, host := range strings.Split(os.Getenv(envWriters), ",") {
-		of := *made.store.of
+		of := *made.store.options
 		of.Host, of.Root, of.Connections = host, "", 1
 		opened, err := openReader(&of, failingPatience)
 		if err != nil {
@@ -68,8 +68,9 @@ func newTimeline(t *testing.T) *timeline {
 	return made
 }
 
-// writes runs statements in one transaction, and returns the rows of all. If that fails, the next server is asked next.
-func (l *timeline) writes(texts []string, values ...driver.Value) (rows [][]driver.Value, err error) {
+// transact runs statements in one transaction, and returns the rows of all. `values` are those of the last statement. If it fails, another server is
+// asked the next time.
+func (l *timeline) transact(texts []string, values ...driver.Value) (rows [][]driver.Value, err error) {
 	writer := l.writers[l.at]
 	taken, err := writer.take()
 	if err != nil {
@@ -82,7 +83,7 @@ func (l *timeline) writes(texts []string, values ...driver.Value) (rows [][]driv
 			given = nil
 		}
 		taken.statements[0] = nil
-		err = taken.ask(0, strings.ReplaceAll(text, "@", l.store.of.Schema), func(row []driver.Value) error {
+		err = taken.ask(0, strings.ReplaceAll(text, "@", l.store.options.Schema), func(row []driver.Value) error {
 			// (the octets of a row are valid until the next one)
 			made := append([]driver.Value(nil), row...)
 			for place, value := range made {
@@ -107,7 +108,7 @@ func (l *timeline) writes(texts []string, values ...driver.Value) (rows [][]driv
 // A beat, by the clock of a server, which is wrong by what the table `error` says.
 const beats = "UPDATE @.heartbeat SET number = number + 1, moment = clock_timestamp() + (SELECT by FROM @.error)"
 
-// change adds an entry or removes one, with a beat.
+// change adds an entry or removes one, with a beat, and notes the version. If it is not certain that this was done, it is settled.
 func (l *timeline) change() {
 	last := l.past[len(l.past)-1].entries
 	next, begun := make(map[int]string, len(last)+1), time.Now()
@@ -118,12 +119,12 @@ func (l *timeline) change() {
 	if len(next) < 40 || l.random.Intn(2) == 0 {
 		l.number++
 		next[l.number] = l.entry()
-		_, err = l.writes([]string{beats, "INSERT INTO @.entries (number, text) OVERRIDING SYSTEM VALUE VALUES ($1, $2)"}, int64(l.number), []byte(next[l.number]))
+		_, err = l.transact([]string{beats, "INSERT INTO @.entries (number, text) OVERRIDING SYSTEM VALUE VALUES ($1, $2)"}, int64(l.number), []byte(next[l.number]))
 	} else {
 		numbers := numbersOf(next)
 		number := numbers[l.random.Intn(len(numbers))]
 		delete(next, number)
-		_, err = l.writes([]string{beats, "DELETE FROM @.entries WHERE number = $1"}, int64(number))
+		_, err = l.transact([]string{beats, "DELETE FROM @.entries WHERE number = $1"}, int64(number))
 	}
 	l.add(&version{next, begun, time.Time{}}, err == nil)
 	if err != nil {
@@ -132,10 +133,11 @@ func (l *timeline) change() {
 	}
 }
 
-// settle waits until a server can be written to, and reads what is in force there, when no other transaction is under way.
+// settle waits until a server can be written to, and notes the version in force there, when no other transaction is under way. `begun` is when the
+// change was begun that is not certain.
 func (l *timeline) settle(begun time.Time) {
 	for {
-		rows, err := l.writes([]string{"SELECT changes FROM @.state FOR UPDATE", beats, "SELECT number, text FROM @.entries"})
+		rows, err := l.transact([]string{"SELECT changes FROM @.state FOR UPDATE", beats, "SELECT number, text FROM @.entries"})
 		if err == nil {
 			entries := map[int]string{}
 			for _, row := range rows[1:] {
@@ -162,7 +164,7 @@ func (l *timeline) add(made *version, isCertain bool) {
 	l.past = append(l.past, made)
 }
 
-// within returns the lists that may have been in force in some time, the last one first.
+// within returns the entries of each version that may have been in force between two moments, the last one first.
 func (l *timeline) within(from, until time.Time) (found []map[int]string) {
 	l.mutex.Lock()
 	defer l.mutex.Unlock()
@@ -174,7 +176,7 @@ func (l *timeline) within(from, until time.Time) (found []map[int]string) {
 	return found
 }
 
-// isRight says whether an answer is that of a list that was in force at most `failingStale` seconds before its question was asked, or since.
+// isRight says whether an answer is that of a version that was in force at most `failingStale` seconds before its question was asked, or since.
 func (l *timeline) isRight(asked time.Time, question guard.Question, answer string) bool {
 	for _, entries := range l.within(asked.Add(-failingStale*time.Second), time.Now()) {
 		if l.wholeAnswer(entries, question) == answer {
@@ -184,8 +186,8 @@ func (l *timeline) isRight(asked time.Time, question guard.Question, answer stri
 	return false
 }
 
-// changes changes the list until the test ends.
-func (l *timeline) changes() {
+// changeUntilEnd changes the list again and again until the test ends.
+func (l *timeline) changeUntilEnd() {
 	for {
 		select {
 		case <-l.end:
@@ -203,7 +205,7 @@ func TestQuestionsUnderFailures(t *testing.T) {
 	random := rand.New(rand.NewSource(l.random.Int63()))
 	over := make(chan struct{})
 	go l.store.poll()
-	go func() { defer close(over); l.changes() }()
+	go func() { defer close(over); l.changeUntilEnd() }()
 	wanted, _ := strconv.Atoi(os.Getenv(envQuestions))
 	met, last := map[string]int{}, time.Now()
 	for count := 0; !t.Failed() && (count < wanted || !isThere(os.Getenv(envEnd))); {
@@ -231,7 +233,7 @@ func TestQuestionsUnderFailures(t *testing.T) {
 	t.Logf("%v, %d versions, %d changes not certain, %d kept of %d", met, len(l.past), l.uncertain, l.store.count.hits, l.store.count.hits+l.store.count.misses)
 }
 
-// isThere says whether a file is there.
+// isThere says whether there is a file at a path.
 func isThere(path string) bool {
 	_, err := os.Stat(path)
 	return err == nil

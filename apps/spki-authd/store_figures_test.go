@@ -42,14 +42,14 @@ func TestStoreFigures(t *testing.T) {
 	for _, what := range []struct {
 		name string
 		does func(f *figures)
-	}{{"cold", (*figures).cold}, {"single", (*figures).single}, {"load", (*figures).load}} {
+	}{{"cold", (*figures).measureCold}, {"single", (*figures).measureSingle}, {"load", (*figures).measureLoad}} {
 		if what.name == os.Getenv(envWhat) {
 			what.does(newFigures(t, keys))
 		}
 	}
 }
 
-// newFigures opens the store that the environment names.
+// newFigures opens the store that the environment names, which has entries for so many keys.
 func newFigures(t *testing.T, keys int) *figures {
 	of := &storeOf{Host: os.Getenv(envHost), Database: "postgres", User: "postgres", Schema: os.Getenv(envSchema), StaleSeconds: 1 << 30}
 	if err := of.check(); err != nil {
@@ -72,13 +72,13 @@ func newFigures(t *testing.T, keys int) *figures {
 	return &figures{t, made, keys}
 }
 
-// key writes the key with a number, as bench/store.py does.
+// key returns the key with a number, in canonical form, as bench/store.py does.
 func key(number int) []byte {
 	return []byte(fmt.Sprintf("(10:public-key(4:test40:k%039d))", number))
 }
 
-// asks decides for a key, and says what that took.
-func (f *figures) asks(number int) time.Duration {
+// timeOf decides for the key with a number, and returns the time that this took.
+func (f *figures) timeOf(number int) time.Duration {
 	question := guard.Question{Sequence: nothingShown.text, Key: spki.AssumeKey(key(number)), Words: []string{"files", "read", "/web/x"}, Time: time.Now()}
 	begun := time.Now()
 	decision, err := f.decides(question)
@@ -89,7 +89,7 @@ func (f *figures) asks(number int) time.Duration {
 	return took
 }
 
-// decides decides as the daemon does: a list that another goroutine had dropped meanwhile is asked for again.
+// decides asks the store as the daemon does: a list that another goroutine has dropped meanwhile is asked for again.
 func (f *figures) decides(question guard.Question) (guard.Decision, error) {
 	for {
 		found, err := f.store.list(&question)
@@ -103,40 +103,40 @@ func (f *figures) decides(question guard.Question) (guard.Decision, error) {
 	}
 }
 
-// printFigure prints the median and the 99th percentile.
+// printFigure prints the median and the 99th percentile of times, in microseconds.
 func printFigure(name string, times []time.Duration) {
 	sort.Slice(times, func(one, other int) bool { return times[one] < times[other] })
 	fmt.Printf("figure %s p50 %.1f p99 %.1f\n", name, float64(times[len(times)/2].Nanoseconds())/1e3, float64(times[len(times)*99/100].Nanoseconds())/1e3)
 }
 
-// several asks for random keys.
-func (f *figures) several(name string, count int, number func() int) {
+// measure decides `count` times for the keys whose numbers `number` returns, and prints the figure of this name.
+func (f *figures) measure(name string, count int, number func() int) {
 	times := make([]time.Duration, count)
 	for place := range times {
-		times[place] = f.asks(number())
+		times[place] = f.timeOf(number())
 	}
 	printFigure(name, times)
 }
 
-// cold asks for keys whose rows are in no memory, as far as bench/store.py can have it so.
-func (f *figures) cold() {
+// measureCold measures keys whose rows are in no memory, as far as bench/store.py can have it so.
+func (f *figures) measureCold() {
 	random := rand.New(rand.NewSource(1))
 	_, _ = f.store.reader.rows(placesOf([]byte("none")))
-	f.several("cold", 300, func() int { return random.Intn(f.keys) })
+	f.measure("cold", 300, func() int { return random.Intn(f.keys) })
 }
 
-// single asks for kept keys, and for keys that are not kept.
-func (f *figures) single() {
+// measureSingle measures keys whose lists are not kept by the daemon (`miss`), and one whose list is (`hit`), one question at a time.
+func (f *figures) measureSingle() {
 	random := rand.New(rand.NewSource(2))
 	some := min(f.keys, 10_000)
 	none := func() int { f.store.kept.clear(); return random.Intn(some) }
 	for turn := 0; turn < 2*some; turn++ {
 		f.store.kept.clear()
-		f.asks(turn % some)
+		f.timeOf(turn % some)
 	}
-	f.several("miss", 10_000, none)
-	f.asks(7)
-	f.several("hit", 20_000, func() int { return 7 })
+	f.measure("miss", 10_000, none)
+	f.timeOf(7)
+	f.measure("hit", 20_000, func() int { return 7 })
 }
 
 // min returns the lesser number.
@@ -147,13 +147,13 @@ func min(one, other int) int {
 	return other
 }
 
-// load has several goroutines ask at once, at nine kept keys of ten.
-func (f *figures) load() {
+// measureLoad has several goroutines ask at once, nine of ten times for a key whose list is kept.
+func (f *figures) measureLoad() {
 	const each, hot = 20_000, 200
 	f.store.kept.most = 1 << 20
 	workers := 2 * runtime.NumCPU()
 	for number := 0; number < hot; number++ {
-		f.asks(number)
+		f.timeOf(number)
 	}
 	before, all, begun := f.store.count, make([][]time.Duration, workers), time.Now()
 	var group sync.WaitGroup
@@ -167,7 +167,7 @@ func (f *figures) load() {
 				if turn%10 == 0 {
 					number = random.Intn(min(f.keys, 200_000))
 				}
-				all[worker] = append(all[worker], f.asks(number))
+				all[worker] = append(all[worker], f.timeOf(number))
 			}
 		}(worker)
 	}

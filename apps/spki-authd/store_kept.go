@@ -24,12 +24,12 @@ const (
 	octetsRow  = 2048
 )
 
-// newKeptRows returns what keeps lists of at most so many octets together.
+// newKeptRows returns what keeps lists, which have at most so many octets together.
 func newKeptRows(most int) *keptRows {
 	return &keptRows{most: most, order: ordered.New(), byName: map[digest]*ordered.Element{}, byPlace: map[string]*ordered.Element{}}
 }
 
-// get returns the list of a key, or nil.
+// get returns the list of a key, by its digest, or nil.
 func (k *keptRows) get(name digest) *list {
 	element, isKept := k.byName[name]
 	if !isKept {
@@ -39,7 +39,7 @@ func (k *keptRows) get(name digest) *list {
 	return element.Value.(*keptRow).list
 }
 
-// add keeps a list of a key, and says whether it does.
+// add keeps the list of a key, which is found by these places, and says whether it does. Lists that were asked for long ago make room.
 func (k *keptRows) add(name digest, places [][]byte, rows *list, octets int) bool {
 	if before, isKept := k.byName[name]; isKept {
 		k.remove(before)
@@ -53,13 +53,14 @@ func (k *keptRows) add(name digest, places [][]byte, rows *list, octets int) boo
 	for _, place := range places {
 		k.byPlace[string(place)] = element
 	}
-	for k.size += row.size; k.size > k.most; {
+	k.size += row.size
+	for k.size > k.most {
 		k.remove(k.order.Back())
 	}
 	return true
 }
 
-// drop forgets the list that an entry with this principal belongs to.
+// drop forgets the list of a key, given one of the places that its entries are found by.
 func (k *keptRows) drop(place []byte) {
 	if element, isKept := k.byPlace[string(place)]; isKept {
 		k.remove(element)
@@ -73,7 +74,7 @@ func (k *keptRows) clear() {
 	}
 }
 
-// count returns the number of keys.
+// count returns the number of keys whose lists are kept.
 func (k *keptRows) count() int {
 	return k.order.Len()
 }

@@ -40,7 +40,7 @@ func (s *store) pollOnce() error {
 	return nil
 }
 
-// take takes what was polled. The mutex is held.
+// take uses what a poll has read that was begun at a time. If that does not follow what was known, all of that is forgotten. The mutex is held.
 func (s *store) take(read news, begun time.Time, follows bool) {
 	s.fault = nil
 	if !follows {
@@ -60,9 +60,9 @@ func (s *store) take(read news, begun time.Time, follows bool) {
 	s.seen.storeState = read.storeState
 }
 
-// told returns how the store is, for people. The error says what an operator must look after.
-func (s *store) told() (string, error) {
-	err := s.isFresh()
+// statusLine returns a line on the state of the store, for people. The error says what an operator must look after.
+func (s *store) statusLine() (string, error) {
+	err := s.checkFresh()
 	s.mutex.RLock()
 	defer s.mutex.RUnlock()
 	if err == nil {
@@ -95,9 +95,9 @@ func (a *access) digestNow() string {
 // storeFamilies are the metrics of a store.
 var storeFamilies = []struct {
 	name, kind, help string
-	of               func(s *store) any
+	valueOf          func(s *store) any
 }{
-	{"store_stale", "gauge", "1 if the store is stale, and each decision by it 503.", func(s *store) any { return number(s.isFresh() != nil) }},
+	{"store_stale", "gauge", "1 if the store is stale, and each decision by it 503.", func(s *store) any { return number(s.checkFresh() != nil) }},
 	{"store_change", "gauge", "The number of the last change that was polled.", func(s *store) any { return s.seenNow().changes }},
 	{"store_rows_kept_total", "counter", "Decisions by rows that were kept.", func(s *store) any { return s.counted().hits }},
 	{"store_rows_read_total", "counter", "Decisions whose rows were read.", func(s *store) any { return s.counted().misses }},
@@ -116,12 +116,12 @@ func (e *exposition) stores(present *access) {
 				e.family(family.name, family.kind, family.help)
 				isBegun = true
 			}
-			e.value(family.name, fmt.Sprintf("{list=\"%d\"}", place+1), family.of(each.store))
+			e.value(family.name, fmt.Sprintf("{list=\"%d\"}", place+1), family.valueOf(each.store))
 		}
 	}
 }
 
-// counted returns how often rows were kept, and were read.
+// counted returns how often rows were kept, were read, and could not be read.
 func (s *store) counted() storeCounts {
 	s.mutex.RLock()
 	defer s.mutex.RUnlock()

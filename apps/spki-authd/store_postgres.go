@@ -61,15 +61,15 @@ const (
 	microseconds = "(extract(epoch FROM c.moment) * 1000000)::bigint"
 )
 
-// openReader returns what reads a store. It connects when it is asked first.
-func openReader(of *storeOf, patience time.Duration) (reader, error) {
-	connector, err := pq.NewConnector(of.settings())
+// openReader returns what reads a store, and waits for each answer no longer than `patience`. It connects when it is asked first.
+func openReader(options *storeOf, patience time.Duration) (reader, error) {
+	connector, err := pq.NewConnector(options.settings())
 	if err != nil {
 		return nil, err
 	}
 	connector.Dialer(dialer{patience})
-	made := &pool{connector: connector, patience: patience, slots: make(chan *link, of.Connections)}
-	for count := 0; count < of.Connections; count++ {
+	made := &pool{connector: connector, patience: patience, slots: make(chan *link, options.Connections)}
+	for count := 0; count < options.Connections; count++ {
 		made.slots <- nil
 	}
 	for ask, text := range map[int]string{
@@ -84,12 +84,13 @@ func openReader(of *storeOf, patience time.Duration) (reader, error) {
 		askKeep:   "SELECT @.keep($1, $2, $3, $4, $5)",
 	} {
 		// (the name of the schema was checked)
-		made.texts[ask] = strings.ReplaceAll(text, "@", of.Schema)
+		made.texts[ask] = strings.ReplaceAll(text, "@", options.Schema)
 	}
 	return made, nil
 }
 
-// rowsOf returns the part of a statement for principals whose digests have so many octets, each of which has an index of its own.
+// rowsOf returns the part of a statement for principals whose digests have so many octets. Each length has an index of its own. `parameter` is the
+// number of the digest among the statement's values.
 func rowsOf(octets, parameter int) string {
 	return fmt.Sprintf("SELECT number, text FROM @.entries WHERE octet_length(principal) = %d AND principal = $%d", octets, parameter)
 }
@@ -99,12 +100,12 @@ type dialer struct {
 	patience time.Duration
 }
 
-// Dial connects.
+// Dial connects within the dialer's patience.
 func (d dialer) Dial(network, address string) (net.Conn, error) {
 	return d.DialTimeout(network, address, d.patience)
 }
 
-// DialTimeout connects in some time.
+// DialTimeout connects within the dialer's patience, whatever time the driver gives.
 func (d dialer) DialTimeout(network, address string, _ time.Duration) (net.Conn, error) {
 	made, err := net.DialTimeout(network, address, d.patience)
 	if err != nil {
@@ -118,7 +119,7 @@ func (p *pool) renew() {
 	p.times.Add(1)
 }
 
-// take returns a connection, which the caller gives back.
+// take takes a connection from its slot, or opens a new one. The caller puts it into p.slots again, or nil after closing it.
 func (p *pool) take() (*link, error) {
 	timer := time.NewTimer(p.patience)
 	defer timer.Stop()
@@ -143,7 +144,7 @@ func (p *pool) take() (*link, error) {
 	return &link{Conn: made, times: times}, nil
 }
 
-// ask calls a function with each row of a statement, whose values are valid during the call alone.
+// ask calls a function with each row of the statement with a number such as askRows. The row's values are valid during the call alone.
 func (p *pool) ask(what int, use func(row []driver.Value) error, values ...driver.Value) error {
 	link, err := p.take()
 	if err != nil {
@@ -157,7 +158,7 @@ func (p *pool) ask(what int, use func(row []driver.Value) error, values ...drive
 	return err
 }
 
-// ask asks on this connection. With an error the connection is used no more.
+// ask runs a statement on this connection, and prepares it before if that was not done. After an error the caller closes the connection.
 func (l *link) ask(what int, text string, use func(row []driver.Value) error, values []driver.Value) error {
 	if l.statements[what] == nil {
 		made, err := l.Prepare(text)
@@ -186,7 +187,7 @@ func (l *link) ask(what int, text string, use func(row []driver.Value) error, va
 	return err
 }
 
-// stateIn returns the state that a row begins with.
+// stateIn returns the state that a row begins with, in stateColumns.
 func stateIn(row []driver.Value) (storeState, error) {
 	var numbers [4]int64
 	for place := range numbers {
@@ -202,13 +203,13 @@ func stateIn(row []driver.Value) (storeState, error) {
 	return storeState{changes: numbers[1], beat: numbers[2], beaten: numbers[3]}, nil
 }
 
-// octetsIn returns octets of a row.
+// octetsIn returns a copy of the octets of a column, or none if it has none.
 func octetsIn(value driver.Value) []byte {
 	octets, _ := value.([]byte)
 	return append([]byte(nil), octets...)
 }
 
-// rows returns the entries that are found by one of these places.
+// rows returns the entries that are found by one of these places, which are those of placesOf. Behind the state a row has the number and the text.
 func (p *pool) rows(places [][]byte) (made found, err error) {
 	hasState := false
 	err = p.ask(askRows, func(row []driver.Value) (err error) {
@@ -220,18 +221,19 @@ func (p *pool) rows(places [][]byte) (made found, err error) {
 		}
 		return err
 	}, places[0], places[1], places[2])
-	return made, withState(hasState, err)
+	return made, requireState(hasState, err)
 }
 
-// withState says that there is no state where there is none.
-func withState(hasState bool, err error) error {
+// requireState returns the error of a statement, or errVersion if it had no row, and so no state.
+func requireState(hasState bool, err error) error {
 	if err == nil && !hasState {
 		return errVersion
 	}
 	return err
 }
 
-// since returns the changes behind a number, and whether the history up to it is the same.
+// since returns the changes after that with a number, and the time of that one. Behind the state a row has the number, the time, the kind and the
+// digest of a change.
 func (p *pool) since(number int64) (made news, err error) {
 	hasState, count := false, 0
 	err = p.ask(askSince, func(row []driver.Value) (err error) {
@@ -242,7 +244,8 @@ func (p *pool) since(number int64) (made news, err error) {
 			return err
 		}
 		moment, _ := row[5].(int64)
-		if made.token = moment; at == number {
+		made.token = moment
+		if at == number {
 			made.first = moment
 			return err
 		}
@@ -251,10 +254,10 @@ func (p *pool) since(number int64) (made news, err error) {
 		return err
 	}, number)
 	made.isCut = count > mostChanges
-	return made, withState(hasState, err)
+	return made, requireState(hasState, err)
 }
 
-// note notes a change.
+// note adds a change: of the kind `end` the digest of an ended certificate, and of another kind a place whose entries have changed.
 func (n *news) note(what driver.Value, place []byte) {
 	if text, isText := what.(string); isText && text == "end" && len(place) == len(digest{}) {
 		n.ended = append(n.ended, *(*digest)(place))
@@ -263,7 +266,7 @@ func (n *news) note(what driver.Value, place []byte) {
 	n.changed = append(n.changed, place)
 }
 
-// whole returns all ended certificates.
+// whole returns all ended certificates. Behind the state a row has the time of the last change and the digest of one of them.
 func (p *pool) whole() (made news, err error) {
 	hasState := false
 	err = p.ask(askWhole, func(row []driver.Value) (err error) {
@@ -275,7 +278,7 @@ func (p *pool) whole() (made news, err error) {
 		}
 		return err
 	})
-	return made, withState(hasState, err)
+	return made, requireState(hasState, err)
 }
 
 // chains returns the sequences that are kept for a key.
@@ -288,7 +291,7 @@ func (p *pool) chains(key digest) (made []keptChain, err error) {
 	return made, err
 }
 
-// keep keeps a sequence for a key, and says what became of it.
+// keep keeps a sequence for a key, if the limits let it, and returns the answer to that, which the store gives.
 func (p *pool) keep(key digest, chain keptChain, limits *chains) (became answer, err error) {
 	err = p.ask(askKeep, func(row []driver.Value) error {
 		became = answer(fmt.Sprint(row[0]))

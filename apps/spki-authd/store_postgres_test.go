@@ -44,7 +44,7 @@ type rig struct {
 	history []map[int]string
 }
 
-// newRig opens the store that the environment names, which answers in time or fails.
+// newRig opens the store that the environment names, which answers within `patience` or fails. Without one the test is skipped.
 func newRig(t *testing.T, patience time.Duration) *rig {
 	t.Helper()
 	host := os.Getenv(envHost)
@@ -79,15 +79,15 @@ func newRig(t *testing.T, patience time.Duration) *rig {
 	return made
 }
 
-// does runs a statement, and returns the first value of its first row.
-func (r *rig) does(text string, values ...driver.Value) (first int64) {
+// runStatement runs a statement, in which %s is the schema, and returns the first value of its row, or 0 after an error.
+func (r *rig) runStatement(text string, values ...driver.Value) (first int64) {
 	link, err := r.writer.take()
 	if err != nil {
 		r.t.Error(err)
 		return 0
 	}
 	link.statements = [asks]driver.Stmt{}
-	err = link.ask(0, fmt.Sprintf(text, r.store.of.Schema), func(row []driver.Value) error { first, _ = row[0].(int64); return nil }, values)
+	err = link.ask(0, fmt.Sprintf(text, r.store.options.Schema), func(row []driver.Value) error { first, _ = row[0].(int64); return nil }, values)
 	r.writer.slots <- link
 	if err != nil {
 		r.t.Error(err)
@@ -95,12 +95,12 @@ func (r *rig) does(text string, values ...driver.Value) (first int64) {
 	return first
 }
 
-// any returns somebody.
-func (r *rig) any(random *rand.Rand) person {
+// somebody returns one of the people by chance.
+func (r *rig) somebody(random *rand.Rand) person {
 	return r.people[random.Intn(len(r.people))]
 }
 
-// principalOf writes a person's key, or a hash of it.
+// principalOf returns a person's key or, half of the time, a hash of it.
 func principalOf(who person, random *rand.Rand) string {
 	places := placesOf([]byte(who.key))
 	switch random.Intn(6) {
@@ -114,9 +114,9 @@ func principalOf(who person, random *rand.Rand) string {
 	return who.key
 }
 
-// entry makes an entry.
+// entry returns an entry by chance: for somebody's key, hash or name, and for one of three folders.
 func (r *rig) entry() string {
-	subject, more := principalOf(r.any(r.random), r.random), ""
+	subject, more := principalOf(r.somebody(r.random), r.random), ""
 	if r.random.Intn(8) == 0 {
 		subject = "(4:name" + subject + "7:friends)"
 	}
@@ -126,7 +126,7 @@ func (r *rig) entry() string {
 	return "(5:entry" + subject + more + "(3:tag" + prefix("read", "/web/"+[]string{"", "a/", "b/"}[r.random.Intn(3)]) + "))"
 }
 
-// change adds an entry, or removes one, as another client does.
+// change adds an entry, or removes one, as another client does, and notes the list after it.
 func (r *rig) change() {
 	next := map[int]string{}
 	for number, text := range r.entries {
@@ -134,14 +134,14 @@ func (r *rig) change() {
 	}
 	if len(next) < 40 || r.random.Intn(2) == 0 {
 		text := r.entry()
-		next[int(r.does("INSERT INTO %s.entries (text) VALUES ($1) RETURNING number", []byte(text)))] = text
+		next[int(r.runStatement("INSERT INTO %s.entries (text) VALUES ($1) RETURNING number", []byte(text)))] = text
 	} else {
 		numbers := numbersOf(next)
 		number := numbers[r.random.Intn(len(numbers))]
-		r.does("DELETE FROM %s.entries WHERE number = $1 RETURNING number", int64(number))
+		r.runStatement("DELETE FROM %s.entries WHERE number = $1 RETURNING number", int64(number))
 		delete(next, number)
 	}
-	r.does("UPDATE %s.heartbeat SET number = number + 1, moment = clock_timestamp() RETURNING number")
+	r.runStatement("UPDATE %s.heartbeat SET number = number + 1, moment = clock_timestamp() RETURNING number")
 	r.mutex.Lock()
 	defer r.mutex.Unlock()
 	r.entries = next
@@ -158,18 +158,18 @@ func numbersOf(entries map[int]string) []int {
 	return numbers
 }
 
-// question makes a question with up to three certificates, of which some are wrong.
+// question returns a question by chance with up to three certificates, some of which are wrong.
 func (r *rig) question(random *rand.Rand) guard.Question {
-	chain := []person{r.any(random)}
+	chain := []person{r.somebody(random)}
 	text := "(8:sequence"
 	for len(chain) < 4 && random.Intn(3) > 0 {
-		from, to := chain[len(chain)-1], r.any(random)
+		from, to := chain[len(chain)-1], r.somebody(random)
 		chain = append(chain, to)
 		signer := from
 		if random.Intn(20) == 0 {
-			signer = r.any(random)
+			signer = r.somebody(random)
 		}
-		text += signer.signed("(4:cert(6:issuer" + principalOf(from, random) + ")(7:subject" + principalOf(to, random) + ")" + propagates + "(3:tag" +
+		text += signer.sign("(4:cert(6:issuer" + principalOf(from, random) + ")(7:subject" + principalOf(to, random) + ")" + propagates + "(3:tag" +
 			prefix("read", "/web/") + "))")
 	}
 	if random.Intn(20) == 0 {
@@ -178,7 +178,7 @@ func (r *rig) question(random *rand.Rand) guard.Question {
 	return guard.Question{Sequence: []byte(text + ")"), Key: spki.AssumeKey([]byte(chain[len(chain)-1].key)), Words: []string{"files", "read", "/web/a/x"}, Time: time.Now()}
 }
 
-// wholeAnswer is that of the guard of a whole list.
+// wholeAnswer returns the answer of a guard that has all these entries.
 func (r *rig) wholeAnswer(entries map[int]string, question guard.Question) string {
 	text := ""
 	numbers := numbersOf(entries)
@@ -193,7 +193,7 @@ func (r *rig) wholeAnswer(entries map[int]string, question guard.Question) strin
 	return answerBy(opened, numbers, question)
 }
 
-// answerBy asks a guard, and names the entry by its number.
+// answerBy asks a guard, and returns `yes NUMBER` with the number of the entry, `no`, or the error.
 func answerBy(opened *guard.Guard, numbers []int, question guard.Question) string {
 	decision, err := opened.Decide(question, verify.Signature)
 	if err != nil {
@@ -205,7 +205,7 @@ func answerBy(opened *guard.Guard, numbers []int, question guard.Question) strin
 	return "no"
 }
 
-// answer is that of the store. Where it has none, the answer begins with `failed`.
+// answer returns the answer by the store. Where it has none, the answer begins with `failed`.
 func (r *rig) answer(question guard.Question) string {
 	for {
 		found, err := r.store.list(&question)
@@ -257,7 +257,7 @@ func TestQuestionsToStore(t *testing.T) {
 		first := r.store.seenNow().changes
 		answer := r.answer(question)
 		met[answer[:2]]++
-		if !r.wasSoSince(first, question, answer) {
+		if !r.wasRightSince(first, question, answer) {
 			t.Errorf("seed %s, question %d: %s: %s", os.Getenv(envSeed), count, answer, hex.EncodeToString(question.Sequence))
 		}
 	}
@@ -269,13 +269,13 @@ func TestQuestionsToStore(t *testing.T) {
 	t.Logf("%v, %d changes, %d kept of %d", met, len(r.history), r.store.count.hits, r.store.count.hits+r.store.count.misses)
 }
 
-// wasSoSince says whether an answer is that of a list since a change, or of the one that is being made now.
-func (r *rig) wasSoSince(first int64, question guard.Question, answer string) bool {
+// wasRightSince says whether an answer is that of the list after a change with this number or a later one, also if that is just being made.
+func (r *rig) wasRightSince(first int64, question guard.Question, answer string) bool {
 	for at := first; ; at++ {
 		entries := r.after(at)
 		if entries == nil {
 			// (the change that was made while the question was asked is noted in a moment)
-			return r.isSoSoon(at, question, answer)
+			return r.isRightSoon(at, question, answer)
 		}
 		if r.wholeAnswer(entries, question) == answer {
 			return true
@@ -283,8 +283,8 @@ func (r *rig) wasSoSince(first int64, question guard.Question, answer string) bo
 	}
 }
 
-// isSoSoon waits for a change that is being made, and says whether an answer is that of the list then.
-func (r *rig) isSoSoon(at int64, question guard.Question, answer string) bool {
+// isRightSoon waits until the change with a number is noted, and says whether an answer is that of the list then.
+func (r *rig) isRightSoon(at int64, question guard.Question, answer string) bool {
 	for end := time.Now().Add(time.Minute); time.Now().Before(end); time.Sleep(time.Millisecond) {
 		if entries := r.after(at); entries != nil {
 			return r.wholeAnswer(entries, question) == answer
@@ -293,7 +293,7 @@ func (r *rig) isSoSoon(at int64, question guard.Question, answer string) bool {
 	return false
 }
 
-// after returns the entries after a change, or nil if it is not made yet.
+// after returns the entries after the change with a number, or nil if that is not noted yet.
 func (r *rig) after(change int64) map[int]string {
 	r.mutex.Lock()
 	defer r.mutex.Unlock()

@@ -66,7 +66,7 @@ func TestStoreServed(t *testing.T) {
 		return [...]time.Duration{processorTime(daemons), processorTime(processesOf(os.Getenv(envServer))), processorTime([]string{"self"}), busyTime()}
 	}
 	before, octets, begun := used(), transferredBy(daemons), time.Now()
-	l.all()
+	l.askUntilEnd()
 	took, after, times := time.Since(begun), used(), []time.Duration{}
 	octets = transferredBy(daemons) - octets
 	for _, each := range l.times {
@@ -81,10 +81,10 @@ func TestStoreServed(t *testing.T) {
 		(after[3]-before[3]).Seconds()/took.Seconds())
 }
 
-// populate makes people, their entries, and the requests of each.
+// populate makes people, puts their entries into the store, and makes the request of each.
 func (l *load) populate() {
 	f := newFigures(l.T, 1)
-	writer, err := openReader(f.store.of, time.Minute)
+	writer, err := openReader(f.store.options, time.Minute)
 	if err != nil {
 		l.Fatal(err)
 	}
@@ -96,7 +96,7 @@ func (l *load) populate() {
 	}
 	added, err := entries.Value()
 	if err == nil {
-		err = runAt(writer.(*pool), "INSERT INTO "+f.store.of.Schema+".entries (text) SELECT * FROM unnest($1::bytea[])", added)
+		err = runAt(writer.(*pool), "INSERT INTO "+f.store.options.Schema+".entries (text) SELECT * FROM unnest($1::bytea[])", added)
 	}
 	if err != nil {
 		l.Fatal(err)
@@ -110,14 +110,14 @@ func (l *load) warm() {
 	for _, socket := range l.sockets {
 		one := l.visitor(socket, 0, nil)
 		for number := 0; number < hotPeople; number++ {
-			one.asks(number)
+			one.askFor(number)
 		}
 		one.connection.Close()
 	}
 }
 
-// all has each connection ask until the time is over, or until all who ask once have asked its daemon: their rows are kept from then on.
-func (l *load) all() {
+// askUntilEnd has each connection ask until the time is over, or until all who ask once have asked its daemon: their rows are kept from then on.
+func (l *load) askUntilEnd() {
 	var group sync.WaitGroup
 	end, cold := time.Now().Add(l.seconds), make([]atomic.Int64, len(l.sockets))
 	l.times = make([][]time.Duration, len(l.sockets)*connectionsEach)
@@ -133,7 +133,7 @@ func (l *load) all() {
 				if turn%10 == 0 {
 					number = hotPeople + int(cold.Add(1))%coldPeople
 				}
-				visitor.asks(number)
+				visitor.askFor(number)
 			}
 		}(place, l.visitor(l.sockets[at], int64(place), &l.times[place]), &cold[at])
 	}
@@ -149,7 +149,7 @@ type visitor struct {
 	times      *[]time.Duration
 }
 
-// visitor connects to a daemon.
+// visitor connects to a daemon. What answers take is appended to `times`, if it is not nil.
 func (l *load) visitor(socket string, seed int64, times *[]time.Duration) *visitor {
 	connection, err := net.Dial("unix", socket)
 	if err != nil {
@@ -158,8 +158,8 @@ func (l *load) visitor(socket string, seed int64, times *[]time.Duration) *visit
 	return &visitor{l, connection, bufio.NewReader(connection), rand.New(rand.NewSource(seed)), times}
 }
 
-// asks asks for somebody, who must be granted it.
-func (a *visitor) asks(number int) {
+// askFor asks for the person with a number, who must be granted the request, and notes the time.
+func (a *visitor) askFor(number int) {
 	begun := time.Now()
 	if _, err := a.connection.Write([]byte(a.requests[number])); err != nil {
 		a.Error(err)
@@ -179,7 +179,7 @@ func (a *visitor) asks(number int) {
 	}
 }
 
-// runAt runs a statement.
+// runAt runs a statement on a connection of its own, which it closes.
 func runAt(writer *pool, text string, values ...driver.Value) error {
 	link, err := writer.take()
 	if err != nil {
@@ -189,7 +189,7 @@ func runAt(writer *pool, text string, values ...driver.Value) error {
 	return link.ask(0, text, func([]driver.Value) error { return nil }, values)
 }
 
-// processesOf returns a process and those that it started.
+// processesOf returns the number of a process and those of the processes that it has started.
 func processesOf(parent string) []string {
 	found := []string{parent}
 	paths, _ := filepath.Glob("/proc/[0-9]*/stat")
@@ -201,14 +201,14 @@ func processesOf(parent string) []string {
 	return found
 }
 
-// statOf returns the fields of a process from its state on.
+// statOf returns the fields of a file such as /proc/1/stat from the state on, or none if it cannot be read.
 func statOf(path string) []string {
 	text, _ := os.ReadFile(path)
 	_, rest, _ := strings.Cut(string(text), ") ")
 	return strings.Fields(rest)
 }
 
-// processorTime returns the time of a processor that processes have used, and those that they had started and that have ended.
+// processorTime returns the processor time of processes, and of those that they had started and that have ended.
 func processorTime(processes []string) (sum time.Duration) {
 	for _, each := range processes {
 		if fields := statOf("/proc/" + each + "/stat"); len(fields) > 14 {
@@ -238,7 +238,7 @@ func ticksIn(fields []string) (sum time.Duration) {
 	return sum
 }
 
-// transferredBy returns how many octets processes have read and written.
+// transferredBy returns how many octets processes have read and written together.
 func transferredBy(processes []string) (sum int) {
 	for _, each := range processes {
 		text, _ := os.ReadFile("/proc/" + each + "/io")

@@ -32,7 +32,7 @@ type change struct {
 	token int64
 }
 
-// put puts an entry for a key into the table, or takes it out where there is no text.
+// put puts an entry for a key into the table, or takes it out if `text` is empty.
 func (t *table) put(number int, key, text string) {
 	place := string(placesOf([]byte(key))[1])
 	t.texts[number], t.places[number] = text, place
@@ -42,7 +42,7 @@ func (t *table) put(number int, key, text string) {
 	t.note(change{place: place})
 }
 
-// note notes a change.
+// note adds a change with the next number.
 func (t *table) note(made change) {
 	t.state.changes++
 	t.state.token += 7
@@ -108,7 +108,7 @@ type stored struct {
 	time  time.Time
 }
 
-// newStored returns a site where Alice has entry 7.
+// newStored returns a site whose list is such a table, in which Alice has entry 7. `fields` are those of newSite.
 func newStored(t testing.TB, fields ...string) *stored {
 	t.Helper()
 	made := &stored{site: newSite(t, strings.Join(fields, "")), table: &table{texts: map[int]string{}, places: map[int]string{}}, time: time.Now()}
@@ -131,20 +131,20 @@ func newStored(t testing.TB, fields ...string) *stored {
 	return made
 }
 
-// entryOf writes an entry.
+// entryOf returns an entry by which a person may read and give on everything below /web/.
 func (s *stored) entryOf(who person) string {
 	return "(5:entry" + who.key + propagates + "(3:tag" + prefix("read", "/web/") + "))"
 }
 
-// beat increases the beat, and polls.
+// beat adds a beat to the table at the time of its clock, and polls.
 func (s *stored) beat() {
 	s.table.state.beat++
 	s.table.state.beaten = s.time.UnixMicro()
 	_ = s.store.pollOnce()
 }
 
-// is asks for Alice, and compares the status.
-func (s *stored) is(t *testing.T, name string, wanted int) {
+// expect asks for Alice, and reports an error unless the status is the one that is wanted.
+func (s *stored) expect(t *testing.T, name string, wanted int) {
 	t.Helper()
 	if met := s.by(s.alice, "GET", "/web/x", ""); met.StatusCode != wanted {
 		t.Errorf("%s: %d, and not %d: %s", name, met.StatusCode, wanted, s.lastLine(t).Reason)
@@ -155,7 +155,7 @@ func (s *stored) is(t *testing.T, name string, wanted int) {
 func TestStoreDecides(t *testing.T) {
 	s := newStored(t)
 	bobs, carols := s.sequencesShown()
-	s.is(t, "Alice", 200)
+	s.expect(t, "Alice", 200)
 	if line := s.lastLine(t); line.Entry != 7 || line.List != "change 1" {
 		t.Errorf("entry %d of %q", line.Entry, line.List)
 	}
@@ -172,14 +172,14 @@ func TestStoreDecides(t *testing.T) {
 		}
 	}
 	reads := s.table.reads
-	s.is(t, "Alice again", 200)
+	s.expect(t, "Alice again", 200)
 	if s.table.reads != reads {
 		t.Error("rows that are kept are read again")
 	}
 	s.table.put(9, s.alice.key, s.entryOf(s.alice))
 	s.table.put(7, s.alice.key, "")
 	s.beat()
-	if s.is(t, "with the other entry", 200); s.lastLine(t).Entry != 9 {
+	if s.expect(t, "with the other entry", 200); s.lastLine(t).Entry != 9 {
 		t.Errorf("entry %d", s.lastLine(t).Entry)
 	}
 	ends := *(*digest)(hexOf(t, digestOfText(s.toBob)))
@@ -190,32 +190,32 @@ func TestStoreDecides(t *testing.T) {
 	}
 	s.table.put(9, s.alice.key, "")
 	s.beat()
-	s.is(t, "without entries", 401)
+	s.expect(t, "without entries", 401)
 }
 
 // TestStaleStore lets the heartbeat stop, lag behind, and be ahead. Nothing is answered from what is kept then.
 func TestStaleStore(t *testing.T) {
 	s := newStored(t)
-	s.is(t, "fresh", 200)
+	s.expect(t, "fresh", 200)
 	s.time = s.time.Add(10*time.Second - time.Millisecond)
-	s.is(t, "as old as may be", 200)
+	s.expect(t, "as old as may be", 200)
 	s.time = s.time.Add(2 * time.Millisecond)
 	_ = s.store.pollOnce()
-	s.is(t, "a heartbeat that stopped", 503)
+	s.expect(t, "a heartbeat that stopped", 503)
 	s.beat()
-	s.is(t, "a new beat", 200)
+	s.expect(t, "a new beat", 200)
 	s.table.fault = errors.New("the server is gone")
 	s.time = s.time.Add(5 * time.Second)
 	_ = s.store.pollOnce()
-	s.is(t, "kept, without a server, for a while", 200)
+	s.expect(t, "kept, without a server, for a while", 200)
 	s.time = s.time.Add(6 * time.Second)
-	s.is(t, "without a server", 503)
+	s.expect(t, "without a server", 503)
 	s.table.fault = nil
 	for lag, wanted := range map[time.Duration]int{11 * time.Second: 503, 9 * time.Second: 200, -500 * time.Millisecond: 200, -2 * time.Second: 503} {
 		s.table.state.beat++
 		s.table.state.beaten = s.time.Add(-lag).UnixMicro()
 		_ = s.store.pollOnce()
-		s.is(t, fmt.Sprintf("a lag of %v", lag), wanted)
+		s.expect(t, fmt.Sprintf("a lag of %v", lag), wanted)
 	}
 }
 
@@ -238,7 +238,7 @@ func TestListBesideStaleStore(t *testing.T) {
 		} else {
 			s.beat()
 		}
-		s.is(t, "Alice, without certificates", 200)
+		s.expect(t, "Alice, without certificates", 200)
 		if met := s.by(s.bob, "GET", "/web/docs/b", bobs); met.StatusCode != wanted {
 			t.Errorf("Bob: %d, and not %d", met.StatusCode, wanted)
 		}
@@ -253,18 +253,18 @@ func TestStoreThatGoesBack(t *testing.T) {
 	s.beat()
 	polled := s.table.state
 	s.table.state = older
-	s.is(t, "rows of an older state", 503)
+	s.expect(t, "rows of an older state", 503)
 	s.table.state = polled
 	// (the rows that are read have the entry, and before they are kept its removal is polled)
 	s.table.meanwhile = func() { s.table.put(7, s.alice.key, ""); s.beat() }
-	s.is(t, "rows of the moment before", 200)
-	s.is(t, "rows after the removal", 401)
+	s.expect(t, "rows of the moment before", 200)
+	s.expect(t, "rows after the removal", 401)
 	// (a server that lost the removal, and then had another change)
 	s.table.news, s.table.state.changes = s.table.news[:2], 2
 	s.table.put(7, s.alice.key, s.entryOf(s.alice))
 	s.table.news[2].token, s.table.state.token = 1000, 1000
 	s.beat()
-	s.is(t, "another history", 200)
+	s.expect(t, "another history", 200)
 }
 
 // TestStoredChains leaves certificates in a store, which other daemons find soon. Where the store does not answer, neither yes nor no is said.
@@ -276,7 +276,7 @@ func TestStoredChains(t *testing.T) {
 	bobs, _ := s.sequencesShown()
 	is := func(name string, wanted int, kept string) {
 		t.Helper()
-		if status := s.asks(s.bob, "/web/docs/b", ""); status != wanted || s.lastLine(t).Kept != kept {
+		if status := s.statusFor(s.bob, "/web/docs/b", ""); status != wanted || s.lastLine(t).Kept != kept {
 			t.Errorf("%s: %d %+v", name, status, s.lastLine(t))
 		}
 	}
@@ -322,7 +322,7 @@ func TestHostileRows(t *testing.T) {
 		if text == "" {
 			wanted = 200
 		}
-		s.is(t, fmt.Sprintf("%.40q", text), wanted)
+		s.expect(t, fmt.Sprintf("%.40q", text), wanted)
 	}
 }
 

@@ -12,7 +12,7 @@ type stream struct {
 	isCut bool
 }
 
-// write writes lines.
+// write writes lines, behind a line feed if the last line was cut.
 func (s *stream) write(lines []byte) error {
 	if s.isCut {
 		lines = append([]byte{'\n'}, lines...)

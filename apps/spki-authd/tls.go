@@ -16,7 +16,7 @@ type tlsOf struct {
 	present atomic.Pointer[tls.Certificate]
 }
 
-// read reads the certificate and the key. Without TLS there is none.
+// read reads the certificate and the key. Without a configuration for TLS it returns nil.
 func (t *tlsOf) read() (*tls.Certificate, error) {
 	if t == nil {
 		return nil, nil
@@ -43,14 +43,14 @@ func (t *tlsOf) read() (*tls.Certificate, error) {
 	return &made, nil
 }
 
-// use shows a certificate from now on.
+// use has the listener show a certificate from now on.
 func (t *tlsOf) use(certificate *tls.Certificate) {
 	if t != nil {
 		t.present.Store(certificate)
 	}
 }
 
-// around returns a listener whose connections are by TLS.
+// around returns a listener that speaks TLS on the connections of another one.
 func (t *tlsOf) around(listener net.Listener) net.Listener {
 	shown := func(*tls.ClientHelloInfo) (*tls.Certificate, error) { return t.present.Load(), nil }
 	return tls.NewListener(listener, &tls.Config{MinVersion: tls.VersionTLS12, GetCertificate: shown, NextProtos: []string{"http/1.1"}})

@@ -14,17 +14,17 @@ import (
 	"testing"
 )
 
-// pair writes the certificate and the key of somebody for TLS, and returns their paths.
-func pair(t *testing.T, who person) (certificate, key string) {
+// tlsFiles writes the certificate and the key of a person for TLS, and returns their paths.
+func tlsFiles(t *testing.T, who person) (certificate, key string) {
 	t.Helper()
 	octets, err := x509.MarshalPKCS8PrivateKey(who.private)
 	if err != nil {
 		t.Fatal(err)
 	}
-	return written(t, "crt", who.pem()), written(t, "key", string(pem.EncodeToMemory(&pem.Block{Type: "PRIVATE KEY", Bytes: octets})))
+	return writeFile(t, "crt", who.pem()), writeFile(t, "key", string(pem.EncodeToMemory(&pem.Block{Type: "PRIVATE KEY", Bytes: octets})))
 }
 
-// tlsConfig returns the configuration of a daemon at a free port, that shows a certificate.
+// tlsConfig returns the configuration of a daemon at a free port, with the certificate of a person.
 func tlsConfig(t *testing.T, who person) string {
 	t.Helper()
 	listener, err := net.Listen("tcp", "127.0.0.1:0")
@@ -33,18 +33,18 @@ func tlsConfig(t *testing.T, who person) string {
 	}
 	address := listener.Addr().String()
 	listener.Close()
-	certificate, key := pair(t, who)
+	certificate, key := tlsFiles(t, who)
 	room := t.TempDir()
 	list := "(3:acl(5:entry" + who.key + "(3:tag(5:files))))"
 	return fmt.Sprintf(`{"listen": "tls:%s", "tls": {"certificate": %q, "key": %q}, "secret_file": %q, "control": "unix:%s/control", "log": "%s/log",
 		"server": "nginx", "list": %q, "requests": [{"prefix": "/", "methods": {"GET": "read"}, "request": ["files", "{method}", "{path}"]}]}`,
-		address, certificate, key, written(t, "secret", strings.Repeat("s", 32)+"\n"), room, room, written(t, "acl", list))
+		address, certificate, key, writeFile(t, "secret", strings.Repeat("s", 32)+"\n"), room, room, writeFile(t, "acl", list))
 }
 
 // TestTLS starts a daemon at a port. A web server that verifies its certificate asks it, and not another one in its place.
 func TestTLS(t *testing.T) {
 	alice, mallory := newPerson(t), newPerson(t)
-	path := written(t, "config", tlsConfig(t, alice))
+	path := writeFile(t, "config", tlsConfig(t, alice))
 	config, err := readConfig(path)
 	if err != nil {
 		t.Fatal(err)
@@ -82,7 +82,7 @@ func TestTLS(t *testing.T) {
 		t.Errorf("without TLS: %d", plain.StatusCode)
 	}
 	// another certificate, which the daemon has not read yet, and then has
-	config.TLS.Certificate, config.TLS.Key = pair(t, mallory)
+	config.TLS.Certificate, config.TLS.Key = tlsFiles(t, mallory)
 	if met, err := asks(); err == nil {
 		t.Errorf("another certificate is expected: %d", met)
 	}
@@ -109,11 +109,11 @@ func TestCertificatesAreReadAgain(t *testing.T) {
 	if err := keeper.reload(config, false, newSite(t, "").now()); err != nil || !bytes.Equal(shown(), alice.der) {
 		t.Fatal(err)
 	}
-	config.TLS.Certificate, _ = pair(t, mallory)
+	config.TLS.Certificate, _ = tlsFiles(t, mallory)
 	if err := keeper.reload(config, false, newSite(t, "").now()); err == nil || !bytes.Equal(shown(), alice.der) {
 		t.Error("a certificate of another key is shown")
 	}
-	config.TLS.Certificate, config.TLS.Key = pair(t, mallory)
+	config.TLS.Certificate, config.TLS.Key = tlsFiles(t, mallory)
 	list := config.List
 	config.List = filepath.Join(t.TempDir(), "none")
 	if err := keeper.reload(config, false, newSite(t, "").now()); err == nil || !bytes.Equal(shown(), alice.der) {
@@ -131,7 +131,7 @@ func TestCertificatesAreReadAgain(t *testing.T) {
 	}
 }
 
-// TestEntrances has who may ask, and how the web server knows that it is the daemon that answers.
+// TestEntrances reads configurations of who may ask, and of how the web server knows that it is the daemon that answers.
 func TestEntrances(t *testing.T) {
 	files := `"tls": {"certificate": "/c", "key": "/k"}`
 	secret := `"secret_file": "/s"`
@@ -167,7 +167,7 @@ func TestOtherCertificate(t *testing.T) {
 	if err != nil {
 		t.Fatal(err)
 	}
-	certificate, key := pair(t, mallory)
+	certificate, key := tlsFiles(t, mallory)
 	own, err := tls.LoadX509KeyPair(certificate, key)
 	if err != nil {
 		t.Fatal(err)
@@ -188,7 +188,7 @@ func TestOtherCertificate(t *testing.T) {
 		}
 	}()
 	config.secret = []byte(strings.Repeat("s", 32))
-	if err := config.answers(); err == nil || !strings.Contains(err.Error(), "another certificate") {
+	if err := config.checkAnswers(); err == nil || !strings.Contains(err.Error(), "another certificate") {
 		t.Error(err)
 	}
 }

@@ -35,7 +35,7 @@ type writer struct {
 	present *batch
 	// Room for lines that is used again.
 	rooms [][]byte
-	// Calls look, and whether it is going to.
+	// Calls endLate, and whether it is going to.
 	watchdog  *time.Timer
 	isWatched bool
 }
@@ -72,16 +72,17 @@ const looksInPatience = 20
 
 var errHangs = errors.New("the log takes no line in time")
 
-// newWriter returns a writer, which begins at once.
+// newWriter returns a writer, which begins at once. `eachSecond` may be nil.
 func newWriter(to sink, patience time.Duration, eachSecond func()) *writer {
 	made := &writer{to: to, patience: patience, commands: make(chan func()), wakes: make(chan struct{}, 1), eachSecond: eachSecond}
-	made.watchdog = time.AfterFunc(patience, made.look)
+	made.watchdog = time.AfterFunc(patience, made.endLate)
 	made.watchdog.Stop()
 	go made.run()
 	return made
 }
 
-// write writes a line, and returns when it is written. After an error it is not, or it has no end in time. The line can then be used again.
+// write writes a line, and returns when it is written. With errHangs it may still be written later, and with another error it is not. The caller may
+// use the line's octets again in any case.
 func (w *writer) write(line []byte) error {
 	w.mutex.Lock()
 	in := w.add(line, false)
@@ -90,7 +91,7 @@ func (w *writer) write(line []byte) error {
 	return in.err
 }
 
-// offer writes a line, if the sink takes it. It waits only as long as the sink was not late before. What is too much is dropped and counted.
+// offer writes a line, and waits for that unless the last lines were late. Where mostQueued lines wait, it is dropped and counted.
 func (w *writer) offer(line []byte) {
 	w.mutex.Lock()
 	if w.queued >= mostQueued {
@@ -105,7 +106,8 @@ func (w *writer) offer(line []byte) {
 	}
 }
 
-// add puts a line behind those that wait, and returns what it is written with. The mutex is held.
+// add adds a line to the last batch that waits, or to a new one, and returns that batch. isKept says that it is written even if nobody waits for it.
+// The mutex is held.
 func (w *writer) add(line []byte, isKept bool) *batch {
 	last := len(w.waiting) - 1
 	if last < 0 || w.waiting[last].isFull || w.waiting[last].isKept != isKept {
@@ -141,7 +143,7 @@ func (w *writer) wake() {
 	}
 }
 
-// watch has look called after some time, if it is not yet to be. The mutex is held.
+// watch has endLate called after some time, if that is not planned yet. The mutex is held.
 func (w *writer) watch() {
 	if !w.isWatched {
 		w.isWatched = true
@@ -149,8 +151,8 @@ func (w *writer) watch() {
 	}
 }
 
-// look tells those who have waited too long. A line that is waited for and comes from now on is in a batch of its own, and is given as much time.
-func (w *writer) look() {
+// endLate tells those who have waited too long. A line that is waited for and comes from now on is in a batch of its own, and is given as much time.
+func (w *writer) endLate() {
 	w.mutex.Lock()
 	defer w.mutex.Unlock()
 	late := time.Now().Add(w.patience/looksInPatience - w.patience)
@@ -168,12 +170,13 @@ func (w *writer) look() {
 		w.failed.Add(uint64(each.count))
 	}
 	w.waiting = left
-	if w.isWatched = false; w.present != nil || len(left) > 0 {
+	w.isWatched = false
+	if w.present != nil || len(left) > 0 {
 		w.watch()
 	}
 }
 
-// giveUp tells those who wait for lines that these have no end in time, and says whether they are still written. The mutex is held.
+// giveUp tells those who wait for a batch that it is not written in time, and says whether it is still to be written. The mutex is held.
 func (w *writer) giveUp(late *batch) (isKept bool) {
 	w.isStuck.Store(true)
 	late.end(errHangs)
@@ -188,7 +191,7 @@ func (b *batch) end(err error) {
 	}
 }
 
-// do has the goroutine do something between two writes, and says whether it did that in time.
+// do has the writer's goroutine call a function between two writes, and says whether that ended in time.
 func (w *writer) do(command func()) bool {
 	patience := time.NewTimer(w.patience)
 	defer patience.Stop()
@@ -214,7 +217,7 @@ func (w *writer) flush() {
 	})
 }
 
-// run writes what is handed over.
+// run is the writer's goroutine: it writes what waits, and calls the functions that are handed over.
 func (w *writer) run() {
 	var beats <-chan time.Time
 	if w.eachSecond != nil {
@@ -261,7 +264,7 @@ func (w *writer) writeNext() bool {
 	return true
 }
 
-// next returns the lines that have waited longest, or nil.
+// next takes the batch that has waited longest, which is w.present from then on, or returns nil.
 func (w *writer) next() *batch {
 	w.mutex.Lock()
 	defer w.mutex.Unlock()

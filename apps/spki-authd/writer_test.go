@@ -153,7 +153,7 @@ func TestOrderOfLines(t *testing.T) {
 	}
 }
 
-// taken returns the number of lines that are being written.
+// taken returns the number of lines that are being written just now.
 func (w *writer) taken() int {
 	w.mutex.Lock()
 	defer w.mutex.Unlock()
