@@ -51,7 +51,7 @@ impl<'a> ChainRequirement<'a> {
         ChainRequirement::of_from::<Brand>(alloc, case, steps, Blank::new(1))
     }
 
-    /// The same, counted in a ledger of its own.
+    /// Calls `of_counted` with a new count, which `blank` opens. The count exists only in contracts, and is dropped afterwards.
     fn of_from<L: Ledger>(
         alloc: Global,
         case: &Case<'a>,
@@ -104,7 +104,7 @@ impl<'a> ChainRequirement<'a> {
         self.grants_from::<Brand>(entry, case, Blank::new(1))
     }
 
-    /// The same, counted in a ledger of its own.
+    /// Calls `grants_counted` with a new count, which `blank` opens. The count exists only in contracts, and is dropped afterwards.
     fn grants_from<L: Ledger>(&self, entry: &Entry, case: &Case, blank: Blank) -> bool
         requires name { blank.name ≡ L.name }
         requires parts { blank.parts ≡ L.parts }
@@ -183,7 +183,7 @@ fn end_with(limit: &Option<Date>, step: &Step) -> Option<Date>
     }
 }
 
-/// The earlier of a limit and the not-after of a window. A missing limit does not limit.
+/// The earlier of a limit and the not-after of a window. A missing limit does not limit. The window `so_far` only serves to compare the two.
 fn earlier_end(limit: &Option<Date>, window: &Window) -> Option<Date>
     ensures { (windows : List Window) → IsLeastEnd windows limit.now → IsLeastEnd (windows ++ window.now ∷ []) result }
 {

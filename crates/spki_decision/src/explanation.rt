@@ -105,7 +105,7 @@ impl<'c, 'a> FoldSink<'a> for ReasonSink<'c, 'a> {
     ghost nothing = { no_reasons };
 }
 
-/// Why an entry that becomes this with all certificates grants the case's request or does not.
+/// Why an entry grants the case's request or does not. `fold` is what it becomes with all certificates.
 fn fold_reason(case: &Case, fold: EntryFold) -> Reason
     ensures { IsReasonFor (model case.now) fold.entry result }
 {

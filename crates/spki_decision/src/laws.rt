@@ -86,16 +86,17 @@ pub fn one_reduction<V: Verifier>()
         → IsReduced c (accepted_by c) x → IsReduced d (accepted_by d) y → AreSame IsSameReduction x y }
 {}
 
-/// For every verifier: a case with a decision that skipped no refusal is not refused as `TooLarge`. So the clauses of
-/// `decide` allow one answer, unless memory ran out.
+/// For every verifier: a case is not refused as `TooLarge` if it has a decision, and no entry up to the one that is granted has tags or work over the
+/// limits. For a no this must hold of all entries, unless a certificate fails its tests. So the clauses of `decide` allow one answer, unless memory
+/// ran out.
 #[tactic(auto, using(crate::proofs::OneDecision::not_both))]
 pub fn no_refusal<V: Verifier>()
     ensures { (verifier : V) (c : Case) (decision : Decision) → IsDecision c (V.accepted verifier) decision
         → IsUnrefused c (V.accepted verifier) decision → ¬ IsTooLarge c (V.accepted verifier) }
 {}
 
-/// An entry whose subject's principal does not name the key of the first issuer, or the client's key if no certificate
-/// is shown, never grants the request. Its chain is never too large.
+/// An entry is left out if its subject's principal does not name the key of the first issuer, or the client's key if no certificate is shown. It
+/// never grants the request, and its chain is never too large.
 pub fn left_out()
     ensures grants { (c : Case) (tuples : List Tuple) (e : Entry) → IsLeftOut c tuples e → ¬ Supported c tuples e }
     ensures small { (c : Case) (tuples : List Tuple) (e : Entry) → IsLeftOut c tuples e

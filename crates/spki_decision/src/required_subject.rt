@@ -207,7 +207,7 @@ fn are_same_names<L: Ledger>(one: &Names, other: &Names, ticks: &mut Ticks<L>) -
     true
 }
 
-/// Counts a name and its octets.
+/// Counts a name that is looked at: one tick for it, and one for each of its octets.
 fn look_at<L: Ledger>(name: &Octets, ticks: &mut Ticks<L>)
     ensures { ticks.new ≡ ticks.old + 1 + length name.now }
 {

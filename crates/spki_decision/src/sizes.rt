@@ -54,7 +54,7 @@ impl Sizes {
         self.have_small_product(tag, steps, most) || self.are_plain(tag, steps, most)
     }
 
-    /// Whether the product of the nodes of all tags is at most `most`.
+    /// Whether the product of the nodes of all tags is at most `most`. Only the contract uses `_steps`.
     fn have_small_product<'a>(&self, tag: &Tag, _steps: &[Step<'a>], most: usize) -> bool
         requires sizes { AreSizes (tuples_of _steps.now) self.now }
         requires most { most ≤ 1000000 }
@@ -66,7 +66,8 @@ impl Sizes {
         tag.nodes() * nodes <= most
     }
 
-    /// Whether no tag has a set, and the nodes of all tags together, times those of the largest one, are at most `most`.
+    /// Whether no tag has a set, and the nodes of all tags together, times those of the largest one of a certificate, are at most `most`. Only the
+    /// contract uses `_steps`.
     fn are_plain<'a>(&self, tag: &Tag, _steps: &[Step<'a>], most: usize) -> bool
         requires sizes { AreSizes (tuples_of _steps.now) self.now }
         requires most { most ≤ 1000000 }

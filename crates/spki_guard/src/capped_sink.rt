@@ -1,4 +1,4 @@
-//! A sink that keeps at most so many octets.
+//! A sink that keeps at most a given number of octets.
 ghost use Rattle.std.specs.Prelude.{◌≡◌, ◌-◌, ◌^◌, ◌<◌, ◌≤◌, false, OnOk, IsErrOf};
 ghost use Rattle.sexpr_text.specs.Sinks.{count_of};
 ghost use Rattle.spki_guard.specs.Inner.Capped.{lender_of, kept_by, most_of, counter_of, has_failed, is_over, CappedTakes, capped_takes_nothing, capped_takes_both, capped_stays};
@@ -6,7 +6,7 @@ ghost use Rattle.spki_guard.specs.Inner.Capped.{lender_of, kept_by, most_of, cou
 use sexpr_text::{Counter, Sink};
 use spki_decision::GuardFault;
 
-/// Appends octets to a vector, and counts them, as long as they are at most so many. With one more it is full.
+/// Counts octets, and appends them to a vector as long as their number is at most `most`. With one more it is full.
 pub(crate) struct CappedSink<'v> {
     octets: &'v mut Vec<u8>,
     counter: Counter,

@@ -66,8 +66,8 @@ impl FoldPrinter {
 impl<'a> FoldSink<'a> for FoldPrinter {
     ghost takes = { PrintsFolds };
 
-    /// Prints the line of the entry. Once the lines are too long, nothing is made or printed, and `end` refuses them.
-    /// Err if memory ran out.
+    /// Prints the line of the entry. Once the lines are too long, none is printed, and `end` refuses them; `prove_line` is then a fact for the prover
+    /// that there is a line. Err if memory ran out.
     fn put(&mut self, alloc: Global, entry: usize, fold: EntryFold<'a>) -> Result<(), AllocError> {
         self.count = entry;
         self.some_done = self.some_done || is_done(&fold);

@@ -114,7 +114,7 @@ fn answer_again(alloc: Global, query: Query, opened: &OwnedQuestion) -> Printed
     }
 }
 
-/// An answer that is no decision.
+/// The result with an answer that is no decision, so it has no grant.
 fn undecided(answer: Printed) -> OpenedAnswer
     ensures { (result.answer ≡ answer) × (result.grant ≡ None) }
 {

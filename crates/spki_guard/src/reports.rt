@@ -48,7 +48,7 @@ pub(crate) fn print_folds<S: Sink>(folds: &[EntryFold], sink: &mut S)
     }
 }
 
-/// A fact for the prover: there is a line for what an entry becomes. `entry` is counted from 1. Does nothing.
+/// A fact for the prover: what an entry becomes can be printed as a line. `entry` is counted from 1. Does nothing.
 pub(crate) fn prove_line(entry: usize, fold: &EntryFold)
     ensures { (line : List ℕ) × IsFoldLine entry fold.now line }
 {

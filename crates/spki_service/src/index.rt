@@ -135,7 +135,7 @@ impl EntryIndex {
         }
     }
 
-    /// Those of the rows whose principal has these octets. The rows must be in order.
+    /// Those of the rows whose principal has these octets, found by halves. The rows must be in the order of `compare`.
     fn rows_at<'i>(&'i self, rows: &'i [Row], octets: &[u8]) -> &'i [Row]
         ensures { IsInOrder self.now.principals rows.now
             → map row_number result.now ≡ numbers_with self.now.principals octets.now rows.now }
@@ -263,8 +263,8 @@ fn numbers_of(alloc: Global, rows: &[Row]) -> Result<Vec<usize>, AllocError>
     Ok(numbers)
 }
 
-/// Merges ascending numbers with those of the rows, which ascend too. A number that both have comes twice. If one has none, nothing
-/// is compared. Err if memory ran out.
+/// Merges `own`, ascending numbers, with those of the rows, which ascend too. A number that both have comes twice. If one has none, nothing is
+/// compared. Err if memory ran out.
 fn joined(alloc: Global, own: Vec<usize>, rows: &[Row]) -> Result<Vec<usize>, AllocError>
     ensures { IfOk result (λ numbers. numbers.items ≡ merge own.items (map row_number rows.now)) }
 {
