@@ -1,5 +1,5 @@
 //! Laws of tags and requests: how they are written, their intersection, and what tags can have in common.
-//! Each function is a law: it does nothing, and its contract is the fact.
+//! Each function is a law: it does nothing, and its contract is the fact. A reading of a value is the tag or request that it is read as.
 
 ghost use Rattle.std.specs.Prelude.{◌≡◌, ◌*◌, ◌≤◌, ◌↔◌, ◌&&◌, ℕ, List, None, Some, true, false, length, nat_eq};
 ghost use Rattle.std.specs.List.{starts_with};

@@ -8,8 +8,8 @@ use crate::leaf::{Limit, RangeOrdering, copied_limit};
 use crate::limit_intersection::{exclude, is_greater_low, is_lesser_up};
 use std::alloc::AllocError;
 
-/// A range: an ordering and at most two limits. Whether the limits exclude each other is known since the range was made, so that no
-/// intersection compares them again.
+/// A range: an ordering and at most two limits. Limits exclude each other if no string is within both. `excluded` says whether these do, since the
+/// range was made, so that no intersection compares them again.
 #[derive(Debug, Drop)]
 pub(crate) struct Range {
     pub(crate) ordering: RangeOrdering,
@@ -69,8 +69,8 @@ impl Range {
         }
     }
 
-    /// A copy of the range of an ordering with these limits. None if `excluded`, which says whether they exclude each other. Err if there
-    /// are too many copies to count.
+    /// The range of an ordering with copies of these limits, unless they exclude each other, as `excluded` says: then None. Err if there are too many
+    /// copies to count.
     fn unless(
         excluded: bool,
         ordering: RangeOrdering,

@@ -1,4 +1,4 @@
-//! A caller of `spki_decision`, with a verifier of its own.
+//! An example of a caller of `spki_decision`, with a verifier of its own.
 
 ghost use Rattle.std.specs.Prelude.{◌≡◌, ◌↔◌, ℕ, Contains, IsTrue, IfOk, IsErrOf};
 ghost use Rattle.spki_case.specs.View.{model};

@@ -20,7 +20,7 @@ pub enum Failure {
     /// Memory ran out.
     #[error("out of memory")]
     Memory,
-    /// The row is none: an unknown call, or no digits.
+    /// The row is malformed: an unknown call, or texts that are no hexadecimal digits.
     #[error("no row")]
     Unknown,
     #[error(transparent)]
@@ -70,7 +70,7 @@ impl Failure {
         )
     }
 
-    /// The fault and its text, as the answer to a row. `Memory` if memory ran out.
+    /// The fault and its text, as the answer to a row. Err is `Memory` if the fault is that memory ran out.
     pub fn said(self, alloc: Global) -> Reply {
         if self.is_memory() {
             return Err(Failure::Memory);

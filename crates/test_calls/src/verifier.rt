@@ -8,7 +8,7 @@ use spki_case::{AcceptedTable, Verifier};
 use spki_cert::Key;
 use std::alloc::{AllocError, Global};
 
-/// Accepts the signatures of a list, or all, or returns that memory ran out.
+/// Accepts the signatures of a list, or all signatures, or fails always, as if memory ran out.
 #[derive(Drop)]
 pub(crate) struct RowVerifier<'a> {
     listed: AcceptedTable<'a>,
