@@ -1,4 +1,4 @@
-//! Cases: an access list, accepted rows, a sequence, and a question.
+//! Cases: an access list, accepted rows (signatures that the service has verified), a sequence, and a question.
 
 ghost use Rattle.std.specs.Prelude.{◌≡◌, ◌≢◌, [], ◌<◌, ◌≤◌, ◌↔◌, length, IfOk, IfErr, IsErrOf};
 ghost use Rattle.spki_case.specs.Case.{CaseOf, ValueRefused, IsCaseText, TextRefused, AreSigned, IsOuter};

@@ -187,8 +187,8 @@ pub fn acl_principals<'a>(
     }
 }
 
-/// Reads node n of a document as an access list (RFC 2693, section 3.4): `(acl entry ..)`, with or without `(version 0)` in
-/// front of the entries.
+/// Reads node n of a document, which must exist, as an access list (RFC 2693, section 3.4): `(acl entry ..)`, with or without `(version 0)` in front
+/// of the entries.
 ///
 /// # Errors
 ///

@@ -135,7 +135,7 @@ pub fn sequence_of<'a>(alloc: Global, node: &Node<'_, 'a>) -> Result<Vec<SeqItem
     }
 }
 
-/// Reads node n of a document as a sequence: `(sequence item ..)`. An item is a key, `(do hash alg)`, a certificate or a
+/// Reads node n of a document, which must exist, as a sequence: `(sequence item ..)`. An item is a key, `(do hash alg)`, a certificate or a
 /// signature. Each certificate is followed by its signature, with only `do` items between.
 ///
 /// # Errors

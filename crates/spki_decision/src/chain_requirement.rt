@@ -67,8 +67,8 @@ impl<'a> ChainRequirement<'a> {
         ChainRequirement::of_counted(alloc, case, steps, &mut Ticks::<L>::new(blank))
     }
 
-    /// What certificates require of an entry, as `of`. A tick is a certificate, a tag or a name that is looked at, or an octet that is
-    /// compared. There are at most as many as the weights of the certificates' tuples together.
+    /// What certificates require of an entry, as `of`. A tick is a certificate, a tag or a name that is looked at, or an octet that is compared.
+    /// There are at most as many as the weights of the certificates' tuples together. `prove_well_formed` is only for the prover.
     ///
     /// # Errors
     ///

@@ -51,7 +51,7 @@ pub enum Explanation {
 /// it and all certificates, in their order, grant the request or do not. Otherwise it is the first certificate that
 /// fails a test of `Stop`, of which the last is that the verifier accepts its signature.
 ///
-/// The reason is `Grants` for exactly the entries that are granted. `decide` names the first of them.
+/// The reason is `Grants` for exactly the entries that are granted. `decide` names the first of them. `prove_well_formed` is only for the prover.
 ///
 /// # Errors
 ///

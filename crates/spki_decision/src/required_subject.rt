@@ -21,7 +21,7 @@ pub(crate) struct RequiredSubject<'a> {
     pub(crate) key: Key<'a>,
     /// It has these names.
     pub(crate) names: Names<'a>,
-    /// If true, it may delegate.
+    /// Whether it must be allowed to delegate.
     pub(crate) delegation: bool,
 }
 
@@ -61,8 +61,8 @@ pub(crate) fn required_subject<'a, L: Ledger>(
 }
 
 impl<'a> RequiredSubject<'a> {
-    /// Whether a subject is as required: it names the key under the policy, has exactly the names, and may delegate if
-    /// that is required. `propagate` says whether it may. Allocates nothing.
+    /// Whether a subject is as required: it names the key under the policy, has exactly the names, and may delegate if it must. `propagate` says
+    /// whether it may. Allocates nothing.
     pub(crate) fn is_met_by<L: Ledger>(
         &self,
         subject: &Subject,
@@ -124,9 +124,9 @@ impl<'a> RequiredSubject<'a> {
         }
     }
 
-    /// The subject that is required before a name's definition: the defined name, and after it the required names
-    /// without those of the definition's subject. It may delegate if `self` may. None if the definition's subject does
-    /// not name the required key, or if the required names do not begin with its names. Err if memory ran out.
+    /// The subject that is required before a name's definition: the defined name, and after it the required names without those of the definition's
+    /// subject. It must be allowed to delegate if that is required after the definition. None if the definition's subject does not name the required
+    /// key, or if the required names do not begin with its names. Err if memory ran out.
     fn before_definition<L: Ledger>(
         self,
         alloc: Global,

@@ -1,4 +1,4 @@
-//! The lines of what a guard's entries become, printed one after another.
+//! The lines of a reduction: what each of a guard's entries becomes with the certificates of a question, printed one after another.
 ghost use Rattle.std.specs.Prelude.{◌≡◌, ◌++◌, ◌+◌, ◌<◌, ◌≤◌, false, ℕ, List, length, IfOk, IsErrOf};
 ghost use Rattle.spki_decision.specs.declared.reduction.EntryFold.{EntryFold};
 ghost use Rattle.spki_guard.specs.TextAnswers.{written_by};
@@ -13,7 +13,8 @@ use spki_decision::{EntryFold, GuardFault};
 use spki_service::FoldSink;
 use std::alloc::{AllocError, Global};
 
-/// Prints a line for what each entry becomes. If the lines have more octets than it may keep, it prints no more of them.
+/// Prints a line for what each entry becomes. `room` is how many octets it may still keep. If a line has more, `is_long` is true, and no more lines
+/// are printed.
 #[derive(Drop)]
 pub(crate) struct FoldPrinter {
     lines: Vec<u8>,

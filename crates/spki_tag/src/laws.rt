@@ -54,7 +54,7 @@ pub fn read_weight()
     ensures { (w : Tag) → weight (normal w) ≤ length (canon (tag_value w)) }
 {}
 
-/// The normal form of a written tag is in normal form, contains the same requests and has no more nodes.
+/// A written tag and its normal form contain the same requests, and the normal form has no more nodes. It is in normal form.
 pub fn normal_form()
     ensures { (t : Tag) → IsTag t → IsNormalOf t (normal t) }
 {}

@@ -26,7 +26,7 @@ pub fn answer<T: Answered + Drop>(alloc: Global, value: T) -> Reply {
 
 /// A value that is read for several calls.
 pub trait Called {
-    /// The answer of the call with this name and these texts.
+    /// Does the call with this name on the value, with these texts of the row, and returns its answer.
     fn call(&self, alloc: Global, name: &str, texts: &[Vec<u8>]) -> Reply;
 }
 

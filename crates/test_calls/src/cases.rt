@@ -19,6 +19,7 @@ pub(crate) fn call(alloc: Global, name: &str, texts: &[Vec<u8>]) -> Option<Reply
 }
 
 impl Called for Case<'_> {
+    /// Does the call with this name on the case, which is the first of `texts`. The second is the verifier.
     fn call(&self, alloc: Global, name: &str, texts: &[Vec<u8>]) -> Reply {
         match name {
             "Case::read" => counted(alloc, self),

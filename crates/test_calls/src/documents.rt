@@ -31,6 +31,7 @@ pub(crate) fn call(alloc: Global, name: &str, texts: &[Vec<u8>]) -> Option<Reply
 }
 
 impl Called for Doc<'_> {
+    /// Does the call with this name on the document, which is the first of `texts`.
     fn call(&self, alloc: Global, name: &str, texts: &[Vec<u8>]) -> Reply {
         match name {
             "Doc::open" => octets(alloc, self.top().slice()),

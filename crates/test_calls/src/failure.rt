@@ -92,6 +92,7 @@ impl<T: Drop> From<AllocFailed<T>> for Failure {
 }
 
 impl From<FromHexError> for Failure {
+    /// Texts that are no hexadecimal digits are `Unknown`.
     fn from(fault: FromHexError) -> Failure {
         match fault {
             FromHexError::OutOfMemory => Failure::Memory,
@@ -101,6 +102,7 @@ impl From<FromHexError> for Failure {
 }
 
 impl From<io::Error> for Failure {
+    /// Any error but an allocation that failed is `Unknown`.
     fn from(error: io::Error) -> Failure {
         match error.kind() {
             ErrorKind::OutOfMemory => Failure::Memory,

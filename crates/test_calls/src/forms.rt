@@ -27,6 +27,7 @@ pub(crate) fn call(alloc: Global, name: &str, texts: &[Vec<u8>]) -> Option<Reply
 }
 
 impl Called for Sexp {
+    /// Does the call with this name on the tree.
     fn call(&self, alloc: Global, name: &str, _: &[Vec<u8>]) -> Reply {
         match name {
             "wrap" => answer(alloc, wrap(alloc, self)),

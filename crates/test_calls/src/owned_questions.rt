@@ -45,6 +45,7 @@ pub fn mark_all(opened: &mut OwnedQuestion, marks: &[u8]) -> bool {
 }
 
 impl Called for OwnedQuestion {
+    /// Does the call with this name on the question.
     fn call(&self, alloc: Global, name: &str, _texts: &[Vec<u8>]) -> Reply {
         match name {
             "OwnedQuestion::signed" => signed(alloc, self),

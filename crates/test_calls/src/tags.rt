@@ -23,6 +23,7 @@ pub(crate) fn call(alloc: Global, name: &str, texts: &[Vec<u8>]) -> Option<Reply
 }
 
 impl Called for Tag {
+    /// Does the call with this name on the tag, which is the first of `texts`. The second is a request or another tag.
     fn call(&self, alloc: Global, name: &str, texts: &[Vec<u8>]) -> Reply {
         match name {
             "Tag::clone" => answer(alloc, self.clone()?),

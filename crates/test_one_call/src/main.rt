@@ -20,7 +20,7 @@ use std::process::ExitCode;
 use test_calls::answers::Reply;
 use test_calls::failure::Failure;
 
-/// The answer of the call with this name, of `test_calls` or of this crate. None if there is no such call.
+/// Does the call with this name, of `test_calls` or of this crate. Returns its answer. None if there is no such call.
 fn call(alloc: Global, name: &str, texts: &[Vec<u8>]) -> Option<Reply> {
     match test_calls::call(alloc, name, texts) {
         None => lines::call(alloc, name, texts),

@@ -67,12 +67,12 @@ struct End<'a> {
     text: &'a [u8],
     /// What was written.
     taken: Vec<u8>,
-    /// The most octets of a call, and of all further calls.
+    /// The most octets of a call, `step`, and of all calls that follow, `room`.
     step: usize,
     room: usize,
     /// What it answers without room.
     past: Past,
-    /// The number of calls, and the length of the last one's buffer.
+    /// The number of reads and writes, and the length of the last one's buffer, `last`.
     calls: usize,
     last: usize,
     flushes: usize,
@@ -105,6 +105,7 @@ impl<'a> End<'a> {
 }
 
 impl Read for End<'_> {
+    /// Reads some octets of the text, within the step, the room and the buffer.
     fn read(&mut self, buf: &mut [u8]) -> io::Result<usize> {
         self.calls = self.calls.saturating_add(1);
         self.last = buf.len();
@@ -121,6 +122,7 @@ impl Read for End<'_> {
 }
 
 impl Write for End<'_> {
+    /// Takes some of the octets, within the step and the room.
     fn write(&mut self, buf: &[u8]) -> io::Result<usize> {
         self.calls = self.calls.saturating_add(1);
         self.last = buf.len();
@@ -133,6 +135,7 @@ impl Write for End<'_> {
         Ok(count)
     }
 
+    /// Counts the flush, and fails if `flush_fails` is true.
     fn flush(&mut self) -> io::Result<()> {
         self.flushes = self.flushes.saturating_add(1);
         if self.flush_fails {
