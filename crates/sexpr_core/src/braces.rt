@@ -25,6 +25,7 @@ pub struct Unpacked {
     pub end: usize,
 }
 
+/// The symbols of a text in base64, and the offset after the mark that ended it.
 struct Gathered {
     symbols: Vec<u8>,
     end: usize,

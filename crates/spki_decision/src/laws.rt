@@ -175,9 +175,9 @@ pub fn fewer_entries<V: Verifier>()
         → IsDecided c (V.accepted verifier) (Ok No) → IsDecided (kept_case c kept) (V.accepted verifier) (Ok No) }
 {}
 
-/// What narrower tuples support, wider ones support. In a case a smaller tag or a shorter window, of an entry or of a certificate that
-/// passes its tests, grants no other entry, and turns no no into a yes. So does an entry or a certificate that may no longer be delegated. A case
-/// with narrower entries is a narrower case.
+/// What narrower tuples support, wider ones support. An entry, or a certificate that passes its tests, becomes narrower if its tag is smaller, its
+/// window shorter, or it may no longer be delegated. In a case this grants no other entry, and turns no no into a yes. A case with narrower entries
+/// is a narrower case.
 pub fn narrower<V: Verifier>()
     ensures chain { (c : Case) (narrow wide : List Tuple) (e f : Entry) → IsRequest c.request → is_date c.moment ≡ true
         → IsNarrowerEntry e f → AllZip IsNarrower narrow wide → Supported c narrow e → Supported c wide f }

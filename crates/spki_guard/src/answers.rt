@@ -182,8 +182,8 @@ fn print_tag_line<S: Sink>(tag: &Tag, sink: &mut S)
     sink.put_octet(b'\n');
 }
 
-/// Counts the octets of an answer as it is printed, and returns their number plus `more`, which must be over 0. None if the sum is over the greatest
-/// `u64`, which no memory holds.
+/// Counts the octets of an answer as it is printed, and returns their number plus `more`. None if the sum is over the greatest `u64`, which no memory
+/// holds. `more` must be over 0, so that a counter that has stopped there also gives None.
 pub(crate) fn count_with(answer: &Answer, more: u64) -> Option<u64>
     requires { 0 < more }
     ensures { IfSome result (λ n. (octets : List ℕ) → Prints answer.now octets → n ≡ length octets + more) }

@@ -35,8 +35,8 @@ impl<'v> CappedSink<'v> {
     ///
     /// # Errors
     ///
-    /// `TooLarge` if more octets were put: the vector lacks some. `Memory` if memory ran out, whatever was put, or the
-    /// count is the greatest `u64`, which is no count: no memory holds so many.
+    /// `TooLarge` if more octets were put: the vector lacks some. `Memory` if memory ran out, whatever was put, or if the count has stopped at the
+    /// greatest `u64`: no memory holds so many.
     pub(crate) fn end(self) -> Result<(), GuardFault>
         ensures kept { self.exit.0.now.items ≡ kept_by self.entry }
         ensures ok { OnOk result ((has_failed self.entry ≡ false)

@@ -129,7 +129,8 @@ pub fn one_second()
     ensures { (seconds : ℤ) (date : List ℕ) → IsDateAt seconds date → last_second date ≡ seconds }
 {}
 
-/// The order of seconds is that of dates: seconds are at most the last second of a date exactly if theirs is not after it, by octets.
+/// The order of seconds is that of dates: seconds are at most the last second of a date exactly if their own date is not after it, in the order of
+/// octets.
 pub fn order_of_seconds()
     ensures { (seconds : ℤ) (date end : List ℕ) → IsDateAt seconds date → is_date end ≡ true → (seconds ≤ℤ last_second end) ↔ (upto date end ≡ true) }
 {}

@@ -6,8 +6,8 @@ ghost use Rattle.spki_service.specs.Questions.{words_value, wanted_octets, momen
 
 use crate::question::{Moment, Question, RequestInput};
 
-/// How many octets a question's texts have together. None if they are more than `most_octets`. None of them is read. A
-/// request's strings count as their canonical text, and seconds as 22 octets.
+/// How many octets a question's texts have together. None if they are more than `most_octets`. None of them is read. A request's strings count as
+/// their canonical text, and seconds as the canonical form of a date, which has 22 octets.
 pub(crate) fn octets_within(question: &Question, most_octets: usize) -> Option<usize>
     ensures { MatchOption result (most_octets < asked_octets question.now) (λ octets. (octets ≡ asked_octets question.now) × (octets ≤ most_octets)) }
 {

@@ -12,19 +12,19 @@ ghost use Rattle.spki_tag.specs.Reading.{normal, IsNormalOf, ReadsAs};
 ghost use Rattle.spki_tag.specs.Request.{AreOctets, Request, IsRequest, request_value};
 ghost use Rattle.spki_tag.specs.Tag.{Tag, IsTag, tag_value, tags, contains, is_above, is_below, is_normal, nodes};
 
-/// At most one tag is written as a value.
+/// A value is the written form of at most one tag.
 #[tactic(auto, using(crate::proofs::TagReading::tag_only))]
 pub fn one_tag()
     ensures { (t w : Tag) → IsTag t → IsTag w → tag_value w ≡ tag_value t → w ≡ t }
 {}
 
-/// At most one request is written as a value.
+/// A value is the written form of at most one request.
 #[tactic(auto, using(crate::proofs::RequestReading::request_only))]
 pub fn one_request()
     ensures { (g h : Request) → request_value h ≡ request_value g → h ≡ g }
 {}
 
-/// A value is read as at most one tag.
+/// A value has at most one reading as a tag.
 pub fn one_reading()
     ensures { (v : Value) (t u : Tag) → ReadsAs v t → ReadsAs v u → t ≡ u }
 {}

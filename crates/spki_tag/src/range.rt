@@ -87,10 +87,10 @@ impl Range {
         Ok(Some(Range::between(ordering, copied_limit(low)?, copied_limit(up)?)))
     }
 
-    /// Returns the intersection of two ranges: the range with the greater lower limit and the lesser upper limit. None if one ordering
-    /// is of times and the other of dates, or if these limits exclude each other. A limit is compared only with limits of the other range,
-    /// and each comparison reads at most the octets of the shorter one: so at most twice the octets of the limits of either range. Err if
-    /// there are too many copies to count.
+    /// Returns the intersection of two ranges: the range with the greater lower limit and the lesser upper limit. None if one ordering is of times
+    /// and the other of dates, or if these limits exclude each other; if both are of one range, its `excluded` says it. A limit is compared only with
+    /// limits of the other range, and each comparison reads at most the octets of the shorter one: so at most twice the octets of the limits of
+    /// either range. Err if there are too many copies to count.
     pub(crate) fn meet(&self, other: &Range) -> Result<Option<Range>, AllocError>
         ensures { IfOk result (λ r. range_or_nothing r
             ≡ ranged (ordering_meet (ordering_of self.now.ordering) (ordering_of other.now.ordering))

@@ -29,6 +29,7 @@ fn is_among(keys: &[Key], key: &Key) -> bool
 impl<'v, 'k, V: Verifier> Verifier for Unrevoked<'v, 'k, V> {
     ghost accepted = { λ own. unrevoked own.revoked.now (V.accepted own.verifier.now) };
 
+    /// Whether the key is not revoked, and the other verifier accepts the signature.
     fn accepts(
         &self,
         alloc: Global,

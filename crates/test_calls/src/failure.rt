@@ -80,12 +80,14 @@ impl Failure {
 }
 
 impl From<AllocError> for Failure {
+    /// An allocation that failed is `Memory`.
     fn from(_: AllocError) -> Failure {
         Failure::Memory
     }
 }
 
 impl<T: Drop> From<AllocFailed<T>> for Failure {
+    /// An allocation that failed is `Memory`.
     fn from(_: AllocFailed<T>) -> Failure {
         Failure::Memory
     }

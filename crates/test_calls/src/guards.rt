@@ -164,6 +164,7 @@ fn marked<'a>(
     Ok(asked)
 }
 
+/// The calls on a question, by a verifier, which is the first of `texts`, or by its marks.
 impl Called for PreparedQuestion<'_> {
     fn call(&self, alloc: Global, name: &str, texts: &[Vec<u8>]) -> Reply {
         match name {

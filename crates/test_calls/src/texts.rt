@@ -36,6 +36,7 @@ pub fn number(text: &[u8]) -> usize {
 
 /// A type whose values can be read from a node.
 pub trait OfNode<'a>: Sized {
+    /// Reads a value from its node. Err is its fault.
     fn of_node(alloc: Global, node: &Node<'_, 'a>) -> Result<Self, Failure>;
 }
 
@@ -45,30 +46,35 @@ pub fn read<'a, T: OfNode<'a> + Drop>(alloc: Global, text: &'a [u8]) -> Result<T
     T::of_node(alloc, &document.top())
 }
 
+/// A tag.
 impl<'a> OfNode<'a> for Tag {
     fn of_node(alloc: Global, node: &Node<'_, 'a>) -> Result<Tag, Failure> {
         Tag::of(alloc, node).map_err(Failure::Tag)
     }
 }
 
+/// A request.
 impl<'a> OfNode<'a> for Ground {
     fn of_node(alloc: Global, node: &Node<'_, 'a>) -> Result<Ground, Failure> {
         Ground::of(alloc, node).map_err(Failure::Tag)
     }
 }
 
+/// A date.
 impl<'a> OfNode<'a> for Date {
     fn of_node(_: Global, node: &Node<'_, 'a>) -> Result<Date, Failure> {
         date_of(node).map_err(Failure::Kind)
     }
 }
 
+/// A key.
 impl<'a> OfNode<'a> for Key<'a> {
     fn of_node(_: Global, node: &Node<'_, 'a>) -> Result<Key<'a>, Failure> {
         key_of(node).map_err(Failure::Kind)
     }
 }
 
+/// An entry of an access list.
 impl<'a> OfNode<'a> for Entry<'a> {
     fn of_node(alloc: Global, node: &Node<'_, 'a>) -> Result<Entry<'a>, Failure> {
         entry_of(alloc, node).map_err(Failure::Kind)
