@@ -12,7 +12,7 @@ const MOST: usize = 9_223_372_036_854_775_807;
 
 /// Why the texts of an array cannot be read.
 pub(crate) enum TextsFault {
-    /// A text is not lent whole.
+    /// A text is not lent whole (`Text::is_lent`).
     Unlent,
     /// Memory ran out.
     Memory,

@@ -1,4 +1,5 @@
 //! Reads entries and access lists.
+//! A value with many parts is freed by a call of `drop`, so that the proof does not go through its parts at each exit.
 
 ghost use Rattle.std.specs.Prelude.{◌≡◌, ◌≢◌, ◌∷◌, [], Some, None, IsSome, IfSome, IfOk, IfErr, codes, map, List};
 ghost use Rattle.std.specs.List.{AllZip};

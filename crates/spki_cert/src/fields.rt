@@ -1,4 +1,5 @@
 //! The fields of entries and of certificates.
+//! A value with many parts is freed by a call of `drop`, so that the proof does not go through its parts at each exit.
 
 ghost use Rattle.std.specs.Prelude.{◌≡◌, ◌≢◌, ◌∷◌, [], ℕ, List, Option, Some, None, true, false, IfOk, IfErr, MatchOption, MatchBool, codes};
 ghost use Rattle.sexpr_core.specs.Value.{Value, plain, group};

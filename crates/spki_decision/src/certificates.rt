@@ -26,7 +26,7 @@ pub struct ShownCert<'s, 'a> {
     pub item: usize,
     /// The certificate.
     pub certificate: Certificate<'s, 'a>,
-    /// Its signature: the next item after it, except operations. None if that item is no signature.
+    /// Its signature: the next item after it that is no operation. None if that item is no signature.
     pub signature: Option<&'s Signature<'a>>,
 }
 

@@ -139,8 +139,8 @@ impl<'a> ChainRequirement<'a> {
         }
     }
 
-    /// The last moment at which an entry and the certificates grant what the case of `of` asks, if they grant it: the least not-after of
-    /// their windows. None if none of them ends. Allocates nothing.
+    /// The last moment at which an entry and the certificates grant what the case of `of` asks, if they grant it: the earliest not-after of their
+    /// windows. None if none of them ends. Allocates nothing.
     pub fn until(&self, entry: &Entry) -> Option<Date>
         ensures { (tuples : List Tuple) → IsUntil tuples self.now entry.now result }
     {

@@ -1,5 +1,5 @@
 //! The examination of a sequence: the tests of its certificates that need no verifier, and the signatures that a verifier is
-//! asked about.
+//! asked about. A value with many parts is freed by a call of `drop`, so that the proof does not go through its parts at each exit.
 
 ghost use Rattle.std.specs.Prelude.{◌≡◌, ◌++◌, ◌∷◌, [], List, map, IfOk, OnOk, IsSome};
 ghost use Rattle.spki_cert.specs.declared.principal.Policy.{Policy};

@@ -215,7 +215,7 @@ fn look_at<L: Ledger>(name: &Octets, ticks: &mut Ticks<L>)
     ticks.read(name.as_slice().len());
 }
 
-/// Whether a principal names a key, as `Principal::names`. Each octet of the principal is a tick.
+/// Whether a principal names a key, as `Principal::names`. Each octet of the principal, of its key or digest, is a tick.
 fn is_name_of<L: Ledger>(
     principal: &Principal,
     key: &Key,

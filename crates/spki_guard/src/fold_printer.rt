@@ -1,4 +1,5 @@
 //! The lines of a reduction: what each of a guard's entries becomes with the certificates of a question, printed one after another.
+//! A value with many parts is freed by a call of `drop`, so that the proof does not go through its parts at each exit.
 ghost use Rattle.std.specs.Prelude.{◌≡◌, ◌++◌, ◌+◌, ◌<◌, ◌≤◌, false, ℕ, List, length, IfOk, IsErrOf};
 ghost use Rattle.spki_decision.specs.declared.reduction.EntryFold.{EntryFold};
 ghost use Rattle.spki_guard.specs.TextAnswers.{written_by};

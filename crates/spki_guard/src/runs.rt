@@ -1,4 +1,5 @@
 //! Runs a command, from the octets that are read to those that are written.
+//! A value with many parts is freed by a call of `drop`, so that the proof does not go through its parts at each exit.
 ghost use Rattle.std.specs.Prelude.{◌≡◌, ℕ, ◌+◌, ◌<◌, ◌≤◌, ◌⊎◌, List, length, max, Option, Bool, IsTrue, IfNone, IfSome, OnSome};
 ghost use Rattle.metered_io.specs.MeteredCalls.{inner_of, asks_of, faults_of, ended_of, Gives, TakesNone};
 ghost use Rattle.spki_guard.specs.TextAnswers.{IsAnswer, IsReply, IsFaulty, IsWritten, IsCutOff, RefusesForMemory};

@@ -98,8 +98,8 @@ impl<'a> PreparedQuestion<'a> {
         }
     }
 
-    /// Whether the question is granted if all listed signatures are valid. If it is not, no marks make it a yes, and no signature has to
-    /// be verified. True grants nothing.
+    /// Whether the question is granted if all listed signatures are valid. If it is not, no marks make it a yes, and no signature has to be verified.
+    /// True is not yet a yes.
     ///
     /// # Errors
     ///

@@ -1,4 +1,4 @@
-//! Decisions whose steps are counted.
+//! Decisions whose work is counted, in contracts only: see `Ticks`.
 
 ghost use Rattle.std.specs.Prelude.{◌≡◌, ◌≤◌, ◌<◌, ◌+◌, ◌*◌, ℕ, List, length, IfOk, MatchOption};
 ghost use Rattle.spki_cert.specs.declared.entry.Entry.{Entry};

@@ -1,4 +1,5 @@
 //! Which entry of an access list grants a request, one after another (RFC 2693, section 6.3).
+//! A value with many parts is freed by a call of `drop`, so that the proof does not go through its parts at each exit.
 
 ghost use Rattle.std.specs.Prelude.{◌≡◌, ◌≤◌, ◌+◌, ◌*◌, List, None, length, IfOk};
 ghost use Rattle.spki_cert.specs.declared.entry.Entry.{Entry};

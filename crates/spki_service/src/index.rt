@@ -224,7 +224,7 @@ fn rows_of(
     Ok(rows)
 }
 
-/// The last eight octets as a number. 0 if there are fewer.
+/// The last eight octets as a number, in little-endian order. 0 if there are fewer.
 fn tail_of(octets: &[u8]) -> u64
     ensures { result ≡ tail_of octets.now }
 {

@@ -77,7 +77,7 @@ fn of_both(alloc: Global, name: &str, tag: &Tag, other: &Tag, most: &[u8]) -> Re
     }
 }
 
-/// The places of the members of a set for the intersection with another tag.
+/// The places of the members of `set` that may have a request in common with `tag`.
 fn places(alloc: Global, set: &Tag, tag: &Tag) -> Reply {
     let index = Index::of(alloc, set)?;
     let places = index.places(alloc, tag);

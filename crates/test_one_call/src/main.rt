@@ -3,7 +3,7 @@
 //! which texts a call takes.
 //!
 //! The crate `test_calls` contains the calls of the libraries up to `spki_service`, and this crate the others. This crate is proved last,
-//! when nothing else is left to prove.
+//! when nothing else is left to prove. The head of `test_calls` says why values are moved to `answer` or dropped by a call.
 //!
 //! If memory runs out for a row, its line is `refused Memory`, and the program ends with status 2. `tests/suite/test_hostile.py` refuses each
 //! allocation of a call in turn.
