@@ -8,7 +8,8 @@ ghost use Rattle.metered_io.specs.MeteredCalls.{counted, inner_of, asks_of, faul
 use std::io;
 use std::io::{Error, ErrorKind, Read, Write};
 
-/// Passes calls on to a reader or a writer, and counts them: `asks` are all its reads, writes and flushes, and `faults` those that failed.
+/// Passes calls on to a reader or a writer, and counts them: `asks` are all its reads, writes and flushes, and `faults` those that failed and were
+/// not only interrupted.
 #[derive(Drop)]
 pub struct Metered<T> {
     asks: u64,

@@ -8,8 +8,8 @@ use crate::leaf::{Limit, RangeOrdering, copied_limit};
 use crate::limit_intersection::{exclude, is_greater_low, is_lesser_up};
 use std::alloc::AllocError;
 
-/// A range: an ordering and at most two limits. Limits exclude each other if no string is within both. `excluded` says whether these do, since the
-/// range was made, so that no intersection compares them again.
+/// A range: an ordering and at most two limits. Limits exclude each other if no string is within both. `excluded` says whether these do. It is set
+/// when the range is made, so that no intersection compares them again.
 #[derive(Debug, Drop)]
 pub(crate) struct Range {
     pub(crate) ordering: RangeOrdering,

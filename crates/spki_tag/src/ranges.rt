@@ -65,8 +65,8 @@ fn read_ordering(name: &Node<'_, '_>) -> Result<RangeOrdering, TagFault>
     }
 }
 
-/// Reads two values, a word and a string, as a limit. It is strict, so the range excludes the string, if the word is `strict`, and not if it is
-/// `inclusive`. None if the two are no such limit. Err if memory ran out.
+/// Reads two values, a word and a string, as a limit. The word must be one of two: `strict`, such as `g`, with which the range excludes the string,
+/// or `inclusive`, such as `ge`. None if the two values are no such limit. Err if memory ran out.
 fn read_limit(
     alloc: Global,
     word: &Node<'_, '_>,

@@ -5,8 +5,8 @@
 //! The crate `test_calls` contains the calls of the libraries up to `spki_service`, and this crate the others. This crate is proved last,
 //! when nothing else is left to prove. The head of `test_calls` says why values are moved to `answer` or dropped by a call.
 //!
-//! If memory runs out for a row, its line is `refused Memory`, and the program ends with status 2. `tests/suite/test_hostile.py` refuses each
-//! allocation of a call in turn.
+//! If memory runs out for a row, its line is `refused Memory`. If its call is unknown or its digits are malformed, it is `refused Unknown`. Then the
+//! program ends with status 2. `tests/suite/test_hostile.py` refuses each allocation of a call in turn.
 #![tactic(auto)]
 
 mod callers;
