@@ -90,8 +90,8 @@ fn print_first<'t, S: Sink>(text: &'t [u8], sink: &mut S) -> &'t [u8]
     }
 }
 
-/// Prints the value of a text in canonical form, in advanced form, as `print_advanced` does. The recursion is as deep as
-/// the value. A full sink ends it at once. Allocates nothing, unless the sink does.
+/// Prints the value of a canonical text in advanced form, as `print_advanced` does. The recursion is as deep as the value. A full sink ends it at
+/// once. Allocates nothing, unless the sink does.
 pub fn print_canonical<S: Sink>(text: &[u8], sink: &mut S)
     requires { (v : Value) × (text.now ≡ canon v) }
     ensures { (v : Value) → text.now ≡ canon v → S.takes sink.old (adv v) sink.new }

@@ -44,8 +44,7 @@ pub(crate) fn asking_key<'a>(
     key.digested(algorithms)
 }
 
-/// Lets the key of an item, or of the issuer of a certificate, carry its digests by these algorithms. Any other item
-/// does not change.
+/// Gives the key of an item, or of the issuer of a certificate, its digests by these algorithms. Any other item does not change.
 fn digest_item(item: &mut SeqItem, algorithms: Algorithms)
     ensures { item.new ≡ item.old }
 {
@@ -58,7 +57,7 @@ fn digest_item(item: &mut SeqItem, algorithms: Algorithms)
     }
 }
 
-/// Lets the key of a principal carry its digests by these algorithms. A hash does not change.
+/// Gives the key of a principal its digests by these algorithms. A hash does not change.
 fn digest_principal(principal: &mut Principal, algorithms: Algorithms)
     ensures { principal.new ≡ principal.old }
 {

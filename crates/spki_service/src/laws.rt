@@ -97,8 +97,8 @@ pub fn possible()
     ensures { (a : PreparedModel) (es : List Entry) (n : ℕ) → AreEntries a.texts es → IsPossible a false → ¬ DecidesMarked a (Yes n) }
 {}
 
-/// A guard's decision by marks is that of `check`. An auditor composes the case of the guard's entries and policy and the question's parts,
-/// with rows for exactly the marked signatures. If signatures of equal key, digest and value are marked alike, and the case is not refused,
+/// A guard's decision by marks is that of the command `check`. An auditor composes the case of the guard's entries and policy and the question's
+/// parts, with rows for exactly the marked signatures. If signatures of equal key, digest and value are marked alike, and the case is not refused,
 /// `check` answers the same.
 pub fn as_check()
     ensures { (a : PreparedModel) (es : List Entry) (c : Case) (x y : Decision) → AreEntries a.texts es → IsCaseOfParts a es c
