@@ -8,7 +8,8 @@ ghost use Rattle.metered_io.specs.MeteredCalls.{counted, inner_of, asks_of, faul
 use std::io;
 use std::io::{Error, ErrorKind, Read, Write};
 
-/// Passes calls on to a reader or a writer, and counts them.
+/// Passes calls on to a reader or a writer, and counts them: `asks` are all its reads, writes and flushes, and `faults` those that failed and were
+/// not only interrupted.
 #[derive(Drop)]
 pub struct Metered<T> {
     asks: u64,
@@ -50,7 +51,7 @@ impl<T> Metered<T> {
         self.flushed = false;
     }
 
-    /// The number of reads, writes and flushes that were passed on. It stops at the greatest `u64`.
+    /// The number of calls that were passed on: reads, writes and flushes together. It stops at the greatest `u64`.
     pub fn asks(&self) -> u64
         ensures { result ≡ asks_of self.now }
     {

@@ -15,8 +15,8 @@ const WRITER_ASKS: u64 = 2_097_152;
 #[error("write fault")]
 pub struct WriteFault;
 
-/// Writes once. Returns how many of the octets were written, 0 if the write was interrupted and must be repeated. There
-/// must be some octets. Err at any other error, and if none was written.
+/// Writes once. Returns how many of the octets were written, 0 if the write was interrupted and must be repeated. `octets` must not be empty. Err at
+/// any other error, and if the writer took no octet.
 fn write_piece<W: Write>(writer: &mut Metered<W>, octets: &[u8]) -> Result<usize, WriteFault>
     requires some { 0 < length octets.now }
     ensures asks { asks_of writer.new ≡ counted (asks_of writer.old) }
@@ -60,8 +60,8 @@ fn flush_once<W: Write>(writer: &mut Metered<W>) -> Result<bool, WriteFault>
     }
 }
 
-/// Writes all the octets, and does not flush. A call that fails with `Interrupted` is repeated. The writer is called
-/// until its count `asks` is `most`. For no octets it is not called.
+/// Writes all the octets, and does not flush. A call that fails with `Interrupted` is repeated. `most` is the most calls: the writer is called until
+/// its count `asks`, which includes earlier calls, is `most`. For no octets it is not called.
 ///
 /// # Errors
 ///
@@ -90,8 +90,8 @@ pub fn write_octets<W: Write>(
     Ok(())
 }
 
-/// Flushes the writer. A flush that fails with `Interrupted` is repeated. The writer is called until its count `asks` is
-/// `most`.
+/// Flushes the writer. A flush that fails with `Interrupted` is repeated. `most` is the most calls: the writer is called until its count `asks`,
+/// which includes earlier calls, is `most`.
 ///
 /// # Errors
 ///

@@ -25,6 +25,7 @@ pub struct Unpacked {
     pub end: usize,
 }
 
+/// The symbols of a text in base64, and the offset after the mark that ended it.
 struct Gathered {
     symbols: Vec<u8>,
     end: usize,
@@ -123,8 +124,8 @@ fn pad(symbols: &mut Vec<u8>, missing: usize) -> Result<(), AllocError>
     Ok(())
 }
 
-/// Decodes base64 symbols, of whose padding some or all may be missing. Err is `Bad` at the offset `at` if they are no
-/// base64 or an unused bit is not zero, or `Memory`.
+/// Decodes base64 symbols. Their padding may be incomplete or missing. Err is `Bad` with the offset `at` if they are no base64 or an unused bit is
+/// not zero, or `Memory`.
 fn unpack(alloc: Global, symbols: Vec<u8>, at: usize) -> Result<Vec<u8>, FormFault>
     ensures read { IfOk result (λ octets. IsBase64 symbols.items octets.items) }
     ensures only { (octets : List ℕ) → IsBase64 symbols.items octets → IsOkUnless result FormFault.Memory }
@@ -150,9 +151,8 @@ fn unpack(alloc: Global, symbols: Vec<u8>, at: usize) -> Result<Vec<u8>, FormFau
 ///
 /// # Errors
 ///
-/// Short: the text ends before the mark. Bad: at the first octet that is not allowed there, or at the mark if the body
-/// is no base64. No text that begins with the octets up to this one has base64 and the mark at the offset. Memory:
-/// memory ran out.
+/// Short: the text ends before the mark. Bad: at the first octet that is not allowed there, or at the mark if the body is no base64. However a text
+/// continues after this octet, it has no base64 with the mark at `at`. Memory: memory ran out.
 pub fn read_base64(alloc: Global, text: &[u8], at: usize, mark: u8) -> Result<Unpacked, FormFault>
     requires begins { at ≤ length text.now }
     requires apart { is_body_octet mark ≡ false }
@@ -167,8 +167,8 @@ pub fn read_base64(alloc: Global, text: &[u8], at: usize, mark: u8) -> Result<Un
     Ok(Unpacked { octets, end })
 }
 
-/// The fault of a text in braces, if the octets in it are no canonical form: `TooDeep` and `Memory` stay, and any other
-/// becomes `Bad` at the offset `at` of the closing brace.
+/// The fault to report for a text in braces if the octets decoded from it are no canonical form: `TooDeep` and `Memory` stay, and any other becomes
+/// `Bad` at the offset `at` of the closing brace.
 fn body_fault(fault: FormFault, at: usize) -> FormFault
     ensures { IsBodyFault fault at result }
 {
@@ -179,9 +179,8 @@ fn body_fault(fault: FormFault, at: usize) -> FormFault
     }
 }
 
-/// Checks that the octets in a text in braces, at most `MOST_OCTETS`, are one value in canonical form, with at most
-/// `MOST_LISTS` lists open at once. Err is `TooDeep` if more are, and for any other fault `Bad` at the offset `at`,
-/// which is that of the closing brace.
+/// Checks that the octets decoded from a text in braces, at most `MOST_OCTETS`, are one value in canonical form, with at most `MOST_LISTS` lists open
+/// at once. Err is `TooDeep` if more are, and for any other fault `Bad` at the offset `at`, which is that of the closing brace.
 #[tactic(auto, using(crate::proofs::Refusals::body_refused))]
 fn check_body(octets: &[u8], at: usize) -> Result<(), FormFault>
     requires { length octets.now ≤ 1048576 }

@@ -45,8 +45,8 @@ pub enum NodeKind<'d, 'a> {
     List(Members<'d, 'a>),
 }
 
-/// The octets of a text from the offset `from` to before the offset `to`, which is at least `from` and at most the
-/// length of the text.
+/// The octets of a text from the offset `from` to before the offset `to`, which is at least `from` and at most the length of the text. It is a
+/// function so that these bounds are proved once, and not at each slice.
 fn piece(text: &[u8], from: usize, to: usize) -> &[u8]
     requires ordered { from ≤ to }
     requires within { to ≤ length text.now }

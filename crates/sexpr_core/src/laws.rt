@@ -25,9 +25,8 @@ pub fn one_refusal()
     ensures one { (text : List ℕ) (e f : FormFault) → IsOfForm e → IsOfForm f → Refused text e → Refused text f → e ≡ f }
 {}
 
-/// A text has at most one of the faults TooDeep, Short, Bad and Trailing of the transport form, with its offset. It has
-/// none if it braces a value within the limits, that is, if it is the value's transport form up to whitespace and
-/// missing padding.
+/// A text has at most one of the faults TooDeep, Short, Bad and Trailing of the transport form, with its offset. It has none if it braces a value
+/// within the limits, that is, if it is the value's transport form except for whitespace and missing padding.
 pub fn one_refusal_in_braces()
     ensures none { (text : List ℕ) (e : FormFault) (v : Value) → IsOfForm e → RefusesBraces text e → ¬ IsBracedWithin text v }
     ensures one { (text : List ℕ) (e f : FormFault) → IsOfForm e → IsOfForm f → RefusesBraces text e → RefusesBraces text f → e ≡ f }

@@ -38,7 +38,7 @@ impl<'a> Doc<'a> {
         Some(NodeId(self.member_number(n.0, i)))
     }
 
-    /// The number of member i, from 0, of the list with number n. The list must have this member.
+    /// The number of member i, from 0, of the list with number n. The list must have this member. `prove!` gives the prover a fact and does nothing.
     #[tactic(auto, using(crate::proofs::NodeLaws::member_of, crate::proofs::NodeLaws::member_is, crate::proofs::NodeLaws::size_is))]
     fn member_number(&self, n: usize, i: usize) -> usize
         requires known { n < size self.now }

@@ -17,11 +17,11 @@ pub const MOST_OCTETS: usize = 1_048_576;
 /// The largest number of lists that may be open at once.
 pub const MOST_LISTS: usize = 64;
 
-/// A table of nodes begins with room for so many records, and one more for each 8 octets of the text. A node of a certificate has 6 to 12 octets.
-/// A key, an entry or a request has fewer nodes than this.
+/// A table of nodes begins with room for this many records, and one more for each 8 octets of the text. A node of a certificate has 6 to 12 octets. A
+/// key, an entry or a request has fewer nodes than this.
 const LEAST_ROOM: usize = 24;
 
-/// The most records for which a table of nodes keeps room without need: 28 KiB.
+/// The most unused records for which a finished table of nodes keeps room: 28 KiB.
 const MOST_SPARE: usize = 1024;
 
 /// The length before a string, at most `MOST_OCTETS` plus one, and the offset after its colon.
@@ -299,8 +299,8 @@ pub(crate) fn parse(alloc: Global, text: &[u8]) -> Result<Vec<Record>, FormFault
     Ok(fitted(nodes))
 }
 
-/// The same records, with room for at most `MOST_SPARE` more. A vector that grew has up to twice as much room as it needs. To fit a small one
-/// costs more than it saves.
+/// Returns the same records, and frees the unused room of their vector if it is more than `MOST_SPARE` records. A vector that grew may have twice the
+/// room that it needs. For less room, freeing costs more than it saves.
 fn fitted(nodes: Vec<Record>) -> Vec<Record>
     ensures { result.items ≡ nodes.items }
 {

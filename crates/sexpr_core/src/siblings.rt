@@ -9,7 +9,8 @@ use crate::document::Doc;
 use crate::handle::Node;
 use std::marker::Model;
 
-/// The members of a list that are still to be read. In a contract it is the list of their values.
+/// The members of a list that are still to be read, from the node with number `from` to before number `to`. The `size` of a record counts a node with
+/// all nodes in it, so it leads to the next member. In a contract it is the list of their values.
 #[derive(Debug, Drop)]
 pub struct Members<'d, 'a> {
     document: &'d Doc<'a>,

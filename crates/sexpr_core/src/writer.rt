@@ -31,8 +31,8 @@ fn append_decimal(number: usize, out: &mut Vec<u8>) -> Result<(), AllocError>
     Ok(())
 }
 
-/// Appends the length of a string in decimal to the output. A length of one digit takes no recursion. Err if memory ran
-/// out.
+/// Appends the length of a string in decimal to the output. A length of one digit is appended without the recursive `append_decimal`. Err if memory
+/// ran out.
 #[tactic(auto, using(crate::proofs::TreeLaws::digit_written))]
 fn append_length(octets: usize, out: &mut Vec<u8>) -> Result<(), AllocError>
     ensures written { OnOk result (out.new.items ≡ out.old.items ++ decimal octets) }
@@ -45,8 +45,8 @@ fn append_length(octets: usize, out: &mut Vec<u8>) -> Result<(), AllocError>
     append_decimal(octets, out)
 }
 
-/// Appends a string's verbatim form (RFC 9804, section 4.1) to the output: its length in decimal, a colon, its octets. If
-/// memory runs out, a part of it may have been appended. The output before it does not change.
+/// Appends a string's verbatim form (RFC 9804, section 4.1) to the output: its length in decimal, a colon, its octets. A string of one octet has a
+/// branch of its own only for speed. If memory runs out, a part may have been appended. The output before it does not change.
 pub fn append_verbatim(octets: &[u8], out: &mut Vec<u8>) -> Result<(), AllocError>
     ensures written { OnOk result (out.new.items ≡ out.old.items ++ verbatim octets.now) }
     ensures kept { take (length out.old.items) out.new.items ≡ out.old.items }

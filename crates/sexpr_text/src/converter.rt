@@ -56,8 +56,8 @@ fn convert_braces(alloc: Global, form: Form, text: &[u8]) -> Result<Vec<u8>, For
     }
 }
 
-/// Writes the value of a canonical text in advanced form. Other texts in advanced form are read as well. The refusals
-/// are those of `read_advanced`.
+/// Writes the value of a canonical text in advanced form. Canonical form is also advanced form, so the text is read as such. The refusals are those
+/// of `read_advanced`.
 #[tactic(auto, using(crate::proofs::OneValue::one_value, crate::proofs::Converted::canonical_within))]
 fn advanced_of(alloc: Global, octets: &[u8]) -> Result<Vec<u8>, FormFault>
     ensures read { (v : Value) → IsWithinLimits v → octets.now ≡ canon v → IfOk result (λ out. out.items ≡ adv v) }

@@ -12,6 +12,7 @@ use sexpr_core::FormFault;
 use sexpr_core::syntax::{is_space, octet_at};
 use std::alloc::Global;
 
+/// The digits of a hexadecimal string, and the offset of the mark that ended it.
 #[derive(Drop)]
 struct Digits {
     digits: Vec<u8>,

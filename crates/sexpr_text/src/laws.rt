@@ -9,7 +9,7 @@ ghost use Rattle.sexpr_text.specs.Refusal.{RefusesSpelling, RefusesText, IsSomeT
 ghost use Rattle.sexpr_core.specs.Value.{Value, canon, HasOctets};
 ghost use Rattle.sexpr_text.specs.AdvancedForm.{Spells, IsText, IsSpelledWithin, IsTextWithin, adv};
 
-/// A text spells (in advanced form) or braces (in transport form) at most one value.
+/// A text has at most one value: it spells at most one (in advanced form), or braces at most one (in transport form).
 pub fn one_value()
     ensures { (text : List ℕ) (v w : Value) → IsText text v → IsText text w → v ≡ w }
 {}

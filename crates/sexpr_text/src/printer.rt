@@ -33,8 +33,8 @@ pub fn print_advanced(alloc: Global, tree: &Sexp) -> Result<Vec<u8>, AllocError>
     Ok(out)
 }
 
-/// Whether an octet may occur in a token: a letter, a digit, or one of `- . / _ : * + =`. Letters are the most frequent, so
-/// they take the fewest comparisons.
+/// Whether an octet may occur in a token: a letter, a digit, or one of `- . / _ : * + =`. Letters are the most frequent, so they take the fewest
+/// comparisons. The octets from `*` to `:` are the digits, `,` and these marks, except `_` and `=`.
 pub fn stands_in_token(octet: u8) -> bool
     ensures { result ≡ is_token_octet octet }
 {
@@ -111,7 +111,7 @@ fn print_quoted<S: Sink>(octets: &[u8], sink: &mut S)
     sink.put_octet(b'"');
 }
 
-/// Prints octets in padded base64, without the `|` around them. There must be at most 384.
+/// Prints octets in padded base64, without the `|` around them. There must be at most 384: then the symbols fit and encoding cannot fail.
 fn print_piece<S: Sink>(octets: &[u8], sink: &mut S)
     requires { length octets.now ≤ 384 }
     ensures { S.takes sink.old (encode_of standard octets.now) sink.new }

@@ -15,7 +15,7 @@ use sexpr_core::syntax::octet_at;
 use std::alloc::Global;
 use std::borrow::CowSlice;
 
-/// The octet that an escape means, none for a line end, and the offset after the escape.
+/// The octet that an escape means, None for the end of a line, which means no octet, and the offset after the escape.
 #[derive(Clone, Copy)]
 struct Escape {
     octet: Option<u8>,
@@ -159,8 +159,8 @@ fn meant_by(octet: u8) -> Option<u8>
     }
 }
 
-/// Reads the escape of a backslash and the one octet `octet`, which is at `at`, such as `n`. Err is `Bad` at it if the
-/// two are no whole escape.
+/// Reads an escape that is a backslash and one octet: a letter such as `n`, a quote, `?` or a backslash. `octet` is that octet, at the offset `at`.
+/// Err is `Bad` at it if the two are no escape. Only the contract uses `text`.
 #[tactic(auto, using(crate::proofs::StringLaws::letter_escape, crate::proofs::StringEnds::nothing_begun, crate::proofs::StringEnds::letter_goes))]
 fn read_letter(text: &[u8], at: usize, octet: u8) -> Result<Escape, FormFault>
     requires { StandsAt text.now at octet }
@@ -242,8 +242,8 @@ fn read_octal_digit(text: &[u8], at: usize) -> Result<u8, FormFault>
     Ok(octet - b'0')
 }
 
-/// Reads the three octal digits of an escape, from the offset `at` on. `first` is the value of the first, at most 3.
-/// Err is `Bad` at the first other octet, or `Short` if the text ends before all three.
+/// Reads the three octal digits of an escape, from the offset `at` on. `first` is the value of the first digit, at most 3, which was read before. Err
+/// is `Bad` at the first other octet, or `Short` if the text ends before all three.
 fn read_octal_escape(text: &[u8], at: usize, first: u8) -> Result<Escape, FormFault>
     requires begins { StandsAt text.now at (48 + first) }
     requires low { first < 4 }

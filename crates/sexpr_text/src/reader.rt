@@ -15,12 +15,14 @@ use sexpr_core::syntax::{ended, octet_at, skip_spaces};
 use sexpr_core::{Atom, FormFault, MOST_LISTS, MOST_OCTETS, Sexp, unwrap_braces};
 use std::alloc::Global;
 
+/// The tree of a value, and the offset after its text.
 #[derive(Drop)]
 struct ReadTree {
     tree: Sexp,
     end: usize,
 }
 
+/// The trees of the members of a list, and the offset after the list.
 #[derive(Drop)]
 struct ReadMembers {
     members: Vec<Sexp>,

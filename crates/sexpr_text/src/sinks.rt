@@ -8,7 +8,7 @@ use std::alloc::AllocError;
 /// Takes octets, one piece after another. A sink that fails reports the fault at its end, whatever is put after it, so a
 /// printer has no errors.
 pub trait Sink {
-    // From the sink before it took these octets to the sink after it.
+    // What it means that a sink takes octets: the sink before, the octets, and the sink after.
     ghost takes: { Self → List ℕ → Self → Type 0 };
 
     // The sink stays as it is from now on.
@@ -22,11 +22,11 @@ pub trait Sink {
     fn put_octet(&mut self, octet: u8)
         ensures { takes self.old (octet ∷ []) self.new };
 
-    /// Whether the sink stays as it is, whatever is put from now on. Then a printer need not find out what to print.
+    /// Whether whatever is put from now on leaves the sink as it is. Then a printer may stop early.
     fn is_full(&self) -> bool
         ensures { result ≡ full self.now };
 
-    // Nothing is taken between two calls, what two calls take is one behind the other, and whatever is put into a full sink is taken.
+    // To take nothing changes no sink, two pieces are taken as one that joins them, and a full sink takes anything without a change.
     ghost nothing: { (s : Self) → takes s [] s };
 
     ghost both: { (a b c : Self) (x y : List ℕ) → takes a x b → takes b y c → takes a (x ++ y) c };

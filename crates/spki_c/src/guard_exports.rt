@@ -65,8 +65,8 @@ pub extern "C" fn spki_c_guard_open(
     }
 }
 
-/// Frees the question of a handle if `is_question` is true, and otherwise its guard. What is of the other kind is not freed, but returned by
-/// `back`. That handle must have nothing before.
+/// Frees what a handle owns, if that is of the wanted kind: a question if `is_question` is true, otherwise a guard. What is of the other kind is not
+/// freed, but returned by `back`. That handle must have nothing before.
 #[unsafe(no_mangle)]
 pub extern "C" fn spki_c_close(alloc: Global, is_question: bool, handle: Handle, back: &mut Handle)
     requires held { IsSome handle.held }

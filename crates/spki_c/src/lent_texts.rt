@@ -12,7 +12,7 @@ const MOST: usize = 9_223_372_036_854_775_807;
 
 /// Why the texts of an array cannot be read.
 pub(crate) enum TextsFault {
-    /// A text is not lent whole.
+    /// A text is not lent whole (`Text::is_lent`).
     Unlent,
     /// Memory ran out.
     Memory,
@@ -38,7 +38,8 @@ impl Text {
     }
 }
 
-/// The texts of an array, with the octets that may be read. Err if one of them is not lent whole, or else if memory ran out.
+/// The texts of an array, with the octets that may be read. Err is `Unlent` if one of them is not lent whole, also if memory ran out before it;
+/// otherwise `Memory`.
 pub(crate) fn texts_at(
     alloc: Global,
     places: &[TextPlace],

@@ -42,7 +42,7 @@ pub(crate) fn limits_of(limits: &[LimitParts]) -> Option<Limits>
     }
 }
 
-/// A limit, or the usual one if it is 0.
+/// The limit, or the default one, `usual`, if it is 0.
 fn or_usual(limit: usize, usual: usize) -> usize
     ensures { result ≡ or_usual limit usual }
 {

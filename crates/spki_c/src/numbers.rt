@@ -85,7 +85,7 @@ pub fn query_status(query: Query, verdict: Verdict) -> u32
     }
 }
 
-/// The status of a decision with this verdict: `YES`, `NO` or `REFUSED`.
+/// The status of a decision with this verdict: `YES`, `NO` or `REFUSED`. `Done` is a yes.
 fn decided_number(verdict: Verdict) -> u32
     ensures { result ≡ decided verdict }
 {
@@ -96,7 +96,7 @@ fn decided_number(verdict: Verdict) -> u32
     }
 }
 
-/// The status of an answer that is no decision: `REFUSED` if it is a refusal, otherwise `DONE`.
+/// The status of an answer that is no decision: `REFUSED` if it is a refusal, otherwise `DONE`, also if no entry grants the request.
 fn written_number(verdict: Verdict) -> u32
     ensures { result ≡ written verdict }
 {

@@ -6,7 +6,7 @@ use crate::parts::Parts;
 use spki_guard::{Moment, Question, RequestInput};
 
 impl Parts {
-    /// Whether all texts of a question but the strings of its request are lent whole.
+    /// Whether all texts of a question, except the strings of its request, are lent whole (`Text::is_lent`).
     pub(crate) fn are_lent(&mut self) -> bool
         ensures same { self.new ≡ self.old }
         ensures lent { IsTrue result ↔ AreLent self.old [] }
@@ -28,8 +28,8 @@ impl Parts {
             || (!seconds.is_empty() && self.moment.count() > 0)
     }
 
-    /// The question with these parts, whose texts must be lent whole. `words` are the strings of the request, and are
-    /// used only if it is given by them. The moment is the first of `seconds`, or the text if there are none.
+    /// The question with these parts, whose texts must be lent whole. `words` are the strings of the request, and are used only if `is_worded` is
+    /// true. The moment is the first of `seconds`, or the text if there are none.
     pub(crate) fn question<'a>(&'a mut self, words: &'a [&'a [u8]], seconds: &[i64]) -> Question<'a>
         requires { IsLent self.old.sequence × IsLent self.old.key × IsLent self.old.request × IsLent self.old.moment }
         ensures { IsQuestionBy self.entry.now (map (λ w. w.now) words.entry.now) seconds.now result }

@@ -18,8 +18,8 @@ pub struct TextPlace {
     pub count: usize,
 }
 
-/// The texts of an array that C passes, with the octets that may be read. They last at least as long as the call. It has no bytes, so C passes
-/// nothing for it.
+/// The texts of an array that C passes, with the octets that may be read. They last at least as long as the call. Only contracts use them: the type
+/// has no bytes, so C passes nothing for it.
 #[repr(C)]
 #[derive(Drop)]
 pub struct Readable {
@@ -31,7 +31,7 @@ impl Model for Readable {
 }
 
 impl Readable {
-    /// The next text, of which `place` says where it is.
+    /// The next text, whose pointer and count are those of `place`.
     pub(crate) fn next(&mut self, place: TextPlace) -> Text
         requires { (t : Text) × (ts : List Text) × (self.old.texts ≡ t ∷ ts) × (place ≡ place_of t) }
         ensures { self.old.texts ≡ result ∷ self.new.texts }

@@ -53,8 +53,8 @@ fn place_of_octets(node: &Node) -> Option<Place>
     }
 }
 
-/// The member of a list with this number, from 0, and the offset of its text in the canonical text of the list, which
-/// must have at most 1,048,576 octets. None if there is no such member, or the node is a string.
+/// The member of a list with this number, from 0, and the offset of its text in the canonical text of the list, whose opening parenthesis is at 0.
+/// That text must have at most 1,048,576 octets. None if there is no such member, or the node is a string.
 fn member_of<'d, 'a>(node: &Node<'d, 'a>, number: usize) -> Option<(Node<'d, 'a>, usize)>
     requires { length (canon node.now) ≤ 1048576 }
     ensures { MatchOption result (slice_get (parts node.now) number ≡ None) (λ r. IsMember node.now number r.0 r.1) }

@@ -1,4 +1,4 @@
-//! Cases: an access list, accepted rows, a sequence, and a question.
+//! Cases: an access list, accepted rows (signatures that the service has verified), a sequence, and a question.
 
 ghost use Rattle.std.specs.Prelude.{◌≡◌, ◌≢◌, [], ◌<◌, ◌≤◌, ◌↔◌, length, IfOk, IfErr, IsErrOf};
 ghost use Rattle.spki_case.specs.Case.{CaseOf, ValueRefused, IsCaseText, TextRefused, AreSigned, IsOuter};
@@ -69,10 +69,10 @@ pub struct Case<'a> {
     pub policy: Policy,
     /// The greatest product of the numbers of nodes of two tags that are intersected.
     pub most_nodes: usize,
-    /// The most work of the entries that are folded, together: what `spki_reduce::Work` says of their steps.
+    /// The most work of all entries together that are joined with the certificates, as `spki_reduce::Work` counts it.
     pub most_work: usize,
-    /// Chains that are small by this limit do not count as work. A chain is small if the product of the numbers of nodes of its tags
-    /// is at most this; or if no tag has a set, and the nodes of all, times those of the largest certificate's tag, are.
+    /// A chain, an entry with all certificates, does not count as work if it is small by this limit: if the product of the numbers of nodes of its
+    /// tags is at most this; or if no tag has a set, and the nodes of all its tags, times those of the largest certificate's tag, are.
     pub uncounted: usize,
     /// Each certificate is followed by its signature.
     ghost signed: { AreSigned sequence.items },
@@ -217,14 +217,15 @@ impl<'a> Case<'a> {
     }
 }
 
-/// A fault of a part that has no items: its item is 0.
+/// A fault of a part that has no items, such as the key: its item is 0.
 fn fault_of_part(kind: CertFaultKind) -> CertFault
     ensures { result ≡ record { item = 0; kind = kind } }
 {
     CertFault { item: 0, kind }
 }
 
-/// The fault of a part as the case's: `named`, or `Memory` if memory ran out while the part was read.
+/// The fault of a case for a part whose fault has this kind: `Memory` if memory ran out while the part was read, otherwise `named`, the fault of that
+/// part.
 fn outer_fault(kind: CertFaultKind, named: CaseFault) -> CaseFault
     ensures { IsOuter (kind ≡ CertFaultKind.Memory) CaseFault.Memory named result }
 {

@@ -24,9 +24,9 @@ pub(crate) fn digested_items<'a>(
     items
 }
 
-/// The client's key, with its digests by the algorithms of the hashes that it may be compared with. These are those of the
-/// last certificate's subject. If there is no certificate, they are `algorithms`, which are those of the access list's
-/// subjects. Allocates nothing.
+/// The client's key, with its digests by the algorithms of the hashes that it may be compared with. These are those of the last certificate's
+/// subject: the loop keeps the last. If there is no certificate, they are `algorithms`, which are those of the access list's subjects. Allocates
+/// nothing.
 pub(crate) fn asking_key<'a>(
     key: &Key<'a>,
     algorithms: Algorithms,
@@ -44,8 +44,7 @@ pub(crate) fn asking_key<'a>(
     key.digested(algorithms)
 }
 
-/// Lets the key of an item, or of the issuer of a certificate, carry its digests by these algorithms. Any other item
-/// does not change.
+/// Gives the key of an item, or of the issuer of a certificate, its digests by these algorithms. Any other item does not change.
 fn digest_item(item: &mut SeqItem, algorithms: Algorithms)
     ensures { item.new ≡ item.old }
 {
@@ -58,7 +57,7 @@ fn digest_item(item: &mut SeqItem, algorithms: Algorithms)
     }
 }
 
-/// Lets the key of a principal carry its digests by these algorithms. A hash does not change.
+/// Gives the key of a principal its digests by these algorithms. A hash does not change.
 fn digest_principal(principal: &mut Principal, algorithms: Algorithms)
     ensures { principal.new ≡ principal.old }
 {
@@ -68,7 +67,7 @@ fn digest_principal(principal: &mut Principal, algorithms: Algorithms)
     }
 }
 
-/// These algorithms, and those of the hashes in a sequence that may name keys under the policy.
+/// Returns `algorithms`, and those of the hashes in a sequence that may name keys under the policy.
 fn all_algorithms(algorithms: Algorithms, items: &[SeqItem], policy: Policy) -> Algorithms {
     let mut algorithms = algorithms;
     for item in items {
@@ -86,7 +85,7 @@ pub(crate) fn entry_algorithms(acl: &[Entry], policy: Policy) -> Algorithms {
     algorithms
 }
 
-/// These algorithms, and those of the hashes in an item that may name keys under the policy.
+/// Returns `algorithms`, and those of the hashes in an item that may name keys under the policy.
 fn item_algorithms(algorithms: Algorithms, item: &SeqItem, policy: Policy) -> Algorithms {
     match item {
         SeqItem::Auth(cert) => algorithms

@@ -1,5 +1,5 @@
 //! Laws of cases and accepted lists.
-//! Each function is a law: it does nothing, and its contract is the fact.
+//! Each function is a law: it does nothing, and its contract is the fact. A reading of a value is the row, list or case that it is read as.
 
 ghost use Rattle.std.specs.Prelude.{◌≡◌, ◌↔◌, ℕ, List, Some, None};
 ghost use Rattle.std.specs.List.{AllZip};

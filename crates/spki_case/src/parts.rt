@@ -30,8 +30,8 @@ struct TakenPart<'d, 'a> {
     rest: Members<'d, 'a>,
 }
 
-/// The first of the members, if it is a list with the head `word`, and the members after it. None if there is no such
-/// first member.
+/// Takes the first of the members, if it is a list with the head `word`. Returns it, its members after the head, and the members after it. None if
+/// there is no such first member.
 fn take_part<'d, 'a>(members: Members<'d, 'a>, word: &[u8]) -> Option<TakenPart<'d, 'a>>
     ensures { MatchOption result (IsNoPart members.entry word.now) (IsPart members.entry word.now) }
 {

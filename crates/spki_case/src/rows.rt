@@ -1,4 +1,4 @@
-//! Reads the rows of an accepted list.
+//! Reads the rows of an accepted list, which are signatures that the service has verified.
 
 ghost use Rattle.std.specs.Prelude.{◌≡◌, ◌≢◌, ◌<◌, ◌↔◌, length, map, Some, None, IfOk, IfErr, IsErrOf};
 ghost use Rattle.spki_cert.specs.Readings.{HashOf};

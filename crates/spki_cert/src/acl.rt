@@ -1,4 +1,5 @@
 //! Reads entries and access lists.
+//! A value with many parts is freed by a call of `drop`, so that the proof does not go through its parts at each exit.
 
 ghost use Rattle.std.specs.Prelude.{◌≡◌, ◌≢◌, ◌∷◌, [], Some, None, IsSome, IfSome, IfOk, IfErr, codes, map, List};
 ghost use Rattle.std.specs.List.{AllZip};
@@ -40,8 +41,8 @@ fn entry_subject<'a>(alloc: Global, node: &Node<'_, 'a>) -> Result<Subject<'a>, 
     }
 }
 
-/// Reads an entry from its node, `(entry subject ..)`, like the entries of an access list in `read_acl` (RFC 2693,
-/// section 3.4).
+/// Reads an entry from its node, `(entry subject ..)`, like the entries of an access list in `read_acl` (RFC 2693, section 3.4). The fields of an
+/// entry have no issuer and no other subject, so both are None here.
 ///
 /// # Errors
 ///
@@ -101,8 +102,8 @@ fn entries_of<'a>(alloc: Global, members: Members<'_, 'a>) -> Result<Vec<Entry<'
     Ok(entries)
 }
 
-/// Returns the members of an access list after the head `acl`, and after a version if the first of them is one. Err is
-/// `Shape` if the node is not headed `acl`, or the fault of the version.
+/// Returns the members of an access list that are its entries: those after the head `acl`, and after `(version 0)` if that is the first of them. Err
+/// is `Shape` if the node is not headed `acl`, or the fault of the version.
 #[tactic(auto, using(crate::proofs::Heads::heads), unfolding(crate::specs::StructureFaults::outer_fault))]
 fn behind_version<'d, 'a>(node: &Node<'d, 'a>) -> Result<Members<'d, 'a>, CertFaultKind>
     ensures found { IfOk result (λ entries. (all : List Value) × (node.now ≡ group (plain (codes "acl") ∷ all))
@@ -112,7 +113,7 @@ fn behind_version<'d, 'a>(node: &Node<'d, 'a>) -> Result<Members<'d, 'a>, CertFa
     let Some(all) = node.headed(b"acl") else {
         return Err(CertFaultKind::Shape);
     };
-    // Taken twice, since iterating over members consumes them.
+    // `all` is what is returned if there is no version. `split_first` consumes the members, so they are taken a second time.
     let Some(members) = node.headed(b"acl") else {
         return Err(CertFaultKind::Shape);
     };
@@ -140,8 +141,8 @@ pub fn acl_of<'a>(alloc: Global, node: &Node<'_, 'a>) -> Result<Vec<Entry<'a>>, 
     }
 }
 
-/// Reads the entries of an access list as `entries_of`, and returns the principals of their subjects, in order. Only one entry is kept at
-/// a time.
+/// Reads the entries of an access list like `entries_of`, with the same errors, but returns only the principals of their subjects, in order. Only one
+/// entry is in memory at a time.
 #[tactic(auto, using(crate::proofs::Heads::heads), unfolding(crate::specs::StructureFaults::entries_fault))]
 fn principals_in<'a>(
     alloc: Global,
@@ -187,8 +188,8 @@ pub fn acl_principals<'a>(
     }
 }
 
-/// Reads node n of a document as an access list (RFC 2693, section 3.4): `(acl entry ..)`, with or without `(version 0)` in
-/// front of the entries.
+/// Reads node n of a document, which must exist, as an access list (RFC 2693, section 3.4): `(acl entry ..)`, with or without `(version 0)` in front
+/// of the entries.
 ///
 /// # Errors
 ///

@@ -1,4 +1,4 @@
-//! Reads certificates.
+//! Reads certificates. A value with many parts is freed by a call of `drop`, so that the proof does not go through its parts at each exit.
 
 ghost use Rattle.std.specs.Prelude.{◌≡◌, ◌≢◌, Some, None, IfOk, IfErr};
 ghost use Rattle.sexpr_core.specs.Value.{Value};
@@ -45,8 +45,8 @@ fn issued_to<'a>(who: WrittenSubject<'a>, issuer: &Principal<'a>) -> Subject<'a>
     }
 }
 
-/// Reads the contents of a certificate's fields from the members after its head. Err is the first fault. It is `Shape`
-/// if the issuer or the subject is missing, or if limits are given alone and there is a `(valid ..)` too.
+/// Reads the contents of a certificate's fields from the members after its head. Err is the first fault. It is `Shape` if the issuer or the subject
+/// is missing, or if there is a `(valid ..)` and also a limit outside of it.
 fn parts_of<'a>(alloc: Global, members: Members<'_, 'a>) -> Result<CertParts<'a>, CertFaultKind>
     ensures found { IfOk result (λ parts. PartsOf members.entry parts) }
     ensures named { IfErr result (λ kind. kind ≢ CertFaultKind.Memory → parts_fault members.entry ≡ Some kind) }

@@ -1,4 +1,5 @@
 //! The fields of entries and of certificates.
+//! A value with many parts is freed by a call of `drop`, so that the proof does not go through its parts at each exit.
 
 ghost use Rattle.std.specs.Prelude.{◌≡◌, ◌≢◌, ◌∷◌, [], ℕ, List, Option, Some, None, true, false, IfOk, IfErr, MatchOption, MatchBool, codes};
 ghost use Rattle.sexpr_core.specs.Value.{Value, plain, group};
@@ -30,7 +31,7 @@ pub(crate) enum Place {
 /// The content of one field.
 #[derive(Drop)]
 pub(crate) enum FieldValue<'a> {
-    /// No content that is kept: `propagate`, a version, or a field that is ignored.
+    /// No content that `FieldValues` keeps: a version, a field that is ignored, or `propagate`, which `read_fields` notes by its head.
     Nothing,
     Issuer(Issuer<'a>),
     Subject(WrittenSubject<'a>),
@@ -46,7 +47,7 @@ pub(crate) struct FieldValues<'a> {
     pub issuer: Option<Issuer<'a>>,
     pub subject: Option<WrittenSubject<'a>>,
     pub tag: Option<Tag>,
-    /// The limits that are given directly.
+    /// The limits that are fields of their own, outside of `(valid ..)`.
     pub limits: Window,
     /// The limits in `(valid ..)`.
     pub valid: Option<Window>,
@@ -128,8 +129,8 @@ fn subject_in<'a>(
     }
 }
 
-/// Reads a field that both an entry and a certificate may have: `tag`, `propagate`, `comment` or a field of validity.
-/// Err is its fault, `Shape` for any other field.
+/// Reads a field that both an entry and a certificate may have: `tag`, `propagate`, `comment` or a field of validity. `(propagate)` has no content,
+/// so it is `Nothing` here; `read_fields` notes by its head that it is there. Err is its fault, `Shape` for any other field.
 #[tactic(auto, using(crate::proofs::Heads::heads), unfolding(crate::specs::FieldFaults::entry_field_fault))]
 fn read_common_field<'a>(alloc: Global, field: &Node) -> Result<FieldValue<'a>, CertFaultKind>
     ensures says { IfOk result (λ said. FieldValueOf field.now said) }
@@ -235,7 +236,7 @@ fn field_value<'a>(
 }
 
 impl<'a> FieldValues<'a> {
-    /// What is known of no fields.
+    /// The contents before any field is read: all of them are missing.
     fn none() -> FieldValues<'a>
         ensures { FieldValuesOf [] result }
     {
@@ -251,7 +252,7 @@ impl<'a> FieldValues<'a> {
         }
     }
 
-    /// Notes the content of one more field, in the place of an earlier content of this kind.
+    /// Keeps `said`, the content of one more field, in the place of an earlier content of the same kind.
     fn add(&mut self, said: FieldValue<'a>)
         ensures { self.new ≡ gather self.old said.entry }
     {
@@ -274,8 +275,8 @@ fn is_word_among(words: &[Octets], word: &[u8]) -> bool
     words.iter().any(|w| w.as_slice() == word)
 }
 
-/// The head of a field. None if the field is no list that begins with a string without a hint, or if its head is one of
-/// `heads`.
+/// The head of a field. None if the field is no list that begins with a string without a hint, or if its head is one of `heads`, those of the fields
+/// before it.
 fn new_head<'a>(field: &Node<'_, 'a>, heads: &[Octets]) -> Option<&'a [u8]>
     ensures { MatchOption result ((head : List ℕ) → IsNew field.now heads.now head → ⊥) (λ head. IsNew field.now heads.now head.now) }
 {
@@ -291,8 +292,8 @@ fn new_head<'a>(field: &Node<'_, 'a>, heads: &[Octets]) -> Option<&'a [u8]>
     }
 }
 
-/// Reads the fields of an entry or of a certificate, as `place` says, into `known`, which must know nothing. Whether one of
-/// them is `(propagate)`. Err is the first fault: `Shape` if a head comes twice, or if there is no such field.
+/// Reads the fields of an entry or of a certificate, as `place` says, and puts their contents into `known`, which must be empty. Returns whether one
+/// of them is `(propagate)`. Err is the first fault: `Shape` if a head comes twice, or is none of theirs.
 fn read_fields<'a>(
     alloc: Global,
     place: Place,
@@ -318,8 +319,7 @@ fn read_fields<'a>(
     Ok(is_word_among(&heads, b"propagate"))
 }
 
-/// Reads all fields of an entry or of a certificate, as `place` says. Err is the first fault: `Shape` if a head comes
-/// twice, or if there is no such field.
+/// Reads all fields of an entry or of a certificate, as `place` says. Err is the first fault: `Shape` if a head comes twice, or is none of theirs.
 pub(crate) fn fields_of<'a>(
     alloc: Global,
     place: Place,

@@ -4,8 +4,8 @@ ghost use Rattle.std.specs.Prelude.{◌≡◌, ◌≢◌, ◌∷◌, ◌++◌, �
 
 use crate::fault::{CertFault, CertFaultKind};
 
-/// Appends what was read of the item behind `items`. Err is its fault with the number of the item, from 1. The kind is `Memory`
-/// if memory ran out.
+/// Appends `read`, the item that was read after those of `items`. If it is a fault, or memory ran out, Err is the fault with the number of the item,
+/// from 1.
 pub(crate) fn push_read<T: Drop>(
     items: &mut Vec<T>,
     read: Result<T, CertFaultKind>,

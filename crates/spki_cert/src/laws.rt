@@ -1,5 +1,5 @@
 //! Laws of keys, hashes, dates, access lists and sequences.
-//! Each function is a law: it does nothing, and its contract is the fact.
+//! Each function is a law: it does nothing, and its contract is the fact. A reading of a value is the key, hash or other thing that it is read as.
 #![tactic(auto, using(crate::proofs::LawRules::laws))]
 
 ghost use Rattle.std.specs.Prelude.{◌≡◌, ◌↔◌, ◌⊎◌, ◌<◌, ◌≤◌, ◌*◌, ℕ, false, codes, length, List, Option, Some, None};

@@ -6,8 +6,8 @@ use crate::octets::Octets;
 use std::alloc::AllocError;
 use std::marker::Model;
 
-/// The names after a principal, in order (RFC 2693, section 2.8). Removing the first name, and putting others in front,
-/// takes no time for the names that are kept.
+/// The names after a principal, in order (RFC 2693, section 2.8). They are stored from the last to the first. So removing the first name, and putting
+/// others in front, takes no time for the names that are kept.
 #[derive(Drop)]
 pub struct Names<'a> {
     from_last: Vec<Octets<'a>>,

@@ -48,9 +48,9 @@ fn item_of<'a>(alloc: Global, node: &Node<'_, 'a>) -> Result<SeqItem<'a>, CertFa
     Ok(SeqItem::Key(key_of(node)?))
 }
 
-/// Checks that the item with this number may come here. `waits` is the number of the certificate that still lacks its
-/// signature. Err is `StraySignature` for a signature if there is none, or `UnsignedCert` if anything but a signature
-/// or an operation follows it.
+/// Checks that the item with this number may come here. `waits` is the number of the certificate before it that is still without its signature, or
+/// None. Err is `StraySignature` for a signature if there is none, or `UnsignedCert` if anything but a signature or an operation follows that
+/// certificate.
 fn check_place(node: &Node, waits: Option<usize>, number: usize) -> Result<(), CertFault>
     ensures faultless { IfOk result (λ _. place_fault waits number node.now ≡ None) }
     ensures named { IfErr result (λ fault. place_fault waits number node.now ≡ Some fault) }
@@ -76,8 +76,8 @@ fn check_place(node: &Node, waits: Option<usize>, number: usize) -> Result<(), C
     }
 }
 
-/// The number of the certificate that lacks its signature after this item. `before` is the same before the item, and
-/// `number` that of the item. None if there is none.
+/// The number of the certificate that is still without its signature after this item, or None. `before` is that number before the item, and `number`
+/// the number of the item itself.
 fn waiting(node: &Node, before: Option<usize>, number: usize) -> Option<usize>
     ensures { result ≡ waiting node.now before number }
 {
@@ -135,7 +135,7 @@ pub fn sequence_of<'a>(alloc: Global, node: &Node<'_, 'a>) -> Result<Vec<SeqItem
     }
 }
 
-/// Reads node n of a document as a sequence: `(sequence item ..)`. An item is a key, `(do hash alg)`, a certificate or a
+/// Reads node n of a document, which must exist, as a sequence: `(sequence item ..)`. An item is a key, `(do hash alg)`, a certificate or a
 /// signature. Each certificate is followed by its signature, with only `do` items between.
 ///
 /// # Errors

@@ -86,8 +86,8 @@ pub(crate) fn valid_in(members: Members) -> Result<Window, CertFaultKind>
     Ok(window)
 }
 
-/// The window of an entry or a certificate, whose limits are given alone (`limits`) or in `(valid ..)`. None if limits
-/// are given alone and there is a `(valid ..)` too.
+/// The window of an entry or a certificate. Its limits are either in `(valid ..)`, whose window is `valid`, or in fields of their own, `limits`. None
+/// if there is a `(valid ..)` and also a limit outside of it.
 pub(crate) fn one_way(limits: Window, valid: Option<Window>) -> Option<Window>
     ensures { MatchOption result (IsBothWays limits valid) (IsOneWay limits valid) }
 {

@@ -149,7 +149,7 @@ pub fn hash_of<'a>(node: &Node<'_, 'a>) -> Result<(HashAlg, Octets<'a>), CertFau
     }
 }
 
-/// Reads node n of a document as a key: `(public-key (alg part ..))`. Allocates nothing.
+/// Reads node n of a document, which must exist, as a key: `(public-key (alg part ..))`. Allocates nothing.
 ///
 /// # Errors
 ///
@@ -170,7 +170,8 @@ pub fn read_key<'a>(document: &Doc<'a>, n: NodeId) -> Result<Key<'a>, CertFault>
     }
 }
 
-/// Reads node n of a document as a hash: `(hash alg digest)`, or with `(uri x ..)` after it. Allocates nothing.
+/// Reads node n of a document, which must exist, as a hash: `(hash alg digest)`, or with `(uri x ..)` after it. Returns its algorithm and its digest.
+/// Allocates nothing.
 ///
 /// # Errors
 ///
@@ -191,8 +192,7 @@ pub fn read_hash<'a>(document: &Doc<'a>, n: NodeId) -> Result<(HashAlg, Octets<'
     }
 }
 
-/// Reads node n of a document as a date: a string without a display hint, of the form `YYYY-MM-DD_HH:MM:SS`. Allocates
-/// nothing.
+/// Reads node n of a document, which must exist, as a date: a string without a display hint, of the form `YYYY-MM-DD_HH:MM:SS`. Allocates nothing.
 ///
 /// # Errors
 ///

@@ -8,8 +8,8 @@ use crate::sizes::Sizes;
 use spki_case::Case;
 use spki_reduce::{Step, Work};
 
-/// How much work may still be done on the entries of a case, and the numbers of nodes by which entries are spared: those take
-/// none of it.
+/// How much work may still be done on the entries of a case, and the numbers of nodes of the certificates' tags. An entry whose intersections are
+/// small by these numbers (`Sizes::are_small`) is spared: it takes no work.
 #[derive(Clone, Copy)]
 pub struct Budget {
     pub(crate) work: Work,
@@ -17,7 +17,7 @@ pub struct Budget {
 }
 
 impl Budget {
-    /// All the work of a case. `steps` are the tuples of all its certificates.
+    /// The budget before the first entry: all the work of a case. `steps` are the tuples of all its certificates.
     pub fn of(case: &Case, steps: &[Step]) -> Budget
         ensures work { work_left result ≡ Some case.now.most_work }
         ensures sizes { IsBudgetFor (tuples_of steps.now) result }

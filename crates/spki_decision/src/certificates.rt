@@ -26,7 +26,7 @@ pub struct ShownCert<'s, 'a> {
     pub item: usize,
     /// The certificate.
     pub certificate: Certificate<'s, 'a>,
-    /// Its signature: the next item after it, except operations. None if that item is no signature.
+    /// Its signature: the next item after it that is no operation. None if that item is no signature.
     pub signature: Option<&'s Signature<'a>>,
 }
 
@@ -114,7 +114,7 @@ fn as_signature<'s, 'a>(item: &'s SeqItem<'a>) -> Option<&'s Signature<'a>>
     }
 }
 
-/// The signature of the certificate that `items` follow: the first that is no `(do ..)`, if that is a signature.
+/// The signature of the certificate before `items`: the first of these that is no `(do ..)`, if it is a signature.
 fn signature_in<'s, 'a>(items: &'s [SeqItem<'a>]) -> Option<&'s Signature<'a>>
     ensures { option_copied result ≡ signature_in items.entry.now }
 {
@@ -139,7 +139,7 @@ fn as_certificate<'s, 'a>(item: &'s SeqItem<'a>) -> Option<Certificate<'s, 'a>>
     }
 }
 
-/// Appends the item with this number, from 1, if it is a certificate. The items of `behind` follow it. Err if memory ran out.
+/// Appends the item with this number, from 1, to `shown` if it is a certificate. `behind` are the items after it. Err if memory ran out.
 fn push_certificate<'s, 'a>(
     shown: &mut Vec<ShownCert<'s, 'a>>,
     number: usize,

@@ -51,7 +51,7 @@ impl<'a> ChainRequirement<'a> {
         ChainRequirement::of_from::<Brand>(alloc, case, steps, Blank::new(1))
     }
 
-    /// The same, counted in a ledger of its own.
+    /// Calls `of_counted` with a new count, which `blank` opens. The count exists only in contracts, and is dropped afterwards.
     fn of_from<L: Ledger>(
         alloc: Global,
         case: &Case<'a>,
@@ -67,8 +67,8 @@ impl<'a> ChainRequirement<'a> {
         ChainRequirement::of_counted(alloc, case, steps, &mut Ticks::<L>::new(blank))
     }
 
-    /// What certificates require of an entry, as `of`. A tick is a certificate, a tag or a name that is looked at, or an octet that is
-    /// compared. There are at most as many as the weights of the certificates' tuples together.
+    /// What certificates require of an entry, as `of`. A tick is a certificate, a tag or a name that is looked at, or an octet that is compared.
+    /// There are at most as many as the weights of the certificates' tuples together. `prove_well_formed` is only for the prover.
     ///
     /// # Errors
     ///
@@ -104,7 +104,7 @@ impl<'a> ChainRequirement<'a> {
         self.grants_from::<Brand>(entry, case, Blank::new(1))
     }
 
-    /// The same, counted in a ledger of its own.
+    /// Calls `grants_counted` with a new count, which `blank` opens. The count exists only in contracts, and is dropped afterwards.
     fn grants_from<L: Ledger>(&self, entry: &Entry, case: &Case, blank: Blank) -> bool
         requires name { blank.name ≡ L.name }
         requires parts { blank.parts ≡ L.parts }
@@ -139,8 +139,8 @@ impl<'a> ChainRequirement<'a> {
         }
     }
 
-    /// The last moment at which an entry and the certificates grant what the case of `of` asks, if they grant it: the least not-after of
-    /// their windows. None if none of them ends. Allocates nothing.
+    /// The last moment at which an entry and the certificates grant what the case of `of` asks, if they grant it: the earliest not-after of their
+    /// windows. None if none of them ends. Allocates nothing.
     pub fn until(&self, entry: &Entry) -> Option<Date>
         ensures { (tuples : List Tuple) → IsUntil tuples self.now entry.now result }
     {
@@ -183,7 +183,7 @@ fn end_with(limit: &Option<Date>, step: &Step) -> Option<Date>
     }
 }
 
-/// The earlier of a limit and the not-after of a window. A missing limit does not limit.
+/// The earlier of a limit and the not-after of a window. A missing limit does not limit. The window `so_far` only serves to compare the two.
 fn earlier_end(limit: &Option<Date>, window: &Window) -> Option<Date>
     ensures { (windows : List Window) → IsLeastEnd windows limit.now → IsLeastEnd (windows ++ window.now ∷ []) result }
 {

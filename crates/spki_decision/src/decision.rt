@@ -87,8 +87,9 @@ fn first_within_limit<'a>(
     Ok(Decision::No)
 }
 
-/// Tests that no step's tag is too large to be intersected after this entry, and that the work is within the budget. An entry
-/// that is spared passes. Any other is folded, which takes its work from the budget. Err is `TooLarge`, or `Memory`.
+/// Checks that the intersections of this entry's tag with the tags of the steps are within the limits of nodes and work. An entry that is spared
+/// (`Sizes::are_small`) passes. Any other is joined with the steps only to check this, which takes its work from the budget. Err is `TooLarge`, or
+/// `Memory`.
 fn require_small<'a>(
     alloc: Global,
     entry: &Entry<'a>,

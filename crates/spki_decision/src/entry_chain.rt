@@ -12,9 +12,9 @@ use spki_cert::Entry;
 use spki_reduce::{Five, Fold, Issuer, ReduceFault, Step, Work, fold_owned};
 use std::alloc::{AllocError, Global};
 
-/// Joins an entry's 5-tuple with the steps after it, as `fold_owned` does, under the policy and the limits of the case. What
-/// the steps cost is taken from the budget, which must be one for these steps; unless the entry is spared. Err is `TooLarge`
-/// if a tag is too large, or the budget too little, or `Memory`.
+/// Joins an entry's 5-tuple with the steps after it, as `fold_owned` does, under the policy and the limits of the case. The work of the steps is
+/// taken from the budget, which must be one for these steps, unless the entry is spared (`Sizes::are_small`). Err is `TooLarge` if a tag is too
+/// large, or the budget too little, or `Memory`.
 pub(crate) fn fold_entry<'a>(
     alloc: Global,
     entry: &Entry<'a>,

@@ -25,12 +25,12 @@ pub enum Stop {
     NotAccepted,
 }
 
-/// The evidence of a sequence.
+/// The evidence of a sequence: whether all its certificates pass the tests.
 #[derive(Drop)]
 pub enum Evidence<'a> {
-    /// Each of them is verified. These are their tuples, in order.
+    /// Each certificate is verified. These are their tuples, in order.
     Verified(Vec<Step<'a>>),
-    /// The first that fails a test.
+    /// The first certificate that fails a test.
     Fails {
         /// The number of its item, from 1.
         item: usize,
@@ -39,8 +39,8 @@ pub enum Evidence<'a> {
     },
 }
 
-/// Returns the evidence of a sequence: the tuples of its certificates, or the first that fails one of the four tests (RFC
-/// 2693, section 6). Each must be followed by its signature. The verifier's message is a certificate's canonical form.
+/// Returns the evidence of a sequence: the tuples of its certificates, or the first that fails one of the four tests (RFC 2693, section 6). Each
+/// certificate must be followed by its signature. The message that the verifier is passed is a certificate's canonical form.
 ///
 /// # Errors
 ///

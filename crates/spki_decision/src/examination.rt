@@ -1,5 +1,5 @@
 //! The examination of a sequence: the tests of its certificates that need no verifier, and the signatures that a verifier is
-//! asked about.
+//! asked about. A value with many parts is freed by a call of `drop`, so that the proof does not go through its parts at each exit.
 
 ghost use Rattle.std.specs.Prelude.{◌≡◌, ◌++◌, ◌∷◌, [], List, map, IfOk, OnOk, IsSome};
 ghost use Rattle.spki_cert.specs.declared.principal.Policy.{Policy};
@@ -22,7 +22,7 @@ use std::alloc::{AllocError, Global};
 /// A sequence whose certificates passed the tests that need no verifier, up to the first that fails one.
 #[derive(Drop)]
 pub struct ExaminedSequence<'a> {
-    /// The signatures of those that pass, in order: what a verifier is asked about.
+    /// The signatures of the certificates that pass, in order: what a verifier is asked about.
     pub signed: Vec<Signed<'a>>,
     /// What the certificates say if all these signatures are valid.
     pub unverified: Unverified<'a>,
@@ -33,7 +33,7 @@ pub struct ExaminedSequence<'a> {
 pub enum Unverified<'a> {
     /// Each certificate passes the tests that need no verifier. These are their tuples, in order.
     Passes(Vec<Step<'a>>),
-    /// The first that fails one of these tests.
+    /// The first certificate that fails one of these tests.
     Fails {
         /// The number of its item, from 1.
         item: usize,
@@ -87,7 +87,7 @@ pub fn examine<'a>(
     examined
 }
 
-/// Like `examine`, with the keys that the sequence shows.
+/// Does what `examine` does. `keys` are the keys that the sequence shows.
 fn examine_by<'a>(
     alloc: Global,
     sequence: &[SeqItem<'a>],
@@ -134,7 +134,8 @@ fn add_passed<'a>(
     Ok(())
 }
 
-/// Does the tests of a signed certificate that need no verifier: its issuer's key is shown, its digest right, this key signed.
+/// Does the three tests of a certificate that need no verifier: its issuer's key is shown, its digest is right, and that key is the signer. It must
+/// have a signature, so `unreachable!()` is not reached. Err if memory ran out.
 fn test<'a>(
     alloc: Global,
     shown: &ShownCert<'_, 'a>,

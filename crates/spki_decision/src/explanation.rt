@@ -51,7 +51,7 @@ pub enum Explanation {
 /// it and all certificates, in their order, grant the request or do not. Otherwise it is the first certificate that
 /// fails a test of `Stop`, of which the last is that the verifier accepts its signature.
 ///
-/// The reason is `Grants` for exactly the entries that are granted. `decide` names the first of them.
+/// The reason is `Grants` for exactly the entries that are granted. `decide` names the first of them. `prove_well_formed` is only for the prover.
 ///
 /// # Errors
 ///
@@ -105,7 +105,7 @@ impl<'c, 'a> FoldSink<'a> for ReasonSink<'c, 'a> {
     ghost nothing = { no_reasons };
 }
 
-/// Why an entry that becomes this with all certificates grants the case's request or does not.
+/// Why an entry grants the case's request or does not. `fold` is what it becomes with all certificates.
 fn fold_reason(case: &Case, fold: EntryFold) -> Reason
     ensures { IsReasonFor (model case.now) fold.entry result }
 {

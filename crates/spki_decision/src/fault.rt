@@ -23,6 +23,7 @@ impl From<AllocError> for GuardFault {
 
     ghost from_gives = { λ _ fault. fault ≡ Memory };
 
+    /// An allocation that failed is the fault `Memory`.
     fn from(_error: AllocError) -> GuardFault {
         GuardFault::Memory
     }
@@ -33,6 +34,7 @@ impl<T: Drop> From<AllocFailed<T>> for GuardFault {
 
     ghost from_gives = { λ _ fault. fault ≡ Memory };
 
+    /// An allocation that failed is the fault `Memory`.
     fn from(_error: AllocFailed<T>) -> GuardFault {
         GuardFault::Memory
     }
@@ -43,6 +45,7 @@ impl From<ReduceFault> for GuardFault {
 
     ghost from_gives = { λ fault outer. outer ≡ guard_fault fault };
 
+    /// The fault of the same name.
     fn from(fault: ReduceFault) -> GuardFault {
         match fault {
             ReduceFault::TooLarge => GuardFault::TooLarge,

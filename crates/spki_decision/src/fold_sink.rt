@@ -7,9 +7,9 @@ ghost use Rattle.spki_decision.specs.Explained.{TakesFolds, no_folds};
 use crate::reduction::EntryFold;
 use std::alloc::{AllocError, Global};
 
-/// Takes what the entries of an access list become, one after another.
+/// Takes what each entry of an access list becomes with all certificates, one entry after another.
 pub trait FoldSink<'a> {
-    // From the sink before it took what these entries become to the sink after it.
+    // What it means that a sink takes entries: the sink before, what these entries become, and the sink after.
     ghost takes: { Self → List EntryFold → Self → Type 0 };
 
     /// Takes what entry number `entry`, from 1, becomes. It comes behind those of all entries before it.

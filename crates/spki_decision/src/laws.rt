@@ -86,16 +86,17 @@ pub fn one_reduction<V: Verifier>()
         → IsReduced c (accepted_by c) x → IsReduced d (accepted_by d) y → AreSame IsSameReduction x y }
 {}
 
-/// For every verifier: a case with a decision that skipped no refusal is not refused as `TooLarge`. So the clauses of
-/// `decide` allow one answer, unless memory ran out.
+/// For every verifier: a case is not refused as `TooLarge` if it has a decision, and no entry up to the one that is granted has tags or work over the
+/// limits. For a no this must hold of all entries, unless a certificate fails its tests. So the clauses of `decide` allow one answer, unless memory
+/// ran out.
 #[tactic(auto, using(crate::proofs::OneDecision::not_both))]
 pub fn no_refusal<V: Verifier>()
     ensures { (verifier : V) (c : Case) (decision : Decision) → IsDecision c (V.accepted verifier) decision
         → IsUnrefused c (V.accepted verifier) decision → ¬ IsTooLarge c (V.accepted verifier) }
 {}
 
-/// An entry whose subject's principal does not name the key of the first issuer, or the client's key if no certificate
-/// is shown, never grants the request. Its chain is never too large.
+/// An entry is left out if its subject's principal does not name the key of the first issuer, or the client's key if no certificate is shown. It
+/// never grants the request, and its chain is never too large.
 pub fn left_out()
     ensures grants { (c : Case) (tuples : List Tuple) (e : Entry) → IsLeftOut c tuples e → ¬ Supported c tuples e }
     ensures small { (c : Case) (tuples : List Tuple) (e : Entry) → IsLeftOut c tuples e
@@ -174,9 +175,9 @@ pub fn fewer_entries<V: Verifier>()
         → IsDecided c (V.accepted verifier) (Ok No) → IsDecided (kept_case c kept) (V.accepted verifier) (Ok No) }
 {}
 
-/// What narrower tuples support, wider ones support. In a case a smaller tag or a shorter window, of an entry or of a certificate that
-/// passes its tests, grants no other entry, and turns no no into a yes. So does an entry or a certificate that may no longer be delegated. A case
-/// with narrower entries is a narrower case.
+/// What narrower tuples support, wider ones support. An entry, or a certificate that passes its tests, becomes narrower if its tag is smaller, its
+/// window shorter, or it may no longer be delegated. In a case this grants no other entry, and turns no no into a yes. A case with narrower entries
+/// is a narrower case.
 pub fn narrower<V: Verifier>()
     ensures chain { (c : Case) (narrow wide : List Tuple) (e f : Entry) → IsRequest c.request → is_date c.moment ≡ true
         → IsNarrowerEntry e f → AllZip IsNarrower narrow wide → Supported c narrow e → Supported c wide f }

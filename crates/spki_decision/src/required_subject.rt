@@ -21,7 +21,7 @@ pub(crate) struct RequiredSubject<'a> {
     pub(crate) key: Key<'a>,
     /// It has these names.
     pub(crate) names: Names<'a>,
-    /// If true, it may delegate.
+    /// Whether it must be allowed to delegate.
     pub(crate) delegation: bool,
 }
 
@@ -61,8 +61,8 @@ pub(crate) fn required_subject<'a, L: Ledger>(
 }
 
 impl<'a> RequiredSubject<'a> {
-    /// Whether a subject is as required: it names the key under the policy, has exactly the names, and may delegate if
-    /// that is required. `propagate` says whether it may. Allocates nothing.
+    /// Whether a subject is as required: it names the key under the policy, has exactly the names, and may delegate if it must. `propagate` says
+    /// whether it may. Allocates nothing.
     pub(crate) fn is_met_by<L: Ledger>(
         &self,
         subject: &Subject,
@@ -124,9 +124,9 @@ impl<'a> RequiredSubject<'a> {
         }
     }
 
-    /// The subject that is required before a name's definition: the defined name, and after it the required names
-    /// without those of the definition's subject. It may delegate if `self` may. None if the definition's subject does
-    /// not name the required key, or if the required names do not begin with its names. Err if memory ran out.
+    /// The subject that is required before a name's definition: the defined name, and after it the required names without those of the definition's
+    /// subject. It must be allowed to delegate if that is required after the definition. None if the definition's subject does not name the required
+    /// key, or if the required names do not begin with its names. Err if memory ran out.
     fn before_definition<L: Ledger>(
         self,
         alloc: Global,
@@ -207,7 +207,7 @@ fn are_same_names<L: Ledger>(one: &Names, other: &Names, ticks: &mut Ticks<L>) -
     true
 }
 
-/// Counts a name and its octets.
+/// Counts a name that is looked at: one tick for it, and one for each of its octets.
 fn look_at<L: Ledger>(name: &Octets, ticks: &mut Ticks<L>)
     ensures { ticks.new ≡ ticks.old + 1 + length name.now }
 {
@@ -215,7 +215,7 @@ fn look_at<L: Ledger>(name: &Octets, ticks: &mut Ticks<L>)
     ticks.read(name.as_slice().len());
 }
 
-/// Whether a principal names a key, as `Principal::names`. Each octet of the principal is a tick.
+/// Whether a principal names a key, as `Principal::names`. Each octet of the principal, of its key or digest, is a tick.
 fn is_name_of<L: Ledger>(
     principal: &Principal,
     key: &Key,

@@ -92,7 +92,8 @@ impl<'a> ShownKeys<'a> {
     }
 }
 
-/// The first of the keys whose digest by the algorithm is `digest`, or None. It is found in `index`, made if it is None.
+/// The first of `keys` whose digest by the algorithm is `digest`, or None. It is found in `index`, which is made first if it is None. Err if memory
+/// ran out.
 fn first_in<'a>(
     index: &mut Option<FirstKeys<'a>>,
     alloc: Global,

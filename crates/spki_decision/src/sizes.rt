@@ -1,4 +1,4 @@
-//! Whether the intersections of a chain are small, by the numbers of nodes of its tags alone.
+//! Whether the intersections of a chain, an entry with all certificates, are small, by the numbers of nodes of its tags alone.
 
 ghost use Rattle.std.specs.Prelude.{◌≡◌, ◌≤◌, ◌<◌, ◌⊎◌, false, true, MatchOption};
 ghost use Rattle.spki_tag.specs.Tag.{tags, some_nests_set};
@@ -42,10 +42,9 @@ impl Sizes {
         }
     }
 
-    /// Whether the numbers of nodes show that a chain from an entry with this tag intersects no two tags whose product of
-    /// nodes is over `most`, which must be at most 1,000,000: whether the product of the nodes of all tags is at most `most`;
-    /// or no tag has a set, and the nodes of all tags together, times those of the largest tag of a certificate, are. The
-    /// steps must be those of `of`.
+    /// Whether a chain from an entry with this tag intersects no two tags whose product of nodes is over `most`, as far as the numbers of nodes show.
+    /// They do if the product of the nodes of all tags is at most `most`; or if no tag has a set, and the nodes of all tags together, times those of
+    /// the largest tag of a certificate, are. `most` must be at most 1,000,000, and the steps those of `of`.
     pub(crate) fn are_small<'a>(&self, tag: &Tag, steps: &[Step<'a>], most: usize) -> bool
         requires sizes { AreSizes (tuples_of steps.now) self.now }
         requires most { most ≤ 1000000 }
@@ -54,7 +53,7 @@ impl Sizes {
         self.have_small_product(tag, steps, most) || self.are_plain(tag, steps, most)
     }
 
-    /// Whether the product of the nodes of all tags is at most `most`.
+    /// Whether the product of the nodes of all tags is at most `most`. Only the contract uses `_steps`.
     fn have_small_product<'a>(&self, tag: &Tag, _steps: &[Step<'a>], most: usize) -> bool
         requires sizes { AreSizes (tuples_of _steps.now) self.now }
         requires most { most ≤ 1000000 }
@@ -66,7 +65,8 @@ impl Sizes {
         tag.nodes() * nodes <= most
     }
 
-    /// Whether no tag has a set, and the nodes of all tags together, times those of the largest one, are at most `most`.
+    /// Whether no tag has a set, and the nodes of all tags together, times those of the largest one of a certificate, are at most `most`. Only the
+    /// contract uses `_steps`.
     fn are_plain<'a>(&self, tag: &Tag, _steps: &[Step<'a>], most: usize) -> bool
         requires sizes { AreSizes (tuples_of _steps.now) self.now }
         requires most { most ≤ 1000000 }

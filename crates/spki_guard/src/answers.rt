@@ -98,7 +98,7 @@ impl<'o> Output<'o> {
     }
 }
 
-/// The answer that a decision is.
+/// The answer for a decision: `yes entry N` or `no`.
 pub(crate) fn answer_of_decision(decision: Decision) -> Answer<'static>
     ensures { PrintsAs (IsLineOf decision) result }
 {
@@ -108,7 +108,7 @@ pub(crate) fn answer_of_decision(decision: Decision) -> Answer<'static>
     }
 }
 
-/// The answer that a reduction is: a line for each entry, `no entries`, or the line of the certificate that fails.
+/// The answer for a reduction: a line for each entry, `no entries`, or the line of the certificate that fails.
 pub(crate) fn answer_of_reduction<'a>(reduction: Reduction<'a>) -> Answer<'a>
     ensures { PrintsAs (IsReductionReport reduction.entry) result }
 {
@@ -123,7 +123,7 @@ pub(crate) fn answer_of_reduction<'a>(reduction: Reduction<'a>) -> Answer<'a>
     }
 }
 
-/// The answer that an explanation is: a line for each entry, `no entries`, or the line of the certificate that fails.
+/// The answer for an explanation: a line for each entry, `no entries`, or the line of the certificate that fails.
 pub(crate) fn answer_of_explanation(explanation: Explanation) -> Answer<'static>
     ensures { PrintsAs (IsExplanationReport explanation) result }
 {
@@ -182,8 +182,8 @@ fn print_tag_line<S: Sink>(tag: &Tag, sink: &mut S)
     sink.put_octet(b'\n');
 }
 
-/// The number of an answer's octets plus `more`, which must be over 0. None if the sum is over the greatest `u64`, which
-/// no memory holds.
+/// Counts the octets of an answer as it is printed, and returns their number plus `more`. None if the sum is over the greatest `u64`, which no memory
+/// holds. `more` must be over 0, so that a counter that has stopped there also gives None.
 pub(crate) fn count_with(answer: &Answer, more: u64) -> Option<u64>
     requires { 0 < more }
     ensures { IfSome result (λ n. (octets : List ℕ) → Prints answer.now octets → n ≡ length octets + more) }

@@ -1,4 +1,4 @@
-//! A sink that keeps at most so many octets.
+//! A sink that keeps at most a given number of octets.
 ghost use Rattle.std.specs.Prelude.{◌≡◌, ◌-◌, ◌^◌, ◌<◌, ◌≤◌, false, OnOk, IsErrOf};
 ghost use Rattle.sexpr_text.specs.Sinks.{count_of};
 ghost use Rattle.spki_guard.specs.Inner.Capped.{lender_of, kept_by, most_of, counter_of, has_failed, is_over, CappedTakes, capped_takes_nothing, capped_takes_both, capped_stays};
@@ -6,7 +6,7 @@ ghost use Rattle.spki_guard.specs.Inner.Capped.{lender_of, kept_by, most_of, cou
 use sexpr_text::{Counter, Sink};
 use spki_decision::GuardFault;
 
-/// Appends octets to a vector, and counts them, as long as they are at most so many. With one more it is full.
+/// Counts octets, and appends them to a vector as long as their number is at most `most`. With one more it is full.
 pub(crate) struct CappedSink<'v> {
     octets: &'v mut Vec<u8>,
     counter: Counter,
@@ -35,8 +35,8 @@ impl<'v> CappedSink<'v> {
     ///
     /// # Errors
     ///
-    /// `TooLarge` if more octets were put: the vector lacks some. `Memory` if memory ran out, whatever was put, or the
-    /// count is the greatest `u64`, which is no count: no memory holds so many.
+    /// `TooLarge` if more octets were put: the vector lacks some. `Memory` if memory ran out, whatever was put, or if the count has stopped at the
+    /// greatest `u64`: no memory holds so many.
     pub(crate) fn end(self) -> Result<(), GuardFault>
         ensures kept { self.exit.0.now.items ≡ kept_by self.entry }
         ensures ok { OnOk result ((has_failed self.entry ≡ false)

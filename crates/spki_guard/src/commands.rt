@@ -1,4 +1,5 @@
 //! The answers of the commands to a text.
+//! A value with many parts is freed by a call of `drop`, so that the proof does not go through its parts at each exit.
 ghost use Rattle.std.specs.Prelude.{◌≡◌, List, ◌<◌, ℕ, length, IfOk, IfErr, IsErrOf};
 ghost use Rattle.sexpr_core.specs.Value.{Value, canon};
 ghost use Rattle.sexpr_text.specs.AdvancedForm.{written};
@@ -70,8 +71,8 @@ fn try_answer<'s, 't: 's>(
     }
 }
 
-/// The answer of a command to `octets`: a value, written in the form that the command needs (`form_of`). Err says why
-/// the value is refused, or that memory ran out.
+/// The answer of a command to a value. `octets` are its text in the form that the command needs (`form_of`). Err says why the value is refused, or
+/// that memory ran out.
 fn answer_octets<'o>(
     alloc: Global,
     command: Command,

@@ -1,4 +1,5 @@
-//! The lines of what a guard's entries become, printed one after another.
+//! The lines of a reduction: what each of a guard's entries becomes with the certificates of a question, printed one after another.
+//! A value with many parts is freed by a call of `drop`, so that the proof does not go through its parts at each exit.
 ghost use Rattle.std.specs.Prelude.{◌≡◌, ◌++◌, ◌+◌, ◌<◌, ◌≤◌, false, ℕ, List, length, IfOk, IsErrOf};
 ghost use Rattle.spki_decision.specs.declared.reduction.EntryFold.{EntryFold};
 ghost use Rattle.spki_guard.specs.TextAnswers.{written_by};
@@ -13,7 +14,8 @@ use spki_decision::{EntryFold, GuardFault};
 use spki_service::FoldSink;
 use std::alloc::{AllocError, Global};
 
-/// Prints a line for what each entry becomes. If the lines have more octets than it may keep, it prints no more of them.
+/// Prints a line for what each entry becomes. `room` is how many octets it may still keep. If a line has more, `is_long` is true, and no more lines
+/// are printed.
 #[derive(Drop)]
 pub(crate) struct FoldPrinter {
     lines: Vec<u8>,
@@ -66,8 +68,8 @@ impl FoldPrinter {
 impl<'a> FoldSink<'a> for FoldPrinter {
     ghost takes = { PrintsFolds };
 
-    /// Prints the line of the entry. Once the lines are too long, nothing is made or printed, and `end` refuses them.
-    /// Err if memory ran out.
+    /// Prints the line of the entry. Once the lines are too long, none is printed, and `end` refuses them; `prove_line` is then a fact for the prover
+    /// that there is a line. Err if memory ran out.
     fn put(&mut self, alloc: Global, entry: usize, fold: EntryFold<'a>) -> Result<(), AllocError> {
         self.count = entry;
         self.some_done = self.some_done || is_done(&fold);

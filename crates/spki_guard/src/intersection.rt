@@ -1,4 +1,5 @@
 //! The intersection of two written tags.
+//! A value with many parts is freed by a call of `drop`, so that the proof does not go through its parts at each exit.
 
 ghost use Rattle.std.specs.Prelude.{◌≡◌, ◌≢◌, ◌<◌, ◌↔◌, [], ◌∷◌, length, MatchOption, IfOk, IfErr, IsErrOf};
 ghost use Rattle.sexpr_core.specs.Value.{Value};

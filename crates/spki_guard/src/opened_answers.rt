@@ -1,4 +1,5 @@
 //! The answers to questions that were opened for a guard, as lines.
+//! A value with many parts is freed by a call of `drop`, so that the proof does not go through its parts at each exit.
 ghost use Rattle.std.specs.Prelude.{◌≡◌, ◌⊎◌, None, IfOk, IfErr};
 ghost use Rattle.spki_service.specs.GuardQuestions.{IsOpened, NoneMarked};
 ghost use Rattle.spki_service.specs.declared.question.Question.{Question};
@@ -71,8 +72,8 @@ pub fn is_granted(opened: &OwnedQuestion) -> bool
     opened.decide_by().is_yes()
 }
 
-/// Whether a question that was opened is granted if all listed signatures are valid. If it is not, no signature has to be verified. True
-/// grants nothing.
+/// Whether a question that was opened is granted if all listed signatures are valid. If it is not, no signature has to be verified. True is not yet a
+/// yes.
 pub fn is_possible(opened: &OwnedQuestion) -> bool
     ensures { (q : Question) → IsOpened opened.now.guard q opened.now → MayGrant opened.now.guard q result }
 {
@@ -114,7 +115,7 @@ fn answer_again(alloc: Global, query: Query, opened: &OwnedQuestion) -> Printed
     }
 }
 
-/// An answer that is no decision.
+/// The result with an answer that is no decision, so it has no grant.
 fn undecided(answer: Printed) -> OpenedAnswer
     ensures { (result.answer ≡ answer) × (result.grant ≡ None) }
 {

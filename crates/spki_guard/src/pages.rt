@@ -70,8 +70,8 @@ impl<'w, W: Write> PageSink<'w, W> {
         self.page.clear();
     }
 
-    /// Takes octets when the page is empty, as it must be: keeps them in the page, or writes them if they are more than
-    /// 4,096.
+    /// Takes octets when the page is empty, as it must be: keeps them in the page, or writes them if they are more than 4,096. A failure is noted for
+    /// `end`.
     fn take_on_empty_page(&mut self, octets: &[u8])
         requires { page_of self.old ≡ [] }
         ensures { PageTakes W.contents self.old octets.now self.new }

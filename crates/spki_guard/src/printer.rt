@@ -35,7 +35,7 @@ fn print_hash<S: Sink>(alg: HashAlg, digest: &[u8], sink: &mut S)
     sink.put_octet(b')');
 }
 
-/// Prints a key in advanced form.
+/// Prints a key in advanced form. `prove_well_formed` is only for the prover.
 fn print_key<S: Sink>(key: &Key, sink: &mut S)
     ensures { (v : Value) × (key.now ≡ canon v) × S.takes sink.old (adv v) sink.new }
 {

@@ -14,8 +14,8 @@ use std::alloc::Global;
 use std::io;
 use std::io::{ErrorKind, Read, Write};
 
-/// Does what the words of a command line ask for, and returns the exit status, that of `Status::code` or of
-/// `WordsFault::code`. `words` is the result of reading them. The first word is the program's name.
+/// Does what the words of a command line ask for, and returns the exit status, that of `Status::code` or of `WordsFault::code`. `words` is the result
+/// of reading them from the system. The first word is the program's name.
 ///
 /// If the words ask for a command, it is run: it reads from the reader, and its answer goes to the writer. If the run
 /// is cut off, the reason goes to `errors`. If the words ask for help or for no command, the text of `clap` goes to
@@ -52,7 +52,8 @@ fn asked_by(alloc: Global, words: &io::Result<Vec<String>>) -> Result<Command, W
     }
 }
 
-/// The fault of words that the system did not give: that of `no_text` if they are not UTF-8, otherwise `Memory`.
+/// The fault for an error of reading the words from the system: `Refused` with a message if they are not UTF-8. Any other error is the fault
+/// `Memory`.
 fn unread(alloc: Global, error: &io::Error) -> WordsFault
     ensures { AreUnreadWords (error_kind error.now) result }
 {
@@ -63,7 +64,7 @@ fn unread(alloc: Global, error: &io::Error) -> WordsFault
     }
 }
 
-/// The fault of words that are not UTF-8: `Refused` with a message, or `Memory` if memory ran out for it.
+/// Makes the fault of words that are not UTF-8: `Refused` with its message, or `Memory` if memory ran out for the message.
 fn no_text(alloc: Global) -> WordsFault
     ensures { IsNoText result }
 {
@@ -116,8 +117,8 @@ fn report_words_fault<R: Read, W: Write, E: Write>(
     fault.code()
 }
 
-/// Writes the help, or why the words are refused, to `errors`. If memory ran out, writes `refused Memory` to `writer`
-/// alone. Both meters are reset first.
+/// Writes the help, or why the words are refused, to `errors`. If memory ran out, writes `refused Memory` to `writer` alone: this line is the answer
+/// of every command for which memory ran out, and answers go there. Both meters are reset first.
 fn write_words_fault<W: Write, E: Write>(
     fault: &WordsFault,
     writer: &mut Metered<W>,
@@ -137,8 +138,8 @@ fn write_words_fault<W: Write, E: Write>(
     }
 }
 
-/// Resets the writer's meter, writes octets, and flushes the writer. If the writer fails, a beginning of them is
-/// written, and nothing is returned.
+/// Resets the writer's meter, writes octets, and flushes the writer. If the writer fails, a beginning of them is written, which may be none or all
+/// of them, and the failure is ignored.
 fn say<W: Write>(writer: &mut Metered<W>, octets: &[u8])
     ensures { IsSaid W.contents writer.old writer.new octets.now }
 {

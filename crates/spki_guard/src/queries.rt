@@ -16,7 +16,7 @@ pub enum Query {
     Reduce,
 }
 
-/// What a command asks of a case. None for a command that is for other texts.
+/// What a command asks of a case. None for a command that does not read a case.
 pub(crate) fn query_of(command: Command) -> Option<Query>
     ensures { MatchOption result (IsOnCase command → ⊥) (λ query. command ≡ command_of query) }
 {

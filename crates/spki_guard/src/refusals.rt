@@ -193,8 +193,8 @@ fn print_refused_tag<S: Sink>(part: &str, item: usize, kind: &str, sink: &mut S)
     print_refused(&[part, digits.format(item), "Tag", kind], sink);
 }
 
-/// Prints the line of a fault in an access list, accepted list or sequence: `refused PART N KIND`, or `refused PART N
-/// Tag KIND` for a tag. N is the number of the entry, row or item, from 1, or 0 for the whole list.
+/// Prints the line of a fault in an access list, accepted list or sequence: `refused PART N KIND`, `refused PART N Tag KIND` for a tag, or `refused
+/// Memory`. N is the number of the entry, row or item, from 1, or 0 for the whole list.
 fn print_item_fault<S: Sink>(part: &str, fault: CertFault, sink: &mut S)
     ensures { S.takes sink.old (refused_in part.now fault.item fault.kind) sink.new }
 {
@@ -205,7 +205,7 @@ fn print_item_fault<S: Sink>(part: &str, fault: CertFault, sink: &mut S)
     }
 }
 
-/// Prints the line of a case's fault, such as `refused case Shape` or `refused acl 2 BadDate`.
+/// Prints the line of a case's fault, such as `refused case Shape` or `refused acl 2 BadDate`. `met` is the fault of the part.
 fn print_case_fault<S: Sink>(fault: CaseFault, sink: &mut S)
     ensures { S.takes sink.old (refused_case fault) sink.new }
 {

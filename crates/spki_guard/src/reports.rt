@@ -1,4 +1,5 @@
-//! The lines of a case's reduction and explanation: one for each entry. Printing them allocates nothing.
+//! The lines of a case's reduction (what each entry becomes with the certificates) and of its explanation: one for each entry. Printing them
+//! allocates nothing.
 ghost use Rattle.std.specs.Prelude.{◌≡◌, ℕ, List, [], ◌∷◌};
 ghost use Rattle.sexpr_core.specs.Value.{Value};
 ghost use Rattle.sexpr_text.specs.AdvancedForm.{adv};
@@ -48,7 +49,7 @@ pub(crate) fn print_folds<S: Sink>(folds: &[EntryFold], sink: &mut S)
     }
 }
 
-/// A fact for the prover: there is a line for what an entry becomes. `entry` is counted from 1. Does nothing.
+/// A fact for the prover: what an entry becomes can be printed as a line. `entry` is counted from 1. Does nothing.
 pub(crate) fn prove_line(entry: usize, fold: &EntryFold)
     ensures { (line : List ℕ) × IsFoldLine entry fold.now line }
 {

@@ -1,4 +1,5 @@
 //! Runs a command, from the octets that are read to those that are written.
+//! A value with many parts is freed by a call of `drop`, so that the proof does not go through its parts at each exit.
 ghost use Rattle.std.specs.Prelude.{◌≡◌, ℕ, ◌+◌, ◌<◌, ◌≤◌, ◌⊎◌, List, length, max, Option, Bool, IsTrue, IfNone, IfSome, OnSome};
 ghost use Rattle.metered_io.specs.MeteredCalls.{inner_of, asks_of, faults_of, ended_of, Gives, TakesNone};
 ghost use Rattle.spki_guard.specs.TextAnswers.{IsAnswer, IsReply, IsFaulty, IsWritten, IsCutOff, RefusesForMemory};
@@ -62,8 +63,8 @@ pub fn run<R: Read, W: Write>(
     }
 }
 
-/// Reads a text to its end. None if the reader failed, or its count of calls reached 2,097,152. Inside, Err is the
-/// refusal of a text of more than 1,048,576 octets, or says that memory ran out.
+/// Reads a text to its end. None if the reader failed, or its count of calls reached 2,097,152. `Some(Err)` is the refusal of a text of more than
+/// 1,048,576 octets, or `Memory` if memory ran out.
 fn read_text<R: Read>(alloc: Global, reader: &mut Metered<R>) -> Option<Result<Vec<u8>, Refusal>>
     ensures asks { asks_of reader.new ≤ max (asks_of reader.old) 2097152 }
     ensures no_more { (octets : List ℕ) × (length octets ≤ 1048577) × Gives R.remaining reader.old reader.new octets }

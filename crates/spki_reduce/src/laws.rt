@@ -1,5 +1,5 @@
-//! Laws of derivations.
-//! Each function is a law: it does nothing, and its contract is the fact.
+//! Laws of derivations. A derivation joins tuples, its leaves, two at a time to one tuple, its root. Its bracketing says in which order: `(a b) c` or
+//! `a (b c)`. Tuples support a request if the root of some derivation from them grants it.
 
 ghost use Rattle.std.specs.Prelude.{◌≡◌, ◌≢◌, ℕ, List, [], ◌∷◌, ◌++◌, flat_map};
 ghost use Rattle.sexpr_core.specs.Value.{Value};

@@ -59,7 +59,7 @@ fn prove_principal(principal: &Principal)
     }
 }
 
-/// Returns the members of a list that has only its head, as a string without a hint. Err if memory ran out.
+/// Returns the members of a new list: only its head, a string without a hint. Err if memory ran out.
 fn begun(alloc: Global, head: &[u8]) -> Result<Vec<Sexp>, AllocError>
     ensures { IfOk result (λ members. map sexp_value members.items ≡ plain head.now ∷ []) }
 {
@@ -84,8 +84,8 @@ fn push_headed(
     Ok(())
 }
 
-/// Returns the tree of a key. Err if memory ran out. Only the readers make keys, so a key is a canonical form within
-/// the limits, and reading it has no other fault.
+/// Returns the tree of a key. Err if memory ran out. Only the readers make keys, so a key is a canonical form within the limits, and `decode` has no
+/// other fault.
 fn write_key(alloc: Global, key: &Key) -> Result<Sexp, AllocError>
     ensures { IfOk result (λ s. key.now ≡ canon (sexp_value s)) }
 {

@@ -98,8 +98,8 @@ impl<'a> PreparedQuestion<'a> {
         }
     }
 
-    /// Whether the question is granted if all listed signatures are valid. If it is not, no marks make it a yes, and no signature has to
-    /// be verified. True grants nothing.
+    /// Whether the question is granted if all listed signatures are valid. If it is not, no marks make it a yes, and no signature has to be verified.
+    /// True is not yet a yes.
     ///
     /// # Errors
     ///
@@ -232,7 +232,8 @@ impl<'a> PreparedQuestion<'a> {
         }
     }
 
-    /// The explanation if the verifier accepts every signature. Err is `TooLarge` or `Memory`, as for `explain`.
+    /// The explanation if the verifier accepts every signature. Err is `TooLarge` or `Memory`, as for `explain`. `prove_well_formed` is only for the
+    /// prover.
     fn explained(&self, alloc: Global) -> Result<Explanation, GuardFault>
         ensures { Answers (λ c answer. IsExplained c every answer) self.now result }
     {

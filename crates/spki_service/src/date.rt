@@ -7,8 +7,9 @@ ghost use Rattle.spki_service.specs.Questions.{date_octets, IsDateAt, IsAtNoDate
 use jiff_core::civil::{Date as CivilDate, DateTime};
 use spki_cert::{Date, Window};
 
-/// The last second, since 1970-01-01 00:00:00 UTC, that is not after a date. It is that of the date, and negative before 1970. If the month
-/// does not have the date's day, it is the last second of the month. If the date's second is 60, it is the second before.
+/// The last second, since 1970-01-01 00:00:00 UTC, that is not after a date. It is that of the date, and negative before 1970. If the month does not
+/// have the date's day (`constrain` lowers it), it is the last second of the month. If the date's second is 60, it is the second before.
+/// `prove_limits` is a fact for the prover: the octets are a date.
 pub fn last_second(date: &Date) -> i64
     ensures { result ≡ last_second date.now }
 {
@@ -29,7 +30,7 @@ pub fn last_second(date: &Date) -> i64
     seconds_of(civil.to_unix_epoch_day(), clock)
 }
 
-/// The seconds of a day's number and of the time of day.
+/// The seconds since 1970-01-01 00:00:00 UTC until `clock` seconds of a day. `day` is the number of the day, 0 for 1970-01-01.
 fn seconds_of(day: i32, clock: u32) -> i64
     requires day { IsEpochDay day }
     requires clock { clock < 86400 }
@@ -38,7 +39,7 @@ fn seconds_of(day: i32, clock: u32) -> i64
     day as i64 * 86_400 + clock as i64
 }
 
-/// The seconds of a day before the time of day `HH:MM:SS` at this place. A second 60 counts as 59.
+/// The seconds of a day before the time of day `HH:MM:SS` at this offset. A second 60 counts as 59.
 fn clock_at(octets: &[u8], place: usize) -> u32
     requires within { place + 7 < length octets.now }
     requires hour { IsNumberUpto octets.now place 23 }
@@ -53,7 +54,7 @@ fn clock_at(octets: &[u8], place: usize) -> u32
     hour as u32 * 3_600 + minute as u32 * 60 + whole as u32
 }
 
-/// The number of the two digits at this place.
+/// The number of the two digits at this offset.
 fn number_at(octets: &[u8], place: usize) -> u8
     requires within { place + 1 < length octets.now }
     requires digits { IsNumberUpto octets.now place 99 }
@@ -82,7 +83,7 @@ fn nanoseconds_of(seconds: i64) -> i128
     seconds as i128 * 1_000_000_000
 }
 
-/// The 19 octets of a date, such as `2024-01-01_00:00:00`. The year must not be negative.
+/// The 19 octets of a date, such as `2024-01-01_00:00:00`. The year must not be negative. `of_century` is the year without its century.
 fn octets_of(civil: DateTime) -> [u8; 19]
     requires { pos 0 ≤ℤ civil.date.year }
     ensures { result ≡ date_octets (unsigned_abs civil.date.year) civil.date.month civil.date.day civil.time.hour civil.time.minute civil.time.second }

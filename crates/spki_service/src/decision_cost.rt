@@ -1,4 +1,4 @@
-//! Decisions whose steps are counted.
+//! Decisions whose work is counted, in contracts only: see `Ticks`.
 
 ghost use Rattle.std.specs.Prelude.{◌≡◌, ◌≤◌, ◌<◌, ◌+◌, ◌*◌, ℕ, List, length, IfOk, MatchOption};
 ghost use Rattle.spki_cert.specs.declared.entry.Entry.{Entry};
@@ -54,7 +54,7 @@ impl<'a> PreparedQuestion<'a> {
         }
     }
 
-    /// The same, counted in a ledger of its own.
+    /// Calls `grant_by_counted` with a new count, which `blank` opens. The count exists only in contracts, and is dropped afterwards.
     pub(crate) fn grant_by_from<L: Ledger>(
         &self,
         alloc: Global,
@@ -68,7 +68,7 @@ impl<'a> PreparedQuestion<'a> {
         self.grant_by_counted(alloc, &mut Ticks::<L>::new(blank))
     }
 
-    /// Does what `granted` does. The signatures that were looked at before are counted too.
+    /// Does what `granted` does. The bound on its ticks includes one for each listed signature, which the caller has counted before.
     fn granted_counted<L: Ledger>(
         &self,
         alloc: Global,
@@ -84,7 +84,7 @@ impl<'a> PreparedQuestion<'a> {
         }
     }
 
-    /// Does what `granted` does, counted in a ledger of its own.
+    /// Does what `granted` does: calls `granted_counted` with a new count, which `blank` opens and which is dropped afterwards.
     pub(crate) fn granted_from<L: Ledger>(
         &self,
         alloc: Global,
@@ -98,9 +98,8 @@ impl<'a> PreparedQuestion<'a> {
         self.granted_counted(alloc, &mut Ticks::<L>::new(blank))
     }
 
-    /// What is granted if the verifier accepts every signature, for certificates with the tuples `steps`. Only the entries
-    /// that the index finds for the first step's key are read. Err if memory ran out. The signatures that were looked at before are
-    /// counted too.
+    /// What is granted if the verifier accepts every signature, for certificates with the tuples `steps`. Only the entries that the index finds for
+    /// the first step's key are read. Err if memory ran out. The bound on its ticks is as for `granted_counted`.
     fn granted_after<'s, L: Ledger>(
         &'s self,
         alloc: Global,

@@ -23,9 +23,9 @@ pub(crate) struct Row {
     number: usize,
 }
 
-/// An index of an access list: for each principal, the numbers of the entries whose subject has it. Numbers are ascending and count
-/// from 1. The rows of keys, and those of hashes by each algorithm, are sorted by the octets of the principals, so that those with
-/// some octets are found by halves. Most rows differ in their last octets, which are compared first.
+/// An index of an access list: for each principal, the numbers of the entries whose subject has it. Numbers are ascending and count from 1. The rows
+/// of keys, and those of hashes by each algorithm, are sorted by the octets of the principals, for binary searches. Most rows differ in their last
+/// octets, which are compared first.
 #[derive(Drop)]
 pub(crate) struct EntryIndex {
     /// For each entry the octets of its principal: those of a key, or a digest.
@@ -37,7 +37,7 @@ pub(crate) struct EntryIndex {
 }
 
 impl EntryIndex {
-    /// Makes the index of the entries whose subjects have these principals. For n entries this takes a number of comparisons in proportion to n log n.
+    /// Makes the index of the entries whose subjects have these principals. For n entries this takes comparisons in proportion to n log n.
     ///
     /// # Errors
     ///
@@ -69,9 +69,9 @@ impl EntryIndex {
         }
     }
 
-    /// The numbers of the entries whose subject's principal names the key under the policy (RFC 2693, section 2.5),
-    /// ascending and counted from 1. Names after the principal are not compared. This takes at most four searches by
-    /// halves, three digests, and steps in proportion to the numbers found.
+    /// The numbers of the entries whose subject's principal names the key under the policy (RFC 2693, section 2.5), ascending and counted from 1.
+    /// Names after the principal are not compared. This takes at most four pairs of binary searches, three digests, and steps in proportion to the
+    /// numbers found.
     ///
     /// # Errors
     ///
@@ -135,7 +135,7 @@ impl EntryIndex {
         }
     }
 
-    /// Those of the rows whose principal has these octets. The rows must be in order.
+    /// Those of the rows whose principal has these octets, by two binary searches. The rows must be in the order of `compare`.
     fn rows_at<'i>(&'i self, rows: &'i [Row], octets: &[u8]) -> &'i [Row]
         ensures { IsInOrder self.now.principals rows.now
             → map row_number result.now ≡ numbers_with self.now.principals octets.now rows.now }
@@ -224,7 +224,7 @@ fn rows_of(
     Ok(rows)
 }
 
-/// The last eight octets as a number. 0 if there are fewer.
+/// The last eight octets as a number, in little-endian order. 0 if there are fewer.
 fn tail_of(octets: &[u8]) -> u64
     ensures { result ≡ tail_of octets.now }
 {
@@ -245,7 +245,7 @@ fn compare(principals: &TextList, row: &Row, tail: u64, octets: &[u8]) -> Orderi
     }
 }
 
-/// The octets of a row's principal, of the octets of the principals of all entries.
+/// The octets of a row's principal. `principals` must have those of all entries, in their order.
 fn row_octets<'p>(principals: &'p TextList, row: &Row) -> &'p [u8]
     ensures { result.now ≡ row_octets principals.now row.now }
 {
@@ -263,8 +263,8 @@ fn numbers_of(alloc: Global, rows: &[Row]) -> Result<Vec<usize>, AllocError>
     Ok(numbers)
 }
 
-/// Merges ascending numbers with those of the rows, which ascend too. A number that both have comes twice. If one has none, nothing
-/// is compared. Err if memory ran out.
+/// Merges `own`, ascending numbers, with those of the rows, which ascend too. A number that both have comes twice. If one has none, nothing is
+/// compared. Err if memory ran out.
 fn joined(alloc: Global, own: Vec<usize>, rows: &[Row]) -> Result<Vec<usize>, AllocError>
     ensures { IfOk result (λ numbers. numbers.items ≡ merge own.items (map row_number rows.now)) }
 {

@@ -28,8 +28,8 @@ ghost use Rattle.spki_service.specs.declared.list_fault.AclFault.{AclFault};
 
 use spki_case::Verifier;
 
-/// A text is held as at most one list of texts, or has at most one fault as an access list, and never both. These texts
-/// are those of at most one list of entries.
+/// An access list is held by a guard as the canonical texts of its entries. A text is held as at most one list of such texts, or has at most one
+/// fault, and never both. These texts are those of at most one list of entries.
 pub fn one_list()
     ensures list { (text : List ℕ) (a b : List (List ℕ)) → HoldsList text a → HoldsList text b → a ≡ b }
     ensures entries { (texts : List (List ℕ)) (es fs : List Entry) → AreEntries texts es → AreEntries texts fs → es ≡ fs }
@@ -37,8 +37,8 @@ pub fn one_list()
     ensures fault { (text : List ℕ) (f g : AclFault) → IsNoAccessList text f → IsNoAccessList text g → f ≡ g }
 {}
 
-/// For a policy and limits of nodes and work, a question has at most one case or one fault, and never both. So the
-/// fault of a question is a function of its parts: the first part that cannot be read, with its fault.
+/// Under one policy and the same limits of nodes and work, a question is read as at most one case, or refused for at most one fault, and never both.
+/// So the fault depends only on the question's parts: it is that of the first part that cannot be read.
 pub fn one_asking()
     ensures case { (q : Question) (c d : Case) → IsAskedCase q c → IsAskedCase q d → c.policy ≡ d.policy
         → c.most_nodes ≡ d.most_nodes → c.most_work ≡ d.most_work → c.uncounted ≡ d.uncounted → c ≡ d }
@@ -92,13 +92,13 @@ pub fn own_marks()
     ensures no { (a : PreparedModel) (d : Decision) (one : Signed) → IsUnmarked (asked a.case) a.marks one → DecidesMarked a d → d ≡ No }
 {}
 
-/// If not even all listed signatures together make a question a yes, no marks do.
+/// If a question would be no yes even with all listed signatures valid, no marks make it a yes.
 pub fn possible()
     ensures { (a : PreparedModel) (es : List Entry) (n : ℕ) → AreEntries a.texts es → IsPossible a false → ¬ DecidesMarked a (Yes n) }
 {}
 
-/// A guard's decision by marks is that of `check`. An auditor composes the case of the guard's entries and policy and the question's parts,
-/// with rows for exactly the marked signatures. If signatures of equal key, digest and value are marked alike, and the case is not refused,
+/// A guard's decision by marks is that of the command `check`. An auditor composes the case of the guard's entries and policy and the question's
+/// parts, with rows for exactly the marked signatures. If signatures of equal key, digest and value are marked alike, and the case is not refused,
 /// `check` answers the same.
 pub fn as_check()
     ensures { (a : PreparedModel) (es : List Entry) (c : Case) (x y : Decision) → AreEntries a.texts es → IsCaseOfParts a es c
@@ -106,7 +106,7 @@ pub fn as_check()
         → DecidesMarked a x → IsDecided c (accepted_by c) (Ok y) → x ≡ y }
 {}
 
-/// What is marked stays the question that was opened.
+/// Marking a signature does not change which question was opened.
 pub fn marked_stays()
     ensures { (held : GuardModel) (q : Question) (old new : OwnedQuestion) (place : ℕ) → HasMark old place new → IsOpened held q old → IsOpened held q new }
 {}
@@ -124,12 +124,13 @@ pub fn held_until()
         → (m : ℕ) × (d ≡ Yes m) × (m ≤ grant.entry) }
 {}
 
-/// The last second of a date is that of the date: if the date is that of some seconds, it is these seconds.
+/// If `date` is the date of `seconds`, then its last second is `seconds`.
 pub fn one_second()
     ensures { (seconds : ℤ) (date : List ℕ) → IsDateAt seconds date → last_second date ≡ seconds }
 {}
 
-/// The order of seconds is that of dates: seconds are at most the last second of a date exactly if theirs is not after it, by octets.
+/// The order of seconds is that of dates: seconds are at most the last second of a date exactly if their own date is not after it, in the order of
+/// octets.
 pub fn order_of_seconds()
     ensures { (seconds : ℤ) (date end : List ℕ) → IsDateAt seconds date → is_date end ≡ true → (seconds ≤ℤ last_second end) ↔ (upto date end ≡ true) }
 {}

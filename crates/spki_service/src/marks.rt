@@ -8,7 +8,7 @@ use std::alloc::{AllocError, Global};
 use std::marker::Brand;
 use std::sync::ledger::{Blank, Ledger};
 
-/// Returns room for so many marks, without a mark. Err if memory ran out.
+/// Returns `count` places for marks, none of which is marked. Err if memory ran out.
 pub(crate) fn no_marks(alloc: Global, count: usize) -> Result<Vec<bool>, AllocError>
     ensures counted { IfOk result (λ marks. length marks.items ≡ count) }
     ensures none { IfOk result (λ marks. NoneMarked marks.items) }
@@ -36,7 +36,7 @@ pub(crate) fn first_unmarked(count: usize, marks: &[bool]) -> Option<usize>
     first_unmarked_from::<Brand>(count, marks, Blank::new(1))
 }
 
-/// The same, counted in a ledger of its own.
+/// Calls `first_unmarked_counted` with a new count, which `blank` opens. The count exists only in contracts, and is dropped afterwards.
 fn first_unmarked_from<L: Ledger>(count: usize, marks: &[bool], blank: Blank) -> Option<usize>
     requires name { blank.name ≡ L.name }
     requires parts { blank.parts ≡ L.parts }

@@ -6,8 +6,8 @@ ghost use Rattle.spki_service.specs.Questions.{words_value, wanted_octets, momen
 
 use crate::question::{Moment, Question, RequestInput};
 
-/// How many octets a question's texts have together. None if they are more than `most_octets`. None of them is read. A
-/// request's strings count as their canonical text, and seconds as 22 octets.
+/// How many octets a question's texts have together. None if they are more than `most_octets`. None of them is read. A request's strings count as
+/// their canonical text, and seconds as the canonical form of a date, which has 22 octets.
 pub(crate) fn octets_within(question: &Question, most_octets: usize) -> Option<usize>
     ensures { MatchOption result (most_octets < asked_octets question.now) (λ octets. (octets ≡ asked_octets question.now) × (octets ≤ most_octets)) }
 {
@@ -46,8 +46,8 @@ fn subtract_request(room: usize, wanted: &RequestInput) -> Option<usize>
     }
 }
 
-/// Subtracts the octets of the canonical text of a request's strings from `room`: that of the list of them, or of the
-/// string if there is only one. None if it has more octets than `room`.
+/// Subtracts the octets of the canonical text of a request's strings from `room`: that of the list of them, with 2 octets for the parentheses, or
+/// that of the string if there is only one. None if it has more octets than `room`.
 fn subtract_words(room: usize, words: &[&[u8]]) -> Option<usize>
     ensures { MatchOption result (room < length (canon (words_value (map (λ w. w.now) words.now))))
         (λ left. left + length (canon (words_value (map (λ w. w.now) words.now))) ≡ room) }
@@ -62,8 +62,8 @@ fn subtract_words(room: usize, words: &[&[u8]]) -> Option<usize>
     Some(left)
 }
 
-/// Subtracts the octets of a string's canonical form, such as `3:abc`, from `room`. None if it has more octets than
-/// `room`.
+/// Subtracts the octets of a string's canonical form, such as `3:abc`, from `room`: its own, those of its length, and one for the colon. None if it
+/// has more octets than `room`.
 fn subtract_string(room: usize, octets: &[u8]) -> Option<usize>
     ensures { MatchOption result (room < length (verbatim octets.now)) (λ left. left + length (verbatim octets.now) ≡ room) }
 {

@@ -1,4 +1,5 @@
 //! What the entries of an access list become, each read from its text (RFC 2693, section 6.3).
+//! A value with many parts is freed by a call of `drop`, so that the proof does not go through its parts at each exit.
 
 ghost use Rattle.std.specs.Prelude.{◌≡◌, ◌⊎◌, List, length, OnOk, IsErrOf};
 ghost use Rattle.spki_cert.specs.declared.entry.Entry.{Entry};
@@ -18,9 +19,9 @@ use spki_decision::{Budget, FoldSink, GuardFault, certificates_of, entry_fold};
 use spki_reduce::Step;
 use std::alloc::Global;
 
-/// Puts into `sink` what each entry of an access list and the certificates of the case become. `texts` are the canonical
-/// texts of the entries, and `steps` the tuples of all certificates, in order: one for each. An entry is read just before
-/// it is folded, and nothing is kept of it. The case's own access list is not examined.
+/// Puts into `sink` what each entry of an access list becomes with the certificates of the case. `texts` are the canonical texts of the entries, and
+/// `steps` the tuples of all certificates, in order: one for each. An entry is read just before it is joined with them, and nothing of it is kept.
+/// The case's own access list is not examined.
 ///
 /// # Errors
 ///

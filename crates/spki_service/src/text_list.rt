@@ -33,7 +33,7 @@ impl Model for TextList {
 }
 
 impl TextList {
-    /// A list without a text.
+    /// An empty list.
     pub(crate) fn new(alloc: Global) -> TextList
         ensures { result ≡ [] }
     {
@@ -54,7 +54,7 @@ impl TextList {
         Ok(())
     }
 
-    /// Removes the first text. Nothing changes if there is none.
+    /// Removes the first text. Its octets stay in the buffer. Nothing changes if the list is empty.
     pub(crate) fn remove_first(&mut self)
         ensures { self.new ≡ drop 1 self.old }
     {
@@ -70,7 +70,7 @@ impl TextList {
         self.places.len()
     }
 
-    /// The text at a place, counted from 0. Empty if there is none.
+    /// The text at a place, counted from 0. No octets if the list has no such place.
     pub(crate) fn text(&self, place: usize) -> &[u8]
         ensures { result.now ≡ slice_index_or self.now place [] }
     {

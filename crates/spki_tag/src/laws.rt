@@ -1,5 +1,5 @@
 //! Laws of tags and requests: how they are written, their intersection, and what tags can have in common.
-//! Each function is a law: it does nothing, and its contract is the fact.
+//! Each function is a law: it does nothing, and its contract is the fact. A reading of a value is the tag or request that it is read as.
 
 ghost use Rattle.std.specs.Prelude.{◌≡◌, ◌*◌, ◌≤◌, ◌↔◌, ◌&&◌, ℕ, List, None, Some, true, false, length, nat_eq};
 ghost use Rattle.std.specs.List.{starts_with};
@@ -12,19 +12,19 @@ ghost use Rattle.spki_tag.specs.Reading.{normal, IsNormalOf, ReadsAs};
 ghost use Rattle.spki_tag.specs.Request.{AreOctets, Request, IsRequest, request_value};
 ghost use Rattle.spki_tag.specs.Tag.{Tag, IsTag, tag_value, tags, contains, is_above, is_below, is_normal, nodes};
 
-/// At most one tag is written as a value.
+/// A value is the written form of at most one tag.
 #[tactic(auto, using(crate::proofs::TagReading::tag_only))]
 pub fn one_tag()
     ensures { (t w : Tag) → IsTag t → IsTag w → tag_value w ≡ tag_value t → w ≡ t }
 {}
 
-/// At most one request is written as a value.
+/// A value is the written form of at most one request.
 #[tactic(auto, using(crate::proofs::RequestReading::request_only))]
 pub fn one_request()
     ensures { (g h : Request) → request_value h ≡ request_value g → h ≡ g }
 {}
 
-/// A value is read as at most one tag.
+/// A value has at most one reading as a tag.
 pub fn one_reading()
     ensures { (v : Value) (t u : Tag) → ReadsAs v t → ReadsAs v u → t ≡ u }
 {}
@@ -54,7 +54,7 @@ pub fn read_weight()
     ensures { (w : Tag) → weight (normal w) ≤ length (canon (tag_value w)) }
 {}
 
-/// The normal form of a written tag is in normal form, contains the same requests and has no more nodes.
+/// A written tag and its normal form contain the same requests, and the normal form has no more nodes. It is in normal form.
 pub fn normal_form()
     ensures { (t : Tag) → IsTag t → IsNormalOf t (normal t) }
 {}

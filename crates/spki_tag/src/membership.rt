@@ -20,7 +20,7 @@ impl Tag {
         self.holds_from::<Brand>(request, Blank::new(1))
     }
 
-    /// The same, counted in a ledger of its own.
+    /// Calls `holds_counted` with a new count, which `blank` opens. The count exists only in contracts, and is dropped afterwards.
     fn holds_from<L: Ledger>(&self, request: &Ground, blank: Blank) -> bool
         requires name { blank.name ≡ L.name }
         requires parts { blank.parts ≡ L.parts }

@@ -8,8 +8,8 @@ use crate::leaf::{Limit, RangeOrdering, copied_limit};
 use crate::limit_intersection::{exclude, is_greater_low, is_lesser_up};
 use std::alloc::AllocError;
 
-/// A range: an ordering and at most two limits. Whether the limits exclude each other is known since the range was made, so that no
-/// intersection compares them again.
+/// A range: an ordering and at most two limits. Limits exclude each other if no string is within both. `excluded` says whether these do. It is set
+/// when the range is made, so that no intersection compares them again.
 #[derive(Debug, Drop)]
 pub(crate) struct Range {
     pub(crate) ordering: RangeOrdering,
@@ -69,8 +69,8 @@ impl Range {
         }
     }
 
-    /// A copy of the range of an ordering with these limits. None if `excluded`, which says whether they exclude each other. Err if there
-    /// are too many copies to count.
+    /// The range of an ordering with copies of these limits, unless they exclude each other, as `excluded` says: then None. Err if there are too many
+    /// copies to count.
     fn unless(
         excluded: bool,
         ordering: RangeOrdering,
@@ -87,10 +87,10 @@ impl Range {
         Ok(Some(Range::between(ordering, copied_limit(low)?, copied_limit(up)?)))
     }
 
-    /// Returns the intersection of two ranges: the range with the greater lower limit and the lesser upper limit. None if one ordering
-    /// is of times and the other of dates, or if these limits exclude each other. A limit is compared only with limits of the other range,
-    /// and each comparison reads at most the octets of the shorter one: so at most twice the octets of the limits of either range. Err if
-    /// there are too many copies to count.
+    /// Returns the intersection of two ranges: the range with the greater lower limit and the lesser upper limit. None if one ordering is of times
+    /// and the other of dates, or if these limits exclude each other; if both are of one range, its `excluded` says it. A limit is compared only with
+    /// limits of the other range, and each comparison reads at most the octets of the shorter one: so at most twice the octets of the limits of
+    /// either range. Err if there are too many copies to count.
     pub(crate) fn meet(&self, other: &Range) -> Result<Option<Range>, AllocError>
         ensures { IfOk result (λ r. range_or_nothing r
             ≡ ranged (ordering_meet (ordering_of self.now.ordering) (ordering_of other.now.ordering))

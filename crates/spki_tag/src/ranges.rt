@@ -65,8 +65,8 @@ fn read_ordering(name: &Node<'_, '_>) -> Result<RangeOrdering, TagFault>
     }
 }
 
-/// Reads two values, a word and a string, as a limit. The word `strict` makes it a strict limit, and `inclusive` any
-/// other. None if the two are no such limit. Err if memory ran out.
+/// Reads two values, a word and a string, as a limit. The word must be one of two: `strict`, such as `g`, with which the range excludes the string,
+/// or `inclusive`, such as `ge`. None if the two values are no such limit. Err if memory ran out.
 fn read_limit(
     alloc: Global,
     word: &Node<'_, '_>,
@@ -98,11 +98,11 @@ fn read_limit(
     }
 }
 
-/// The limits of a range.
+/// The lower limit and the upper limit of a range. None for one that is missing.
 type Limits = (Option<Limit>, Option<Limit>);
 
-/// Reads two values as the only limit of a range: lower after the word `g` or `ge`, upper after `l` or `le`. The other
-/// limit of the pair is None. None alone if they are no limit. Err if memory ran out.
+/// Reads two values as the only limit of a range: lower after the word `g` or `ge`, upper after `l` or `le`. Returns it, and None for the other one.
+/// None instead of a pair if they are no limit. Err if memory ran out.
 fn read_one_limit(
     alloc: Global,
     word: &Node<'_, '_>,
@@ -122,8 +122,8 @@ fn read_one_limit(
     Ok(Some((None, up)))
 }
 
-/// Reads four values as a lower limit, with the word `g` or `ge`, and an upper limit, with `l` or `le`. None if they
-/// are not. Err if memory ran out.
+/// Reads four values as a lower limit, with the word `g` or `ge`, and an upper limit, with `l` or `le`. Returns both. None if they are no such
+/// limits. Err if memory ran out.
 fn read_two_limits(
     alloc: Global,
     low_word: &Node<'_, '_>,
@@ -146,8 +146,8 @@ fn read_two_limits(
     Ok(Some((low, up)))
 }
 
-/// Reads values as the limits of a range: at most one lower limit, and then at most one upper limit. A limit that is
-/// not given is None in the pair. None alone if the values are no limits. Err if memory ran out.
+/// Reads the limits of a range. In `values` words and strings alternate: `g` or `ge` and the lower limit, then `l` or `le` and the upper one. Returns
+/// the lower and the upper limit, each None if it is absent. None instead of a pair if the values are no limits. Err if memory ran out.
 fn limits_of(alloc: Global, values: &[Node<'_, '_>]) -> Result<Option<Limits>, AllocError>
     ensures { IfOk result (λ found. MatchOption found (AreNoLimits values.now)
         (λ p. AreLimits (limit_of p.0) (limit_of p.1) values.now)) }

@@ -1,4 +1,4 @@
-//! What work is done, counted at no cost.
+//! Counts of work, which exist only in contracts and cost nothing at run time.
 
 ghost use Rattle.std.specs.Prelude.{◌≡◌, ◌+◌, ◌<◌};
 
@@ -24,7 +24,7 @@ impl<L: Ledger> Model for Ticks<L> {
 }
 
 impl<L: Ledger> Ticks<L> {
-    /// No ticks yet, in the ledger of this blank.
+    /// A count of 0. `blank` opens the toolchain's ledger in which it is kept, and must be that of `L`.
     pub fn new(blank: Blank) -> Ticks<L>
         requires name { blank.name ≡ L.name }
         requires parts { blank.parts ≡ L.parts }

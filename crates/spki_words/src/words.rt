@@ -99,7 +99,7 @@ fn subcommand<'a>(alloc: Global, command: Command) -> clap::Command<'a>
         .after_help(details)
 }
 
-/// The command that `clap` found in the words. They must contain one.
+/// The command that `clap` found in the words. They must contain one, so neither `unreachable!()` is reached.
 fn met(matches: &clap::ArgMatches<'_>) -> Command
     requires { (c : Command) × (subcommand_name_of matches.now ≡ Some (word_of c)) }
     ensures { subcommand_name_of matches.now ≡ Some (word_of result) }

@@ -1,4 +1,4 @@
-//! A caller of `spki_case` that makes a case of its parts.
+//! An example of a caller of `spki_case`, which makes a case of its parts.
 
 ghost use Rattle.std.specs.Prelude.{◌≡◌, ◌≢◌, List, Some, IfOk, IfErr};
 ghost use Rattle.spki_cert.specs.declared.certificate.SeqItem.{SeqItem};

@@ -1,4 +1,4 @@
-//! A caller of `spki_cert`.
+//! An example of a caller of `spki_cert`, which its `CALLING.md` quotes.
 
 ghost use Rattle.std.specs.Prelude.{◌≡◌, ◌≢◌, ℕ, List, Some, IfOk, IfErr, OnErr, MatchOption};
 ghost use Rattle.spki_cert.specs.declared.hash.HashAlg.TheVariants.{Sha256};

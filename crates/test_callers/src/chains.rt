@@ -1,4 +1,6 @@
-//! A caller of `spki_reduce`.
+//! An example of a caller of `spki_reduce`, which its `CALLING.md` quotes. `prove_well_formed` gives the prover a fact and does nothing at run time.
+//! Tuples are joined two at a time, and a bracketing says in which order: `(a b) c` or `a (b c)`. `fold_chain` joins them from the left, which is
+//! enough by the law `any_bracketing`.
 
 ghost use Rattle.std.specs.Prelude.{◌≡◌, ◌↔◌, ◌∷◌, ◌<◌, IsTrue, IfOk, IsErrOf};
 ghost use Rattle.spki_reduce.specs.Reduction.{own, five, issuer_of, five_tuple, nodes_product, IsSupported};

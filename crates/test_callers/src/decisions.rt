@@ -1,4 +1,4 @@
-//! A caller of `spki_decision`, with a verifier of its own.
+//! An example of a caller of `spki_decision`, with a verifier of its own.
 
 ghost use Rattle.std.specs.Prelude.{◌≡◌, ◌↔◌, ℕ, Contains, IsTrue, IfOk, IsErrOf};
 ghost use Rattle.spki_case.specs.View.{model};
@@ -29,6 +29,7 @@ fn is_among(keys: &[Key], key: &Key) -> bool
 impl<'v, 'k, V: Verifier> Verifier for Unrevoked<'v, 'k, V> {
     ghost accepted = { λ own. unrevoked own.revoked.now (V.accepted own.verifier.now) };
 
+    /// Whether the key is not revoked, and the other verifier accepts the signature.
     fn accepts(
         &self,
         alloc: Global,

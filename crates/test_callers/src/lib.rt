@@ -1,4 +1,4 @@
-//! Callers of the libraries, one file for each. The pages `CALLING.md` of the libraries quote them.
+//! Examples of callers of the libraries, one file for each. The pages `CALLING.md` of the libraries quote them.
 #![tactic(auto)]
 
 pub mod cases;

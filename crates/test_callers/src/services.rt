@@ -1,4 +1,4 @@
-//! Callers of `spki_service` that hold an access list: one decides two questions, and one may share its guard among threads.
+//! Examples of callers of `spki_service`, which hold an access list: one decides two questions, and one may share its guard among threads.
 
 ghost use Rattle.std.specs.Prelude.{◌≡◌, ℕ, List, IfOk};
 ghost use Rattle.spki_service.specs.AccessLists.{HoldsList};

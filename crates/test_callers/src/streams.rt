@@ -1,4 +1,5 @@
-//! A caller of `metered_io`.
+//! An example of a caller of `metered_io`, which its `CALLING.md` quotes. The count `faults` tells a reader that failed from one that was called too
+//! often.
 
 ghost use Rattle.std.specs.Prelude.{◌≡◌, ◌<◌, ◌≤◌, length, vec_len, IfOk, IfSome, IsErrOf};
 ghost use Rattle.metered_io.specs.MeteredCalls.{inner_of, asks_of, faults_of};

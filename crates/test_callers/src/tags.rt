@@ -1,4 +1,4 @@
-//! A caller of `spki_tag`.
+//! An example of a caller of `spki_tag`, which its `CALLING.md` quotes.
 
 ghost use Rattle.std.specs.Prelude.{◌≡◌, ◌&&◌, IfOk, IfErr};
 ghost use Rattle.spki_tag.specs.Request.{Request, IsRequest};

@@ -1,4 +1,4 @@
-//! A caller of `sexpr_text`.
+//! An example of a caller of `sexpr_text`, which its `CALLING.md` quotes.
 
 ghost use Rattle.std.specs.Prelude.{◌≡◌, ◌↔◌, ◌⊎◌, IsTrue, IfOk, IfErr};
 ghost use Rattle.sexpr_core.specs.Value.{Value};

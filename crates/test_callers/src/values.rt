@@ -1,4 +1,4 @@
-//! A caller of `sexpr_core`.
+//! An example of a caller of `sexpr_core`, which its `CALLING.md` quotes.
 
 ghost use Rattle.std.specs.Prelude.{◌≡◌, IfOk, IfErr, IsOkUnless, option_map};
 ghost use Rattle.std.specs.Option.{option_copied};

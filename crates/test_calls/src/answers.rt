@@ -1,4 +1,5 @@
-//! How the values that calls return are written as answers.
+//! How the values that calls return are written as answers to rows. A row is one line of a table of tests: the name of a call, and its arguments, the
+//! texts.
 
 use crate::failure::Failure;
 use sexpr_core::{Sexp, encode};
@@ -25,7 +26,7 @@ pub fn answer<T: Answered + Drop>(alloc: Global, value: T) -> Reply {
 
 /// A value that is read for several calls.
 pub trait Called {
-    /// The answer of the call with this name and these texts.
+    /// Does the call with this name on the value, with these texts of the row, and returns its answer.
     fn call(&self, alloc: Global, name: &str, texts: &[Vec<u8>]) -> Reply;
 }
 
@@ -71,11 +72,12 @@ pub fn joined(alloc: Global, parts: &[&[u8]]) -> Reply {
     Ok(out)
 }
 
-/// A number and what follows it, as `Debug` writes that.
+/// A number and, after a space, a value as `Debug` writes it.
 fn numbered<T: Debug>(alloc: Global, number: usize, value: &T) -> Reply {
     Ok(format!(in alloc; "{number} {value:?}")?.into_bytes())
 }
 
+/// The answer for the value, or the fault as a `Failure`.
 impl<T: Answered, E: Copy + Into<Failure>> Answered for Result<T, E> {
     fn answered(&self, alloc: Global) -> Reply {
         match self {
@@ -85,18 +87,21 @@ impl<T: Answered, E: Copy + Into<Failure>> Answered for Result<T, E> {
     }
 }
 
+/// The octets.
 impl Answered for Vec<u8> {
     fn answered(&self, alloc: Global) -> Reply {
         octets(alloc, self)
     }
 }
 
+/// The numbers, as `Debug` writes them.
 impl Answered for Vec<usize> {
     fn answered(&self, alloc: Global) -> Reply {
         shown(alloc, self)
     }
 }
 
+/// `yes` or `no`.
 impl Answered for bool {
     fn answered(&self, alloc: Global) -> Reply {
         word(alloc, if *self { "yes" } else { "no" })
@@ -110,20 +115,21 @@ impl Answered for Sexp {
     }
 }
 
+/// The tag in canonical form.
 impl Answered for Tag {
     fn answered(&self, alloc: Global) -> Reply {
         answer(alloc, self.write(alloc))
     }
 }
 
-/// That it was read.
+/// `yes`: it was read.
 impl Answered for Ground {
     fn answered(&self, alloc: Global) -> Reply {
         word(alloc, "yes")
     }
 }
 
-/// Its octets, if it names itself.
+/// Its octets, or `no` if the key as a principal does not name itself.
 impl Answered for Key<'_> {
     fn answered(&self, alloc: Global) -> Reply {
         if Principal::Key(self.share()).names(self, Policy::Strict) {
@@ -134,6 +140,7 @@ impl Answered for Key<'_> {
     }
 }
 
+/// The 19 octets of its text.
 impl Answered for Date {
     fn answered(&self, alloc: Global) -> Reply {
         octets(alloc, self.as_slice())
@@ -218,12 +225,14 @@ impl Answered for Evidence<'_> {
     }
 }
 
+/// The decision, as `Debug` writes it.
 impl Answered for Decision {
     fn answered(&self, alloc: Global) -> Reply {
         shown(alloc, self)
     }
 }
 
+/// Both decisions, as `Debug` writes them.
 impl Answered for (Decision, Decision) {
     fn answered(&self, alloc: Global) -> Reply {
         shown(alloc, self)
@@ -250,6 +259,7 @@ impl Answered for Reduction<'_> {
     }
 }
 
+/// The answer for each entry, with a line feed after each.
 fn lines_of(alloc: Global, folds: &[EntryFold]) -> Reply {
     let mut out = Vec::new(alloc);
     for fold in folds {

@@ -8,7 +8,7 @@ use spki_case::Case;
 use spki_decision::{decide, explain, judge, reduce_case};
 use std::alloc::Global;
 
-/// The answer of the call with this name, of this module or of those behind it. None if there is no such call.
+/// Does the call with this name, of this module or of one to which it passes the name on. Returns its answer. None if there is no such call.
 pub(crate) fn call(alloc: Global, name: &str, texts: &[Vec<u8>]) -> Option<Reply> {
     match name {
         "Case::read" | "judge" | "decide" | "explain" | "reduce_case" => {
@@ -19,6 +19,7 @@ pub(crate) fn call(alloc: Global, name: &str, texts: &[Vec<u8>]) -> Option<Reply
 }
 
 impl Called for Case<'_> {
+    /// Does the call with this name on the case, which is the first of `texts`. The second is the verifier.
     fn call(&self, alloc: Global, name: &str, texts: &[Vec<u8>]) -> Reply {
         match name {
             "Case::read" => counted(alloc, self),
@@ -27,12 +28,13 @@ impl Called for Case<'_> {
     }
 }
 
-/// The numbers of entries and of items.
+/// The numbers of entries and of items of a case.
 fn counted(alloc: Global, case: &Case) -> Reply {
     let (entries, items) = (case.acl.len(), case.sequence.len());
     Ok(format!(in alloc; "{entries} {items}")?.into_bytes())
 }
 
+/// Does a call on a case by the verifier that `rows` states.
 fn with_verifier(alloc: Global, name: &str, case: &Case, rows: &[u8]) -> Reply {
     let verifier = RowVerifier::read(alloc, rows)?;
     let reply = by_verifier(alloc, name, case, &verifier);
@@ -40,6 +42,7 @@ fn with_verifier(alloc: Global, name: &str, case: &Case, rows: &[u8]) -> Reply {
     reply
 }
 
+/// Does the call with this name on a case, `reduce_case` for any name that is not listed.
 fn by_verifier(alloc: Global, name: &str, case: &Case, verifier: &RowVerifier) -> Reply {
     match name {
         "judge" => answer(alloc, judge(alloc, &case.sequence, case.policy, verifier)),

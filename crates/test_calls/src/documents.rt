@@ -13,7 +13,7 @@ use spki_cert::{read_acl, read_date, read_key, read_sequence};
 use spki_tag::{Ground, Tag};
 use std::alloc::{AllocError, Global};
 
-/// The answer of the call with this name, of this module or of those behind it. None if there is no such call.
+/// Does the call with this name, of this module or of one to which it passes the name on. Returns its answer. None if there is no such call.
 pub(crate) fn call(alloc: Global, name: &str, texts: &[Vec<u8>]) -> Option<Reply> {
     match name {
         "Doc::open"
@@ -31,6 +31,7 @@ pub(crate) fn call(alloc: Global, name: &str, texts: &[Vec<u8>]) -> Option<Reply
 }
 
 impl Called for Doc<'_> {
+    /// Does the call with this name on the document, which is the first of `texts`.
     fn call(&self, alloc: Global, name: &str, texts: &[Vec<u8>]) -> Reply {
         match name {
             "Doc::open" => octets(alloc, self.top().slice()),
@@ -41,7 +42,7 @@ impl Called for Doc<'_> {
     }
 }
 
-/// A line for each node, from the root on, and one for the first number that is no node. A document of so many octets has no more nodes.
+/// A line for each node, from the root on, and one for the first number that is no node. `most` is at least the number of nodes.
 fn nodes(alloc: Global, document: &Doc, most: usize) -> Reply {
     let mut out = format!(in alloc; "root {}\n", document.root().0)?.into_bytes();
     for n in 0..=most {
@@ -53,7 +54,7 @@ fn nodes(alloc: Global, document: &Doc, most: usize) -> Reply {
     Ok(out)
 }
 
-/// A line for a node: the numbers of it, its octets, its string and its hint.
+/// Appends the line of a node: its numbers, its octets, its string and its hint.
 fn push_node(
     alloc: Global,
     out: &mut Vec<u8>,
@@ -67,7 +68,7 @@ fn push_node(
     Ok(out.push(b'\n')?)
 }
 
-/// Where a node begins, how many parts it has, and the numbers of the first three.
+/// Appends where a node begins, how many parts it has, and the numbers of the first three.
 fn push_numbers(
     alloc: Global,
     out: &mut Vec<u8>,
@@ -81,7 +82,7 @@ fn push_numbers(
     Ok(out.extend_from_slice(line.as_bytes())?)
 }
 
-/// A space and octets as a verbatim string, or a hyphen.
+/// Appends a space and octets as a verbatim string, or a hyphen for None.
 fn push_octets(out: &mut Vec<u8>, octets: Option<&[u8]>) -> Result<(), AllocError> {
     out.push(b' ')?;
     match octets {
@@ -90,7 +91,7 @@ fn push_octets(out: &mut Vec<u8>, octets: Option<&[u8]>) -> Result<(), AllocErro
     }
 }
 
-/// What is read of the root.
+/// The answer of a call that reads the root. `octets` are the call's second text.
 fn of_root(alloc: Global, name: &str, document: &Doc, octets: &[u8]) -> Reply {
     let root = document.root();
     if document.node(root).is_none() {
@@ -99,6 +100,7 @@ fn of_root(alloc: Global, name: &str, document: &Doc, octets: &[u8]) -> Reply {
     read(alloc, name, document, root, octets)
 }
 
+/// The answer of a call that reads node n, which must exist. `octets` are the call's second text.
 fn read(alloc: Global, name: &str, document: &Doc, n: NodeId, octets: &[u8]) -> Reply
     requires { IsSome (node document.now n.0) }
 {
@@ -123,6 +125,7 @@ fn read_hash(alloc: Global, document: &Doc, n: NodeId, octets: &[u8]) -> Reply
     Ok(format!(in alloc; "{alg:?} {fits}")?.into_bytes())
 }
 
+/// The number of nodes of the tag that is read from node n, and its normal form.
 fn read_tag(alloc: Global, document: &Doc, n: NodeId) -> Reply
     requires { IsSome (node document.now n.0) }
 {

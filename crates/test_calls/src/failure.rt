@@ -20,7 +20,7 @@ pub enum Failure {
     /// Memory ran out.
     #[error("out of memory")]
     Memory,
-    /// The row is none: an unknown call, or no digits.
+    /// The row is malformed: an unknown call, or texts that are no hexadecimal digits.
     #[error("no row")]
     Unknown,
     #[error(transparent)]
@@ -70,7 +70,7 @@ impl Failure {
         )
     }
 
-    /// The fault and its text, as the answer to a row. `Memory` if memory ran out.
+    /// The fault and its text, as the answer to a row. Err is `Memory` if the fault is that memory ran out.
     pub fn said(self, alloc: Global) -> Reply {
         if self.is_memory() {
             return Err(Failure::Memory);
@@ -80,18 +80,21 @@ impl Failure {
 }
 
 impl From<AllocError> for Failure {
+    /// An allocation that failed is `Memory`.
     fn from(_: AllocError) -> Failure {
         Failure::Memory
     }
 }
 
 impl<T: Drop> From<AllocFailed<T>> for Failure {
+    /// An allocation that failed is `Memory`.
     fn from(_: AllocFailed<T>) -> Failure {
         Failure::Memory
     }
 }
 
 impl From<FromHexError> for Failure {
+    /// Texts that are no hexadecimal digits are `Unknown`.
     fn from(fault: FromHexError) -> Failure {
         match fault {
             FromHexError::OutOfMemory => Failure::Memory,
@@ -101,6 +104,7 @@ impl From<FromHexError> for Failure {
 }
 
 impl From<io::Error> for Failure {
+    /// Any error but an allocation that failed is `Unknown`.
     fn from(error: io::Error) -> Failure {
         match error.kind() {
             ErrorKind::OutOfMemory => Failure::Memory,

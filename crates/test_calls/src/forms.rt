@@ -8,7 +8,7 @@ use sexpr_core::{Sexp, decode, unwrap_braces, wrap};
 use sexpr_text::{print_advanced, read_advanced, read_any};
 use std::alloc::Global;
 
-/// The answer of the call with this name, of this module or of those behind it. None if there is no such call.
+/// Does the call with this name, of this module or of one to which it passes the name on. Returns its answer. None if there is no such call.
 pub(crate) fn call(alloc: Global, name: &str, texts: &[Vec<u8>]) -> Option<Reply> {
     let text = at(texts, 0);
     match name {
@@ -27,6 +27,7 @@ pub(crate) fn call(alloc: Global, name: &str, texts: &[Vec<u8>]) -> Option<Reply
 }
 
 impl Called for Sexp {
+    /// Does the call with this name on the tree.
     fn call(&self, alloc: Global, name: &str, _: &[Vec<u8>]) -> Reply {
         match name {
             "wrap" => answer(alloc, wrap(alloc, self)),
@@ -35,7 +36,7 @@ impl Called for Sexp {
     }
 }
 
-/// The octets as a string, behind an opening parenthesis.
+/// An opening parenthesis and, appended to it, the octets as a verbatim string.
 fn verbatim(alloc: Global, octets: &[u8]) -> Reply {
     let mut out = Vec::from_slice(alloc, b"(")?;
     append_verbatim(octets, &mut out)?;
@@ -47,7 +48,7 @@ fn base64(alloc: Global, text: &[u8]) -> Reply {
     Ok(read_base64(alloc, text, 0, b'}')?.octets)
 }
 
-/// A copy of the list of one string.
+/// A copy of the list that has these octets as its only member.
 fn list_of(alloc: Global, octets: &[u8]) -> Reply {
     let list = Sexp::list(vec![in alloc; Sexp::plain(alloc, octets)?]?);
     let copy: Result<_, _> = list.clone();

@@ -12,7 +12,7 @@ use spki_service::{
 };
 use std::alloc::{AllocError, Global};
 
-/// The answer of the call with this name, of this module or of those behind it. None if there is no such call.
+/// Does the call with this name, of this module or of one to which it passes the name on. Returns its answer. None if there is no such call.
 pub(crate) fn call(alloc: Global, name: &str, texts: &[Vec<u8>]) -> Option<Reply> {
     match name {
         "Limits::new" => Some(new_limits(alloc, texts)),
@@ -35,7 +35,7 @@ pub(crate) fn call(alloc: Global, name: &str, texts: &[Vec<u8>]) -> Option<Reply
     }
 }
 
-/// Whether these are limits, and which: of octets, certificates, strings, nodes, work and the answer.
+/// Whether the six texts are limits, in the order octets, certificates, strings, nodes, work and answer: their name, or `none`.
 fn new_limits(alloc: Global, texts: &[Vec<u8>]) -> Reply {
     let limits = Limits::new(
         number(at(texts, 0)),
@@ -51,7 +51,7 @@ fn new_limits(alloc: Global, texts: &[Vec<u8>]) -> Reply {
     }
 }
 
-/// The name of limits.
+/// Which limits these are: `default`, `highest` or `others`.
 fn name_of(limits: &Limits) -> &'static str {
     if *limits == Limits::default() {
         return "default";
@@ -62,7 +62,8 @@ fn name_of(limits: &Limits) -> &'static str {
     "others"
 }
 
-/// The limits with these octets and nodes. A limit without digits is the greatest one, and `usual` octets are the default limits.
+/// The limits with these octets and nodes, each in digits; any other text is the greatest limit. The word `usual` for the octets means the default
+/// limits.
 fn limits(octets: &[u8], nodes: &[u8]) -> Option<Limits> {
     if octets == b"usual".as_slice() {
         return Some(Limits::default());
@@ -71,7 +72,7 @@ fn limits(octets: &[u8], nodes: &[u8]) -> Option<Limits> {
     Limits::new(octets, usize::MAX, usize::MAX, nodes, 2_000_000, 1_048_576)
 }
 
-/// The guard of the first four texts.
+/// The guard of the first four texts: the access list, its policy (`strict`, or else open), and the most octets and nodes.
 pub fn guard(alloc: Global, texts: &[Vec<u8>]) -> Result<Guard, Failure> {
     let policy = match word_of(at(texts, 1)) {
         "strict" => Policy::Strict,
@@ -93,7 +94,7 @@ pub fn question(texts: &[Vec<u8>]) -> Question<'_> {
     }
 }
 
-/// What the guard of the first four texts answers. The texts behind a question are the verifier, or the marks.
+/// What the guard of the first four texts answers. The texts after a question are the verifier, or the marks.
 impl Called for Guard {
     fn call(&self, alloc: Global, name: &str, texts: &[Vec<u8>]) -> Reply {
         match name {
@@ -110,7 +111,7 @@ impl Called for Guard {
     }
 }
 
-/// The decision on a key that shows nothing, at a moment in seconds. The texts behind these two are the strings of the request.
+/// The decision for a key without certificates, at a moment in seconds. The texts after these two are the strings of the request.
 fn ask_words(alloc: Global, guard: &Guard, texts: &[Vec<u8>]) -> Reply {
     let mut words = Vec::new(alloc);
     for text in behind(texts, 2) {
@@ -126,17 +127,18 @@ fn ask_words(alloc: Global, guard: &Guard, texts: &[Vec<u8>]) -> Reply {
     of_texts(alloc, "PreparedQuestion::decide_by", guard, read, &[])
 }
 
-/// Seconds in decimal digits.
+/// Seconds in decimal digits. 0 for any other text.
 fn seconds(text: &[u8]) -> i64 {
     word_of(text).parse().unwrap_or(0)
 }
 
-/// What is answered to a question of a guard, by a verifier or by marks.
+/// The answer of a call on a question to a guard. `by` are the verifier, or the marks.
 fn ask(alloc: Global, name: &str, guard: &Guard, question: &Question, by: &[Vec<u8>]) -> Reply {
     let texts = guard.texts(alloc, question)?;
     of_texts(alloc, name, guard, texts, by)
 }
 
+/// The answer of a call on the texts of a question. `by` are the verifier, or the marks.
 fn of_texts(alloc: Global, name: &str, guard: &Guard, texts: Texts, by: &[Vec<u8>]) -> Reply {
     let reply = match name {
         "Guard::texts" => word(alloc, "read"),
@@ -146,8 +148,7 @@ fn of_texts(alloc: Global, name: &str, guard: &Guard, texts: Texts, by: &[Vec<u8
     reply
 }
 
-/// A question that was read, with the marks of a text: at the places of the octet 1. Places that the question does not have are passed
-/// over.
+/// A question that was read, and marked at the places at which `marks` has the octet `1`. Places that the question does not have are ignored.
 fn marked<'a>(
     alloc: Global,
     guard: &'a Guard,
@@ -163,6 +164,7 @@ fn marked<'a>(
     Ok(asked)
 }
 
+/// The calls on a question, by a verifier, which is the first of `texts`, or by its marks.
 impl Called for PreparedQuestion<'_> {
     fn call(&self, alloc: Global, name: &str, texts: &[Vec<u8>]) -> Reply {
         match name {
@@ -175,6 +177,7 @@ impl Called for PreparedQuestion<'_> {
     }
 }
 
+/// Does a call on a question by the verifier that `rows` states.
 fn with_verifier(alloc: Global, name: &str, asked: &PreparedQuestion, rows: &[u8]) -> Reply {
     let verifier = RowVerifier::read(alloc, rows)?;
     let reply = by_verifier(alloc, name, asked, &verifier);
@@ -182,6 +185,7 @@ fn with_verifier(alloc: Global, name: &str, asked: &PreparedQuestion, rows: &[u8
     reply
 }
 
+/// Does the call with this name on a question by a verifier.
 fn by_verifier(
     alloc: Global,
     name: &str,
@@ -196,6 +200,7 @@ fn by_verifier(
     }
 }
 
+/// Does the call with this name on a question by its marks.
 fn with_marks(alloc: Global, name: &str, asked: &PreparedQuestion) -> Reply {
     match name {
         "PreparedQuestion::decide_by" => answer(alloc, asked.decide_by(alloc)),
@@ -207,7 +212,7 @@ fn with_marks(alloc: Global, name: &str, asked: &PreparedQuestion) -> Reply {
     }
 }
 
-/// The decision that a grant is.
+/// The answer for the decision that a grant stands for.
 fn granted(alloc: Global, grant: Result<Option<Grant>, AllocError>) -> Reply {
     match grant {
         Ok(grant) => answer(alloc, Ok::<Decision, AllocError>(Grant::decision(grant))),
@@ -215,7 +220,7 @@ fn granted(alloc: Global, grant: Result<Option<Grant>, AllocError>) -> Reply {
     }
 }
 
-/// The reduction that is put into a vector.
+/// What `reduce_into` puts into a vector, as a reduction.
 fn reduction<'a>(alloc: Global, asked: &PreparedQuestion<'a>) -> Result<Reduction<'a>, GuardFault> {
     let mut folds = Vec::new(alloc);
     match asked.reduce_into(alloc, &mut folds)? {

@@ -21,8 +21,8 @@ mod windows;
 use crate::answers::Reply;
 use std::alloc::Global;
 
-/// The answer of the call with this name. None if this crate does not have it. Each module passes a name that it does not have on to the
-/// next one.
+/// Does the call with this name, and returns its answer. None if this crate does not have it. Each module passes a name that it does not have on to
+/// the next one.
 pub fn call(alloc: Global, name: &str, texts: &[Vec<u8>]) -> Option<Reply> {
     forms::call(alloc, name, texts)
 }

@@ -1,4 +1,4 @@
-//! The calls for questions that are opened. Their texts are those of a guard, of one question, and its marks.
+//! The calls for questions that are opened. Their texts are the four of a guard, the four of a question, and the question's marks.
 
 use crate::answers::{Called, Reply, answer, call_on, word};
 use crate::failure::Failure;
@@ -23,7 +23,7 @@ pub fn shared(alloc: Global, texts: &[Vec<u8>]) -> Result<SharedGuard, Failure> 
     Ok(SharedGuard::new(alloc, guard(alloc, texts)?)?)
 }
 
-/// The question behind that guard. The guard is freed before the question is returned.
+/// The question after that guard, opened and marked. The guard's first owner is freed before the question is returned.
 fn opened(alloc: Global, texts: &[Vec<u8>]) -> Result<OwnedQuestion, Failure> {
     let shared = shared(alloc, texts)?;
     let opened = OwnedQuestion::open(alloc, &shared, &question(behind(texts, 4)));
@@ -33,7 +33,7 @@ fn opened(alloc: Global, texts: &[Vec<u8>]) -> Result<OwnedQuestion, Failure> {
     Ok(opened)
 }
 
-/// Marks the places of the octet 1. Returns whether the question has all of them.
+/// Marks the places at which `marks` has the octet `1`. Returns whether the question has all of them.
 pub fn mark_all(opened: &mut OwnedQuestion, marks: &[u8]) -> bool {
     let mut has_all = true;
     for (place, octet) in marks.iter().enumerate() {
@@ -45,6 +45,7 @@ pub fn mark_all(opened: &mut OwnedQuestion, marks: &[u8]) -> bool {
 }
 
 impl Called for OwnedQuestion {
+    /// Does the call with this name on the question.
     fn call(&self, alloc: Global, name: &str, _texts: &[Vec<u8>]) -> Reply {
         match name {
             "OwnedQuestion::signed" => signed(alloc, self),
@@ -54,7 +55,7 @@ impl Called for OwnedQuestion {
     }
 }
 
-/// The keys, messages and values, with a line feed behind each.
+/// The key, the message and the value of each signature, with a line feed after each.
 fn signed(alloc: Global, opened: &OwnedQuestion) -> Reply {
     let mut out = Vec::new(alloc);
     for one in opened.signed() {
@@ -66,7 +67,7 @@ fn signed(alloc: Global, opened: &OwnedQuestion) -> Reply {
     Ok(out)
 }
 
-/// The decision by marks, and that of what is granted by them.
+/// The decision by marks, or `two decisions` if what is granted by them says another one.
 fn decide(alloc: Global, opened: &OwnedQuestion) -> Reply {
     let decision = opened.decide_by();
     if Grant::decision(opened.grant_by()) != decision {

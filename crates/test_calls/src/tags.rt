@@ -6,7 +6,7 @@ use crate::windows;
 use spki_tag::{Ground, Index, Tag, merged};
 use std::alloc::{AllocError, Global};
 
-/// The answer of the call with this name, of this module or of those behind it. None if there is no such call.
+/// Does the call with this name, of this module or of one to which it passes the name on. Returns its answer. None if there is no such call.
 pub(crate) fn call(alloc: Global, name: &str, texts: &[Vec<u8>]) -> Option<Reply> {
     match name {
         "Tag::clone"
@@ -23,6 +23,7 @@ pub(crate) fn call(alloc: Global, name: &str, texts: &[Vec<u8>]) -> Option<Reply
 }
 
 impl Called for Tag {
+    /// Does the call with this name on the tag, which is the first of `texts`. The second is a request or another tag.
     fn call(&self, alloc: Global, name: &str, texts: &[Vec<u8>]) -> Reply {
         match name {
             "Tag::clone" => answer(alloc, self.clone()?),
@@ -33,6 +34,7 @@ impl Called for Tag {
     }
 }
 
+/// Whether a tag contains the request that the text is.
 fn holds(alloc: Global, tag: &Tag, text: &[u8]) -> Reply {
     let request: Ground = read(alloc, text)?;
     let is_held = tag.holds(&request);
@@ -40,7 +42,7 @@ fn holds(alloc: Global, tag: &Tag, text: &[u8]) -> Reply {
     answer(alloc, is_held)
 }
 
-/// The weight as the only member of a list, which is empty if there is none.
+/// A list with the weight as its only member, or an empty list if there is no weight.
 fn weight(alloc: Global, tag: &Tag) -> Reply {
     let mut weights = Vec::new(alloc);
     if let Some(weight) = tag.weight() {
@@ -49,7 +51,7 @@ fn weight(alloc: Global, tag: &Tag) -> Reply {
     answer(alloc, weights)
 }
 
-/// The same for that tag and another one, which the second text is.
+/// Does the call with this name on the tag and the one that the second text is.
 fn with_other(alloc: Global, name: &str, tag: &Tag, texts: &[Vec<u8>]) -> Reply {
     let other: Tag = read(alloc, at(texts, 1))?;
     let reply = of_both(alloc, name, tag, &other, at(texts, 2));
@@ -57,7 +59,7 @@ fn with_other(alloc: Global, name: &str, tag: &Tag, texts: &[Vec<u8>]) -> Reply 
     reply
 }
 
-/// The last text is a number of nodes, which is 1,000,000 at most.
+/// Does the call with this name on two tags. `most` is a number of nodes, at most 1,000,000.
 fn of_both(alloc: Global, name: &str, tag: &Tag, other: &Tag, most: &[u8]) -> Reply {
     match name {
         "Tag::same" => answer(alloc, tag.same(other)),
@@ -75,7 +77,7 @@ fn of_both(alloc: Global, name: &str, tag: &Tag, other: &Tag, most: &[u8]) -> Re
     }
 }
 
-/// The places of the members of a set for the intersection with another tag.
+/// The places of the members of `set` that may have a request in common with `tag`.
 fn places(alloc: Global, set: &Tag, tag: &Tag) -> Reply {
     let index = Index::of(alloc, set)?;
     let places = index.places(alloc, tag);
@@ -83,13 +85,14 @@ fn places(alloc: Global, set: &Tag, tag: &Tag) -> Reply {
     answer(alloc, places)
 }
 
-/// Numbers below 256, as octets, in order.
+/// Merges two increasing lists of numbers below 256, each given as octets.
 fn merge(alloc: Global, some: &[u8], others: &[u8]) -> Reply {
     let some = numbers(alloc, some)?;
     let others = numbers(alloc, others)?;
     answer(alloc, merged(alloc, &some, &others))
 }
 
+/// The octets as numbers.
 fn numbers(alloc: Global, octets: &[u8]) -> Result<Vec<usize>, AllocError> {
     let mut numbers = Vec::new(alloc);
     for octet in octets {

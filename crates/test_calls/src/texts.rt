@@ -24,51 +24,57 @@ pub fn behind(texts: &[Vec<u8>], place: usize) -> &[Vec<u8>] {
     }
 }
 
-/// The word that a text is, and no word where it is none.
+/// The text as a word. An empty word if it is not UTF-8.
 pub fn word_of(text: &[u8]) -> &str {
     str::from_utf8(text).unwrap_or("")
 }
 
-/// A number in decimal digits, and the greatest one for any other text.
+/// The number that the text has in decimal digits, or the greatest one for any other text.
 pub fn number(text: &[u8]) -> usize {
     word_of(text).parse().unwrap_or(usize::MAX)
 }
 
-/// A value that a node is read as.
+/// A type whose values can be read from a node.
 pub trait OfNode<'a>: Sized {
+    /// Reads a value from its node. Err is its fault.
     fn of_node(alloc: Global, node: &Node<'_, 'a>) -> Result<Self, Failure>;
 }
 
-/// The value that a text is.
+/// Reads the value of a text, which must be in canonical form.
 pub fn read<'a, T: OfNode<'a> + Drop>(alloc: Global, text: &'a [u8]) -> Result<T, Failure> {
     let document = Doc::open(alloc, text)?;
     T::of_node(alloc, &document.top())
 }
 
+/// A tag.
 impl<'a> OfNode<'a> for Tag {
     fn of_node(alloc: Global, node: &Node<'_, 'a>) -> Result<Tag, Failure> {
         Tag::of(alloc, node).map_err(Failure::Tag)
     }
 }
 
+/// A request.
 impl<'a> OfNode<'a> for Ground {
     fn of_node(alloc: Global, node: &Node<'_, 'a>) -> Result<Ground, Failure> {
         Ground::of(alloc, node).map_err(Failure::Tag)
     }
 }
 
+/// A date.
 impl<'a> OfNode<'a> for Date {
     fn of_node(_: Global, node: &Node<'_, 'a>) -> Result<Date, Failure> {
         date_of(node).map_err(Failure::Kind)
     }
 }
 
+/// A key.
 impl<'a> OfNode<'a> for Key<'a> {
     fn of_node(_: Global, node: &Node<'_, 'a>) -> Result<Key<'a>, Failure> {
         key_of(node).map_err(Failure::Kind)
     }
 }
 
+/// An entry of an access list.
 impl<'a> OfNode<'a> for Entry<'a> {
     fn of_node(alloc: Global, node: &Node<'_, 'a>) -> Result<Entry<'a>, Failure> {
         entry_of(alloc, node).map_err(Failure::Kind)
@@ -82,6 +88,7 @@ impl<'a> OfNode<'a> for Vec<Entry<'a>> {
     }
 }
 
+/// Reads each text as a key.
 pub fn keys<'a>(alloc: Global, texts: &'a [Vec<u8>]) -> Result<Vec<Key<'a>>, Failure> {
     let mut keys = Vec::new(alloc);
     for text in texts {

@@ -10,7 +10,7 @@ use spki_reduce::{Five, Four, Issuer, Step, Work, fold_chain, fold_owned};
 use spki_tag::Ground;
 use std::alloc::Global;
 
-/// The answer of the call with this name, of this module or of those behind it. None if there is no such call.
+/// Does the call with this name, of this module or of one to which it passes the name on. Returns its answer. None if there is no such call.
 pub(crate) fn call(alloc: Global, name: &str, texts: &[Vec<u8>]) -> Option<Reply> {
     match name {
         "Five::write" | "Five::missing_grant" => {
@@ -26,6 +26,7 @@ pub(crate) fn call(alloc: Global, name: &str, texts: &[Vec<u8>]) -> Option<Reply
     }
 }
 
+/// The issuer that a text is: a key, or the owner of the access list if the text is empty.
 fn issuer<'a>(alloc: Global, text: &'a [u8]) -> Result<Issuer<'a>, Failure> {
     if text.is_empty() {
         return Ok(Issuer::Own);
@@ -33,7 +34,7 @@ fn issuer<'a>(alloc: Global, text: &'a [u8]) -> Result<Issuer<'a>, Failure> {
     Ok(Issuer::Key(read(alloc, text)?))
 }
 
-/// The authorization of the first three texts.
+/// The authorization that the first three texts are.
 fn five<'a>(alloc: Global, texts: &'a [Vec<u8>]) -> Result<Five<'a>, Failure> {
     let issuer = issuer(alloc, at(texts, 0))?;
     let entry: Entry = read(alloc, at(texts, 2))?;
@@ -46,7 +47,7 @@ fn five<'a>(alloc: Global, texts: &'a [Vec<u8>]) -> Result<Five<'a>, Failure> {
     })
 }
 
-/// The definition of the first three texts.
+/// The name's definition that the first three texts are.
 fn four<'a>(alloc: Global, texts: &'a [Vec<u8>]) -> Result<Four<'a>, Failure> {
     let key = read(alloc, at(texts, 0))?;
     let entry: Entry = read(alloc, at(texts, 2))?;
@@ -60,6 +61,7 @@ fn four<'a>(alloc: Global, texts: &'a [Vec<u8>]) -> Result<Four<'a>, Failure> {
     Ok(four)
 }
 
+/// The tuple that three texts are: an authorization if it defines no name.
 fn step<'a>(alloc: Global, texts: &'a [Vec<u8>]) -> Result<Step<'a>, Failure> {
     if at(texts, 1).is_empty() {
         five(alloc, texts).map(Step::Auth)
@@ -68,7 +70,7 @@ fn step<'a>(alloc: Global, texts: &'a [Vec<u8>]) -> Result<Step<'a>, Failure> {
     }
 }
 
-/// The steps of the texts.
+/// The tuples of the texts, three texts for each.
 fn steps<'a>(alloc: Global, texts: &'a [Vec<u8>]) -> Result<Vec<Step<'a>>, Failure> {
     let mut steps = Vec::new(alloc);
     for tuple in texts.chunks(3) {
@@ -77,7 +79,7 @@ fn steps<'a>(alloc: Global, texts: &'a [Vec<u8>]) -> Result<Vec<Step<'a>>, Failu
     Ok(steps)
 }
 
-/// An authorization in canonical form; the join of a first one with it; or what it lacks to grant a key a request at a moment.
+/// `Five::write` answers the authorization, `Five::then` the join of the first tuple of the texts with it, and `Five::missing_grant` what it lacks.
 impl Called for Five<'_> {
     fn call(&self, alloc: Global, name: &str, texts: &[Vec<u8>]) -> Reply {
         match name {
@@ -88,6 +90,7 @@ impl Called for Five<'_> {
     }
 }
 
+/// What an authorization lacks to grant a key (the first text) a request (the second) at a moment (the third).
 fn missing(alloc: Global, five: &Five, texts: &[Vec<u8>]) -> Reply {
     let holder: Key = read(alloc, at(texts, 0))?;
     let request: Ground = read(alloc, at(texts, 1))?;
@@ -96,6 +99,7 @@ fn missing(alloc: Global, five: &Five, texts: &[Vec<u8>]) -> Reply {
     reply
 }
 
+/// As `missing`, for a key and a request that were read.
 fn missing_at(alloc: Global, five: &Five, holder: &Key, request: &Ground, moment: &[u8]) -> Reply {
     let moment: Date = read(alloc, moment)?;
     shown(
@@ -104,6 +108,7 @@ fn missing_at(alloc: Global, five: &Five, holder: &Key, request: &Ground, moment
     )
 }
 
+/// The join of the authorization of the texts with `next`.
 fn then(alloc: Global, texts: &[Vec<u8>], next: &Five) -> Reply {
     let first = five(alloc, texts)?;
     let joined = first.then(alloc, next, Policy::Open);
@@ -111,7 +116,7 @@ fn then(alloc: Global, texts: &[Vec<u8>], next: &Five) -> Reply {
     answer(alloc, joined)
 }
 
-/// The first tuple with the definition behind it.
+/// Each call joins the first tuple of the texts with this definition.
 impl Called for Four<'_> {
     fn call(&self, alloc: Global, name: &str, texts: &[Vec<u8>]) -> Reply {
         match name {
@@ -122,6 +127,7 @@ impl Called for Four<'_> {
     }
 }
 
+/// The join of the definition of the texts with this one.
 fn four_then(alloc: Global, texts: &[Vec<u8>], definition: &Four) -> Reply {
     let first = four(alloc, texts)?;
     let joined = first.then(alloc, definition, Policy::Open);
@@ -129,6 +135,7 @@ fn four_then(alloc: Global, texts: &[Vec<u8>], definition: &Four) -> Reply {
     answer(alloc, joined)
 }
 
+/// The authorization of the texts, resolved by a definition.
 fn resolve(alloc: Global, texts: &[Vec<u8>], definition: &Four) -> Reply {
     let first = five(alloc, texts)?;
     let joined = first.resolve(alloc, definition, Policy::Open);
@@ -136,12 +143,13 @@ fn resolve(alloc: Global, texts: &[Vec<u8>], definition: &Four) -> Reply {
     answer(alloc, joined)
 }
 
+/// As `resolve`, by the call that consumes the authorization.
 fn into_resolve(alloc: Global, texts: &[Vec<u8>], definition: &Four) -> Reply {
     let first = five(alloc, texts)?;
     answer(alloc, first.into_resolve(definition, Policy::Open))
 }
 
-/// The number that a text is, if it has octets.
+/// The number that a text is. None for an empty text.
 fn bound(text: &[u8]) -> Option<usize> {
     match text.len() {
         0 => None,
@@ -149,6 +157,7 @@ fn bound(text: &[u8]) -> Option<usize> {
     }
 }
 
+/// The fold of the authorization of the first three texts with the tuples after them.
 fn chain(alloc: Global, texts: &[Vec<u8>]) -> Reply {
     let steps = steps(alloc, behind(texts, 3))?;
     let first = five(alloc, texts)?;
@@ -157,7 +166,8 @@ fn chain(alloc: Global, texts: &[Vec<u8>]) -> Reply {
     answer(alloc, fold)
 }
 
-/// Before the tuples are the most nodes, 1,000,000 at most, and the bound on work, if there is one. The first authorization is consumed.
+/// As `chain`, by the call that consumes the authorization. Before the tuples are two texts: the most nodes, at most 1,000,000, and the bound on
+/// work, or an empty text for none.
 fn owned_chain(alloc: Global, texts: &[Vec<u8>]) -> Reply {
     let steps = steps(alloc, behind(texts, 5))?;
     let first = five(alloc, behind(texts, 2))?;

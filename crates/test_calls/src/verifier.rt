@@ -8,7 +8,7 @@ use spki_case::{AcceptedTable, Verifier};
 use spki_cert::Key;
 use std::alloc::{AllocError, Global};
 
-/// Accepts the signatures of a list, or all, or returns that memory ran out.
+/// Accepts the signatures of a list, or all signatures, or fails always, as if memory ran out.
 #[derive(Drop)]
 pub(crate) struct RowVerifier<'a> {
     listed: AcceptedTable<'a>,
@@ -38,6 +38,7 @@ impl Verifier for RowVerifier<'_> {
     ghost accepted = { λ verifier key message value.
         IsTrue verifier.all ⊎ verified_by verifier.listed key message value };
 
+    /// Whether the signature is listed, or all are accepted. Always Err for `broken`.
     fn accepts(
         &self,
         alloc: Global,

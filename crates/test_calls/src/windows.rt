@@ -7,7 +7,7 @@ use crate::tuples;
 use spki_cert::{Date, HashAlg, Key, Octets, Principal, Window};
 use std::alloc::Global;
 
-/// The answer of the call with this name, of this module or of those behind it. None if there is no such call.
+/// Does the call with this name, of this module or of one to which it passes the name on. Returns its answer. None if there is no such call.
 pub(crate) fn call(alloc: Global, name: &str, texts: &[Vec<u8>]) -> Option<Reply> {
     match name {
         "Window::holds" | "Window::meet" => Some(at_moment(alloc, name, texts)),
@@ -16,7 +16,7 @@ pub(crate) fn call(alloc: Global, name: &str, texts: &[Vec<u8>]) -> Option<Reply
     }
 }
 
-/// The limit with a text, and none without a text.
+/// The limit that a text is. None for an empty text.
 fn limit(alloc: Global, text: &[u8]) -> Result<Option<Date>, Failure> {
     if text.is_empty() {
         return Ok(None);
@@ -24,6 +24,7 @@ fn limit(alloc: Global, text: &[u8]) -> Result<Option<Date>, Failure> {
     Ok(Some(read(alloc, text)?))
 }
 
+/// The window between two limits, each of which may be an empty text for none.
 fn window(alloc: Global, from: &[u8], until: &[u8]) -> Result<Window, Failure> {
     Ok(Window {
         not_before: limit(alloc, from)?,
@@ -31,8 +32,8 @@ fn window(alloc: Global, from: &[u8], until: &[u8]) -> Result<Window, Failure> {
     })
 }
 
-/// Whether the moment that the third text is is within the window from the first text until the second; or within the intersection of
-/// the window until the first text and that from the second on.
+/// Whether the moment of the third text is within a window: for `Window::holds` the one from the first text until the second, otherwise the
+/// intersection of the one until the first text and the one from the second on. `no moment` if that intersection is None.
 fn at_moment(alloc: Global, name: &str, texts: &[Vec<u8>]) -> Reply {
     let (one, other) = (at(texts, 0), at(texts, 1));
     let moment: Date = read(alloc, at(texts, 2))?;
@@ -46,19 +47,19 @@ fn at_moment(alloc: Global, name: &str, texts: &[Vec<u8>]) -> Reply {
     }
 }
 
-/// The intersection of the window until a limit and of that from another on.
+/// The intersection of the window until one limit and the window from another on.
 fn meet(alloc: Global, until: &[u8], from: &[u8]) -> Result<Option<Window>, Failure> {
     let up_to = window(alloc, b"", until)?;
     Ok(up_to.meet(&window(alloc, from, b"")?))
 }
 
-/// A digest that two keys share. No real digest does this.
+/// A digest that two keys share in `is_owner`. No real digest does this.
 const SHARED: &[u8] = b"0123456789abcdef0123456789abcdef";
 
-/// The two keys.
+/// The two keys that share it.
 const OWNERS: [&[u8]; 2] = [b"(10:public-key(4:test1:a))", b"(10:public-key(4:test1:b))"];
 
-/// Whether a key has the principal's digest, if that is the shared one.
+/// Whether a principal names a key, in place of `Principal::names`: as if both keys of `OWNERS` had the digest `SHARED`, and no key another one.
 fn is_owner(principal: &Principal, key: &Key) -> bool {
     match principal {
         Principal::Key(own) => own.same(key),
@@ -68,7 +69,7 @@ fn is_owner(principal: &Principal, key: &Key) -> bool {
     }
 }
 
-/// The place of the first of these keys that has the shared digest.
+/// The place of the first key of the texts that has the shared digest, as the call with `is_owner` finds it.
 fn first_named(alloc: Global, texts: &[Vec<u8>]) -> Reply {
     let keys = keys(alloc, texts)?;
     let hash = Principal::Hash {

@@ -26,7 +26,7 @@ use test_calls::answers::{Reply, answer, octets, refused, shown, word};
 use test_calls::failure::Failure;
 use test_calls::texts::{at, behind, keys, number, read};
 
-/// The answer of the call with this name. None if there is no such call.
+/// Does the call with this name. Returns its answer. None if there is no such call.
 pub(crate) fn call(alloc: Global, name: &str, texts: &[Vec<u8>]) -> Option<Reply> {
     let (one, other) = (at(texts, 0), at(texts, 1));
     match name {
@@ -43,6 +43,7 @@ pub(crate) fn call(alloc: Global, name: &str, texts: &[Vec<u8>]) -> Option<Reply
     }
 }
 
+/// The first member of the list that a text is, or `none`.
 fn member(alloc: Global, text: &[u8]) -> Reply {
     match first_member(alloc, text)? {
         Some(member) => octets(alloc, member),
@@ -50,7 +51,7 @@ fn member(alloc: Global, text: &[u8]) -> Reply {
     }
 }
 
-/// A text that a reader passes on, of so many octets at most.
+/// The whole text that a reader gives, of at most `most` octets.
 fn whole(alloc: Global, text: &[u8], most: usize) -> Reply {
     let mut client = Metered::new(text);
     match text_from(alloc, &mut client, most) {
@@ -60,7 +61,7 @@ fn whole(alloc: Global, text: &[u8], most: usize) -> Reply {
     }
 }
 
-/// A tag, narrowed by a given one.
+/// The tag of a text, intersected with the tag of another text.
 fn narrow(alloc: Global, text: &[u8], given: &[u8]) -> Reply {
     let own: Tag = read(alloc, text)?;
     let reply = narrow_by(alloc, &own, given);
@@ -68,11 +69,13 @@ fn narrow(alloc: Global, text: &[u8], given: &[u8]) -> Reply {
     reply
 }
 
+/// The intersection of a tag with the one that a text is.
 fn narrow_by(alloc: Global, own: &Tag, given: &[u8]) -> Reply {
     let document = Doc::open(alloc, given)?;
     of_narrowed(alloc, narrowed(alloc, own, &document.top()))
 }
 
+/// What `narrowed` returned, as an answer. Err if memory ran out.
 fn of_narrowed(alloc: Global, tag: Result<Tag, NarrowFault>) -> Reply {
     match tag {
         Ok(tag) => answer(alloc, tag),
@@ -82,14 +85,14 @@ fn of_narrowed(alloc: Global, tag: Result<Tag, NarrowFault>) -> Reply {
     }
 }
 
-/// Whether a text is the key with this digest.
+/// Whether a text is the key whose SHA-256 digest is `pin`.
 fn pinned(alloc: Global, text: &[u8], pin: &[u8]) -> Reply {
     let document = Doc::open(alloc, text)?;
     let found = pinned_key(&document, pin)?;
     answer(alloc, found.is_some())
 }
 
-/// Whether an entry grants a key a request at a moment, which are three texts.
+/// Whether an entry grants a key a request at a moment. The entry is `text`, and the other three are `texts`, in this order.
 fn granted(alloc: Global, text: &[u8], texts: &[Vec<u8>]) -> Reply {
     let first = of_list(read(alloc, text)?);
     let reply = asks(alloc, &first, texts);
@@ -110,6 +113,7 @@ fn of_list<'a>(entry: Entry<'a>) -> Five<'a>
     }
 }
 
+/// Whether an authorization grants a key a request at a moment, which are three texts, in this order.
 fn asks(alloc: Global, first: &Five, texts: &[Vec<u8>]) -> Reply
     requires { issuer_of first.now.issuer ≡ own }
 {
@@ -124,8 +128,8 @@ fn asks(alloc: Global, first: &Five, texts: &[Vec<u8>]) -> Reply
     answer(alloc, granted)
 }
 
-/// The decision of a case of five parts: its list, its sequence, its key, its request and its moment. Behind them are the accepted list
-/// and the revoked keys.
+/// The decision of a case of five texts: its access list, its sequence, its key, its request and its moment. After them are the accepted list and the
+/// revoked keys.
 fn decide(alloc: Global, texts: &[Vec<u8>]) -> Reply {
     let case = made(alloc, texts)?;
     let reply = with_revoked(alloc, &case, at(texts, 5), behind(texts, 6));
@@ -133,11 +137,13 @@ fn decide(alloc: Global, texts: &[Vec<u8>]) -> Reply {
     reply
 }
 
+/// The case of these five texts.
 fn made<'a>(alloc: Global, texts: &'a [Vec<u8>]) -> Result<Case<'a>, Failure> {
     let document = Doc::open(alloc, at(texts, 1))?;
     of_parts(alloc, &document.top(), texts)
 }
 
+/// The case of these five texts, with `shown` as its sequence.
 fn of_parts<'a>(
     alloc: Global,
     shown: &Node<'_, 'a>,
@@ -148,6 +154,7 @@ fn of_parts<'a>(
     Ok(case_of(alloc, entries, shown, question)?)
 }
 
+/// The question of three texts: a key, a request and a moment.
 fn question<'a>(alloc: Global, texts: &'a [Vec<u8>]) -> Result<Question<'a>, Failure> {
     let (key, moment) = (read(alloc, at(texts, 0))?, read(alloc, at(texts, 2))?);
     let request = read(alloc, at(texts, 1))?;
@@ -158,13 +165,14 @@ fn question<'a>(alloc: Global, texts: &'a [Vec<u8>]) -> Result<Question<'a>, Fai
     })
 }
 
+/// The decision of a case by the accepted list `rows`, and with the keys of `texts` revoked.
 fn with_revoked(alloc: Global, case: &Case, rows: &[u8], texts: &[Vec<u8>]) -> Reply {
     let revoked = keys(alloc, texts)?;
     let table = AcceptedTable::read(alloc, rows)?;
     answer(alloc, decide_unrevoked(alloc, case, &table, &revoked))
 }
 
-/// The question whether a key may do `(ftp host)` with a sequence.
+/// The question whether a key may do `(ftp host)` with a sequence, at 2026-11-23 10:00:00 UTC.
 fn posed<'a>(sequence: &'a [u8], key: &'a [u8]) -> Posed<'a> {
     Posed {
         sequence,
@@ -174,7 +182,7 @@ fn posed<'a>(sequence: &'a [u8], key: &'a [u8]) -> Posed<'a> {
     }
 }
 
-/// The decisions on two keys. The texts are the list, the sequence, the keys, the accepted list, and the revoked keys.
+/// The decisions for two keys. The texts are the access list, the sequence, the two keys, the accepted list, and the revoked keys.
 fn both(alloc: Global, texts: &[Vec<u8>]) -> Reply {
     let revoked = keys(alloc, behind(texts, 5))?;
     let table = AcceptedTable::read(alloc, at(texts, 4))?;
@@ -184,6 +192,7 @@ fn both(alloc: Global, texts: &[Vec<u8>]) -> Reply {
     of_answered(alloc, decisions)
 }
 
+/// What `answer_both` returned, as an answer. Err if memory ran out.
 fn of_answered(alloc: Global, decisions: Result<(Decision, Decision), ServiceFault>) -> Reply {
     match decisions {
         Ok(decisions) => answer(alloc, decisions),

@@ -12,7 +12,7 @@ use test_calls::guards::{guard, question};
 use test_calls::owned_questions::{mark_all, shared};
 use test_calls::texts::{at, behind, word_of};
 
-/// The answer of the call with this name, of this module or of those behind it. None if there is no such call.
+/// Does the call with this name, of this module or of one to which it passes the name on. Returns its answer. None if there is no such call.
 pub(crate) fn call(alloc: Global, name: &str, texts: &[Vec<u8>]) -> Option<Reply> {
     let (one, other) = (at(texts, 0), at(texts, 1));
     match name {
@@ -24,6 +24,7 @@ pub(crate) fn call(alloc: Global, name: &str, texts: &[Vec<u8>]) -> Option<Reply
     }
 }
 
+/// The intersection in a text, or why there is none.
 fn intersection(alloc: Global, text: &[u8]) -> Reply {
     match intersect(alloc, text) {
         Ok(tag) => answer(alloc, tag),
@@ -32,13 +33,14 @@ fn intersection(alloc: Global, text: &[u8]) -> Reply {
     }
 }
 
-/// The verdict of an answer and its line.
+/// The verdict of an answer, a space and its line. The answer is freed.
 fn line(alloc: Global, answer: Printed) -> Reply {
     let reply = verdict_and_line(alloc, &answer);
     drop(answer);
     reply
 }
 
+/// The verdict of an answer, a space and its line. Err if the line is `refused Memory`.
 fn verdict_and_line(alloc: Global, answer: &Printed) -> Reply {
     if answer.verdict == Verdict::Refused && answer.octets() == b"refused Memory\n".as_slice() {
         return Err(Failure::Memory);
@@ -47,7 +49,7 @@ fn verdict_and_line(alloc: Global, answer: &Printed) -> Reply {
     joined(alloc, &[&verdict, b" ", answer.octets()])
 }
 
-/// The line of a refused list.
+/// The line that refuses an access list, or `read` if the list is not refused.
 fn refused_list(alloc: Global, texts: &[Vec<u8>]) -> Reply {
     match guard(alloc, texts) {
         Ok(guard) => {
@@ -59,7 +61,7 @@ fn refused_list(alloc: Global, texts: &[Vec<u8>]) -> Reply {
     }
 }
 
-/// What is asked for.
+/// The query that a word names: `explain`, `reduce`, or any other for a decision.
 fn query_of(text: &[u8]) -> Query {
     match word_of(text) {
         "explain" => Query::Explain,
@@ -68,8 +70,8 @@ fn query_of(text: &[u8]) -> Query {
     }
 }
 
-/// What the guard of the first four texts answers to several questions, each of which is opened and marked. The fifth text says what is asked
-/// for. Each question has four texts and its marks.
+/// What the guard of the first four texts answers to several questions, each of which is opened and marked. The fifth text is the query, as for
+/// `query_of`. After it each question has five texts, the last of which is its marks.
 fn answer_all(alloc: Global, texts: &[Vec<u8>]) -> Reply {
     let shared = shared(alloc, texts)?;
     let reply = answers_to(alloc, &shared, query_of(at(texts, 4)), behind(texts, 5));
@@ -77,6 +79,7 @@ fn answer_all(alloc: Global, texts: &[Vec<u8>]) -> Reply {
     reply
 }
 
+/// The answers to the questions, one after another. Each has five texts.
 fn answers_to(alloc: Global, guard: &SharedGuard, query: Query, texts: &[Vec<u8>]) -> Reply {
     let mut out = Vec::new(alloc);
     for asked in texts.chunks(5) {
@@ -85,6 +88,7 @@ fn answers_to(alloc: Global, guard: &SharedGuard, query: Query, texts: &[Vec<u8>
     Ok(out)
 }
 
+/// The answer to one question of five texts, or the line that refuses it.
 fn answer_to(alloc: Global, guard: &SharedGuard, query: Query, texts: &[Vec<u8>]) -> Reply {
     match open_question(alloc, guard, &question(texts)) {
         Err(refusal) => line(alloc, refusal),
@@ -92,7 +96,8 @@ fn answer_to(alloc: Global, guard: &SharedGuard, query: Query, texts: &[Vec<u8>]
     }
 }
 
-/// The line by marks. `other marks` if the question does not have a place that is marked, `other answers` if a call says another decision.
+/// Marks a question, and returns the line that answers it. `other marks` if it has no place that is to be marked, `other answers` if `is_granted`,
+/// `is_possible` or the grant does not fit the decision.
 fn answer_of(alloc: Global, query: Query, mut opened: OwnedQuestion, marks: &[u8]) -> Reply {
     if !mark_all(&mut opened, marks) {
         drop(opened);

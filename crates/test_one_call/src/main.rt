@@ -3,10 +3,10 @@
 //! which texts a call takes.
 //!
 //! The crate `test_calls` contains the calls of the libraries up to `spki_service`, and this crate the others. This crate is proved last,
-//! when nothing else is left to prove.
+//! when nothing else is left to prove. The head of `test_calls` says why values are moved to `answer` or dropped by a call.
 //!
-//! If memory runs out for a row, its line is `refused Memory`, and the program ends with status 2. `tests/suite/test_hostile.py` refuses each
-//! allocation of a call in turn.
+//! If memory runs out for a row, its line is `refused Memory`. If its call is unknown or its digits are malformed, it is `refused Unknown`. Then the
+//! program ends with status 2. `tests/suite/test_hostile.py` refuses each allocation of a call in turn.
 #![tactic(auto)]
 
 mod callers;
@@ -20,7 +20,7 @@ use std::process::ExitCode;
 use test_calls::answers::Reply;
 use test_calls::failure::Failure;
 
-/// The answer of the call with this name, of `test_calls` or of this crate. None if there is no such call.
+/// Does the call with this name, of `test_calls` or of this crate. Returns its answer. None if there is no such call.
 fn call(alloc: Global, name: &str, texts: &[Vec<u8>]) -> Option<Reply> {
     match test_calls::call(alloc, name, texts) {
         None => lines::call(alloc, name, texts),
@@ -28,7 +28,7 @@ fn call(alloc: Global, name: &str, texts: &[Vec<u8>]) -> Option<Reply> {
     }
 }
 
-/// What is answered to a call: its answer, or why there is none.
+/// The answer to a call: what it returns, or why it has no result. Err if memory ran out, or there is no such call.
 fn said(alloc: Global, name: &str, texts: &[Vec<u8>]) -> Reply {
     match call(alloc, name, texts) {
         Some(Err(failure)) => failure.said(alloc),
@@ -37,7 +37,7 @@ fn said(alloc: Global, name: &str, texts: &[Vec<u8>]) -> Reply {
     }
 }
 
-/// The texts that these digits are, with a space between each two.
+/// The texts of hexadecimal digits, with a space between each two texts.
 fn texts_of(alloc: Global, digits: &str) -> Result<Vec<Vec<u8>>, Failure> {
     let mut texts = Vec::new(alloc);
     for word in digits.split(' ') {
@@ -60,7 +60,7 @@ fn line_for(alloc: Global, line: &str) -> Result<String, Failure> {
     Ok(hex::encode(alloc, answer.as_slice())?)
 }
 
-/// Answers all rows. Whether memory was enough for each.
+/// Answers all rows of standard input. Returns whether each has an answer: memory was enough, and its call is known.
 fn answer_rows(rt: &HostRuntime) -> Result<bool, Failure> {
     let alloc = rt.alloc();
     let mut is_enough = true;
@@ -70,7 +70,7 @@ fn answer_rows(rt: &HostRuntime) -> Result<bool, Failure> {
     Ok(is_enough)
 }
 
-/// Answers a row. Whether memory was enough.
+/// Answers a row on standard output. Returns whether it has an answer: memory was enough, and its call is known.
 fn answer_row(rt: &HostRuntime, line: &str) -> Result<bool, Failure> {
     let answer = line_for(rt.alloc(), line);
     match &answer {
@@ -80,6 +80,7 @@ fn answer_row(rt: &HostRuntime, line: &str) -> Result<bool, Failure> {
     Ok(answer.is_ok())
 }
 
+/// Answers all rows. The status is 2 if a row has no answer, or standard input or output failed.
 fn main(rt: HostRuntime) -> io::Result<ExitCode> {
     match answer_rows(&rt) {
         Ok(true) => Ok(ExitCode::SUCCESS),

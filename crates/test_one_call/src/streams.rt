@@ -16,7 +16,7 @@ use test_calls::answers::{Reply, joined};
 use test_calls::failure::Failure;
 use test_calls::texts::{at, behind, number, word_of};
 
-/// The answer of the call with this name, of this module or of those behind it. None if there is no such call.
+/// Does the call with this name, of this module or of one to which it passes the name on. Returns its answer. None if there is no such call.
 pub(crate) fn call(alloc: Global, name: &str, texts: &[Vec<u8>]) -> Option<Reply> {
     match name {
         "run" => Some(run(alloc, texts)),
@@ -27,7 +27,7 @@ pub(crate) fn call(alloc: Global, name: &str, texts: &[Vec<u8>]) -> Option<Reply
     }
 }
 
-/// What an end answers when it has no room left.
+/// What an `End` returns when it has no room left.
 #[derive(Clone, Copy)]
 enum Past {
     /// An error.
@@ -39,6 +39,7 @@ enum Past {
 }
 
 impl Past {
+    /// What a word names. Any other word means `Stops`.
     fn of(word: &[u8]) -> Past {
         match word_of(word) {
             "fails" => Past::Fails,
@@ -47,6 +48,7 @@ impl Past {
         }
     }
 
+    /// What a call without room returns.
     fn answer(self) -> io::Result<usize>
         ensures { IfOk result (λ count. count ≡ 0) }
     {
@@ -58,19 +60,19 @@ impl Past {
     }
 }
 
-/// A reader of a text, or a writer, that passes on some octets in each call, and counts its calls.
+/// A reader of a text, or a writer, for tests. It passes on a few octets in each call, counts its calls, and may fail.
 #[derive(Drop)]
 struct End<'a> {
     /// The rest of the text.
     text: &'a [u8],
     /// What was written.
     taken: Vec<u8>,
-    /// The most octets of a call, and of all further calls.
+    /// The most octets of a call, `step`, and of all calls that follow, `room`.
     step: usize,
     room: usize,
     /// What it answers without room.
     past: Past,
-    /// The number of calls, and the length of the last one's buffer.
+    /// The number of reads and writes, and the length of the last one's buffer, `last`.
     calls: usize,
     last: usize,
     flushes: usize,
@@ -78,7 +80,8 @@ struct End<'a> {
 }
 
 impl<'a> End<'a> {
-    /// An end of three texts: the octets of each call, the room, and what it answers then. A fourth may say that a flush fails.
+    /// Makes an end from three texts: the most octets of a call, the room, and what a call without room returns. A fourth, `fails`, means that a
+    /// flush fails.
     fn new(alloc: Global, text: &'a [u8], texts: &[Vec<u8>]) -> End<'a> {
         End {
             text,
@@ -93,7 +96,7 @@ impl<'a> End<'a> {
         }
     }
 
-    /// How many octets a call passes on.
+    /// How many octets a call passes on, if its buffer and the text allow at most `most`.
     fn count(&self, most: usize) -> usize
         ensures { result ≤ most }
     {
@@ -102,6 +105,7 @@ impl<'a> End<'a> {
 }
 
 impl Read for End<'_> {
+    /// Reads some octets of the text, within the step, the room and the buffer.
     fn read(&mut self, buf: &mut [u8]) -> io::Result<usize> {
         self.calls = self.calls.saturating_add(1);
         self.last = buf.len();
@@ -118,6 +122,7 @@ impl Read for End<'_> {
 }
 
 impl Write for End<'_> {
+    /// Takes some of the octets, within the step and the room.
     fn write(&mut self, buf: &[u8]) -> io::Result<usize> {
         self.calls = self.calls.saturating_add(1);
         self.last = buf.len();
@@ -130,6 +135,7 @@ impl Write for End<'_> {
         Ok(count)
     }
 
+    /// Counts the flush, and fails if `flush_fails` is true.
     fn flush(&mut self) -> io::Result<()> {
         self.flushes = self.flushes.saturating_add(1);
         if self.flush_fails {
@@ -140,6 +146,7 @@ impl Write for End<'_> {
     }
 }
 
+/// The command with this word. `Check` for any other word.
 fn command(word: &[u8]) -> Command {
     match word_of(word) {
         "canonical" => Command::Canonical,
@@ -152,8 +159,9 @@ fn command(word: &[u8]) -> Command {
     }
 }
 
-/// The exit status; the reader's calls, its faults, whether it ended, how many octets it has left; the writer's calls, its
-/// faults, whether it was flushed; and what was written.
+/// Runs a command. The first text is its word, the second what the reader gives, and then there are three texts for the reader and three or four for
+/// the writer, as for `End::new`. The answer is the exit status; the reader's calls, its faults, whether it ended, how many octets it has left; the
+/// writer's calls, its faults, whether it was flushed; and what was written.
 fn run(alloc: Global, texts: &[Vec<u8>]) -> Reply {
     let mut reader = Metered::new(End::new(alloc, at(texts, 1), behind(texts, 2)));
     let mut writer = Metered::new(End::new(alloc, b"", behind(texts, 5)));
@@ -167,7 +175,7 @@ fn run(alloc: Global, texts: &[Vec<u8>]) -> Reply {
     written(alloc, counts.as_bytes(), &writer.into_inner().taken)
 }
 
-/// The counts of a run and what was written.
+/// The counts of a run and what was written. Err if that is `refused Memory`.
 fn written(alloc: Global, counts: &[u8], taken: &[u8]) -> Reply {
     if taken == b"refused Memory\n".as_slice() {
         return Err(Failure::Memory);
@@ -175,8 +183,7 @@ fn written(alloc: Global, counts: &[u8], taken: &[u8]) -> Reply {
     joined(alloc, &[counts, taken])
 }
 
-/// What a meter passes on to a reader of a text: how many octets were read into a buffer of three, the buffer, the meter's count
-/// of calls and faults; and the reader's count, its buffer's length, and its flushes.
+/// Reads once through a meter, into a buffer of three octets. The answer is as for `passed_on`.
 fn read_once(alloc: Global, text: &[u8]) -> Reply {
     let mut meter = Metered::new(End::new(alloc, text, &[]));
     let mut buffer = [0; 3];
@@ -185,7 +192,7 @@ fn read_once(alloc: Global, text: &[u8]) -> Reply {
     passed_on(alloc, count, &buffer, asks, faults, &meter.into_inner())
 }
 
-/// The same for a writer, which is flushed.
+/// Writes once through a meter, and flushes. The answer is as for `passed_on`, with what was written as the octets.
 fn write_once(alloc: Global, octets: &[u8]) -> Reply {
     let mut meter = Metered::new(End::new(alloc, b"", &[]));
     let count = meter.write(octets)?;
@@ -195,6 +202,8 @@ fn write_once(alloc: Global, octets: &[u8]) -> Reply {
     passed_on(alloc, count, &end.taken, asks, faults, &end)
 }
 
+/// How many octets were passed on, and which; the meter's counts of calls and faults; and the calls, the last buffer's length and the flushes of
+/// `end`.
 fn passed_on(
     alloc: Global,
     count: usize,
