@@ -41,8 +41,8 @@ type chainKeeper interface {
 	of(key string, now time.Time) ([]keptChain, error)
 	// whyNotAdded returns the answer to a sequence that add would not keep, or an empty one if it would.
 	whyNotAdded(key string, chain keptChain, now time.Time) (answer, error)
-	// add keeps a sequence for a key, if it can, and returns the answer to that. None is replaced.
-	add(key string, chain keptChain, now time.Time) answer
+	// add keeps a sequence for a key, if it can, and returns the answer to that: `failed` with an error. None is replaced.
+	add(key string, chain keptChain, now time.Time) (answer, error)
 }
 
 // A kept has sequences in a folder, and all of them in memory.
@@ -55,6 +55,11 @@ type kept struct {
 
 // The most octets of all sequences in a folder.
 const mostLeft = 32 << 20
+
+// What the name of a sequence's file ends with until it is whole, and such a name.
+const ofBegun = ".new"
+
+var begunName = regexp.MustCompile(`^[0-9a-f]{64}\.new$`)
 
 // A keptChain is a sequence in transport form, its file and when it is forgotten.
 type keptChain struct {
@@ -88,13 +93,14 @@ func (c *chains) check(isSigned bool) error {
 	return nil
 }
 
-// openChains opens the folder or the store of the sequences that clients have left, or returns nil if they can leave none.
-func openChains(c *config, now time.Time) (chainKeeper, error) {
+// openChains opens the folder or the store of the sequences that clients have left, or returns nil if they can leave none. `mayRemove` is false for
+// -test, which changes no file.
+func openChains(c *config, now time.Time, mayRemove bool) (chainKeeper, error) {
 	switch {
 	case c.Chains == nil:
 		return nil, nil
 	case c.Chains.Postgres == nil:
-		return openKept(c.Chains, now)
+		return openKept(c.Chains, now, mayRemove)
 	}
 	reader, err := openReader(c.Chains.Postgres, c.Limits.time()/partOfGrant)
 	if err != nil {
@@ -103,8 +109,9 @@ func openChains(c *config, now time.Time) (chainKeeper, error) {
 	return newStoredChains(c.Chains, reader), nil
 }
 
-// openKept reads the sequences of a folder, and removes those that have ended. What the daemon has not written is left out.
-func openKept(c *chains, now time.Time) (*kept, error) {
+// openKept reads the sequences of a folder. If it may, it removes those that have ended, and what was begun and not written whole. What the daemon
+// has not written is left out.
+func openKept(c *chains, now time.Time, mayRemove bool) (*kept, error) {
 	made := &kept{chains: *c, byKey: map[string][]keptChain{}}
 	about, err := os.Stat(c.Folder)
 	if err != nil {
@@ -115,29 +122,36 @@ func openKept(c *chains, now time.Time) (*kept, error) {
 	}
 	paths, err := filepath.Glob(filepath.Join(c.Folder, "*", "*"))
 	for _, path := range paths {
-		made.read(path, now)
+		if isOver := made.read(path, now); isOver && mayRemove {
+			made.remove(filepath.Base(filepath.Dir(path)), filepath.Base(path))
+		}
 	}
 	return made, err
 }
 
-// read reads the file of a sequence, and removes it if the sequence has ended. Without room for it, or if the daemon has not written it, it is left
-// out.
-func (k *kept) read(path string, now time.Time) {
+// read reads the file of a sequence, and says whether it can be removed: the sequence has ended, or was not written whole. Without room for it, or if
+// the daemon has not written it, it is left out.
+func (k *kept) read(path string, now time.Time) (isOver bool) {
 	key, name := filepath.Base(filepath.Dir(path)), filepath.Base(path)
+	if begunName.MatchString(name) {
+		return true
+	}
 	octets, err := readFile(path, mostShownOctets)
 	if err != nil || name != hexDigest(octets) {
-		return
+		return false
 	}
 	about, err := os.Stat(path)
-	if err != nil || !k.hasRoom(key, len(octets)) {
-		return
+	if err != nil {
+		return false
 	}
 	made := k.chainOf(string(octets), about.ModTime())
-	if now.Before(made.until) {
-		k.put(key, made)
-	} else {
-		k.remove(key, made)
+	if !now.Before(made.until) {
+		return true
 	}
+	if k.hasRoom(key, len(octets)) {
+		k.put(key, made)
+	}
+	return false
 }
 
 // put keeps a sequence in memory, behind those of the key that end before it. The mutex is held, or nobody else knows the store.
@@ -150,8 +164,8 @@ func (k *kept) put(key string, chain keptChain) {
 }
 
 // remove removes the file of a sequence, and the folder of its key if that is empty then. A file that stays is found too old at the next start.
-func (k *kept) remove(key string, chain keptChain) {
-	os.Remove(filepath.Join(k.Folder, key, chain.name))
+func (k *kept) remove(key, name string) {
+	os.Remove(filepath.Join(k.Folder, key, name))
 	os.Remove(filepath.Join(k.Folder, key))
 }
 
@@ -212,7 +226,7 @@ func (k *kept) current(key string, now time.Time) []keptChain {
 		if now.Before(each.until) {
 			left = append(left, each)
 		} else {
-			k.remove(key, each)
+			k.remove(key, each.name)
 			k.octets -= len(each.text)
 		}
 	}
@@ -239,31 +253,32 @@ func (k *kept) whyNotAddedLocked(key string, chain keptChain, now time.Time) ans
 	return became
 }
 
-// add keeps a sequence for a key, if it can, and returns the answer to that. None is replaced.
-func (k *kept) add(key string, chain keptChain, now time.Time) answer {
+// add keeps a sequence for a key, if it can, and returns the answer to that: `failed` with an error. None is replaced.
+func (k *kept) add(key string, chain keptChain, now time.Time) (answer, error) {
 	k.mutex.Lock()
 	defer k.mutex.Unlock()
 	if became := k.whyNotAddedLocked(key, chain, now); became != "" {
-		return became
+		return became, nil
 	}
-	if k.write(key, chain) != nil {
-		return answerFailed
+	if err := k.write(key, chain); err != nil {
+		k.remove(key, chain.name+ofBegun)
+		return answerFailed, err
 	}
 	k.put(key, chain)
-	return answerKept
+	return answerKept, nil
 }
 
-// write writes the file of a sequence, whole or not at all.
+// write writes the file of a sequence, whole or not at all. After an error a file with the end ofBegun may be left.
 func (k *kept) write(key string, chain keptChain) error {
 	folder := filepath.Join(k.Folder, key)
 	if err := os.MkdirAll(folder, 0o700); err != nil {
 		return err
 	}
 	path := filepath.Join(folder, chain.name)
-	if err := os.WriteFile(path+".new", []byte(chain.text), 0o600); err != nil {
+	if err := os.WriteFile(path+ofBegun, []byte(chain.text), 0o600); err != nil {
 		return err
 	}
-	return os.Rename(path+".new", path)
+	return os.Rename(path+ofBegun, path)
 }
 
 // judgeAll decides by the certificates that a request shows. Where it shows none and the list alone grants nothing, each sequence that is kept for

@@ -26,7 +26,7 @@ func newKeeping(t *testing.T) *site {
 // reopenChains reads the folder of kept certificates, as the daemon does at its start.
 func (s *site) reopenChains(t *testing.T) {
 	t.Helper()
-	made, err := openKept(s.config.Chains, s.now())
+	made, err := openKept(s.config.Chains, s.now(), true)
 	if err != nil {
 		t.Fatal(err)
 	}
@@ -238,7 +238,7 @@ func TestStrangersLeave(t *testing.T) {
 		t.Error("what a request brings itself does not count")
 	}
 	full := &kept{chains: *s.config.Chains, byKey: map[string][]keptChain{}, octets: mostLeft - 9}
-	if met := full.add("key", keptChain{text: "ten octets"}, s.now()); met != answerFull {
+	if met, _ := full.add("key", keptChain{text: "ten octets"}, s.now()); met != answerFull {
 		t.Error(met)
 	}
 }
@@ -346,7 +346,7 @@ func TestKeptChainsEnd(t *testing.T) {
 	}
 	for _, row := range [][2]int{{9, 2}, {11, 1}, {89, 1}, {91, 0}} {
 		now := begun.AddDate(0, 0, row[0])
-		made, err := openKept(s.config.Chains, now)
+		made, err := openKept(s.config.Chains, now, false)
 		if err != nil {
 			t.Fatal(err)
 		}
@@ -354,11 +354,42 @@ func TestKeptChainsEnd(t *testing.T) {
 			t.Error(row, left)
 		}
 	}
+	// (only the daemon removes a file: -test reads them alone)
+	if files := s.filesOfChains(); len(files) != 2 {
+		t.Error(files)
+	}
+	if _, err := openKept(s.config.Chains, begun.AddDate(0, 0, 11), true); err != nil || len(s.filesOfChains()) != 1 {
+		t.Error(err, s.filesOfChains())
+	}
 	if left, _ := s.chains.of(hexDigest([]byte(s.bob.key)), begun.AddDate(1, 0, 0)); left != nil {
 		t.Error(left)
 	}
 	if files, _ := filepath.Glob(filepath.Join(s.config.Chains.Folder, "*")); files != nil {
 		t.Error(files)
+	}
+}
+
+// filesOfChains returns the paths of all files in the folder of kept certificates.
+func (s *site) filesOfChains() []string {
+	paths, _ := filepath.Glob(filepath.Join(s.config.Chains.Folder, "*", "*"))
+	return paths
+}
+
+// TestKeptNowhere leaves certificates where the folder is gone: 503, and the log says why.
+func TestKeptNowhere(t *testing.T) {
+	s := newKeeping(t)
+	bobs, _ := s.sequencesShown()
+	if err := os.Remove(s.config.Chains.Folder); err != nil {
+		t.Fatal(err)
+	}
+	if err := os.WriteFile(s.config.Chains.Folder, nil, 0o600); err != nil {
+		t.Fatal(err)
+	}
+	if status, met := s.leaves(t, s.bob, bobs); status != 503 || met != answerFailed || !strings.Contains(s.lastLine(t).Reason, "not a directory") {
+		t.Error(status, met, s.lastLine(t))
+	}
+	if s.keeps(t, s.bob) {
+		t.Error("what has no file is kept")
 	}
 }
 
@@ -380,6 +411,10 @@ func TestKeptFiles(t *testing.T) {
 	if status := s.statusFor(s.bob, "/web/docs/b", ""); status != 401 {
 		t.Error(status)
 	}
+	// (a file that was begun is removed, and others stay)
+	if files := s.filesOfChains(); len(files) != 3 {
+		t.Error(files)
+	}
 	ofStore := &storeOf{Host: "/run", Database: "d", User: "u"}
 	for _, wrong := range []chains{{Folder: "x"}, {Folder: "/x", Days: -1}, {}, {Folder: "/x", Path: "x"}, {Folder: "/x", Path: "/a%2fb"},
 		{Folder: "/x", Postgres: ofStore}, {Postgres: &storeOf{}}} {
@@ -393,7 +428,7 @@ func TestKeptFiles(t *testing.T) {
 	if err := os.Chmod(s.config.Chains.Folder, 0o777); err != nil {
 		t.Fatal(err)
 	}
-	if _, err := openKept(s.config.Chains, s.now()); err == nil {
+	if _, err := openKept(s.config.Chains, s.now(), false); err == nil {
 		t.Error("others may write the folder")
 	}
 }

@@ -112,7 +112,9 @@ func (d *decider) leave(made record, key guard.ProvenKey, proof *httpsig.Proof, 
 	if err := d.checkLeft(&made, key, asked.sequence); err != nil {
 		return made.ended(answerOf(err), err)
 	}
-	made.Answer = d.chains.add(made.Key, chain, d.now())
+	if made.Answer, err = d.chains.add(made.Key, chain, d.now()); err != nil {
+		return made.ended(answerFailed, err)
+	}
 	return made
 }
 

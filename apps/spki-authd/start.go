@@ -46,7 +46,7 @@ func start(words words, out, messages io.Writer) error {
 		*config.Cache = 0
 	}
 	decider := newDecider(config)
-	if decider.chains, err = openChains(config, decider.now()); err != nil {
+	if decider.chains, err = openChains(config, decider.now(), !words.isTest); err != nil {
 		return err
 	}
 	if err := decider.keeper.reload(config, false, decider.now()); err != nil {

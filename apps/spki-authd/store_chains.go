@@ -56,14 +56,14 @@ func (s *storedChains) whyNotAdded(key string, chain keptChain, now time.Time) (
 	return s.whyNotBeside(others, chain.text), err
 }
 
-// add has the store keep a sequence for a key, and returns its answer. What was known of the key is forgotten.
-func (s *storedChains) add(key string, chain keptChain, _ time.Time) answer {
+// add has the store keep a sequence for a key, and returns its answer: `failed` with an error. What was known of the key is forgotten.
+func (s *storedChains) add(key string, chain keptChain, _ time.Time) (answer, error) {
 	became, err := s.reader.keep(digestIn(key), chain, s.chains)
 	if err != nil {
-		return answerFailed
+		return answerFailed, fmt.Errorf("kept certificates: %w", err)
 	}
 	s.known.add(key, readChains{})
-	return became
+	return became, nil
 }
 
 // digestIn returns the digest that a text has in hexadecimal digits. The text must be one of a digest.
