@@ -296,12 +296,12 @@ pub(crate) fn parse(alloc: Global, text: &[u8]) -> Result<Vec<Record>, FormFault
     if end < text.len() {
         return Err(FormFault::Trailing(end));
     }
-    Ok(fitted(nodes))
+    Ok(without_spare_room(nodes))
 }
 
 /// Returns the same records, and frees the unused room of their vector if it is more than `MOST_SPARE` records. A vector that grew may have twice the
 /// room that it needs. For less room, freeing costs more than it saves.
-fn fitted(nodes: Vec<Record>) -> Vec<Record>
+fn without_spare_room(nodes: Vec<Record>) -> Vec<Record>
     ensures { result.items ≡ nodes.items }
 {
     let mut fitted = nodes;

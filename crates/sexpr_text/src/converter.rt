@@ -11,7 +11,7 @@ ghost use Rattle.sexpr_text.specs.Refusal.{IsUnclosedString, RefusesSpelling, Re
 
 use crate::hinted_strings::read_hinted_string;
 use crate::opening_brace::opens_braces;
-use crate::printer::{print_octets, stands_in_token};
+use crate::printer::{is_token_octet, print_octets};
 use crate::sinks::VectorSink;
 use crate::strings::{read_string, token_end};
 use sexpr_core::syntax::{append_verbatim, ended, octet_at, octets_in_braces, skip_spaces};
@@ -138,7 +138,7 @@ fn convert_string(
     ensures refused { IfErr result (λ fault. RefusesPart (StringStands at) text.now at fault) }
     ensures begun { IfErr result (λ fault. IsPartEnd GoesString IsUnclosedString text.now at fault) }
 {
-    if stands_in_token(first) && !first.is_ascii_digit() {
+    if is_token_octet(first) && !first.is_ascii_digit() {
         return Ok(convert_token(text, at, first, form, out)?);
     }
     let string = read_string(alloc, text, at)?;

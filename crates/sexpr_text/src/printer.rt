@@ -35,7 +35,7 @@ pub fn print_advanced(alloc: Global, tree: &Sexp) -> Result<Vec<u8>, AllocError>
 
 /// Whether an octet may occur in a token: a letter, a digit, or one of `- . / _ : * + =`. Letters are the most frequent, so they take the fewest
 /// comparisons. The octets from `*` to `:` are the digits, `,` and these marks, except `_` and `=`.
-pub fn stands_in_token(octet: u8) -> bool
+pub fn is_token_octet(octet: u8) -> bool
     ensures { result ≡ is_token_octet octet }
 {
     if octet >= b'a' {
@@ -52,7 +52,7 @@ fn all_in_token(octets: &[u8]) -> bool
     ensures { result ≡ every is_token_octet octets.now }
 {
     for octet in octets {
-        if !stands_in_token(*octet) {
+        if !is_token_octet(*octet) {
             return false;
         }
     }

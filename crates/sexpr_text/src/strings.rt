@@ -9,7 +9,7 @@ ghost use Rattle.sexpr_text.specs.Refusal.{IsUnclosed, IsUnclosedString};
 ghost use Rattle.sexpr_text.specs.AdvancedForm.{is_digit, is_token_octet, IsApart, IsMarked};
 
 use crate::hexadecimal_strings::read_hexadecimal;
-use crate::printer::stands_in_token;
+use crate::printer::is_token_octet;
 use crate::quoted_strings::{lend_quoted, read_quoted};
 use sexpr_core::syntax::{Unpacked, octet_at, read_base64};
 use sexpr_core::{FormFault, MOST_OCTETS};
@@ -59,7 +59,7 @@ pub(crate) fn read_string<'t>(
     if octet.is_ascii_digit() {
         return read_counted(alloc, text, at, octet);
     }
-    if stands_in_token(octet) {
+    if is_token_octet(octet) {
         return Ok(read_token(text, at, octet));
     }
     if octet == b'"' {
@@ -109,7 +109,7 @@ pub(crate) fn token_end(text: &[u8], at: usize, first: u8) -> usize
 {
     let mut i = at + 1;
     while let Some(octet) = octet_at(text, i) {
-        if !stands_in_token(octet) {
+        if !is_token_octet(octet) {
             return i;
         }
         i += 1;

@@ -3,7 +3,7 @@
 ghost use Rattle.std.specs.Prelude.{◌≡◌, ◌≢◌, [], ◌<◌, ◌≤◌, ◌↔◌, length, IfOk, IfErr, IsErrOf};
 ghost use Rattle.spki_case.specs.Case.{CaseOf, ValueRefused, IsCaseText, TextRefused, AreSigned, IsOuter};
 
-use crate::digests::{asking_key, digested_items, entry_algorithms};
+use crate::digests::{client_key, digested_items, entry_algorithms};
 use crate::parts::parts_of;
 use crate::rows::table_of;
 use crate::table::AcceptedTable;
@@ -144,7 +144,7 @@ impl<'a> Case<'a> {
         };
         let algorithms = entry_algorithms(&acl, parts.policy);
         let sequence = digested_items(sequence, algorithms, parts.policy);
-        let key = asking_key(&key, algorithms, &sequence, parts.policy);
+        let key = client_key(&key, algorithms, &sequence, parts.policy);
         Ok(Case {
             acl,
             accepted,
@@ -194,7 +194,7 @@ impl<'a> Case<'a> {
     {
         let accepted = AcceptedTable::new(alloc, Vec::new(alloc))?;
         let sequence = digested_items(sequence, algorithms, policy);
-        let key = asking_key(&key, algorithms, &sequence, policy);
+        let key = client_key(&key, algorithms, &sequence, policy);
         Ok(Case {
             acl: Vec::new(alloc),
             accepted,

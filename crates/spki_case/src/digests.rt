@@ -27,7 +27,7 @@ pub(crate) fn digested_items<'a>(
 /// The client's key, with its digests by the algorithms of the hashes that it may be compared with. These are those of the last certificate's
 /// subject: the loop keeps the last. If there is no certificate, they are `algorithms`, which are those of the access list's subjects. Allocates
 /// nothing.
-pub(crate) fn asking_key<'a>(
+pub(crate) fn client_key<'a>(
     key: &Key<'a>,
     algorithms: Algorithms,
     items: &[SeqItem],

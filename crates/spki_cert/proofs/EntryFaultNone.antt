@@ -51,9 +51,9 @@ module _ (IsOne : Value → Type 0) (timed : TimedBy IsOne) (fields : List Value
           let none = or_parts (has (codes "not-before") fields) (has (codes "not-after") fields) (rw (has-given (codes "valid") ValidOf fields (Some w) g) at one) in
           (w, in_valid g (none-headed (codes "not-before") fields none.0) (none-headed (codes "not-after") fields none.1))
 
-pub window-one_way : (fields : List Value) (w : Window) → WindowOf fields w → is_both_ways fields ≡ false
-window-one_way fields w (directly none limits) = ap (λ (b : Bool). b && (has (codes "not-before") fields || has (codes "not-after") fields)) (headed-none (codes "valid") fields none)
-window-one_way fields w (in_valid given first last) = search (rules, headed-none, and-false)
+pub window-window_of_limits : (fields : List Value) (w : Window) → WindowOf fields w → is_both_ways fields ≡ false
+window-window_of_limits fields w (directly none limits) = ap (λ (b : Bool). b && (has (codes "not-before") fields || has (codes "not-after") fields)) (headed-none (codes "valid") fields none)
+window-window_of_limits fields w (in_valid given first last) = search (rules, headed-none, and-false)
 
 -- ---- entries
 
@@ -97,7 +97,7 @@ entry-faultless : (v : Value) (e : Entry) → EntryOf v e → entry_fault v ≡ 
 entry-faultless v e read =
     entry-looked v read.subject _ read.fields None None false true read.written refl
     ((entry_subject-none read.subject).1 (e.subject, read.subject_is))
-    ((entry_fields-none read.fields).1 read.are_fields) (window-one_way read.fields e.window read.window_is)
+    ((entry_fields-none read.fields).1 read.are_fields) (window-window_of_limits read.fields e.window read.window_is)
     (has-given (codes "tag") (Sole ReadsAs) read.fields (Some e.tag) read.tag_is)
 
 pub entry-none : (v : Value) → (entry_fault v ≡ None) ↔ Reads EntryOf v

@@ -26,7 +26,7 @@ use Rattle.spki_cert.proofs.FieldFaultLaws.{has-given}
 use Rattle.spki_cert.proofs.SequenceFaultLaws.{triple-read, triple-form, signature-looks, do-form, parts-tested, cert-looked, tagged-right, right, auth_parts, auth-parts, name_parts, name-parts, do_looked, sequence-items}
 use Rattle.spki_cert.proofs.SubjectFaultNone.{hash-none, alg-none, principal-none, key-none}
 use Rattle.spki_cert.proofs.FieldFaultNone.{given-read, cert_fields-none}
-use Rattle.spki_cert.proofs.EntryFaultNone.{untimed_words, field-timed, TimedBy, window-read, window-one_way, some-given, at-none}
+use Rattle.spki_cert.proofs.EntryFaultNone.{untimed_words, field-timed, TimedBy, window-read, window-window_of_limits, some-given, at-none}
 use Rattle.std.specs.List.{AllZip}
 use Rattle.spki_cert.specs.declared.fault.CertFault.{CertFault}
 use Rattle.spki_cert.specs.declared.certificate.SeqItem.{SeqItem}
@@ -136,7 +136,7 @@ parts-read fields e =
 
 pub parts-faultless : (fields : List Value) (p : CertParts) → PartsOf fields p → parts_fault fields ≡ None
 parts-faultless fields p parts =
-    parts-tested fields None false true true ((cert_fields-none fields).1 parts.are_fields) (window-one_way fields p.window parts.window_is)
+    parts-tested fields None false true true ((cert_fields-none fields).1 parts.are_fields) (window-window_of_limits fields p.window parts.window_is)
     (has-given (codes "issuer") IssuerIn fields (Some (p.issuer.principal, p.issuer.name)) parts.issuer_is)
     (has-given (codes "subject") (Sole (IssuedTo p.issuer.principal)) fields (Some p.subject) parts.subject_is)
 

@@ -18,7 +18,7 @@ use crate::items::push_read;
 use crate::names::Names;
 use crate::principal::Principal;
 use crate::principal_reader::{WrittenSubject, written_subject_of};
-use crate::validity::one_way;
+use crate::validity::window_of_limits;
 use crate::version::check_version;
 use sexpr_core::syntax::{Members, Node};
 use sexpr_core::{Doc, NodeId};
@@ -69,7 +69,7 @@ pub fn entry_of<'a>(alloc: Global, node: &Node<'_, 'a>) -> Result<Entry<'a>, Cer
         valid,
     } = known;
     drop((issuer, who));
-    let Some(window) = one_way(limits, valid) else {
+    let Some(window) = window_of_limits(limits, valid) else {
         drop((subject, tag));
         return Err(CertFaultKind::Shape);
     };

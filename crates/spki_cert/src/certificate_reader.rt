@@ -13,7 +13,7 @@ use crate::names::Names;
 use crate::octets::Octets;
 use crate::principal::Principal;
 use crate::principal_reader::{Issuer, WrittenSubject};
-use crate::validity::one_way;
+use crate::validity::window_of_limits;
 use crate::window::Window;
 use sexpr_core::syntax::{Members, Node};
 use spki_tag::Tag;
@@ -59,7 +59,7 @@ fn parts_of<'a>(alloc: Global, members: Members<'_, 'a>) -> Result<CertParts<'a>
         limits,
         valid,
     } = known;
-    let Some(window) = one_way(limits, valid) else {
+    let Some(window) = window_of_limits(limits, valid) else {
         drop((issuer, subject, tag));
         return Err(CertFaultKind::Shape);
     };

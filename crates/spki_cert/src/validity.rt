@@ -88,7 +88,7 @@ pub(crate) fn valid_in(members: Members) -> Result<Window, CertFaultKind>
 
 /// The window of an entry or a certificate. Its limits are either in `(valid ..)`, whose window is `valid`, or in fields of their own, `limits`. None
 /// if there is a `(valid ..)` and also a limit outside of it.
-pub(crate) fn one_way(limits: Window, valid: Option<Window>) -> Option<Window>
+pub(crate) fn window_of_limits(limits: Window, valid: Option<Window>) -> Option<Window>
     ensures { MatchOption result (IsBothWays limits valid) (IsOneWay limits valid) }
 {
     let Some(window) = valid else {

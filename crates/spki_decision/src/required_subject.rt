@@ -169,7 +169,7 @@ fn names_after<'a, L: Ledger>(
 {
     let mut rest = names;
     for place in 0..front.len() {
-        look_at(front.at(place), ticks);
+        count_name(front.at(place), ticks);
         if !has_first(&rest, front.at(place)) {
             return None;
         }
@@ -199,7 +199,7 @@ fn are_same_names<L: Ledger>(one: &Names, other: &Names, ticks: &mut Ticks<L>) -
         return false;
     }
     for place in 0..one.len() {
-        look_at(one.at(place), ticks);
+        count_name(one.at(place), ticks);
         if !one.at(place).same(other.at(place)) {
             return false;
         }
@@ -208,7 +208,7 @@ fn are_same_names<L: Ledger>(one: &Names, other: &Names, ticks: &mut Ticks<L>) -
 }
 
 /// Counts a name that is looked at: one tick for it, and one for each of its octets.
-fn look_at<L: Ledger>(name: &Octets, ticks: &mut Ticks<L>)
+fn count_name<L: Ledger>(name: &Octets, ticks: &mut Ticks<L>)
     ensures { ticks.new ≡ ticks.old + 1 + length name.now }
 {
     ticks.tick();

@@ -60,8 +60,8 @@ pub fn answer_opened(alloc: Global, query: Query, opened: &OwnedQuestion) -> Ope
 {
     match query {
         Query::Decide => decide_opened(alloc, opened),
-        Query::Explain => undecided(answer_again(alloc, query, opened)),
-        Query::Reduce => undecided(answer_again(alloc, query, opened)),
+        Query::Explain => without_grant(answer_again(alloc, query, opened)),
+        Query::Reduce => without_grant(answer_again(alloc, query, opened)),
     }
 }
 
@@ -116,7 +116,7 @@ fn answer_again(alloc: Global, query: Query, opened: &OwnedQuestion) -> Printed
 }
 
 /// The result with an answer that is no decision, so it has no grant.
-fn undecided(answer: Printed) -> OpenedAnswer
+fn without_grant(answer: Printed) -> OpenedAnswer
     ensures { (result.answer ≡ answer) × (result.grant ≡ None) }
 {
     OpenedAnswer {

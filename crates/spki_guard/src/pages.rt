@@ -19,7 +19,12 @@ pub(crate) struct PageSink<'w, W> {
 
 /// Writes octets, if `failed` is false. Returns whether a write failed before or now. Writing fails when the writer's
 /// count of calls, `asks`, is `most`.
-fn pass_on<W: Write>(writer: &mut Metered<W>, failed: bool, octets: &[u8], most: u64) -> bool
+fn write_unless_failed<W: Write>(
+    writer: &mut Metered<W>,
+    failed: bool,
+    octets: &[u8],
+    most: u64,
+) -> bool
     ensures { IsPassedOn W.contents writer.old writer.new octets.now most failed result }
 {
     if failed {
@@ -66,7 +71,12 @@ impl<'w, W: Write> PageSink<'w, W> {
         ensures takes { PageTakes W.contents self.old [] self.new }
         ensures page { page_of self.new ≡ [] }
     {
-        self.failed = pass_on(self.writer, self.failed, self.page.as_slice(), self.most);
+        self.failed = write_unless_failed(
+            self.writer,
+            self.failed,
+            self.page.as_slice(),
+            self.most,
+        );
         self.page.clear();
     }
 
@@ -79,7 +89,7 @@ impl<'w, W: Write> PageSink<'w, W> {
         if hold(&mut self.page, octets) {
             return;
         }
-        self.failed = pass_on(self.writer, self.failed, octets, self.most);
+        self.failed = write_unless_failed(self.writer, self.failed, octets, self.most);
     }
 
     /// Writes the last page, and flushes the writer. If a write failed, there is no flush.
@@ -101,7 +111,7 @@ impl<'w, W: Write> PageSink<'w, W> {
             most,
             failed,
         } = self;
-        if pass_on(writer, failed, page.as_slice(), most) {
+        if write_unless_failed(writer, failed, page.as_slice(), most) {
             return Err(WriteFault);
         }
         flush_writer(writer, most)

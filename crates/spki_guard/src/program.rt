@@ -34,7 +34,7 @@ pub fn run_words<R: Read, W: Write, E: Write>(
         (DoesCommand R.remaining W.contents E.contents reader.old reader.new writer.old writer.new errors.old errors.new result)
         (SaysFault R.remaining W.contents E.contents reader.old reader.new writer.old writer.new errors.old errors.new result) }
 {
-    match asked_by(alloc, words) {
+    match requested_command(alloc, words) {
         Ok(command) => run_command(alloc, command, reader, writer, errors),
         Err(fault) => report_words_fault(&fault, reader, writer, errors),
     }
@@ -42,30 +42,30 @@ pub fn run_words<R: Read, W: Write, E: Write>(
 
 /// Returns the command that the words of the command line ask for. Err if they ask for help, are refused or cannot be
 /// read, or if memory ran out.
-fn asked_by(alloc: Global, words: &io::Result<Vec<String>>) -> Result<Command, WordsFault>
+fn requested_command(alloc: Global, words: &io::Result<Vec<String>>) -> Result<Command, WordsFault>
     ensures { MatchResult words.now (λ list. IsAskedCommand (map string_bytes list.items) result)
         (λ error. IsUnasked (error_kind error) result) }
 {
     match words {
         Ok(list) => command_of(alloc, list),
-        Err(error) => Err(unread(alloc, error)),
+        Err(error) => Err(unread_words_fault(alloc, error)),
     }
 }
 
 /// The fault for an error of reading the words from the system: `Refused` with a message if they are not UTF-8. Any other error is the fault
 /// `Memory`.
-fn unread(alloc: Global, error: &io::Error) -> WordsFault
+fn unread_words_fault(alloc: Global, error: &io::Error) -> WordsFault
     ensures { AreUnreadWords (error_kind error.now) result }
 {
     if error.kind() == ErrorKind::InvalidData {
-        no_text(alloc)
+        not_utf8_fault(alloc)
     } else {
         WordsFault::Memory
     }
 }
 
 /// Makes the fault of words that are not UTF-8: `Refused` with its message, or `Memory` if memory ran out for the message.
-fn no_text(alloc: Global) -> WordsFault
+fn not_utf8_fault(alloc: Global) -> WordsFault
     ensures { IsNoText result }
 {
     match String::from_str(alloc, "error: the words aren't UTF-8\n") {

@@ -11,7 +11,7 @@ returns-in_default-clause-only c = λ a rest s. absurd (nothing_stands _ _ a res
 
 pub returns-in_err-read-clause-only : goal.returns-in_err-read-clause-only
 returns-in_err-read-clause-only c = λ a rest s.
-    let k = uncounted_stands _ _ _ a rest c.in-Some.ensures (λ d. omega (arith, c.if-is_ascii_digit.ensures.cases)) (sym c.if-stands_in_token.ensures) s in
+    let k = uncounted_stands _ _ _ a rest c.in-Some.ensures (λ d. omega (arith, c.if-is_ascii_digit.ensures.cases)) (sym c.if-is_token_octet.ensures) s in
     err_kept _ _ _ c.from_residual.ensures.1 (c.in_err-read.ensures.only k.0 a rest k.1 k.2)
 
 pub returns-in_default-clause-begun : goal.returns-in_default-clause-begun

@@ -8,4 +8,4 @@ loop-octet-init c = (_, token_first _ _ _ _ c.requires.begins c.requires.other c
 pub loop-octet-preserved : goal.loop-octet-preserved
 loop-octet-preserved c =
     let r = c.loop-octet.invariant in
-    (_, token_more _ _ _ _ r.0 _ r.1 c.in-Some.ensures (sym c.if-not-stands_in_token.ensures) refl)
+    (_, token_more _ _ _ _ r.0 _ r.1 c.in-Some.ensures (sym c.if-not-is_token_octet.ensures) refl)

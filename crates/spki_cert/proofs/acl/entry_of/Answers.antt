@@ -31,24 +31,24 @@ returns-in_err-propagate-clause-named c =
     (λ known. entry-looked c.args.node.now _ _ c.in-Some-split_first.rest _ _ _ _ c.in-Some.ensures c.in-Some-split_first.ensures
     ((entry_subject-none _).1 (_, c.in_ok-subject.ensures.found)) (c.in_err-propagate.ensures.named known) refl refl)
 
-pub returns-in_default-one_way-clause-named : goal.returns-in_default-one_way-clause-named
-returns-in_default-one_way-clause-named c = λ _.
+pub returns-in_default-window_of_limits-clause-named : goal.returns-in_default-window_of_limits-clause-named
+returns-in_default-window_of_limits-clause-named c = λ _.
     entry-looked c.args.node.now _ _ c.in-Some-split_first.rest _ _ _ _ c.in-Some.ensures c.in-Some-split_first.ensures
     ((entry_subject-none _).1 (_, c.in_ok-subject.ensures.found)) c.in_ok-propagate.ensures.faultless
-    (both-ways c.in-Some-split_first.rest c.in_ok-propagate.field-0.known c.in_ok-propagate.ensures.found.1 c.in_default-one_way.ensures) refl
+    (both-ways c.in-Some-split_first.rest c.in_ok-propagate.field-0.known c.in_ok-propagate.ensures.found.1 c.in_default-window_of_limits.ensures) refl
 
 pub returns-in_default-tag-clause-named : goal.returns-in_default-tag-clause-named
 returns-in_default-tag-clause-named c = λ _.
     entry-looked c.args.node.now _ _ c.in-Some-split_first.rest _ _ _ _ c.in-Some.ensures c.in-Some-split_first.ensures
     ((entry_subject-none _).1 (_, c.in_ok-subject.ensures.found)) c.in_ok-propagate.ensures.faultless
-    (one-way c.in-Some-split_first.rest c.in_ok-propagate.field-0.known _ c.in_ok-propagate.ensures.found.1 c.in-Some-one_way.ensures)
+    (one-way c.in-Some-split_first.rest c.in_ok-propagate.field-0.known _ c.in_ok-propagate.ensures.found.1 c.in-Some-window_of_limits.ensures)
     (has-tag c.in-Some-split_first.rest c.in_ok-propagate.field-0.known c.in_ok-propagate.ensures.found.1 ∙ ap (λ (t : Option tags.Tag). is_some t) c.in_default-tag.is)
 
 pub returns-clause-faultless : goal.returns-clause-faultless
 returns-clause-faultless c =
     entry-looked c.args.node.now _ _ c.in-Some-split_first.rest _ _ _ _ c.in-Some.ensures c.in-Some-split_first.ensures
     ((entry_subject-none _).1 (_, c.in_ok-subject.ensures.found)) c.in_ok-propagate.ensures.faultless
-    (one-way c.in-Some-split_first.rest c.in_ok-propagate.field-0.known _ c.in_ok-propagate.ensures.found.1 c.in-Some-one_way.ensures)
+    (one-way c.in-Some-split_first.rest c.in_ok-propagate.field-0.known _ c.in_ok-propagate.ensures.found.1 c.in-Some-window_of_limits.ensures)
     (has-tag c.in-Some-split_first.rest c.in_ok-propagate.field-0.known c.in_ok-propagate.ensures.found.1 ∙ ap (λ (t : Option tags.Tag). is_some t) c.in-Some-tag.is)
 
 pub returns-in_default-clause-refused : goal.returns-in_default-clause-refused
@@ -60,8 +60,8 @@ returns-in_err-subject-clause-refused c = IfErr-weaker c.from_residual.result _ 
 pub returns-in_err-propagate-clause-refused : goal.returns-in_err-propagate-clause-refused
 returns-in_err-propagate-clause-refused c = IfErr-weaker c.from_residual-in_err-propagate.result _ _ (λ kind named known. entry-refused c.args.node.now kind (named known)) (returns-in_err-propagate-clause-named c)
 
-pub returns-in_default-one_way-clause-refused : goal.returns-in_default-one_way-clause-refused
-returns-in_default-one_way-clause-refused c = λ known. entry-refused c.args.node.now _ (returns-in_default-one_way-clause-named c known)
+pub returns-in_default-window_of_limits-clause-refused : goal.returns-in_default-window_of_limits-clause-refused
+returns-in_default-window_of_limits-clause-refused c = λ known. entry-refused c.args.node.now _ (returns-in_default-window_of_limits-clause-named c known)
 
 pub returns-in_default-tag-clause-refused : goal.returns-in_default-tag-clause-refused
 returns-in_default-tag-clause-refused c = λ known. entry-refused c.args.node.now _ (returns-in_default-tag-clause-named c known)

@@ -1,6 +1,6 @@
 use Rattle.std.proofs.Common.{map, string_bytes}
 use Rattle.spki_guard.specs.Program.{IsAskedCommand}
-use Rattle.spki_guard.proofs.program.asked_by.Goals as goal
+use Rattle.spki_guard.proofs.program.requested_command.Goals as goal
 
 pub returns-in-Ok : goal.returns-in-Ok
 returns-in-Ok c =
