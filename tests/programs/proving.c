@@ -48,9 +48,9 @@ static void answer(const struct spki_text *head, struct spki_text *of_fields, si
         exit(1);
     for (size_t i = 0; i < count; i++)
         fields[i] = (struct http_field){of_fields[2 * i], of_fields[2 * i + 1]};
-    if (head[4].length && http_request_proves(&service, &request, now - atoll(head[4].octets), &proof))
+    if (head[4].length && http_request_refusal(&service, &request, now - atoll(head[4].octets), &proof))
         exit(1);
-    const char *why = http_request_proves(&service, &request, now, &proof);
+    const char *why = http_request_refusal(&service, &request, now, &proof);
     if (!why && http_proven_key(&proof).text.octets != proof.key)
         exit(1);
     printf("%s ", why ? why : "valid");
