@@ -30,7 +30,7 @@ static bool is_sig(const spki::signature &it)
     return it.value == "3:sig";
 }
 
-// The line of a refusal, or nothing.
+// The line with which a call is refused, or nothing if it is not.
 template <typename Call> static std::string refusal(Call call)
 {
     try {
