@@ -1,6 +1,6 @@
 /* http_request.h says what it is for. Nothing is copied but the key, the digest and the signed text.
  *
- * A function that returns `const char *` without another word on it returns null, or the name of a refusal in docs/SIGNATURES.md. */
+ * A function that returns `const char *` returns null or the name of a refusal, unless its comment says otherwise. */
 #include "http_request.h"
 
 #include <stdlib.h>
@@ -33,6 +33,7 @@ static struct spki_text literal(const char *text)
     return (struct spki_text){text, strlen(text)};
 }
 
+/* Whether a text is a C string. */
 static bool is(struct spki_text text, const char *wanted)
 {
     return text.length == strlen(wanted) && (text.length == 0 || memcmp(text.octets, wanted, text.length) == 0);
@@ -43,7 +44,7 @@ static unsigned char lower_case(unsigned char octet)
     return octet >= 'A' && octet <= 'Z' ? (unsigned char)(octet | 0x20) : octet;
 }
 
-static bool is_ignoring_case(struct spki_text text, struct spki_text wanted)
+static bool equals_ignoring_case(struct spki_text text, struct spki_text wanted)
 {
     const unsigned char *first = text.octets, *second = wanted.octets;
     for (size_t i = 0; text.length == wanted.length && i < text.length; i++)
@@ -52,6 +53,7 @@ static bool is_ignoring_case(struct spki_text text, struct spki_text wanted)
     return text.length == wanted.length;
 }
 
+/* The octets from `first` up to `end`, as a text. */
 static struct spki_text between(const unsigned char *first, const unsigned char *end)
 {
     return (struct spki_text){first, (size_t)(end - first)};
@@ -151,6 +153,7 @@ static bool read_string(struct cursor *in, struct spki_text *string)
     return try_skip(in, "\"");
 }
 
+/* Reads a number of at most MOST_DIGITS digits, and returns whether one is next. */
 static bool read_integer(struct cursor *in, long long *number)
 {
     const unsigned char *first = in->at;
@@ -287,7 +290,7 @@ static size_t count_lines(const struct http_request *request, const char *name, 
 {
     size_t count = 0;
     for (size_t i = 0; i < request->field_count; i++)
-        if (is_ignoring_case(request->fields[i].name, literal(name)) && count++ == 0 && value)
+        if (equals_ignoring_case(request->fields[i].name, literal(name)) && count++ == 0 && value)
             *value = trimmed(request->fields[i].value);
     return count;
 }
@@ -297,7 +300,7 @@ static const char *read_field(const struct http_request *request, struct spki_te
 {
     size_t count = 0;
     for (size_t i = 0; i < request->field_count; i++)
-        if (is_ignoring_case(request->fields[i].name, name) && count++ == 0)
+        if (equals_ignoring_case(request->fields[i].name, name) && count++ == 0)
             *value = trimmed(request->fields[i].value);
     if (count != 1)
         return count == 0 ? "absent-field" : "repeated-field";
@@ -336,7 +339,7 @@ static const struct spki_text *authority_of(const struct http_service *service, 
     if (asked.length >= port.length && memcmp(octets + asked.length - port.length, port.octets, port.length) == 0)
         asked.length -= port.length;
     for (size_t i = 0; i < service->name_count; i++)
-        if (asked.length > 0 && is_ignoring_case(asked, service->names[i]))
+        if (asked.length > 0 && equals_ignoring_case(asked, service->names[i]))
             return &service->names[i];
     return NULL;
 }
@@ -345,7 +348,7 @@ static const struct spki_text *authority_of(const struct http_service *service, 
 static bool may_have_body(const struct http_request *request)
 {
     for (size_t i = 0; i < request->field_count; i++)
-        if (is_ignoring_case(request->fields[i].name, literal("content-length")) && !is(trimmed(request->fields[i].value), "0"))
+        if (equals_ignoring_case(request->fields[i].name, literal("content-length")) && !is(trimmed(request->fields[i].value), "0"))
             return true;
     return !(is(request->method, "GET") || is(request->method, "HEAD")) || count_lines(request, "transfer-encoding", NULL) > 0;
 }
@@ -358,6 +361,7 @@ struct writer {
     size_t length;
 };
 
+/* Writes a text behind what is written. */
 static void put(struct writer *out, struct spki_text text)
 {
     if (out->octets && text.length)

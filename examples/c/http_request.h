@@ -41,8 +41,9 @@ struct http_proof {
     struct spki_text sequence;
 };
 
-/* Parses the head of a request of HTTP/1.1, a C string that ends with its empty line. The texts of `request` and `fields` are parts of `head`, in
- * which an octet 00 ends each. The authority is that of `Host`. False if it is no head of at most `most` fields, each in one line. */
+/* Parses the head of a request of HTTP/1.1, a C string that ends with its empty line. The texts of `request` and `fields` are parts of `head`. In it
+ * the method, the target and each name and value are ended by an octet 00. The authority is that of `Host`. False if it is no head of at most `most`
+ * fields, each in one line. */
 bool http_request_read(char *head, struct http_field *fields, size_t most, struct http_request *request);
 
 /* Null if a request proves a key at a time, in seconds since 1970. Otherwise the name of the refusal in docs/SIGNATURES.md, or "memory". With null

@@ -446,6 +446,7 @@ static void *ask_shared(void *given)
     return NULL;
 }
 
+/* Threads with small stacks ask one guard, and decide one question. */
 static void threads(size_t count)
 {
     struct spki_question question = {.size = sizeof question, .sequence = text("(sequence)"), .key = spki_assume_key(text("(public-key (test b))")),

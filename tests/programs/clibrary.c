@@ -70,6 +70,7 @@ static void *allocate(size_t length)
     return block;
 }
 
+/* Makes the call of a question. */
 static enum spki_status ask(const struct question *it, void *buffer, size_t size, size_t *needed)
 {
     if (it->command == CHECK_ACCEPTED)
@@ -180,6 +181,7 @@ static void unknown_command(unsigned command, unsigned char *buffer, size_t size
         fail("misuse leaves a line, or writes to the buffer");
 }
 
+/* Calls that must be misuse. */
 static void misuse(void)
 {
     unsigned char buffer[64];

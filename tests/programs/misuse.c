@@ -37,6 +37,7 @@ static void expect_misused(enum spki_status status, const char *what)
     expect_misused_unwritten(status, what);
 }
 
+/* The same for spki_guard_open, and then for spki_guard_ask: the handle must be null. */
 static void expect_no_guard(enum spki_status status, const char *what)
 {
     expect_misused(status, what);
@@ -114,6 +115,7 @@ static void wrong_buffers(struct spki_text it)
     expect_misused_unwritten(spki_asked_reduce(asked, to, it.length, &needed).status, "spki_asked_reduce: buffer");
 }
 
+/* Limits and questions with a wrong size, and limits that are too high. */
 static void wrong_sizes(void)
 {
     struct spki_limits limits[] = {SPKI_USUAL_LIMITS, SPKI_USUAL_LIMITS, SPKI_USUAL_LIMITS, SPKI_USUAL_LIMITS, SPKI_USUAL_LIMITS,

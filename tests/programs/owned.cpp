@@ -52,6 +52,7 @@ template <typename Call> static bool is_misuse(Call call)
     return false;
 }
 
+// This test and those below return 0, or 1 from a CHECK that fails.
 static int decisions()
 {
     spki::guard guard(list);

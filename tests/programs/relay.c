@@ -28,6 +28,7 @@ static const any calls[] = {
     (any)spki_guard_ask, (any)spki_asked_count, (any)spki_asked_signature, (any)spki_asked_mark, (any)spki_asked_granted,
     (any)spki_asked_possible, (any)decide_to, (any)spki_asked_explain, (any)spki_asked_reduce, (any)spki_asked_close, (any)spki_string};
 
+/* Reads octets. The program ends if there are fewer. */
 static void read_octets(void *octets, size_t length)
 {
     if (length && fread(octets, 1, length, stdin) != length)

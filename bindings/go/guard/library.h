@@ -66,7 +66,7 @@ static inline struct library_said library_ask(const spki_guard *guard, struct li
     return said;
 }
 
-/* Decides a question by its marks, until a second. */
+/* Decides a question by its marks. `until` is the last second of a yes. */
 static inline struct library_said library_decide(const spki_asked *asked)
 {
     struct library_said said = {0};

@@ -24,7 +24,7 @@ pub const MISUSED: Status = 5;
 pub const DONE: Status = 6;
 /// There is no string, or no signature, at this place.
 pub const NONE: Status = 7;
-/// `spki_string`: an allocation failed.
+/// `spki_string` and `spki_asked_signature`: an allocation failed.
 pub const NO_MEMORY: Status = 8;
 /// A decision: the request is granted.
 pub const YES: Status = 9;
