@@ -412,8 +412,8 @@ static const char *put_base(struct writer *out, const struct http_request *reque
 
 /* ---- keys and signatures, as docs/FORMATS.md has them */
 
-/* Reads a key in transport form into the proof. Returns the name of its algorithm, and in `octets` the length of its signatures. Null: no key. */
-static const char *read_key(struct spki_text text, struct http_proof *proof, size_t *octets)
+/* Reads a key in transport form into the proof. Returns the name of its algorithm, and sets the length of its signatures. Null: no key. */
+static const char *read_key(struct spki_text text, struct http_proof *proof, size_t *signature_length)
 {
     const unsigned char *in = text.octets;
     if (text.length < 2 || text.length > MOST_KEY_TEXT || in[0] != '{' || in[text.length - 1] != '}')
@@ -421,17 +421,17 @@ static const char *read_key(struct spki_text text, struct http_proof *proof, siz
     if (!decode_base64(between(in + 1, in + text.length - 1), proof->key, sizeof proof->key, &proof->key_length))
         return NULL;
     struct spki_text key = {proof->key, proof->key_length}, strings[2];
-    *octets = (size_t)2 * VERIFY_HALF;
+    *signature_length = (size_t)2 * VERIFY_HALF;
     if (verify_has_form(key, "(10:public-key(3:ecc(5:curve7:Ed25519)(5:flags5:eddsa)(1:q%)))", strings))
         return "ed25519";
     if (verify_has_form(key, "(10:public-key(3:ecc(5:curve10:NIST P-256)(1:q%)))", strings))
         return "ecdsa-p256-sha256";
-    *octets = P384_OCTETS;
+    *signature_length = P384_OCTETS;
     if (verify_has_form(key, "(10:public-key(3:ecc(5:curve10:NIST P-384)(1:q%)))", strings))
         return "ecdsa-p384-sha384";
     if (!verify_has_form(key, "(10:public-key(3:rsa(1:n%)(1:e%)))", strings))
         return NULL;
-    *octets = verify_trimmed(strings[0]).length;
+    *signature_length = verify_trimmed(strings[0]).length;
     return "rsa-v1_5-sha256";
 }
 
@@ -447,7 +447,7 @@ static void put_string(struct writer *out, struct spki_text string)
     put(out, string);
 }
 
-/* Writes the canonical value of a signature. */
+/* Writes the canonical value of a signature, whose octets are those of HTTP. */
 static void put_signature(struct writer *out, struct spki_text algorithm, struct spki_text octets)
 {
     const unsigned char *first = octets.octets, *half = first + octets.length / 2;
@@ -518,15 +518,15 @@ static bool is_hash(struct spki_text text, const unsigned char hash[VERIFY_HASH]
     return is(text, written);
 }
 
-/* Reads the key of the request, which must be that of `keyid` and `alg`. Sets `octets` to the length of its signatures. */
-static const char *check_key(const struct http_request *request, const struct input *input, struct http_proof *proof, size_t *octets)
+/* Reads the key of the request, which must be that of `keyid` and `alg`. Sets the length of its signatures. */
+static const char *check_key(const struct http_request *request, const struct input *input, struct http_proof *proof, size_t *signature_length)
 {
     unsigned char hash[VERIFY_HASH];
     struct spki_text value;
     const char *why = read_field(request, literal(public_key), &value);
     if (why)
         return why;
-    const char *algorithm = read_key(value, proof, octets);
+    const char *algorithm = read_key(value, proof, signature_length);
     if (!algorithm)
         return "bad-key";
     if (!verify_hash((struct spki_text){proof->key, proof->key_length}, hash))
@@ -552,7 +552,7 @@ static const char *check_message(const struct http_service *service, const struc
                                  struct spki_text octets, struct http_proof *proof)
 {
     struct writer counter = {NULL, 0};
-    size_t wanted = 0;
+    size_t signature_length = 0;
     if (!is_token(request->method) || !is_target(request->target))
         return is_token(request->method) ? "bad-target" : "bad-method";
     const struct spki_text *authority = authority_of(service, request);
@@ -560,10 +560,10 @@ static const char *check_message(const struct http_service *service, const struc
     if (!why)
         why = check_fields(request, input, proof);
     if (!why)
-        why = check_key(request, input, proof, &wanted);
+        why = check_key(request, input, proof, &signature_length);
     if (why)
         return why;
-    if (octets.length != wanted || octets.length > MOST_SIGNATURE)
+    if (octets.length != signature_length || octets.length > MOST_SIGNATURE)
         return "invalid-signature";
     struct writer base = {malloc(counter.length), 0};
     if (!base.octets)
