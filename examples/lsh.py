@@ -41,6 +41,7 @@ class Home:
                               timeout=SECONDS).stdout
 
     def file(self, name):
+        """What is in a file."""
         with open(os.path.join(self.folder, name), "rb") as file:
             return file.read()
 
@@ -62,6 +63,7 @@ class Home:
 
 
 def spki(command, text):
+    """The answer of a command of `spki` to a text."""
     return run(PROGRAM, command, text)[1]
 
 
@@ -71,12 +73,12 @@ def check(access_list, key, request=b"login", policy=b""):
     return spki("check", case % (access_list, key, request, policy)).decode().strip()
 
 
-def of_hash(algorithm, digest):
+def list_of_hash(algorithm, digest):
     """An access list of one key, by its hash."""
     return f"(acl (entry (hash {algorithm} #{digest}#) (tag login)))".encode()
 
 
-def of_keys(home):
+def tries_of_keys(home):
     """What is tried with an RSA and a DSA key: a remark, the actual and the expected output."""
     for name, options in (("RSA", ("-l", "1024")), ("DSA", ("-a", "dsa", "-l", "0"))):
         files = home.key_files(name, options)
@@ -85,10 +87,10 @@ def of_keys(home):
         key = spki("canonical", files["public"])
         listed, in_list = home.authorized(name)
         yield f"{name}: what lsh-authorize keeps is the public key in canonical form", in_list, key
-        yield f"{name}: its name there is the SHA-1 hash that names the key", check(of_hash("sha1", listed), key), "yes entry 1"
-        yield f"{name}: but not under the strict policy", check(of_hash("sha1", listed), key, policy=b"(policy strict)"), "no"
+        yield f"{name}: its name there is the SHA-1 hash that names the key", check(list_of_hash("sha1", listed), key), "yes entry 1"
+        yield f"{name}: but not under the strict policy", check(list_of_hash("sha1", listed), key, policy=b"(policy strict)"), "no"
         digest = home.run(["sexp-conv", "--hash=sha256"], files["public"]).decode().strip()
-        named = check(of_hash("sha256", digest), key, policy=b"(policy strict)")
+        named = check(list_of_hash("sha256", digest), key, policy=b"(policy strict)")
         yield f"{name}: sexp-conv --hash=sha256 gives a hash that names it", named, "yes entry 1"
         yield f"{name}: the private half is no key", check(b"(acl)", spki("canonical", files["private"])), "refused key Shape"
     exported = home.run(["lsh-export-key", "--openssh"], home.file("RSA.pub"))
@@ -100,8 +102,8 @@ def of_keys(home):
     yield "RSA: with the exponent first it is another key", check(b"(acl (entry %s (tag login)))" % turned, public), "no"
 
 
-def of_captured_list(home):
-    """What is tried with the list of hosts that lsh writes."""
+def tries_of_captured_list(home):
+    """The same with the list of hosts that lsh writes."""
     with open(os.path.join(HERE, "lsh", "captured"), "rb") as file:
         text = file.read()
     braces = text[text.index(b"{"):]
@@ -121,7 +123,7 @@ def main():
     passed = failed = 0
     with tempfile.TemporaryDirectory() as folder:
         home = Home(folder)
-        for tried in (of_keys, of_captured_list):
+        for tried in (tries_of_keys, tries_of_captured_list):
             for remark, met, wanted in tried(home):
                 good = met == wanted and bool(met)
                 print(f"{'as wanted' if good else 'OTHERWISE':<10} {remark}{'' if good else f': {met!r}, and not {wanted!r}'}")

@@ -65,7 +65,10 @@ def by_peer(syntax, text):
 
 
 def there_and_back(written, read, forms, text):
-    """Each form in which the one program writes a text, read by the other one."""
+    """For each form that one program writes of a text: whether the other one reads it as the same canonical form.
+
+    `written` and `read` are `by_spki` and `by_peer`, or the reverse.
+    """
     canonical = written("canonical", text)
     marks = []
     for form in forms:
@@ -75,6 +78,7 @@ def there_and_back(written, read, forms, text):
 
 
 def shown(octets):
+    """A canonical form as it is printed. None is a text that was refused."""
     if octets is None:
         return "refused"
     return repr(octets)[2:-1] if len(octets) < 24 else f"{len(octets)} octets"

@@ -23,7 +23,7 @@ Reason = collections.namedtuple("Reason", "entry item word")
 
 
 def drawn(program, path, width=WIDTH):
-    """The picture of a case, or None if it is refused, whose line is printed then."""
+    """The drawing of the case in a file. None if the case is refused: then the line of the refusal is printed."""
     with open(path, "rb") as file:
         text = file.read()
     status, lines = run(program, "explain", text)
@@ -32,6 +32,7 @@ def drawn(program, path, width=WIDTH):
         return None
 
     def reduced(entry):
+        """What `spki reduce` writes of an entry, by its number from 1."""
         line = run(program, "reduce", text)[1].split(b"\n")[entry - 1]
         return read(run(program, "canonical", line.split(b" ", 2)[2])[1])
 
@@ -46,7 +47,7 @@ def quoted(lines):
 
 
 def dot_of(drawing):
-    """A picture for Graphviz."""
+    """The lines of a drawing in the language of Graphviz."""
     names = {identity: f"n{place}" for place, identity in enumerate(drawing.shapes)}
     yield from ("digraph chain {", "  rankdir=LR;", "  node [shape=ellipse, fontsize=11];", "  edge [fontsize=10];")
     for identity, shape in drawing.shapes.items():

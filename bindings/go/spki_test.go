@@ -7,6 +7,7 @@ import (
 	"conguraki/spki"
 )
 
+// login returns a message that is signed by b.
 func login(message string) spki.Signature {
 	return spki.Signature{Key: []byte("(10:public-key(4:test1:b))"), Message: []byte(message), Value: []byte("3:sig")}
 }

@@ -4,27 +4,28 @@
 #include <stdbool.h>
 #include <stdlib.h>
 
-struct tried {
+struct allocation {
     bool is_there;
     void *at;
 };
 
-static struct tried tried(void *at)
+/* The answer for what malloc or realloc has returned. */
+static struct allocation allocation_of(void *at)
 {
     static unsigned char none;
-    struct tried answer = {at, at ? at : &none};
+    struct allocation answer = {at, at ? at : &none};
     return answer;
 }
 
-struct tried rattle_alloc(size_t size, size_t alignment)
+struct allocation rattle_alloc(size_t size, size_t alignment)
 {
-    return tried(malloc(size ? size : alignment));
+    return allocation_of(malloc(size ? size : alignment));
 }
 
-struct tried rattle_realloc(void *at, size_t kept, size_t size, size_t alignment)
+struct allocation rattle_realloc(void *at, size_t kept, size_t size, size_t alignment)
 {
-    (void)kept;
-    return tried(realloc(at, size ? size : alignment));
+    (void)kept; /* (realloc knows the old size) */
+    return allocation_of(realloc(at, size ? size : alignment));
 }
 
 void rattle_dealloc(void *at)

@@ -36,8 +36,9 @@ static bool is_misuse(const void *at, size_t count, size_t size)
     return count > PTRDIFF_MAX / size || (!at && count);
 }
 
-/* Sets `**needed` to 0, and replaces null pointers. Returns whether an answer can be written to the buffer, and empties its line. */
-static bool begins(void **buffer, size_t length, size_t **needed, size_t *unasked)
+/* Begins a call that returns an answer: replaces a null buffer, and a null `needed` by `unasked`, sets `**needed` to 0, and empties the line in the
+ * buffer. False if the buffer is misuse. */
+static bool begin_answer(void **buffer, size_t length, size_t **needed, size_t *unasked)
 {
     static unsigned char no_buffer;
     bool is_buffer = !is_misuse(*buffer, length, 1);
@@ -49,10 +50,10 @@ static bool begins(void **buffer, size_t length, size_t **needed, size_t *unaske
     return is_buffer;
 }
 
-/* What each call that returns an answer does first. */
-#define BEGINS begins(&buffer, buffer_length, &needed, &(size_t){0})
+/* What each call that returns an answer does first. If it is false, the call is misuse. */
+#define BEGINS begin_answer(&buffer, buffer_length, &needed, &(size_t){0})
 
-/* A handle as a call takes it that borrows what it has. */
+/* The handle of a guard or a question, for a call that only borrows it. */
 #define LENT(value) (&(struct handle){(void *)(value)})
 
 size_t spki_guard_entries(const spki_guard *guard) { return guard ? spki_c_guard_entries(LENT(guard)) : 0; }
@@ -132,7 +133,7 @@ bool spki_asked_granted(const spki_asked *asked)
     return asked && spki_c_asked_granted(LENT(asked));
 }
 
-/* Answers a question, and says until when a yes holds. */
+/* Answers a question, and says until when a yes holds. `wish` is SPKI_CHECK, SPKI_EXPLAIN or SPKI_REDUCE. */
 static struct spki_decision answered(enum spki_command wish, const spki_asked *asked, ANSWER)
 {
     struct spki_decision said = {SPKI_MISUSED, INT64_MIN};

@@ -97,6 +97,7 @@ struct question {
         asked.key = spki_assume_key(text_of(this->key.text()));
     }
 
+    /* The question as spki_guard_ask takes it. It lasts as long as this object. */
     spki_question lent() const noexcept
     {
         spki_question lent = asked;
@@ -146,7 +147,7 @@ private:
     }
 };
 
-/* Throws `refused` with the line, or std::logic_error, unless a call has one of these statuses. */
+/* Throws `refused` with the line of a call that is refused, and std::logic_error if its status is none of the two wanted ones. */
 inline spki_status expect(spki_status met, const char *line, std::size_t length, spki_status wanted, spki_status other)
 {
     if (met == SPKI_REFUSED)
@@ -204,6 +205,7 @@ private:
     friend class guard;
     asked(spki_asked *handle, std::size_t room) noexcept : handle(handle), room(room) {}
 
+    /* The lines that spki_asked_explain or spki_asked_reduce writes. */
     template <typename Call> std::string lines(Call call) const
     {
         const std::unique_ptr<char[]> lines(new char[room]);
@@ -217,6 +219,7 @@ private:
 /* An access list that is read once and asked often, also by several threads at the same time. */
 class guard {
 public:
+    /* Reads an access list. Throws `refused` if it is none, and std::logic_error if a limit is over the highest. */
     explicit guard(std::string_view list, spki_policy policy = SPKI_STRICT, const spki_limits &limits = usual_limits)
         : room(std::max<std::size_t>(limits.answer ? limits.answer : SPKI_USUAL_ANSWER, line_room))
     {
@@ -232,6 +235,7 @@ public:
 
     std::size_t entries() const noexcept { return spki_guard_entries(handle.get()); }
 
+    /* Reads a question. Throws `refused` if a part cannot be read or exceeds a limit. */
     spki::asked ask(const question &question) const
     {
         char line[line_room];
@@ -244,6 +248,7 @@ public:
         return asked;
     }
 
+    /* Reads a question, verifies its signatures, unless no signature can help, and decides. Throws like `ask`. */
     template <typename Verify> decision decide(const question &question, Verify &&verify) const
     {
         spki::asked asked = ask(question);
@@ -261,7 +266,7 @@ private:
     /* The octets that each refusal fits in. */
     static constexpr std::size_t line_room = 128;
 
-    /* A library of another version may have other structures. */
+    /* Throws std::runtime_error if the library is of another version, which may have other structures. */
     static void check_version()
     {
         const std::string wanted = std::to_string(SPKI_VERSION_MAJOR) + "." + std::to_string(SPKI_VERSION_MINOR) + ".";

@@ -3,9 +3,9 @@
 #include <stddef.h>
 #include <string.h>
 
-/* Copies a caller's structure of the size that it states. Fields that it lacks are 0. Those that this library does not know must be 0.
- * `least` is the size that the structure had in version 0.2.0. Returns whether the structure can be read. */
-static bool is_read(void *to, size_t size, size_t least, const void *from)
+/* Copies a caller's structure, whose first field states its size, to one of `size` octets. Fields that the caller's lacks are 0. Those that this
+ * library does not know must be 0. `least` is the size in version 0.2.0. False if the structure cannot be read: `to` is unchanged then. */
+static bool copy_structure(void *to, size_t size, size_t least, const void *from)
 {
     const size_t given = from ? *(const size_t *)from : 0;
     bool is_fit = given >= least && given <= 4096 && given % sizeof given == 0;
@@ -16,5 +16,5 @@ static bool is_read(void *to, size_t size, size_t least, const void *from)
     return is_fit;
 }
 
-/* Reads a structure of this type. `last` is its last field in version 0.2.0. */
-#define READ(to, type, last, from) is_read(&(to), sizeof(to), offsetof(type, last) + sizeof((to).last), from)
+/* Copies `*from` to `to`, of this type, and returns whether it can be read. `last` is the last field of version 0.2.0. */
+#define READ(to, type, last, from) copy_structure(&(to), sizeof(to), offsetof(type, last) + sizeof((to).last), from)

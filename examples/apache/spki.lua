@@ -1,15 +1,15 @@
 -- /etc/apache2/spki.lua: asks spki-authd before each request. Debian's lua-socket is needed. Whatever goes wrong here is 503 or 500.
 local unix = require "socket.unix"
 
--- A header line, or nothing where there is no value. A value with the end of a line could begin another header.
+-- The line of a header, or nothing where there is no value. A value with the end of a line could begin another header.
 local function line(name, value)
     if not value or value == "" then return "" end
     if value:find("[%c]") then error("a control character in " .. name) end
     return name .. ": " .. value .. "\r\n"
 end
 
--- The answer of the daemon: its status, and what it says of a yes.
-local function asked(r)
+-- Asks the daemon about a request. Returns the status of its answer and X-Spki-Answer, each as a string, or nil if there is none.
+local function ask_daemon(r)
     local certificate = (r:ssl_var_lookup("SSL_CLIENT_CERT") or ""):gsub("%-%-%-%-%-[A-Z ]+%-%-%-%-%-", ""):gsub("%s", "")
     local client = assert(unix())
     client:settimeout(5)
@@ -31,7 +31,7 @@ end
 -- another module's script may end the second. What the first has granted is not asked again.
 function decide(r)
     if r.notes["spki_answer"] == "yes" then return apache2.DECLINED end
-    local is_there, status, answer = pcall(asked, r)
+    local is_there, status, answer = pcall(ask_daemon, r)
     if is_there and status == "200" and answer == "yes" then
         r.notes["spki_answer"] = "yes"
         return apache2.DECLINED

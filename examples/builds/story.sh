@@ -9,7 +9,7 @@ for who in wim ann ben web-robot ada eva ian app-robot dan gus joy data-robot; d
     ssh-keygen -q -t ed25519 -N '' -C $who -f $who
 done
 
-# team LEAD TEAM DEVELOPER DEVELOPER: what a lead signs
+# team LEAD TEAM DEVELOPER DEVELOPER: adds the lead's entry to the list, and signs what the lead signs
 team() {
     echo "(entry $(spki-cert key "$1.pub") (propagate) (tag (cache (* set read write) (* prefix /$2/))))" >> entries
     spki-cert sign --by "$1" --named developers --tag "(cache (* set read write) (* prefix /$2/))" --days 90 \
@@ -26,7 +26,7 @@ team dan data gus joy
 spki-cert check acl.sexp certs
 spki-cert show --labels . acl.sexp certs/web-ann.sexp certs/app-ann.sexp
 
-# Each asks with all certificates at hand: those that lead to the key are found.
+# asks WHO ACTION PATH: asks with all certificates at hand. spki-cert finds those that lead to the key.
 asks() {
     echo; spki-cert ask --acl acl.sexp --key "$1.pub" --labels . --cert certs -- cache "$2" "$3" || true
 }

@@ -7,6 +7,7 @@
 
 enum { MOST = 65536 };
 
+/* The first octets of a file, at most `most`. None if it cannot be read. */
 static struct spki_text octets_of(const char *path, void *room, size_t most)
 {
     FILE *file = fopen(path, "rb");
@@ -16,6 +17,7 @@ static struct spki_text octets_of(const char *path, void *room, size_t most)
     return text;
 }
 
+/* Decides at the present second. */
 static struct spki_decision decide(const spki_guard *guard, struct spki_proven_key key, struct spki_text sequence, const struct spki_text words[3])
 {
     const int64_t now = time(NULL);
@@ -31,6 +33,7 @@ static bool is_normal(const char *path)
     return *path == '/' && !strstr(closed, "//") && !strstr(closed, "/./") && !strstr(closed, "/../");
 }
 
+/* Writes the text to a file below the folder, or prints what the file has. */
 static void answer(bool writes, const char *folder, const char *path, const char *text)
 {
     static char whole[2 * MOST], content[MOST];

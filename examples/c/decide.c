@@ -39,7 +39,7 @@ static bool is_granted(const spki_guard *guard, struct spki_text sequence, struc
     return granted;
 }
 
-/* The text of a file of at most MOST_OCTETS octets. The program ends where it cannot be read, or is longer: it is not cut off. */
+/* Reads a file into `octets`, which has room for MOST_OCTETS. The program ends if it cannot be read, or is longer: it is not cut off. */
 static struct spki_text text_of(const char *path, unsigned char *octets)
 {
     FILE *file = fopen(path, "rb");

@@ -7,19 +7,21 @@
 #include <stdlib.h>
 #include <sys/random.h>
 
-/* Each set has twice as many places as nonces. 0 is a free place. */
+/* Each set has 2 * `most` places, of which 0 is a free one. `count` is that of the young set, and `turned` is when it began. */
 struct http_nonces {
-    uint64_t key[2], *young, *old;
+    uint64_t secret[2], *young, *old;
     size_t most, count;
     long long turned;
 };
 
+/* A word rotated to the left. */
 static uint64_t rotated(uint64_t word, unsigned bits)
 {
     return word << bits | word >> (64 - bits);
 }
 
-static void rounds(uint64_t v[4], int count)
+/* So many rounds of SipHash. */
+static void sip_rounds(uint64_t v[4], int count)
 {
     for (; count > 0; count--) {
         v[0] += v[1], v[1] = rotated(v[1], 13) ^ v[0], v[0] = rotated(v[0], 32);
@@ -35,33 +37,35 @@ struct sip {
     size_t length;
 };
 
-static void eat(struct sip *sip, const void *octets, size_t length)
+/* Adds octets to a hash. */
+static void sip_add(struct sip *sip, const void *octets, size_t length)
 {
     const unsigned char *in = octets;
     for (size_t i = 0; i < length; i++) {
         sip->word |= (uint64_t)in[i] << (8 * (sip->length % 8));
         if (++sip->length % 8 == 0) {
             sip->v[3] ^= sip->word;
-            rounds(sip->v, 2);
+            sip_rounds(sip->v, 2);
             sip->v[0] ^= sip->word;
             sip->word = 0;
         }
     }
 }
 
-/* The hash of a key and a nonce, which is not 0. No key has the octet between them at its end. */
-static uint64_t hash_of(const uint64_t key[2], struct spki_text first, struct spki_text second)
+/* The hash by `secret` of a key and a nonce, which is not 0. An octet 00 is between them: the canonical text of a key does not end with it. */
+static uint64_t hash_of(const uint64_t secret[2], struct spki_text key, struct spki_text nonce)
 {
-    struct sip sip = {{key[0] ^ 0x736f6d6570736575, key[1] ^ 0x646f72616e646f6d, key[0] ^ 0x6c7967656e657261, key[1] ^ 0x7465646279746573}, 0, 0};
-    eat(&sip, first.octets, first.length);
-    eat(&sip, "", 1);
-    eat(&sip, second.octets, second.length);
+    const uint64_t a = secret[0], b = secret[1];
+    struct sip sip = {{a ^ 0x736f6d6570736575, b ^ 0x646f72616e646f6d, a ^ 0x6c7967656e657261, b ^ 0x7465646279746573}, 0, 0};
+    sip_add(&sip, key.octets, key.length);
+    sip_add(&sip, "", 1);
+    sip_add(&sip, nonce.octets, nonce.length);
     uint64_t last = sip.word | (uint64_t)sip.length << 56;
     sip.v[3] ^= last;
-    rounds(sip.v, 2);
+    sip_rounds(sip.v, 2);
     sip.v[0] ^= last;
     sip.v[2] ^= 0xff;
-    rounds(sip.v, 4);
+    sip_rounds(sip.v, 4);
     uint64_t hash = sip.v[0] ^ sip.v[1] ^ sip.v[2] ^ sip.v[3];
     return hash ? hash : 1;
 }
@@ -83,13 +87,13 @@ struct http_nonces *http_nonces_open(size_t most)
     made->most = most;
     made->young = calloc(2 * most, sizeof *made->young);
     made->old = calloc(2 * most, sizeof *made->old);
-    if (made->young && made->old && getrandom(made->key, sizeof made->key, 0) == (ssize_t)sizeof made->key)
+    if (made->young && made->old && getrandom(made->secret, sizeof made->secret, 0) == (ssize_t)sizeof made->secret)
         return made;
     http_nonces_close(made);
     return NULL;
 }
 
-/* Makes the young set the old one when it is time. If the clock went back, nothing is forgotten. */
+/* Makes the young set the old one once it is `seconds` old. If the clock went back, nothing is forgotten. */
 static void turn(struct http_nonces *nonces, long long now, long long seconds)
 {
     long long age = now - nonces->turned;
@@ -108,7 +112,7 @@ static void turn(struct http_nonces *nonces, long long now, long long seconds)
 const char *http_nonces_take(void *store, struct spki_text key, struct spki_text nonce, long long now, long long seconds)
 {
     struct http_nonces *nonces = store;
-    uint64_t hash = hash_of(nonces->key, key, nonce), *place;
+    uint64_t hash = hash_of(nonces->secret, key, nonce), *place;
     turn(nonces, now, seconds);
     place = place_of(nonces->young, nonces->most, hash);
     if (*place || *place_of(nonces->old, nonces->most, hash))

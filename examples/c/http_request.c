@@ -1,4 +1,6 @@
-/* http_request.h says what it is for. Nothing is copied but the key, the digest and the signed text. */
+/* http_request.h says what it is for. Nothing is copied but the key, the digest and the signed text.
+ *
+ * A function that returns `const char *` returns null or the name of a refusal, unless its comment says otherwise. */
 #include "http_request.h"
 
 #include <stdlib.h>
@@ -31,25 +33,27 @@ static struct spki_text literal(const char *text)
     return (struct spki_text){text, strlen(text)};
 }
 
+/* Whether a text is a C string. */
 static bool is(struct spki_text text, const char *wanted)
 {
     return text.length == strlen(wanted) && (text.length == 0 || memcmp(text.octets, wanted, text.length) == 0);
 }
 
-static unsigned char small(unsigned char octet)
+static unsigned char lower_case(unsigned char octet)
 {
     return octet >= 'A' && octet <= 'Z' ? (unsigned char)(octet | 0x20) : octet;
 }
 
-static bool is_in_any_letters(struct spki_text text, struct spki_text wanted)
+static bool equals_ignoring_case(struct spki_text text, struct spki_text wanted)
 {
     const unsigned char *first = text.octets, *second = wanted.octets;
     for (size_t i = 0; text.length == wanted.length && i < text.length; i++)
-        if (small(first[i]) != small(second[i]))
+        if (lower_case(first[i]) != lower_case(second[i]))
             return false;
     return text.length == wanted.length;
 }
 
+/* The octets from `first` up to `end`, as a text. */
 static struct spki_text between(const unsigned char *first, const unsigned char *end)
 {
     return (struct spki_text){first, (size_t)(end - first)};
@@ -66,7 +70,8 @@ static struct spki_text trimmed(struct spki_text value)
     return between(first, end);
 }
 
-static bool has(const struct input *input, const char *name)
+/* Whether a component is among those that the signature covers. */
+static bool covers(const struct input *input, const char *name)
 {
     for (size_t i = 0; i < input->count; i++)
         if (is(input->components[i], name))
@@ -76,6 +81,7 @@ static bool has(const struct input *input, const char *name)
 
 /* ---- base64 */
 
+/* The number of a digit of base64, or -1. */
 static int six_bits(unsigned char octet)
 {
     static const char all[] = "ABCDEFGHIJKLMNOPQRSTUVWXYZabcdefghijklmnopqrstuvwxyz0123456789+/";
@@ -83,8 +89,8 @@ static int six_bits(unsigned char octet)
     return found ? (int)(found - all) : -1;
 }
 
-/* Whether a text is base64 with its padding, in the one form that its octets have, and they have room. */
-static bool decoded(struct spki_text text, unsigned char *octets, size_t room, size_t *length)
+/* Decodes base64 with its padding. False if the text is none, is not the one text of its octets, or has more octets than `room`. */
+static bool decode_base64(struct spki_text text, unsigned char *octets, size_t room, size_t *length)
 {
     const unsigned char *in = text.octets;
     size_t padding = 0;
@@ -112,7 +118,8 @@ static bool decoded(struct spki_text text, unsigned char *octets, size_t room, s
 
 /* ---- fields of RFC 8941, as strictly as they are written */
 
-static bool skips(struct cursor *in, const char *text)
+/* Moves the cursor behind a text if that is next, and returns whether it was. */
+static bool try_skip(struct cursor *in, const char *text)
 {
     size_t length = strlen(text);
     bool found = (size_t)(in->end - in->at) >= length && memcmp(in->at, text, length) == 0;
@@ -120,8 +127,8 @@ static bool skips(struct cursor *in, const char *text)
     return found;
 }
 
-/* The name of a member or of a parameter. It is empty if none is there. */
-static struct spki_text name_at(struct cursor *in)
+/* Reads the name of a member or of a parameter. It is empty if none is next. */
+static struct spki_text read_name(struct cursor *in)
 {
     const unsigned char *first = in->at;
     for (; in->at != in->end; in->at++) {
@@ -134,19 +141,20 @@ static struct spki_text name_at(struct cursor *in)
     return between(first, in->at);
 }
 
-/* Whether a string in quotes is there. An escape is refused: nothing in the profile needs one. */
-static bool string_at(struct cursor *in, struct spki_text *string)
+/* Reads a string in quotes, and returns whether one is next. An escape is refused: nothing in the profile needs one. */
+static bool read_string(struct cursor *in, struct spki_text *string)
 {
-    if (!skips(in, "\""))
+    if (!try_skip(in, "\""))
         return false;
     const unsigned char *first = in->at;
     while (in->at != in->end && *in->at >= ' ' && *in->at <= '~' && *in->at != '"' && *in->at != '\\')
         in->at++;
     *string = between(first, in->at);
-    return skips(in, "\"");
+    return try_skip(in, "\"");
 }
 
-static bool integer_at(struct cursor *in, long long *number)
+/* Reads a number of at most MOST_DIGITS digits, and returns whether one is next. */
+static bool read_integer(struct cursor *in, long long *number)
 {
     const unsigned char *first = in->at;
     *number = 0;
@@ -156,31 +164,31 @@ static bool integer_at(struct cursor *in, long long *number)
     return digits > 0 && digits <= MOST_DIGITS && (digits == 1 || *first != '0');
 }
 
-/* Goes behind the label of the first member. */
-static const char *begin(struct spki_text value, struct cursor *in)
+/* Sets the cursor to what follows the label and its `=`. The label must be `spki`. */
+static const char *read_label(struct spki_text value, struct cursor *in)
 {
     const unsigned char *first = value.octets;
     *in = (struct cursor){first, first + value.length};
-    struct spki_text name = name_at(in);
-    if (value.length > MOST_INPUT || name.length == 0 || !skips(in, "="))
+    struct spki_text name = read_name(in);
+    if (value.length > MOST_INPUT || name.length == 0 || !try_skip(in, "="))
         return malformed;
     return is(name, "spki") ? NULL : "other-label";
 }
 
-/* What follows the first member, which must be nothing. */
-static const char *end_of(struct cursor in)
+/* The refusal of what follows the first member, or null if nothing does. */
+static const char *expect_end(struct cursor in)
 {
     if (in.at == in.end)
         return NULL;
     while (in.at != in.end && (*in.at == ' ' || *in.at == '\t'))
         in.at++;
-    return skips(&in, ",") ? "two-signatures" : malformed;
+    return try_skip(&in, ",") ? "two-signatures" : malformed;
 }
 
 /* Whether an octet may be in a token of HTTP. */
-static bool is_of_token(unsigned char octet)
+static bool is_token_octet(unsigned char octet)
 {
-    return (small(octet) >= 'a' && small(octet) <= 'z') || (octet >= '0' && octet <= '9') || (octet && strchr("!#$%&'*+-.^_`|~", octet));
+    return (lower_case(octet) >= 'a' && lower_case(octet) <= 'z') || (octet >= '0' && octet <= '9') || (octet && strchr("!#$%&'*+-.^_`|~", octet));
 }
 
 /* Whether a name is one of a field in small letters, or of the components that are derived. */
@@ -191,18 +199,19 @@ static bool is_component(struct spki_text name)
         if (is(name, derived[i]))
             return true;
     for (size_t i = 0; i < name.length; i++)
-        if (!is_of_token(octets[i]) || octets[i] != small(octets[i]))
+        if (!is_token_octet(octets[i]) || octets[i] != lower_case(octets[i]))
             return false;
     return name.length > 0 && !is(name, "signature") && !is(name, "signature-input");
 }
 
+/* Reads the list of the names of components, in parentheses. */
 static const char *read_components(struct cursor *in, struct input *input)
 {
-    if (!skips(in, "("))
+    if (!try_skip(in, "("))
         return malformed;
-    while (!skips(in, ")")) {
+    while (!try_skip(in, ")")) {
         struct spki_text name;
-        if (input->count == MOST_COMPONENTS || (input->count > 0 && !skips(in, " ")) || !string_at(in, &name))
+        if (input->count == MOST_COMPONENTS || (input->count > 0 && !try_skip(in, " ")) || !read_string(in, &name))
             return malformed;
         if (!is_component(name) || (in->at != in->end && *in->at == ';'))
             return "unknown-component";
@@ -214,11 +223,12 @@ static const char *read_components(struct cursor *in, struct input *input)
     return NULL;
 }
 
+/* Reads the parameters up to the end of the field. Then no component and no parameter that the profile requires may be missing. */
 static const char *read_parameters(struct cursor *in, struct input *input)
 {
     unsigned seen = 0;
-    while (skips(in, ";")) {
-        struct spki_text name = name_at(in);
+    while (try_skip(in, ";")) {
+        struct spki_text name = read_name(in);
         unsigned place = 0;
         while (place < PARAMETERS && !is(name, parameter_names[place]))
             place++;
@@ -228,14 +238,14 @@ static const char *read_parameters(struct cursor *in, struct input *input)
             return "parameter-twice";
         seen |= 1U << place;
         long long *number = place == CREATED ? &input->created : &input->expires;
-        if (!skips(in, "=") || !(place <= EXPIRES ? integer_at(in, number) : string_at(in, &input->strings[place])))
+        if (!try_skip(in, "=") || !(place <= EXPIRES ? read_integer(in, number) : read_string(in, &input->strings[place])))
             return malformed;
     }
-    const char *behind = end_of(*in);
-    if (behind)
-        return behind;
-    bool has_target = has(input, "@target-uri") || (has(input, "@path") && has(input, "@query"));
-    if (!has_target || !has(input, "@method") || !has(input, "@authority") || !has(input, public_key))
+    const char *why = expect_end(*in);
+    if (why)
+        return why;
+    bool has_target = covers(input, "@target-uri") || (covers(input, "@path") && covers(input, "@query"));
+    if (!has_target || !covers(input, "@method") || !covers(input, "@authority") || !covers(input, public_key))
         return "missing-component";
     return seen == (1U << PARAMETERS) - 1 ? NULL : "missing-parameter";
 }
@@ -244,7 +254,7 @@ static const char *read_parameters(struct cursor *in, struct input *input)
 static const char *read_input(struct spki_text value, struct input *input)
 {
     struct cursor in;
-    const char *why = begin(value, &in);
+    const char *why = read_label(value, &in);
     if (why)
         return why;
     *input = (struct input){.text = between(in.at, in.end)};
@@ -252,45 +262,45 @@ static const char *read_input(struct spki_text value, struct input *input)
     return why ? why : read_parameters(&in, input);
 }
 
-/* Reads octets between colons. */
-static bool octets_at(struct cursor *in, unsigned char *octets, size_t room, size_t *length)
+/* Reads octets between colons, in base64, and returns whether they are next. */
+static bool read_octets(struct cursor *in, unsigned char *octets, size_t room, size_t *length)
 {
-    if (!skips(in, ":"))
+    if (!try_skip(in, ":"))
         return false;
     const unsigned char *first = in->at;
     while (in->at != in->end && *in->at != ':')
         in->at++;
-    return decoded(between(first, in->at), octets, room, length) && skips(in, ":");
+    return decode_base64(between(first, in->at), octets, room, length) && try_skip(in, ":");
 }
 
-/* Reads `Signature`. One that is longer than any by these algorithms is read, and is none of them. */
+/* Reads `Signature`. One that is too long for each algorithm is read too: check_message refuses it. */
 static const char *read_signature(struct spki_text value, unsigned char octets[MOST_INPUT], size_t *length)
 {
     struct cursor in;
-    const char *why = begin(value, &in);
+    const char *why = read_label(value, &in);
     if (why)
         return why;
-    return octets_at(&in, octets, MOST_INPUT, length) ? end_of(in) : malformed;
+    return read_octets(&in, octets, MOST_INPUT, length) ? expect_end(in) : malformed;
 }
 
 /* ---- the request */
 
-/* How many lines a field has, and its value in the first of them. */
-static size_t lines_of(const struct http_request *request, const char *name, struct spki_text *value)
+/* The number of lines that a field has. Sets `value`, unless it is null, to the value in the first of them. */
+static size_t count_lines(const struct http_request *request, const char *name, struct spki_text *value)
 {
     size_t count = 0;
     for (size_t i = 0; i < request->field_count; i++)
-        if (is_in_any_letters(request->fields[i].name, literal(name)) && count++ == 0 && value)
+        if (equals_ignoring_case(request->fields[i].name, literal(name)) && count++ == 0 && value)
             *value = trimmed(request->fields[i].value);
     return count;
 }
 
-/* The value of a field that is covered, whose name is that of a component. */
-static const char *field_of(const struct http_request *request, struct spki_text name, struct spki_text *value)
+/* Sets `value` to that of a field, which must be there in one line of printable ASCII. */
+static const char *read_field(const struct http_request *request, struct spki_text name, struct spki_text *value)
 {
     size_t count = 0;
     for (size_t i = 0; i < request->field_count; i++)
-        if (is_in_any_letters(request->fields[i].name, name) && count++ == 0)
+        if (equals_ignoring_case(request->fields[i].name, name) && count++ == 0)
             *value = trimmed(request->fields[i].value);
     if (count != 1)
         return count == 0 ? "absent-field" : "repeated-field";
@@ -301,15 +311,17 @@ static const char *field_of(const struct http_request *request, struct spki_text
     return NULL;
 }
 
-static bool is_method(struct spki_text method)
+/* Whether a text is a token of HTTP, as are a method and the name of a field. */
+static bool is_token(struct spki_text text)
 {
-    const unsigned char *octets = method.octets;
-    for (size_t i = 0; i < method.length; i++)
-        if (!is_of_token(octets[i]))
+    const unsigned char *octets = text.octets;
+    for (size_t i = 0; i < text.length; i++)
+        if (!is_token_octet(octets[i]))
             return false;
-    return method.length > 0;
+    return text.length > 0;
 }
 
+/* Whether a target is a path, perhaps with a query, of visible characters. */
 static bool is_target(struct spki_text target)
 {
     const unsigned char *octets = target.octets;
@@ -319,7 +331,7 @@ static bool is_target(struct spki_text target)
     return target.length > 0 && octets[0] == '/';
 }
 
-/* The name of the service that a request is for, or null. */
+/* The name of the service that a request is for, or null if it has no such name. The port 443 is left out. */
 static const struct spki_text *authority_of(const struct http_service *service, const struct http_request *request)
 {
     struct spki_text asked = request->authority, port = SPKI_LITERAL(":443");
@@ -327,27 +339,29 @@ static const struct spki_text *authority_of(const struct http_service *service, 
     if (asked.length >= port.length && memcmp(octets + asked.length - port.length, port.octets, port.length) == 0)
         asked.length -= port.length;
     for (size_t i = 0; i < service->name_count; i++)
-        if (asked.length > 0 && is_in_any_letters(asked, service->names[i]))
+        if (asked.length > 0 && equals_ignoring_case(asked, service->names[i]))
             return &service->names[i];
     return NULL;
 }
 
+/* Whether the body may have octets, so that its digest must be covered. */
 static bool may_have_body(const struct http_request *request)
 {
     for (size_t i = 0; i < request->field_count; i++)
-        if (is_in_any_letters(request->fields[i].name, literal("content-length")) && !is(trimmed(request->fields[i].value), "0"))
+        if (equals_ignoring_case(request->fields[i].name, literal("content-length")) && !is(trimmed(request->fields[i].value), "0"))
             return true;
-    return !(is(request->method, "GET") || is(request->method, "HEAD")) || lines_of(request, "transfer-encoding", NULL) > 0;
+    return !(is(request->method, "GET") || is(request->method, "HEAD")) || count_lines(request, "transfer-encoding", NULL) > 0;
 }
 
 /* ---- the signed text */
 
-/* The text, or its length alone where the octets are null. */
+/* Counts the octets of a text, and writes them to `octets` unless that is null. */
 struct writer {
     unsigned char *octets;
     size_t length;
 };
 
+/* Writes a text behind what is written. */
 static void put(struct writer *out, struct spki_text text)
 {
     if (out->octets && text.length)
@@ -355,7 +369,7 @@ static void put(struct writer *out, struct spki_text text)
     out->length += text.length;
 }
 
-/* Writes the value of a component. */
+/* Writes the value of a component. The refusal is that of a field which cannot be read. */
 static const char *put_value(struct writer *out, const struct http_request *request, struct spki_text authority, struct spki_text name)
 {
     struct spki_text target = request->target, value;
@@ -373,12 +387,13 @@ static const char *put_value(struct writer *out, const struct http_request *requ
         put(out, literal("https://"));
         put(out, authority);
         put(out, target);
-    } else if (!(why = field_of(request, name, &value))) {
+    } else if (!(why = read_field(request, name, &value))) {
         put(out, value);
     }
     return why;
 }
 
+/* Writes the signature base of RFC 9421: the text that is signed. */
 static const char *put_base(struct writer *out, const struct http_request *request, struct spki_text authority, const struct input *input)
 {
     for (size_t i = 0; i < input->count; i++) {
@@ -397,26 +412,26 @@ static const char *put_base(struct writer *out, const struct http_request *reque
 
 /* ---- keys and signatures, as docs/FORMATS.md has them */
 
-/* Reads a key in transport form. Returns its algorithm and the octets of a signature by it, or null. */
-static const char *read_key(struct spki_text text, struct http_proof *proof, size_t *octets)
+/* Reads a key in transport form into the proof. Returns the name of its algorithm, and sets the length of its signatures. Null: no key. */
+static const char *read_key(struct spki_text text, struct http_proof *proof, size_t *signature_length)
 {
     const unsigned char *in = text.octets;
     if (text.length < 2 || text.length > MOST_KEY_TEXT || in[0] != '{' || in[text.length - 1] != '}')
         return NULL;
-    if (!decoded(between(in + 1, in + text.length - 1), proof->key, sizeof proof->key, &proof->key_length))
+    if (!decode_base64(between(in + 1, in + text.length - 1), proof->key, sizeof proof->key, &proof->key_length))
         return NULL;
     struct spki_text key = {proof->key, proof->key_length}, strings[2];
-    *octets = (size_t)2 * VERIFY_HALF;
+    *signature_length = (size_t)2 * VERIFY_HALF;
     if (verify_has_form(key, "(10:public-key(3:ecc(5:curve7:Ed25519)(5:flags5:eddsa)(1:q%)))", strings))
         return "ed25519";
     if (verify_has_form(key, "(10:public-key(3:ecc(5:curve10:NIST P-256)(1:q%)))", strings))
         return "ecdsa-p256-sha256";
-    *octets = P384_OCTETS;
+    *signature_length = P384_OCTETS;
     if (verify_has_form(key, "(10:public-key(3:ecc(5:curve10:NIST P-384)(1:q%)))", strings))
         return "ecdsa-p384-sha384";
     if (!verify_has_form(key, "(10:public-key(3:rsa(1:n%)(1:e%)))", strings))
         return NULL;
-    *octets = verify_trimmed(strings[0]).length;
+    *signature_length = verify_trimmed(strings[0]).length;
     return "rsa-v1_5-sha256";
 }
 
@@ -432,7 +447,7 @@ static void put_string(struct writer *out, struct spki_text string)
     put(out, string);
 }
 
-/* Writes the canonical value of a signature. */
+/* Writes the canonical value of a signature, whose octets are those of HTTP. */
 static void put_signature(struct writer *out, struct spki_text algorithm, struct spki_text octets)
 {
     const unsigned char *first = octets.octets, *half = first + octets.length / 2;
@@ -450,7 +465,8 @@ static void put_signature(struct writer *out, struct spki_text algorithm, struct
 
 /* ---- the tests */
 
-static const char *check_time(const struct http_service *service, const struct input *input, long long now)
+/* Checks the tag, the length of the nonce, and the times. */
+static const char *check_parameters(const struct http_service *service, const struct input *input, long long now)
 {
     if (!is(input->strings[TAG], "spki"))
         return "other-tag";
@@ -465,27 +481,28 @@ static const char *check_time(const struct http_service *service, const struct i
     return input->created < service->start ? "before-start" : NULL;
 }
 
-/* Reads `Content-Digest`. */
+/* Reads `Content-Digest` into the proof. */
 static const char *read_digest(struct spki_text value, struct http_proof *proof)
 {
     const unsigned char *first = value.octets;
     struct cursor in = {first, first + value.length};
-    size_t wanted = skips(&in, "sha-256=") ? 32 : skips(&in, "sha-512=") ? 64 : 0;
-    bool is_one = wanted && octets_at(&in, proof->digest, sizeof proof->digest, &proof->digest_length) && in.at == in.end;
+    size_t wanted = try_skip(&in, "sha-256=") ? 32 : try_skip(&in, "sha-512=") ? 64 : 0;
+    bool is_one = wanted && read_octets(&in, proof->digest, sizeof proof->digest, &proof->digest_length) && in.at == in.end;
     return is_one && proof->digest_length == wanted ? NULL : "bad-digest";
 }
 
+/* Checks that fields on which the answer depends are covered, and reads the digest of the body. */
 static const char *check_fields(const struct http_request *request, const struct input *input, struct http_proof *proof)
 {
     const char *const all[] = {chained, sequence, body_digest};
     struct spki_text value;
     for (size_t i = 0; i < sizeof all / sizeof *all; i++)
-        if (lines_of(request, all[i], NULL) > 0 && !has(input, all[i]))
+        if (count_lines(request, all[i], NULL) > 0 && !covers(input, all[i]))
             return "uncovered-field";
     proof->digest_length = 0;
-    if (!has(input, body_digest))
+    if (!covers(input, body_digest))
         return may_have_body(request) ? "body-without-digest" : NULL;
-    const char *why = field_of(request, literal(body_digest), &value);
+    const char *why = read_field(request, literal(body_digest), &value);
     return why ? why : read_digest(value, proof);
 }
 
@@ -501,15 +518,15 @@ static bool is_hash(struct spki_text text, const unsigned char hash[VERIFY_HASH]
     return is(text, written);
 }
 
-/* Reads the key that a request names as its signer, and how many octets a signature by it has. */
-static const char *check_key(const struct http_request *request, const struct input *input, struct http_proof *proof, size_t *octets)
+/* Reads the key of the request, which must be that of `keyid` and `alg`. Sets the length of its signatures. */
+static const char *check_key(const struct http_request *request, const struct input *input, struct http_proof *proof, size_t *signature_length)
 {
     unsigned char hash[VERIFY_HASH];
     struct spki_text value;
-    const char *why = field_of(request, literal(public_key), &value);
+    const char *why = read_field(request, literal(public_key), &value);
     if (why)
         return why;
-    const char *algorithm = read_key(value, proof, octets);
+    const char *algorithm = read_key(value, proof, signature_length);
     if (!algorithm)
         return "bad-key";
     if (!verify_hash((struct spki_text){proof->key, proof->key_length}, hash))
@@ -519,7 +536,7 @@ static const char *check_key(const struct http_request *request, const struct in
     return is(input->strings[ALG], algorithm) ? NULL : "other-algorithm";
 }
 
-/* Verifies the signature of a request whose fields are read. */
+/* Verifies the octets of a signature, whose message is the signature base. */
 static const char *check_signature(struct spki_text key, struct spki_text algorithm, struct spki_text octets, struct writer *base)
 {
     unsigned char text[MOST_SIGNATURE + 64];
@@ -530,25 +547,25 @@ static const char *check_signature(struct spki_text key, struct spki_text algori
     return is_valid ? NULL : "invalid-signature";
 }
 
-/* Tests the message, and then its signature. */
+/* Tests the message, and then its signature. The base is written twice: the first time only its octets are counted. */
 static const char *check_message(const struct http_service *service, const struct http_request *request, const struct input *input,
                                  struct spki_text octets, struct http_proof *proof)
 {
-    struct writer length = {NULL, 0};
-    size_t wanted = 0;
-    if (!is_method(request->method) || !is_target(request->target))
-        return is_method(request->method) ? "bad-target" : "bad-method";
+    struct writer counter = {NULL, 0};
+    size_t signature_length = 0;
+    if (!is_token(request->method) || !is_target(request->target))
+        return is_token(request->method) ? "bad-target" : "bad-method";
     const struct spki_text *authority = authority_of(service, request);
-    const char *why = authority ? put_base(&length, request, *authority, input) : "other-authority";
+    const char *why = authority ? put_base(&counter, request, *authority, input) : "other-authority";
     if (!why)
         why = check_fields(request, input, proof);
     if (!why)
-        why = check_key(request, input, proof, &wanted);
+        why = check_key(request, input, proof, &signature_length);
     if (why)
         return why;
-    if (octets.length != wanted || octets.length > MOST_SIGNATURE)
+    if (octets.length != signature_length || octets.length > MOST_SIGNATURE)
         return "invalid-signature";
-    struct writer base = {malloc(length.length), 0};
+    struct writer base = {malloc(counter.length), 0};
     if (!base.octets)
         return "memory";
     put_base(&base, request, *authority, input);
@@ -557,11 +574,11 @@ static const char *check_message(const struct http_service *service, const struc
     return why;
 }
 
-/* Reads both fields. */
-static const char *read_both(const struct http_request *request, struct input *input, unsigned char octets[MOST_INPUT], size_t *length)
+/* Reads `Signature-Input` and `Signature`. */
+static const char *read_fields(const struct http_request *request, struct input *input, unsigned char octets[MOST_INPUT], size_t *length)
 {
     struct spki_text given, signature;
-    size_t inputs = lines_of(request, "signature-input", &given), signatures = lines_of(request, "signature", &signature);
+    size_t inputs = count_lines(request, "signature-input", &given), signatures = count_lines(request, "signature", &signature);
     if (inputs + signatures == 0)
         return "absent";
     if (inputs > 1 || signatures > 1)
@@ -572,7 +589,7 @@ static const char *read_both(const struct http_request *request, struct input *i
     return why ? why : read_signature(signature, octets, length);
 }
 
-/* Takes off what is before a mark, and ends it there. */
+/* The text up to a mark, or all if there is none. Writes 00 in place of the mark, and sets `rest` to what is behind it. */
 static struct spki_text cut(char **rest, const char *mark)
 {
     char *first = *rest, *end = strstr(first, mark);
@@ -586,31 +603,31 @@ bool http_request_read(char *head, struct http_field *fields, size_t most, struc
 {
     *request = (struct http_request){.method = cut(&head, " "), .fields = fields};
     request->target = cut(&head, " ");
-    if (!is_method(request->method) || !is_target(request->target) || !is(cut(&head, "\r\n"), "HTTP/1.1"))
+    if (!is_token(request->method) || !is_target(request->target) || !is(cut(&head, "\r\n"), "HTTP/1.1"))
         return false;
     for (; *head && *head != '\r'; request->field_count++) {
         if (request->field_count == most)
             return false;
         fields[request->field_count].name = cut(&head, ":");
         fields[request->field_count].value = cut(&head, "\r\n");
-        if (!is_method(fields[request->field_count].name))
+        if (!is_token(fields[request->field_count].name))
             return false;
     }
-    return strcmp(head, "\r\n") == 0 && field_of(request, literal("host"), &request->authority) == NULL;
+    return strcmp(head, "\r\n") == 0 && read_field(request, literal("host"), &request->authority) == NULL;
 }
 
-const char *http_request_proves(const struct http_service *service, const struct http_request *request, long long now, struct http_proof *proof)
+const char *http_request_refusal(const struct http_service *service, const struct http_request *request, long long now, struct http_proof *proof)
 {
     struct input input;
     struct http_proof made = {.key_length = 0};
     unsigned char octets[MOST_INPUT];
     size_t length = 0;
-    const char *why = read_both(request, &input, octets, &length);
+    const char *why = read_fields(request, &input, octets, &length);
     if (!why)
-        why = check_time(service, &input, now);
+        why = check_parameters(service, &input, now);
     if (why)
         return why;
-    if (lines_of(request, sequence, &made.sequence) == 0)
+    if (count_lines(request, sequence, &made.sequence) == 0)
         made.sequence = literal("(sequence)");
     why = check_message(service, request, &input, (struct spki_text){octets, length}, &made);
     if (!why)

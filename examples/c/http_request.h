@@ -2,7 +2,7 @@
  * http_request.c along with verify.h and one of its verifiers, and http_nonces.c unless it keeps nonces itself.
  *
  *     struct http_service service = {names, 1, time(NULL), http_nonces_take, http_nonces_open(100000)};
- *     const char *refused = http_request_proves(&service, &request, time(NULL), &proof);
+ *     const char *refused = http_request_refusal(&service, &request, time(NULL), &proof);
  *     if (!refused)
  *         question.key = http_proven_key(&proof);
  */
@@ -24,7 +24,7 @@ struct http_request {
 };
 
 /* A service: its names in small letters, with ports that are not 443, and the time before which nothing may be created, since its nonce may be
- * forgotten: the start of the process, or 0. `take` keeps a nonce of a key for so many seconds, and returns null, or why not. */
+ * forgotten: the start of the process, or 0. `take` keeps a nonce of a key for so many seconds, and returns null, or the name of the refusal. */
 struct http_service {
     const struct spki_text *names;
     size_t name_count;
@@ -41,13 +41,14 @@ struct http_proof {
     struct spki_text sequence;
 };
 
-/* Takes the head of a request of HTTP/1.1 apart, which ends with an octet 00 behind its empty line. The authority is that of `Host`. Each part ends
- * with an octet 00 in its place. Whether it is a head of at most so many fields, each in one line. */
+/* Parses the head of a request of HTTP/1.1, a C string that ends with its empty line. The texts of `request` and `fields` are parts of `head`. In it
+ * the method, the target and each name and value are ended by an octet 00. The authority is that of `Host`. False if it is no head of at most `most`
+ * fields, each in one line. */
 bool http_request_read(char *head, struct http_field *fields, size_t most, struct http_request *request);
 
-/* Whether a request proves a key at a time, in seconds since 1970: null, or the name of the refusal in docs/SIGNATURES.md, or "memory". Its nonce
- * is used up. The key is set only if null is returned. */
-const char *http_request_proves(const struct http_service *service, const struct http_request *request, long long now, struct http_proof *proof);
+/* Null if a request proves a key at a time, in seconds since 1970. Otherwise the name of the refusal in docs/SIGNATURES.md, or "memory". With null
+ * the proof is set, and the nonce of the request is used up. */
+const char *http_request_refusal(const struct http_service *service, const struct http_request *request, long long now, struct http_proof *proof);
 
 /* The key of a proof, for a question: its octets are in the proof. */
 static inline struct spki_proven_key http_proven_key(const struct http_proof *proof)

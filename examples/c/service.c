@@ -11,14 +11,14 @@
 
 enum { MOST = 65536, MOST_LIST = 1048576, MOST_FIELDS = 64, NONCES = 100000, SECONDS = 5 };
 
-/* Whether the key that has signed a request may read what it asks for. */
+/* Whether `head` is a request whose signer may read what it asks for. The head is cut into its parts. */
 static bool is_granted(const spki_guard *guard, const struct http_service *service, char *head)
 {
     struct http_field fields[MOST_FIELDS];
     struct http_request request;
     struct http_proof proof;
     const int64_t now = time(NULL);
-    if (!http_request_read(head, fields, MOST_FIELDS, &request) || http_request_proves(service, &request, now, &proof) != NULL)
+    if (!http_request_read(head, fields, MOST_FIELDS, &request) || http_request_refusal(service, &request, now, &proof) != NULL)
         return false;
     const char *path = request.target.octets;
     if (strcmp(request.method.octets, "GET") != 0 || strpbrk(path, "%?") || strstr(path, "//") || strstr(path, "/."))
@@ -29,13 +29,15 @@ static bool is_granted(const spki_guard *guard, const struct http_service *servi
     return verify_decides(guard, &question).status == SPKI_YES;
 }
 
-/* Reads up to the end of a head, or up to what is none. */
+/* Reads until the empty line that ends a head, or until the stream ends, fails, times out or fills the buffer. `head` is a C string then. */
 static void read_head(int client, char head[MOST])
 {
-    size_t used = 0;
-    for (ssize_t got = 1; got > 0 && !strstr(head, "\r\n\r\n"); head[used] = '\0')
-        if ((got = read(client, head + used, MOST - 1 - used)) > 0)
-            used += (size_t)got;
+    ssize_t used = 0, got;
+    head[0] = '\0';
+    while (!strstr(head, "\r\n\r\n") && (got = read(client, head + used, (size_t)(MOST - 1 - used))) > 0) {
+        used += got;
+        head[used] = '\0';
+    }
 }
 
 int main(int count, char **given)
@@ -52,11 +54,9 @@ int main(int count, char **given)
     const struct spki_text name = {given[2], strlen(given[2])};
     const struct http_service service = {&name, 1, time(NULL), http_nonces_take, http_nonces_open(NONCES)};
     signal(SIGPIPE, SIG_IGN);
-    printf("%d\n", ntohs(address.sin_port));
-    fflush(stdout);
+    dprintf(STDOUT_FILENO, "%d\n", ntohs(address.sin_port));
     for (int client; service.store && (client = accept(listener, NULL, NULL)) >= 0; close(client)) {
         setsockopt(client, SOL_SOCKET, SO_RCVTIMEO, &(struct timeval){.tv_sec = SECONDS}, sizeof(struct timeval));
-        *head = '\0';
         read_head(client, head);
         dprintf(client, "HTTP/1.1 %s\r\nContent-Length: 0\r\nConnection: close\r\n\r\n",
                 is_granted(guard, &service, head) ? "200 OK" : "403 Forbidden");

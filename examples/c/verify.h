@@ -42,6 +42,7 @@ SPKI_RESULT static inline struct spki_decision verify_decides(const spki_guard *
 
 /* ---- shared by the verifiers */
 
+/* The octets of half a signature by Ed25519 and of a point of P-384, and the bits of the numbers of a key by RSA. */
 enum { VERIFY_HALF = 32, VERIFY_MOST_POINT = 97, VERIFY_LEAST_BITS = 2048, VERIFY_MOST_BITS = 4096, VERIFY_MOST_EXPONENT_BITS = 31 };
 /* A canonical text of more octets is no key and no value of a signature. */
 enum { VERIFY_MOST_OCTETS = 4096 };
@@ -55,7 +56,7 @@ struct verify_parts {
     struct spki_text key[2], value[2];
 };
 
-/* Reads a string, LENGTH:OCTETS, and returns where it ends. Returns null if none is there. */
+/* Reads a string, LENGTH:OCTETS, and returns where it ends. Returns null if there is no whole one before `end`. */
 static inline const unsigned char *verify_string(const unsigned char *at, const unsigned char *end, struct spki_text *string)
 {
     const unsigned char *first = at;
@@ -68,7 +69,7 @@ static inline const unsigned char *verify_string(const unsigned char *at, const 
     return at + length;
 }
 
-/* Whether a canonical text has a form, in which `%` is any string. Sets the strings. */
+/* Whether a canonical text has a form, in which `%` is any string. Sets `strings[0]` and so on to these. */
 static inline bool verify_has_form(struct spki_text text, const char *form, struct spki_text *strings)
 {
     const unsigned char *at = text.octets, *end = at + text.length;
@@ -99,13 +100,13 @@ static inline bool verify_is_below(struct spki_text number, struct spki_text lim
     return memcmp(number.octets, limit.octets, limit.length) < 0;
 }
 
-/* The same for a limit of 32 octets. */
+/* Whether a number is below a limit of VERIFY_HALF octets. */
 static inline bool verify_is_below_half(struct spki_text number, const char *limit)
 {
     return verify_is_below(number, (struct spki_text){limit, VERIFY_HALF});
 }
 
-/* The bits of a number of a key, or 0. It has an octet 00 in front exactly if its first bit is set, and is odd. */
+/* The count of bits of a number of a key. 0 unless the number is odd, and has an octet 00 in front exactly if its first bit is set. */
 static inline size_t verify_bits(struct spki_text number)
 {
     struct spki_text trimmed = verify_trimmed(number);
@@ -126,8 +127,8 @@ static inline void verify_reverse(struct spki_text half, unsigned char reversed[
         reversed[i] = octets[VERIFY_HALF - 1 - i];
 }
 
-/* Whether Ed25519 is asked. The point q has no small order and one text: y is at least 2^192, below p - 1, and none of the two of order 8. The
- * number s is below the order of the group. */
+/* Whether q is a key of Ed25519, and r and s a signature. The point q has no small order and one text: y is at least 2^192, below p - 1, and none of
+ * the two of order 8. The number s is below the order of the group. */
 static inline bool verify_is_ed25519(struct spki_text q, struct spki_text r, struct spki_text s)
 {
     static const char last[] = "\x7f\xff\xff\xff\xff\xff\xff\xff\xff\xff\xff\xff\xff\xff\xff\xff\xff\xff\xff\xff\xff\xff\xff\xff\xff\xff\xff\xff"
@@ -148,7 +149,8 @@ static inline bool verify_is_ed25519(struct spki_text q, struct spki_text r, str
            && verify_is_below_half((struct spki_text){number, VERIFY_HALF}, order);
 }
 
-/* Whether ECDSA is asked. The coordinates are below p, and r and s are from 1 to below the order. A library tests that the point is one. */
+/* Whether q can be a key of ECDSA, and r and s a signature, by a curve's prime p and order. The coordinates are below p, and r and s are from 1 to
+ * below the order. A library tests that q is on the curve. */
 static inline bool verify_is_ecdsa(struct spki_text q, struct spki_text r, struct spki_text s, struct spki_text p, struct spki_text order)
 {
     const unsigned char *octets = q.octets;
@@ -174,7 +176,7 @@ static inline bool verify_is_p384(struct spki_text q, struct spki_text r, struct
     return verify_is_ecdsa(q, r, s, (struct spki_text){p, sizeof p - 1}, (struct spki_text){order, sizeof order - 1});
 }
 
-/* Whether RSA is asked. Both numbers of the key are odd and within the limits, and s is from 1 to below the modulus. */
+/* Whether n and e can be a key of RSA, and s a signature. Both of the key are odd and within the limits, and s is from 1 to below n. */
 static inline bool verify_is_rsa(struct spki_text n, struct spki_text e, struct spki_text s)
 {
     size_t bits = verify_bits(n), exponent = verify_bits(e);
@@ -182,28 +184,28 @@ static inline bool verify_is_rsa(struct spki_text n, struct spki_text e, struct 
            && verify_is_below(s, n);
 }
 
-/* Takes a key and the value of a signature apart, and tests them. The kind is VERIFY_NONE if they are none of one kind. */
+/* Takes a key and the value of a signature apart, and tests them. The kind is VERIFY_NONE if they fail, or are not of the same kind. */
 static inline struct verify_parts verify_parts_of(struct spki_text key, struct spki_text value)
 {
-    struct verify_parts of = {.kind = VERIFY_NONE};
-    struct spki_text *k = of.key, *v = of.value;
+    struct verify_parts parts = {.kind = VERIFY_NONE};
+    struct spki_text *k = parts.key, *v = parts.value;
     if (verify_has_form(key, "(10:public-key(3:ecc(5:curve7:Ed25519)(5:flags5:eddsa)(1:q%)))", k)
         && verify_has_form(value, "(7:sig-val(5:eddsa(1:r%)(1:s%)))", v)) {
         if (verify_is_ed25519(k[0], v[0], v[1]))
-            of.kind = VERIFY_ED25519;
+            parts.kind = VERIFY_ED25519;
     } else if (verify_has_form(value, "(7:sig-val(5:ecdsa(1:r%)(1:s%)))", v)) {
         v[0] = verify_trimmed(v[0]);
         v[1] = verify_trimmed(v[1]);
         if (verify_has_form(key, "(10:public-key(3:ecc(5:curve10:NIST P-256)(1:q%)))", k) && verify_is_p256(k[0], v[0], v[1]))
-            of.kind = VERIFY_P256;
+            parts.kind = VERIFY_P256;
         else if (verify_has_form(key, "(10:public-key(3:ecc(5:curve10:NIST P-384)(1:q%)))", k) && verify_is_p384(k[0], v[0], v[1]))
-            of.kind = VERIFY_P384;
+            parts.kind = VERIFY_P384;
     } else if (verify_has_form(key, "(10:public-key(3:rsa(1:n%)(1:e%)))", k) && verify_has_form(value, "(7:sig-val(3:rsa(1:s%)))", v)) {
         v[0] = verify_trimmed(v[0]);
         if (verify_is_rsa(k[0], k[1], v[0]))
-            of.kind = VERIFY_RSA;
+            parts.kind = VERIFY_RSA;
     }
-    return of;
+    return parts;
 }
 
 #endif

@@ -13,8 +13,8 @@
 /* The octets of the largest signature: that of RSA. */
 enum { MOST_SIGNATURE = VERIFY_MOST_BITS / 8 };
 
-/* OpenSSL's public key of this kind, or null. */
-static EVP_PKEY *made_of(const char *kind, OSSL_PARAM *parameters)
+/* OpenSSL's public key of a kind, such as "RSA", by its parameters. Null if they are null or no key, or without memory. */
+static EVP_PKEY *key_from(const char *kind, OSSL_PARAM *parameters)
 {
     EVP_PKEY *key = NULL;
     EVP_PKEY_CTX *context = EVP_PKEY_CTX_new_from_name(NULL, kind, NULL);
@@ -34,7 +34,7 @@ static EVP_PKEY *rsa_key(struct spki_text modulus, struct spki_text exponent)
     if (n && e && builder && OSSL_PARAM_BLD_push_BN(builder, OSSL_PKEY_PARAM_RSA_N, n)
         && OSSL_PARAM_BLD_push_BN(builder, OSSL_PKEY_PARAM_RSA_E, e))
         parameters = OSSL_PARAM_BLD_to_param(builder);
-    EVP_PKEY *key = made_of("RSA", parameters);
+    EVP_PKEY *key = key_from("RSA", parameters);
     OSSL_PARAM_free(parameters);
     OSSL_PARAM_BLD_free(builder);
     BN_free(e);
@@ -51,9 +51,10 @@ static EVP_PKEY *ecdsa_key(enum verify_kind kind, struct spki_text point)
     OSSL_PARAM parameters[] = {OSSL_PARAM_construct_utf8_string(OSSL_PKEY_PARAM_GROUP_NAME, kind == VERIFY_P256 ? curve : longer, 0),
                                OSSL_PARAM_construct_octet_string(OSSL_PKEY_PARAM_PUB_KEY, octets, point.length),
                                OSSL_PARAM_construct_end()};
-    return made_of("EC", parameters);
+    return key_from("EC", parameters);
 }
 
+/* OpenSSL's key of a key that was taken apart, or null. */
 static EVP_PKEY *key_of(const struct verify_parts *parts)
 {
     if (parts->kind == VERIFY_ED25519)
@@ -61,7 +62,7 @@ static EVP_PKEY *key_of(const struct verify_parts *parts)
     return parts->kind == VERIFY_RSA ? rsa_key(parts->key[0], parts->key[1]) : ecdsa_key(parts->kind, parts->key[0]);
 }
 
-/* Writes the two numbers of a signature by ECDSA as OpenSSL has them. Returns the count of the octets, or 0. */
+/* Writes the two numbers of a signature by ECDSA in DER. Returns the count of the octets, or 0 if that fails. */
 static size_t ecdsa_signature(struct spki_text r, struct spki_text s, unsigned char *octets)
 {
     ECDSA_SIG *pair = ECDSA_SIG_new();
@@ -78,7 +79,7 @@ static size_t ecdsa_signature(struct spki_text r, struct spki_text s, unsigned c
 }
 
 /* Writes a signature as OpenSSL has it: both halves of one by Ed25519, the number of one by RSA with all octets of the modulus, both numbers
- * of one by ECDSA. Returns the count of the octets, or 0. */
+ * of one by ECDSA. `size` is the octets of the modulus. Returns the count of the octets, or 0 if that fails. */
 static size_t signature_of(const struct verify_parts *parts, size_t size, unsigned char octets[MOST_SIGNATURE])
 {
     struct spki_text first = parts->value[0], second = parts->value[1];

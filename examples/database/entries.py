@@ -15,7 +15,7 @@ ALGORITHMS = ("sha1", "sha256", "sha512")
 
 
 def places_of(key):
-    """What the principals are found by that can name a key in canonical form. More may be found by them, and do no harm."""
+    """The digests by which the store finds the principals that can name a key, in canonical form. If it finds others too, that does no harm."""
     return [hashlib.new(algorithm, key).digest() for algorithm in ALGORITHMS]
 
 

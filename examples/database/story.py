@@ -34,7 +34,7 @@ READ, WRITE = ("packages", "read", "/builds/x"), ("packages", "write", "/builds/
 RIGHTS = b"(tag (packages (* set read write)))"
 
 
-def told(store):
+def answers(store):
     """Tells the story, and yields of each answer whether it is as wanted."""
     alice, bob, carol = map(Pair, (RSA, ED25519, ED25519))
     to_bob = f'(cert (issuer {alice.principal}) (subject {bob.principal}) (tag (packages read)) (not-after "9999-12-31_23:59:59"))'
@@ -43,6 +43,7 @@ def told(store):
     entry, verifier = entries.entry(alice.principal.encode(), RIGHTS, b"(propagate)"), spki_http.Verifier(NAME)
 
     def asks(remark, pair, shown, words, wanted):
+        """Prints the answer to a request that a pair signs. Whether it is as wanted: the number of an entry, or None for a no."""
         method, target, fields = asked_by(pair, words, shown)
         proof = verifier.prove(method, NAME, target, fields.items(), b"")
         question = spki.Question(proof.sequence, spki.ProvenKey.assume(proof.key), words=[word.encode() for word in words],
@@ -70,7 +71,7 @@ def main():
     store = Store(sys.argv[1], SCHEMA)
     store.make()
     try:
-        results = list(told(store))
+        results = list(answers(store))
     finally:
         store.connection.execute(f"DROP SCHEMA {SCHEMA} CASCADE")
         store.connection.execute(f"DROP ROLE {SCHEMA}_reader, {SCHEMA}_writer")

@@ -1,6 +1,6 @@
 -- /etc/haproxy/spki.lua: asks spki-authd about a request, and sets txn.spki_answer to what it says. Where it says nothing, nothing is set.
 
--- All values of a header, as the client has sent them.
+-- A table of all values of a header, as the client has sent them. nil if there is none. (HAProxy counts them from 0)
 local function values(headers, name)
     local found = {}
     for place = 0, #(headers[name] or {}) do

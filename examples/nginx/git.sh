@@ -10,6 +10,7 @@ export GIT_CONFIG_GLOBAL=/dev/null GIT_CONFIG_NOSYSTEM=1 GIT_TERMINAL_PROMPT=0
 # The repository is files, which `git update-server-info` lists after each push. (On a server it does so as the hook post-update.)
 git init -q --bare -b main files/web/site.git
 git init -q -b main tmp/work
+# pushes TEXT: commits a page with this text, and pushes it into the folder that nginx serves
 pushes() {
     (cd tmp/work && echo "$1" > page && git add page && git -c user.name=Ann -c user.email=ann@localhost commit -q -m "$1" &&
         git push -q ../../files/web/site.git main)

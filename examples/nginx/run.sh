@@ -11,12 +11,12 @@ for tool in nginx curl openssl; do
     command -v "$tool" > /dev/null || { echo "$tool is missing (Debian: $tool)" >&2; exit 1; }
 done
 room=$(mktemp -d)
-ended() {
+clean_up() {
     kill $(cat "$room"/run/*.pid) 2> /dev/null || true
     wait
     rm -rf "$room"
 }
-trap ended EXIT
+trap clean_up EXIT
 trap 'exit 1' INT TERM
 
 if [ -z "${SPKI_AUTHD:-}" ]; then
@@ -25,6 +25,7 @@ if [ -z "${SPKI_AUTHD:-}" ]; then
 fi
 "$here/setup.sh" "$room" "$PORT"
 cd "$room"
+# start_daemon: starts spki-authd, and waits until it listens. If it ends, so does this script.
 start_daemon() {
     "$SPKI_AUTHD" -config etc/authd.json >> log/authd.log 2>> log/authd-events.log &
     echo $! > run/authd.pid

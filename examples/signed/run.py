@@ -103,7 +103,7 @@ def with_changed_bit(item):
 
 
 def shown(sequence):
-    """A sequence in transport form, as a client sends it."""
+    """A sequence in transport form, as a client sends it. It is given as a text, or as octets in canonical form."""
     octets = sequence if isinstance(sequence, bytes) else canonical(sequence)
     return f"{{{base64.b64encode(octets).decode()}}}"
 
@@ -123,7 +123,10 @@ class Service:
         self.access_list, self.verifier = read(canonical(access_list)), spki_http.Verifier(NAME)
 
     def ask(self, method, target, fields, moment):
-        """The case, the status and the answer of `spki check`. All but the moment is from outside."""
+        """The case, the status and the answer of `spki check`. All but the moment is from outside.
+
+        Raises `spki_http.Refused` if the request proves no key, and `ValueError` for a sequence that is too long or is none.
+        """
         proof = self.verifier.prove(method, NAME, target, fields.items(), b"")
         if len(proof.sequence) > MOST_SHOWN:
             raise ValueError(f"the sequence has more than {MOST_SHOWN} octets")
@@ -136,7 +139,7 @@ class Service:
 
 
 def requests(story):
-    """The requests that come: a remark, the request, and the refusal, or nothing if it proves a key."""
+    """The requests that come: a remark, the request as of `asked_by`, and the name of its refusal, or None if it proves a key."""
     alice, bob, carol = story.alice, story.bob, story.carol
     good = asked_by(carol, READ)
     method, target, fields = asked_by(carol, READ)
@@ -154,8 +157,8 @@ def requests(story):
     yield "there is no signature", (method, target, {}), "absent"
 
 
-def is_proved(service, remark, request, wanted):
-    """Tries a request, prints, and says whether it proves a key or is refused as wanted."""
+def try_request(service, remark, request, wanted):
+    """Asks, prints the refusal or that a key is proved, and returns whether that is as wanted: a name of a refusal, or None."""
     try:
         service.ask(*request, NOON)
         met = None
@@ -173,8 +176,8 @@ def unasked(story):
     yield "there are two sequences", canonical(story.sequence(good)) + b"(8:sequence)"
 
 
-def is_unasked(story, remark, sequence):
-    """Whether the service refuses to decide."""
+def try_unasked(story, remark, sequence):
+    """Asks with such a sequence, prints the refusal, and returns whether there was one."""
     try:
         Service(story.access_list).ask(*asked_by(story.carol, READ, sequence), NOON)
     except ValueError as refusal:
@@ -185,7 +188,7 @@ def is_unasked(story, remark, sequence):
 
 
 def attempts(story):
-    """What is tried: a name, a remark, the sequence, who asks, the request, the moment, and what is wrong."""
+    """What is tried: a name, a remark, the sequence, who asks, the request, the moment, and the line that says what is wrong, or None."""
     bob, carol = story.bob, story.carol
     good = signed(story.to_carol, bob)
     longer = story.to_carol.replace("2026-06-30", "2027-06-30")
@@ -219,7 +222,7 @@ def wanted_lines(wrong):
 
 
 def attempt(story, folder, name, remark, sequence, holder, words, moment, wrong):
-    """Asks, prints, and says whether the answers are as wanted."""
+    """Asks, prints the answers, keeps the case in the folder, and returns whether the answers are as wanted."""
     case, status, answer = Service(story.access_list).ask(*asked_by(holder, words, sequence), moment)
     answer, text = answer.decode(), laid_out(case) + "\n"
     explained = spki("explain", text)[1].decode()
@@ -235,8 +238,8 @@ def attempt(story, folder, name, remark, sequence, holder, words, moment, wrong)
     return (status, answer, explained) == wanted and read(canonical(text)) == case
 
 
-def tell(story):
-    """The keys, the list and the certificates."""
+def print_texts(story):
+    """Prints the keys, the list and the certificates."""
     for name, pair in (("Alice", story.alice), ("Bob", story.bob), ("Carol", story.carol)):
         print(f"{name}'s key:\n{pair.text}\n")
     print("The access list of the service, and the three certificates:")
@@ -255,12 +258,12 @@ def main():
     with tempfile.TemporaryDirectory() as room:
         folder = sys.argv[2] if len(sys.argv) > 2 else room
         story = Story()
-        tell(story)
+        print_texts(story)
         print("\nRequests:")
         service = Service(story.access_list)
-        results = [is_proved(service, *each) for each in requests(story)]
+        results = [try_request(service, *each) for each in requests(story)]
         print("\nNot asked:")
-        results += [is_unasked(story, *each) for each in unasked(story)]
+        results += [try_unasked(story, *each) for each in unasked(story)]
         results += [attempt(story, folder, *each) for each in attempts(story)]
     print(f"\n{sum(results)} passed, {len(results) - sum(results)} failed")
     return 0 if all(results) else 1

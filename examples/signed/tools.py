@@ -15,14 +15,14 @@ if importlib.util.find_spec("cryptography") is None:
 
 
 def spki(command, text):
-    """The exit status of a command of `spki` on a text, and its answer. After so many seconds it is ended, and an exception raised."""
+    """The exit status of a command of `spki` on a text, and its answer. After SECONDS it is ended, and an exception raised."""
     octets = text.encode() if isinstance(text, str) else text
     done = subprocess.run([SPKI, command], input=octets, stdout=subprocess.PIPE, stderr=subprocess.DEVNULL, timeout=SECONDS)
     return done.returncode, done.stdout
 
 
 def canonical(text):
-    """The canonical form of a text, by `spki canonical`."""
+    """The canonical form of a text, by `spki canonical`. Raises ValueError with the line of a refusal."""
     status, octets = spki("canonical", text)
     if status != 0:
         raise ValueError(octets.decode().strip())

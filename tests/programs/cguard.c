@@ -10,8 +10,8 @@
 
 enum { STACK = 256 * 1024, MOST_THREADS = 64, TURNS = 50 };
 
-/* Compares the signatures of a question with what key a has signed. */
-static void lists(const spki_asked *asked)
+/* The question must list one signature: that of key a in `examples/delegation.sexp`. */
+static void expect_signature(const spki_asked *asked)
 {
     struct spki_signed signature, again, none;
     memset(&none, 0, sizeof none);
@@ -34,24 +34,24 @@ static void delegation(const char *list, const char *sequence, const char *key)
                                      .seconds = &moment};
     spki_asked *asked = asked_of(guard, &question);
     expect(spki_guard_entries(guard) == 1, "another number of entries");
-    lists(asked);
+    expect_signature(asked);
     spki_asked_close(asked);
-    decides(guard, &question, 1, SPKI_YES, "yes entry 1\n");
-    decides(guard, &question, 0, SPKI_NO, "no\n");
+    expect_decision(guard, &question, 1, SPKI_YES, "yes entry 1\n");
+    expect_decision(guard, &question, 0, SPKI_NO, "no\n");
     question.key = spki_assume_key(text("(public-key (test c))"));
     asked = asked_of(guard, &question);
     expect(!spki_asked_possible(asked), "a right for another key is possible");
     spki_asked_close(asked);
-    decides(guard, &question, 1, SPKI_NO, "no\n");
+    expect_decision(guard, &question, 1, SPKI_NO, "no\n");
     question.key = spki_assume_key(text("(public-key (test c)))"));
-    decides(guard, &question, 1, SPKI_REFUSED, "refused key Trailing 21\n");
+    expect_decision(guard, &question, 1, SPKI_REFUSED, "refused key Trailing 21\n");
     question.sequence = text("(sequence x)");
-    decides(guard, &question, 1, SPKI_REFUSED, "refused sequence 1 Shape\n");
+    expect_decision(guard, &question, 1, SPKI_REFUSED, "refused sequence 1 Shape\n");
     spki_guard_close(guard);
 }
 
-/* What some callers have for a verdict is no place: -255, 0x101, and what is not 0 though a truth value would be 1. Nothing is marked by it. */
-static void places(const char *list, const char *sequence, const char *key)
+/* Numbers that a verifier might return in place of a truth value, such as -255 and 0x101, are no places. Nothing is marked by them. */
+static void wrong_places(const char *list, const char *sequence, const char *key)
 {
     static const size_t none[] = {1, 2, 255, 0x101, (size_t)-1, (size_t)-255, SIZE_MAX / 2 + 1};
     spki_guard *guard = opened(list, SPKI_ALLOW_SHA1);
@@ -82,7 +82,7 @@ struct client {
 };
 
 /* Asks for a client again and again, and marks what is valid. */
-static void *serves(void *given)
+static void *serve(void *given)
 {
     const struct client *client = given;
     for (int turn = 0; turn < TURNS; turn++) {
@@ -114,7 +114,7 @@ static void two_clients(const char *list, const char *sequence, const char *key,
     spki_asked_close(second);
     pthread_t each[MOST_THREADS];
     for (size_t i = 0; i < count; i++)
-        expect(!pthread_create(&each[i], NULL, serves, i % 2 ? &good : &bad), "no thread");
+        expect(!pthread_create(&each[i], NULL, serve, i % 2 ? &good : &bad), "no thread");
     for (size_t i = 0; i < count; i++)
         pthread_join(each[i], NULL);
     spki_guard_close(good.guard);
@@ -142,7 +142,7 @@ static void equal_signatures(const char *list)
     spki_guard_close(guard);
 }
 
-/* A text in memory that changes as soon as the question is opened. */
+/* A text that is copied to `room`, which the caller changes as soon as the question is opened. */
 static struct spki_text copied(const char *octets, char *room)
 {
     struct spki_text made = {strcpy(room, octets), strlen(octets)};
@@ -164,7 +164,7 @@ static void one_question(const char *list, const char *sequence, const char *key
     memset(rooms, 'x', sizeof rooms);
     spki_guard_close(guard);
     spki_guard_close(other);
-    lists(asked);
+    expect_signature(asked);
     for (int turn = 0; turn < 3; turn++) {
         expect(!turn || spki_asked_mark(asked, 0) == SPKI_DONE, "no mark");
         expect(decided(asked, line, sizeof line, &needed) == (turn ? SPKI_YES : SPKI_NO), "another decision");
@@ -183,8 +183,8 @@ static void one_question(const char *list, const char *sequence, const char *key
     spki_asked_close(asked);
 }
 
-/* A request by its strings, of which none can run into the next part. */
-static void strings(void)
+/* Requests by their strings: no octets of a string become another string. */
+static void requests_by_strings(void)
 {
     spki_guard *guard = opened("(acl (entry (public-key (test b)) (tag (cache (* prefix /cache/team1/) read))))", SPKI_STRICT);
     spki_guard *other = opened("(acl (entry (public-key (test c)) (tag (*))))", SPKI_STRICT);
@@ -194,39 +194,39 @@ static void strings(void)
     spki_asked *asked;
     unsigned char buffer[128];
     size_t needed;
-    decides(guard, &question, 0, SPKI_YES, "yes entry 1\n");
-    decides(other, &question, 0, SPKI_NO, "no\n");
+    expect_decision(guard, &question, 0, SPKI_YES, "yes entry 1\n");
+    expect_decision(other, &question, 0, SPKI_NO, "no\n");
     question.seconds = NULL;
     question.moment = text("19:2024-01-01_00:00:00");
-    decides(guard, &question, 0, SPKI_YES, "yes entry 1\n");
+    expect_decision(guard, &question, 0, SPKI_YES, "yes entry 1\n");
     question.seconds = &moment;
-    decides(guard, &question, 0, SPKI_MISUSED, "");
+    expect_decision(guard, &question, 0, SPKI_MISUSED, "");
     question.seconds = NULL;
     question.moment = text("19:2024-13-01_00:00:00");
-    decides(guard, &question, 0, SPKI_REFUSED, "refused at BadDate\n");
+    expect_decision(guard, &question, 0, SPKI_REFUSED, "refused at BadDate\n");
     question.seconds = &moment;
     question.moment.length = 0;
     question.request = text("x");
-    decides(guard, &question, 0, SPKI_MISUSED, "");
+    expect_decision(guard, &question, 0, SPKI_MISUSED, "");
     question.request.length = 0;
     words[1] = text("/cache/team1/a.o read");
     words[2] = text("write");
-    decides(guard, &question, 0, SPKI_NO, "no\n");
+    expect_decision(guard, &question, 0, SPKI_NO, "no\n");
     words[1] = text("/cache/team1/a.o)) (x");
     words[2] = text("read");
-    decides(guard, &question, 0, SPKI_YES, "yes entry 1\n");
+    expect_decision(guard, &question, 0, SPKI_YES, "yes entry 1\n");
     words[1] = text("/cache/team1/a.o4:read");
     words[2] = (struct spki_text){NULL, 0};
-    decides(guard, &question, 0, SPKI_NO, "no\n");
+    expect_decision(guard, &question, 0, SPKI_NO, "no\n");
     words[2] = (struct spki_text){NULL, 1};
-    decides(guard, &question, 0, SPKI_MISUSED, "");
+    expect_decision(guard, &question, 0, SPKI_MISUSED, "");
     question.word_count = 0;
     expect(spki_guard_ask(guard, &question, &asked, buffer, sizeof buffer, &needed) == SPKI_REFUSED && !asked
            && needed > 16 && !memcmp(buffer, "refused request ", 16), "a request of no string");
     question.word_count = 3;
     words[1].length = SPKI_MOST_OCTETS + 1;
     words[2] = text("read");
-    decides(guard, &question, 0, SPKI_REFUSED, "refused question TooLong\n");
+    expect_decision(guard, &question, 0, SPKI_REFUSED, "refused question TooLong\n");
     words[1] = text("/cache/team1/a.o");
     asked = asked_of(guard, &question);
     expect(spki_asked_explain(asked, buffer, sizeof buffer, &needed).status == SPKI_DONE && is(buffer, needed, "entry 1 grants\n"),
@@ -238,6 +238,7 @@ static void strings(void)
     spki_guard_close(guard);
 }
 
+/* Lists, policies, limits and pointers by which no guard is opened. */
 static void refused_lists(void)
 {
     spki_guard *guard = (spki_guard *)&until_refusal;
@@ -262,6 +263,7 @@ static void refused_lists(void)
     spki_guard_close(NULL);
 }
 
+/* Questions that are too long, lack parts or have null pointers. */
 static void refused_questions(void)
 {
     struct spki_limits low = SPKI_USUAL_LIMITS;
@@ -272,25 +274,25 @@ static void refused_questions(void)
     spki_asked *asked = (spki_asked *)&until_refusal;
     low.octets = 10;
     expect(spki_guard_open("(acl)", 5, SPKI_STRICT, &low, &guard, NULL, 0, NULL) == SPKI_DONE && !spki_guard_entries(guard), "low limits");
-    decides(guard, &question, 0, SPKI_REFUSED, "refused sequence Short\n");
+    expect_decision(guard, &question, 0, SPKI_REFUSED, "refused sequence Short\n");
     question.sequence = text("(sequence) ");
-    decides(guard, &question, 0, SPKI_REFUSED, "refused question TooLong\n");
-    decides(NULL, &question, 0, SPKI_MISUSED, "");
-    decides(guard, NULL, 0, SPKI_MISUSED, "");
+    expect_decision(guard, &question, 0, SPKI_REFUSED, "refused question TooLong\n");
+    expect_decision(NULL, &question, 0, SPKI_MISUSED, "");
+    expect_decision(guard, NULL, 0, SPKI_MISUSED, "");
     expect(spki_guard_ask(guard, &question, NULL, buffer, sizeof buffer, NULL) == SPKI_MISUSED, "no place for a question");
     expect(spki_guard_ask(guard, &question, &asked, NULL, 1, NULL) == SPKI_MISUSED && !asked, "a null buffer with a length");
     question.key.text.length = 1;
-    decides(guard, &question, 0, SPKI_MISUSED, "");
+    expect_decision(guard, &question, 0, SPKI_MISUSED, "");
     question.key.text.length = 0;
     question.word_count = 1;
-    decides(guard, &question, 0, SPKI_MISUSED, "");
+    expect_decision(guard, &question, 0, SPKI_MISUSED, "");
     question.words = &question.key.text;
     question.word_count = (size_t)-1;
-    decides(guard, &question, 0, SPKI_MISUSED, "");
+    expect_decision(guard, &question, 0, SPKI_MISUSED, "");
     question.words = NULL;
     question.word_count = 0;
     question.size--;
-    decides(guard, &question, 0, SPKI_MISUSED, "");
+    expect_decision(guard, &question, 0, SPKI_MISUSED, "");
     expect(!spki_asked_count(NULL) && spki_asked_signature(NULL, 0, &signature) == SPKI_MISUSED && !signature.key.octets, "no question");
     const struct spki_decision none = spki_asked_decide(NULL, buffer, sizeof buffer, NULL);
     expect(none.status == SPKI_MISUSED && none.until == INT64_MIN && !spki_asked_granted(NULL) && !spki_asked_possible(NULL)
@@ -309,16 +311,17 @@ static void usual_limits(void)
     spki_guard *guard = opened("(acl (entry (public-key (test b)) (tag (*))))", SPKI_STRICT);
     for (size_t place = 0; place < 65; place++)
         words[place] = text("x");
-    decides(guard, &question, 0, SPKI_YES, "yes entry 1\n");
+    expect_decision(guard, &question, 0, SPKI_YES, "yes entry 1\n");
     question.word_count = 65;
-    decides(guard, &question, 0, SPKI_REFUSED, "refused question TooManyWords\n");
+    expect_decision(guard, &question, 0, SPKI_REFUSED, "refused question TooManyWords\n");
     question.word_count = 1;
     memset(long_key, ' ', sizeof long_key);
     question.key = spki_assume_key((struct spki_text){long_key, sizeof long_key});
-    decides(guard, &question, 0, SPKI_REFUSED, "refused question TooLong\n");
+    expect_decision(guard, &question, 0, SPKI_REFUSED, "refused question TooLong\n");
     spki_guard_close(guard);
 }
 
+/* What spki_string finds, and does not. */
 static void octets_of_strings(void)
 {
     static const char good[] = "(10:public-key(16:rsa-pkcs1-sha256(1:e3:abc)(1:n[1:b]2:ok)))";
@@ -369,7 +372,7 @@ static enum spki_status answered_by(int call, const spki_asked *asked, unsigned 
     }
 }
 
-/* A request for memory is refused in each call about a question, and the calls answer as before behind it. */
+/* In each call about a question the request for memory with this number is refused. After that the call must answer as it should. */
 static void refused_in_calls(const spki_guard *guard, const struct spki_question *question, size_t request)
 {
     unsigned char line[256];
@@ -426,7 +429,8 @@ struct shared {
     spki_asked *asked;
 };
 
-static void *asks(void *given)
+/* Asks a guard, and decides a question that other threads decide too. */
+static void *ask_shared(void *given)
 {
     const struct shared *shared = given;
     struct spki_text words[2] = {text("cache"), text("x")};
@@ -435,13 +439,14 @@ static void *asks(void *given)
     unsigned char line[64];
     size_t needed;
     for (int turn = 0; turn < TURNS; turn++) {
-        decides(shared->guard, &question, 0, SPKI_YES, "yes entry 2\n");
+        expect_decision(shared->guard, &question, 0, SPKI_YES, "yes entry 2\n");
         expect(decided(shared->asked, line, sizeof line, &needed) == SPKI_YES && is(line, needed, "yes entry 2\n"),
                "another answer to a shared question");
     }
     return NULL;
 }
 
+/* Threads with small stacks ask one guard, and decide one question. */
 static void threads(size_t count)
 {
     struct spki_question question = {.size = sizeof question, .sequence = text("(sequence)"), .key = spki_assume_key(text("(public-key (test b))")),
@@ -452,7 +457,7 @@ static void threads(size_t count)
     shared.asked = asked_of(shared.guard, &question);
     expect(count <= MOST_THREADS && !pthread_attr_init(&small) && !pthread_attr_setstacksize(&small, STACK), "no threads of this kind");
     for (size_t i = 0; i < count; i++)
-        expect(!pthread_create(&each[i], &small, asks, &shared), "no thread");
+        expect(!pthread_create(&each[i], &small, ask_shared, &shared), "no thread");
     for (size_t i = 0; i < count; i++)
         pthread_join(each[i], NULL);
     pthread_attr_destroy(&small);
@@ -461,7 +466,7 @@ static void threads(size_t count)
 }
 
 /* Decides a question of its own and closes it. */
-static void *ends(void *given)
+static void *decide_and_close(void *given)
 {
     spki_asked *asked = given;
     unsigned char line[64];
@@ -481,14 +486,14 @@ static void closed_beside(size_t count)
     spki_guard *guard = opened("(acl (entry (public-key (test b)) (tag (*))))", SPKI_STRICT);
     pthread_t each[MOST_THREADS];
     for (size_t i = 0; i < count; i++)
-        expect(!pthread_create(&each[i], NULL, ends, asked_of(guard, &question)), "no thread");
+        expect(!pthread_create(&each[i], NULL, decide_and_close, asked_of(guard, &question)), "no thread");
     spki_guard_close(guard);
     for (size_t i = 0; i < count; i++)
         pthread_join(each[i], NULL);
 }
 
 /* A decision that is kept holds till the least window ends, and no second longer. */
-static void kept(void)
+static void kept_decisions(void)
 {
     static const struct { const char *list; int64_t until; } rows[] = {
         {"(acl (entry (public-key (test b)) (tag (*))))", INT64_MAX},
@@ -521,12 +526,12 @@ int main(int count, char **words)
     expect(count == 6, "usage: cguard THREADS REFUSALS LIST SEQUENCE KEY");
     expect(!strcmp(spki_version(), SPKI_VERSION), "another version");
     delegation(words[3], words[4], words[5]);
-    places(words[3], words[4], words[5]);
+    wrong_places(words[3], words[4], words[5]);
     two_clients(words[3], words[4], words[5], strtoul(words[1], NULL, 10));
     equal_signatures(words[3]);
-    kept();
+    kept_decisions();
     one_question(words[3], words[4], words[5]);
-    strings();
+    requests_by_strings();
     refused_lists();
     refused_questions();
     usual_limits();

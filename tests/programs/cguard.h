@@ -1,4 +1,4 @@
-/* What cguard.c asks by: requests for memory that are refused, texts, guards and questions that are opened, and decisions that are
+/* What cguard.c and misuse.c ask by: requests for memory that are refused, texts, guards and questions that are opened, and decisions that are
  * compared. */
 #ifndef CGUARD_H
 #define CGUARD_H
@@ -13,12 +13,14 @@ enum { BROKEN = 99 };
 
 /* 2024-01-01 00:00:00 UTC */
 static const int64_t moment = 1704067200;
+/* Which request for memory from now on is refused, counted down; none at 0. Whether one was. */
 static size_t until_refusal;
 static int is_refused;
 
 void *__real_malloc(size_t size);
 void *__real_realloc(void *block, size_t size);
 
+/* Counts a request for memory, and returns whether it is refused. */
 static int refuses(void)
 {
     if (!until_refusal || --until_refusal)
@@ -38,6 +40,7 @@ void *__wrap_realloc(void *block, size_t size)
     return (!block || malloc_usable_size(block) < size) && refuses() ? NULL : __real_realloc(block, size);
 }
 
+/* Ends the program with a line about what is wrong, unless it holds. */
 static void expect(int holds, const char *what)
 {
     if (holds)
@@ -57,6 +60,7 @@ static int is(const void *octets, size_t length, const char *wanted)
     return length == strlen(wanted) && !memcmp(octets, wanted, length);
 }
 
+/* Opens a guard, whose list must be read. */
 static spki_guard *opened(const char *list, enum spki_policy policy)
 {
     spki_guard *guard = NULL;
@@ -74,7 +78,7 @@ static spki_asked *asked_of(const spki_guard *guard, const struct spki_question 
     return asked;
 }
 
-/* Decides an opened question. The calls that return a truth value must say the same. */
+/* Decides an opened question, and returns the status. The calls that return a truth value must say the same. */
 static enum spki_status decided(const spki_asked *asked, unsigned char *buffer, size_t length, size_t *needed)
 {
     const struct spki_decision said = spki_asked_decide(asked, buffer, length, needed);
@@ -85,8 +89,8 @@ static enum spki_status decided(const spki_asked *asked, unsigned char *buffer, 
     return met;
 }
 
-/* Opens a question, marks the first signatures, as many as `marks` says, decides it, and compares the status and the line. */
-static void decides(const spki_guard *guard, const struct spki_question *question, size_t marks, enum spki_status status, const char *line)
+/* Opens a question, marks its first `marks` signatures and decides it. The status and the line must be these. */
+static void expect_decision(const spki_guard *guard, const struct spki_question *question, size_t marks, enum spki_status status, const char *line)
 {
     unsigned char buffer[64];
     spki_asked *asked = (spki_asked *)&until_refusal;

@@ -26,15 +26,16 @@ struct question {
 };
 
 static struct question *questions;
-static size_t asked;
+static size_t question_count;
 
-/* Which request for memory is refused, counted down; none at 0. */
+/* Which request for memory from now on is refused, counted down; none at 0. Whether one was. */
 static size_t until_refusal;
 static int is_refused;
 
 void *__real_malloc(size_t size);
 void *__real_realloc(void *block, size_t size);
 
+/* Counts a request for memory, and returns whether it is refused. */
 static int refuses(void)
 {
     if (!until_refusal || --until_refusal)
@@ -54,20 +55,22 @@ void *__wrap_realloc(void *block, size_t size)
     return (!block || malloc_usable_size(block) < size) && refuses() ? NULL : __real_realloc(block, size);
 }
 
-static void broken(const char *what)
+static void fail(const char *what)
 {
     fprintf(stderr, "%s\n", what);
     exit(BROKEN);
 }
 
-static void *made(size_t length)
+/* Memory, which must be there. */
+static void *allocate(size_t length)
 {
     void *block = malloc(length ? length : 1);
     if (!block)
-        broken("no memory");
+        fail("no memory");
     return block;
 }
 
+/* Makes the call of a question. */
 static enum spki_status ask(const struct question *it, void *buffer, size_t size, size_t *needed)
 {
     if (it->command == CHECK_ACCEPTED)
@@ -75,7 +78,7 @@ static enum spki_status ask(const struct question *it, void *buffer, size_t size
     return spki_answer((enum spki_command)it->command, it->texts[0], it->lengths[0], buffer, size, needed).status;
 }
 
-static int are(const unsigned char *octets, size_t length, unsigned char wanted)
+static int are_all(const unsigned char *octets, size_t length, unsigned char wanted)
 {
     while (length && *octets == wanted)
         octets++, length--;
@@ -86,33 +89,33 @@ static int are(const unsigned char *octets, size_t length, unsigned char wanted)
 static void ask_with(const struct question *it, size_t size)
 {
     size_t needed = 12345, written = it->length <= size ? it->length : 0;
-    unsigned char *block = made(size + 2 * CANARIES), *buffer = block + CANARIES;
+    unsigned char *block = allocate(size + 2 * CANARIES), *buffer = block + CANARIES;
     memset(block, CANARY, size + 2 * CANARIES);
     memset(buffer, UNTOUCHED, size);
     enum spki_status status = ask(it, buffer, size, &needed);
     if (needed != it->length)
-        broken("another length is needed");
+        fail("another length is needed");
     if (status != (it->length <= size ? it->status : SPKI_TOO_SMALL))
-        broken("another status");
+        fail("another status");
     if (written && memcmp(buffer, it->answer, written))
-        broken("another answer");
+        fail("another answer");
     if (!written && size && *buffer)
-        broken("a line of an earlier call is left where no answer is written");
+        fail("a line of an earlier call is left where no answer is written");
     if (!written && size)
         written = 1;
-    if (!are(buffer + written, size - written, UNTOUCHED))
-        broken("the buffer is written where no answer stands");
-    if (!are(block, CANARIES, CANARY) || !are(buffer + size, CANARIES, CANARY))
-        broken("the call writes past the buffer");
+    if (!are_all(buffer + written, size - written, UNTOUCHED))
+        fail("the buffer is written where no answer stands");
+    if (!are_all(block, CANARIES, CANARY) || !are_all(buffer + size, CANARIES, CANARY))
+        fail("the call writes past the buffer");
     free(block);
 }
 
-/* Asks while one request for memory is refused, of the first ones each in turn. */
+/* Asks once for each of the first `most` requests for memory, with that one refused, until the call makes no more. */
 static void ask_refused(const struct question *it, size_t most)
 {
     static const char refused[] = "refused Memory\n";
     size_t size = it->length + sizeof refused, needed;
-    unsigned char *buffer = made(size);
+    unsigned char *buffer = allocate(size);
     for (size_t request = 1; request <= most; request++) {
         is_refused = 0;
         until_refusal = request;
@@ -121,17 +124,17 @@ static void ask_refused(const struct question *it, size_t most)
         if (!is_refused)
             break;
         if (status != SPKI_REFUSED || needed != sizeof refused - 1 || memcmp(buffer, refused, needed))
-            broken("another answer where memory is refused");
+            fail("another answer where memory is refused");
     }
     free(buffer);
 }
 
-/* Asks without a buffer, then with one that is large enough, then with others. */
+/* Asks without a buffer, then with one that is large enough, whose answer is kept, then with others. */
 static void answer(struct question *it)
 {
     if (ask(it, NULL, 0, &it->length) != SPKI_TOO_SMALL || !it->length)
-        broken("an answer without octets");
-    it->answer = made(it->length);
+        fail("an answer without octets");
+    it->answer = allocate(it->length);
     it->status = ask(it, it->answer, it->length, NULL);
     ask_with(it, 0);
     ask_with(it, it->length - 1);
@@ -139,11 +142,12 @@ static void answer(struct question *it)
     ask_with(it, it->length + 40);
 }
 
+/* Asks all questions, from the one at a place on. */
 static void *ask_all(void *place)
 {
     size_t first = *(size_t *)place;
-    for (size_t i = 0; i < asked; i++) {
-        const struct question *it = &questions[(first + i) % asked];
+    for (size_t i = 0; i < question_count; i++) {
+        const struct question *it = &questions[(first + i) % question_count];
         ask_with(it, it->length + i % 2);
     }
     return NULL;
@@ -155,59 +159,60 @@ static void ask_side_by_side(size_t count)
     size_t firsts[64];
     pthread_attr_t small;
     if (count > 64 || pthread_attr_init(&small) || pthread_attr_setstacksize(&small, STACK))
-        broken("no threads of this kind");
+        fail("no threads of this kind");
     for (size_t i = 0; i < count; i++) {
-        firsts[i] = i * asked / count;
+        firsts[i] = i * question_count / count;
         if (pthread_create(&threads[i], &small, ask_all, &firsts[i]))
-            broken("no thread");
+            fail("no thread");
     }
     for (size_t i = 0; i < count; i++)
         pthread_join(threads[i], NULL);
     pthread_attr_destroy(&small);
 }
 
-/* A command that does not exist. The first octet of the buffer is 0 then. */
-static void misuse_of(unsigned command, unsigned char *buffer, size_t size)
+/* A command that does not exist must be misuse, and set the first octet of the buffer to 0. */
+static void unknown_command(unsigned command, unsigned char *buffer, size_t size)
 {
     size_t needed = 12345;
     memset(buffer, UNTOUCHED, size);
     if (spki_answer((enum spki_command)command, "1:a", 3, buffer, size, &needed).status != SPKI_MISUSED || needed)
-        broken("an unknown command is answered");
-    if (*buffer || !are(buffer + 1, size - 1, UNTOUCHED))
-        broken("misuse leaves a line, or writes to the buffer");
+        fail("an unknown command is answered");
+    if (*buffer || !are_all(buffer + 1, size - 1, UNTOUCHED))
+        fail("misuse leaves a line, or writes to the buffer");
 }
 
+/* Calls that must be misuse. */
 static void misuse(void)
 {
     unsigned char buffer[64];
     size_t needed = 12345;
     for (unsigned command = 7; command; command *= 2)
-        misuse_of(command, buffer, sizeof buffer);
+        unknown_command(command, buffer, sizeof buffer);
     if (spki_answer(SPKI_CHECK, NULL, 1, buffer, sizeof buffer, &needed).status != SPKI_MISUSED || needed)
-        broken("a null text with a length");
+        fail("a null text with a length");
     if (spki_answer(SPKI_CHECK, "1:a", 3, NULL, 64, NULL).status != SPKI_MISUSED)
-        broken("a null buffer with a length");
+        fail("a null buffer with a length");
     if (spki_answer(SPKI_CHECK, "1:a", (size_t)PTRDIFF_MAX + 1, buffer, sizeof buffer, NULL).status != SPKI_MISUSED
         || spki_answer(SPKI_CHECK, "1:a", 3, buffer, SIZE_MAX, NULL).status != SPKI_MISUSED)
-        broken("more octets than memory has");
+        fail("more octets than memory has");
     if (spki_check_accepted(NULL, 1, "", 0, buffer, sizeof buffer, NULL).status != SPKI_MISUSED
         || spki_check_accepted("", 0, NULL, 1, buffer, sizeof buffer, NULL).status != SPKI_MISUSED
         || spki_check_accepted("", 0, "", 0, NULL, 1, NULL).status != SPKI_MISUSED)
-        broken("null pointers with lengths");
-    if (*buffer || !are(buffer + 1, sizeof buffer - 1, UNTOUCHED))
-        broken("misuse leaves a line, or writes to the buffer");
+        fail("null pointers with lengths");
+    if (*buffer || !are_all(buffer + 1, sizeof buffer - 1, UNTOUCHED))
+        fail("misuse leaves a line, or writes to the buffer");
 }
 
-/* One question, if there is one. A text without octets is a null pointer. */
-static int heard(struct question *it)
+/* Reads the next question, and returns whether there was one. A text without octets is a null pointer. */
+static int read_question(struct question *it)
 {
     memset(it, 0, sizeof *it);
     if (scanf("%u %zu %zu", &it->command, &it->lengths[0], &it->lengths[1]) != 3 || getchar() != '\n')
         return 0;
     for (int i = 0; i < 2; i++) {
-        it->texts[i] = it->lengths[i] ? made(it->lengths[i]) : NULL;
+        it->texts[i] = it->lengths[i] ? allocate(it->lengths[i]) : NULL;
         if (it->lengths[i] && fread(it->texts[i], 1, it->lengths[i], stdin) != it->lengths[i])
-            broken("a question is cut off");
+            fail("a question is cut off");
     }
     return 1;
 }
@@ -215,15 +220,15 @@ static int heard(struct question *it)
 int main(int count, char **words)
 {
     misuse();
-    questions = made(MOST * sizeof *questions);
+    questions = allocate(MOST * sizeof *questions);
     if (count != 3)
-        broken("usage: clibrary THREADS REFUSALS");
-    while (asked < MOST && heard(&questions[asked])) {
-        answer(&questions[asked]);
-        ask_refused(&questions[asked++], (size_t)atoi(words[2]));
+        fail("usage: clibrary THREADS REFUSALS");
+    while (question_count < MOST && read_question(&questions[question_count])) {
+        answer(&questions[question_count]);
+        ask_refused(&questions[question_count++], (size_t)atoi(words[2]));
     }
     ask_side_by_side((size_t)atoi(words[1]));
-    for (size_t i = 0; i < asked; i++) {
+    for (size_t i = 0; i < question_count; i++) {
         struct question *it = &questions[i];
         printf("%d %zu\n", (int)it->status, it->length);
         fwrite(it->answer, 1, it->length, stdout);

@@ -8,7 +8,8 @@ struct spki_answered of_library_spki_asked_explain(const spki_asked *asked, void
 struct spki_answered of_library_spki_asked_reduce(const spki_asked *asked, void *buffer, size_t room, size_t *needed);
 struct spki_answered of_library_spki_answer(enum spki_command command, const void *text, size_t length, void *buffer, size_t room, size_t *needed);
 
-static struct spki_answered counted(const char *name, struct spki_answered answered, size_t length)
+/* Adds the line of a call to the file, and returns what the call did. */
+static struct spki_answered note(const char *name, struct spki_answered answered, size_t length)
 {
     FILE *file = fopen(getenv("SPKI_COUNTED"), "a");
     if (!file || fprintf(file, "%s %d %zu\n", name, answered.status, length) < 0 || fclose(file))
@@ -19,17 +20,17 @@ static struct spki_answered counted(const char *name, struct spki_answered answe
 struct spki_answered spki_asked_explain(const spki_asked *asked, void *buffer, size_t room, size_t *needed)
 {
     const struct spki_answered answered = of_library_spki_asked_explain(asked, buffer, room, needed);
-    return counted("explain", answered, *needed);
+    return note("explain", answered, *needed);
 }
 
 struct spki_answered spki_asked_reduce(const spki_asked *asked, void *buffer, size_t room, size_t *needed)
 {
     const struct spki_answered answered = of_library_spki_asked_reduce(asked, buffer, room, needed);
-    return counted("reduce", answered, *needed);
+    return note("reduce", answered, *needed);
 }
 
 struct spki_answered spki_answer(enum spki_command command, const void *text, size_t length, void *buffer, size_t room, size_t *needed)
 {
     const struct spki_answered answered = of_library_spki_answer(command, text, length, buffer, room, needed);
-    return counted("answer", answered, *needed);
+    return note("answer", answered, *needed);
 }

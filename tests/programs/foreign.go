@@ -9,7 +9,8 @@ import (
 	"os"
 )
 
-func octets(path string) []byte {
+// certificate returns the octets in DER of a file in PEM.
+func certificate(path string) []byte {
 	text, _ := os.ReadFile(path)
 	block, _ := pem.Decode(text)
 	return block.Bytes
@@ -20,7 +21,7 @@ func main() {
 	if err != nil {
 		panic(err)
 	}
-	foreign := tls.Certificate{Certificate: [][]byte{octets(os.Args[2])}, PrivateKey: own.PrivateKey}
+	foreign := tls.Certificate{Certificate: [][]byte{certificate(os.Args[2])}, PrivateKey: own.PrivateKey}
 	client, err := tls.Dial("tcp", os.Args[1], &tls.Config{InsecureSkipVerify: true, Certificates: []tls.Certificate{foreign}})
 	if err != nil {
 		fmt.Println(err)

@@ -5,14 +5,14 @@
 
 #include <stdio.h>
 
-static struct spki_limits limits_met;
-static struct parts parts_met;
+static struct spki_limits limits_seen;
+static struct parts parts_seen;
 static size_t limits_count;
 
 uint32_t spki_c_guard_open(struct spki_text list, uint32_t policy, const struct spki_limits *limits, size_t count, struct handle *guard, ANSWER)
 {
     (void)list, (void)policy, (void)buffer, (void)buffer_length, (void)needed;
-    limits_met = *limits;
+    limits_seen = *limits;
     limits_count = count;
     guard->at = guard;
     return SPKI_DONE;
@@ -22,7 +22,7 @@ uint32_t spki_c_guard_ask(struct handle *guard, struct parts parts, const struct
                           size_t count, struct handle *asked, ANSWER)
 {
     (void)guard, (void)words, (void)word_count, (void)seconds, (void)count, (void)buffer, (void)buffer_length, (void)needed;
-    parts_met = parts;
+    parts_seen = parts;
     asked->at = asked;
     return SPKI_DONE;
 }
@@ -65,13 +65,14 @@ _Static_assert(sizeof(struct spki_text) == 2 * sizeof(size_t) && sizeof(struct s
 /* The fields of 0.2.0: the sizes of its structures must be read by each library of this interface. */
 enum { LIMITS = 7 * sizeof(size_t), QUESTION = 12 * sizeof(size_t), MORE = 4 };
 
-static enum spki_status opens(size_t *limits)
+/* Calls spki.c with a structure that is an array of these numbers, of which the first is its size. */
+static enum spki_status open_guard(size_t *limits)
 {
     spki_guard *guard;
     return spki_guard_open("(acl)", 5, SPKI_STRICT, (const struct spki_limits *)(void *)limits, &guard, NULL, 0, NULL);
 }
 
-static enum spki_status asks(size_t *question)
+static enum spki_status ask(size_t *question)
 {
     static size_t guard;
     spki_asked *asked;
@@ -85,24 +86,25 @@ int main(void)
         size_t unknown = more > LATER ? more - LATER : 0;
         limits[0] = LIMITS + more * sizeof more;
         question[0] = QUESTION + more * sizeof more;
-        CHECK(opens(limits) == SPKI_DONE && limits_met.octets == 70000 && !limits_met.certificates && limits_met.words == 5 && limits_count == 1);
-        CHECK(asks(question) == SPKI_DONE && parts_met.sequence.length == 10 && parts_met.key.length == 3 && !parts_met.is_worded);
+        CHECK(open_guard(limits) == SPKI_DONE && limits_seen.octets == 70000 && !limits_seen.certificates && limits_seen.words == 5);
+        CHECK(limits_count == 1);
+        CHECK(ask(question) == SPKI_DONE && parts_seen.sequence.length == 10 && parts_seen.key.length == 3 && !parts_seen.is_worded);
 #if LATER
-        CHECK(limits_met.later == 0);
+        CHECK(limits_seen.later == 0);
 #endif
         for (size_t at = 0; at < unknown; at++) {
             limits[7 + LATER + at] = question[12 + LATER + at] = (size_t)1 << 63;
-            CHECK(opens(limits) == SPKI_MISUSED && asks(question) == SPKI_MISUSED);
+            CHECK(open_guard(limits) == SPKI_MISUSED && ask(question) == SPKI_MISUSED);
             limits[7 + LATER + at] = question[12 + LATER + at] = 0;
         }
     }
     const size_t wrong[] = {0, 1, sizeof(size_t), LIMITS - sizeof(size_t), LIMITS - 1, LIMITS + 1, 4104, SIZE_MAX, SIZE_MAX - 7};
     for (size_t place = 0; place < sizeof wrong / sizeof *wrong; place++) {
         limits[0] = wrong[place];
-        CHECK(opens(limits) == SPKI_MISUSED);
+        CHECK(open_guard(limits) == SPKI_MISUSED);
     }
     question[0] = QUESTION - sizeof(size_t);
-    CHECK(asks(question) == SPKI_MISUSED && asks(NULL) == SPKI_MISUSED);
-    CHECK(opens(NULL) == SPKI_DONE && !limits_met.octets && limits_count == 1);
+    CHECK(ask(question) == SPKI_MISUSED && ask(NULL) == SPKI_MISUSED);
+    CHECK(open_guard(NULL) == SPKI_DONE && !limits_seen.octets && limits_count == 1);
     return 0;
 }

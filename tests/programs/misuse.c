@@ -16,12 +16,12 @@ static size_t needed;
 static spki_guard *guard;
 static spki_asked *asked;
 
-/* Where a call sets the handle of what it opens. */
+/* Where a call sets the handle of what it opens. They are not null before, so that it is seen that misuse sets null. */
 static spki_guard *no_guard;
 static spki_asked *no_asked;
 
-/* A call that has no buffer, or cannot write to it. */
-static void misused_apart(enum spki_status status, const char *what)
+/* A call that has no buffer, or cannot write to it, must have been misuse: `needed` is 0, and `buffer` is unchanged. */
+static void expect_misused_unwritten(enum spki_status status, const char *what)
 {
     expect(status == SPKI_MISUSED && !needed, what);
     for (size_t place = 0; place < sizeof buffer; place++)
@@ -29,96 +29,98 @@ static void misused_apart(enum spki_status status, const char *what)
     needed = 12345;
 }
 
-/* A call that has a buffer, in which no line of an earlier call is left. */
-static void misused(enum spki_status status, const char *what)
+/* A call that has a buffer must have been misuse, and have left no line of an earlier call in it. */
+static void expect_misused(enum spki_status status, const char *what)
 {
     expect(!buffer[0], what);
     buffer[0] = UNTOUCHED;
-    misused_apart(status, what);
+    expect_misused_unwritten(status, what);
 }
 
-static void opens_no_guard(enum spki_status status, const char *what)
+/* The same for spki_guard_open, and then for spki_guard_ask: the handle must be null. */
+static void expect_no_guard(enum spki_status status, const char *what)
 {
-    misused(status, what);
+    expect_misused(status, what);
     expect(!no_guard, what);
     no_guard = guard;
 }
 
-static void opens_no_question(enum spki_status status, const char *what)
+static void expect_no_question(enum spki_status status, const char *what)
 {
-    misused(status, what);
+    expect_misused(status, what);
     expect(!no_asked, what);
     no_asked = asked;
 }
 
-static void misused_question(const struct spki_question *question, const char *what)
+static void expect_misused_question(const struct spki_question *question, const char *what)
 {
-    opens_no_question(spki_guard_ask(guard, question, &no_asked, BUFFER), what);
+    expect_no_question(spki_guard_ask(guard, question, &no_asked, BUFFER), what);
 }
 
-/* A question that is granted. */
-static struct spki_question granted(void)
+/* A question that the guard grants. */
+static struct spki_question good_question(void)
 {
     struct spki_question question = {.size = sizeof question, .sequence = text("(sequence)"), .key = spki_assume_key(text("(public-key (test b))")),
                                      .request = text("x"), .seconds = &moment};
     return question;
 }
 
-/* The texts of each call. */
+/* Each call with a wrong text. */
 static void wrong_texts(struct spki_text it)
 {
     const void *octets = &it;
-    opens_no_guard(spki_guard_open(it.octets, it.length, SPKI_STRICT, NULL, &no_guard, BUFFER), "spki_guard_open: list");
-    misused(spki_answer(SPKI_CHECK, it.octets, it.length, BUFFER).status, "spki_answer: text");
-    misused(spki_check_accepted(it.octets, it.length, "x", 1, BUFFER).status, "spki_check_accepted: text");
-    misused(spki_check_accepted("x", 1, it.octets, it.length, BUFFER).status, "spki_check_accepted: rows");
-    misused_apart(spki_string(it.octets, it.length, NULL, 0, &octets, &needed), "spki_string: text");
+    expect_no_guard(spki_guard_open(it.octets, it.length, SPKI_STRICT, NULL, &no_guard, BUFFER), "spki_guard_open: list");
+    expect_misused(spki_answer(SPKI_CHECK, it.octets, it.length, BUFFER).status, "spki_answer: text");
+    expect_misused(spki_check_accepted(it.octets, it.length, "x", 1, BUFFER).status, "spki_check_accepted: text");
+    expect_misused(spki_check_accepted("x", 1, it.octets, it.length, BUFFER).status, "spki_check_accepted: rows");
+    expect_misused_unwritten(spki_string(it.octets, it.length, NULL, 0, &octets, &needed), "spki_string: text");
     expect(!octets, "spki_string: text");
 }
 
-/* The texts of a question, and its list of strings. */
+/* Questions with a wrong text, and with a wrong list of strings. */
 static void wrong_parts(struct spki_text it)
 {
-    struct spki_question question = granted();
+    struct spki_question question = good_question();
     struct spki_text words[2] = {text("x"), it}, *const parts[] = {&question.sequence, &question.key.text, &question.request, &question.moment};
     for (size_t place = 0; place < sizeof parts / sizeof *parts; place++) {
-        question = granted();
+        question = good_question();
         question.seconds = parts[place] == &question.moment ? NULL : &moment;
         *parts[place] = it;
-        misused_question(&question, "spki_guard_ask: a part");
+        expect_misused_question(&question, "spki_guard_ask: a part");
     }
-    question = granted();
+    question = good_question();
     question.request.length = 0;
     question.words = words;
     question.word_count = 2;
-    misused_question(&question, "spki_guard_ask: a string");
+    expect_misused_question(&question, "spki_guard_ask: a string");
     question.words = it.octets ? words : NULL;
     question.word_count = it.length;
-    misused_question(&question, "spki_guard_ask: strings");
+    expect_misused_question(&question, "spki_guard_ask: strings");
 }
 
-/* The buffers of each call. */
+/* Each call with a wrong buffer: null or the right one, with the length of a wrong text. */
 static void wrong_buffers(struct spki_text it)
 {
-    struct spki_question question = granted();
+    struct spki_question question = good_question();
     void *to = it.octets ? buffer : NULL;
-    misused_apart(spki_guard_open("(acl)", 5, SPKI_STRICT, NULL, &no_guard, to, it.length, &needed), "spki_guard_open: buffer");
-    misused_apart(spki_guard_ask(guard, &question, &no_asked, to, it.length, &needed), "spki_guard_ask: buffer");
+    expect_misused_unwritten(spki_guard_open("(acl)", 5, SPKI_STRICT, NULL, &no_guard, to, it.length, &needed), "spki_guard_open: buffer");
+    expect_misused_unwritten(spki_guard_ask(guard, &question, &no_asked, to, it.length, &needed), "spki_guard_ask: buffer");
     expect(!no_guard && !no_asked, "a handle of a call that has no buffer");
     no_guard = guard;
     no_asked = asked;
-    misused_apart(spki_answer(SPKI_CHECK, "x", 1, to, it.length, &needed).status, "spki_answer: buffer");
-    misused_apart(spki_check_accepted("x", 1, "x", 1, to, it.length, &needed).status, "spki_check_accepted: buffer");
-    misused_apart(spki_asked_decide(asked, to, it.length, &needed).status, "spki_asked_decide: buffer");
-    misused_apart(spki_asked_explain(asked, to, it.length, &needed).status, "spki_asked_explain: buffer");
-    misused_apart(spki_asked_reduce(asked, to, it.length, &needed).status, "spki_asked_reduce: buffer");
+    expect_misused_unwritten(spki_answer(SPKI_CHECK, "x", 1, to, it.length, &needed).status, "spki_answer: buffer");
+    expect_misused_unwritten(spki_check_accepted("x", 1, "x", 1, to, it.length, &needed).status, "spki_check_accepted: buffer");
+    expect_misused_unwritten(spki_asked_decide(asked, to, it.length, &needed).status, "spki_asked_decide: buffer");
+    expect_misused_unwritten(spki_asked_explain(asked, to, it.length, &needed).status, "spki_asked_explain: buffer");
+    expect_misused_unwritten(spki_asked_reduce(asked, to, it.length, &needed).status, "spki_asked_reduce: buffer");
 }
 
+/* Limits and questions with a wrong size, and limits that are too high. */
 static void wrong_sizes(void)
 {
     struct spki_limits limits[] = {SPKI_USUAL_LIMITS, SPKI_USUAL_LIMITS, SPKI_USUAL_LIMITS, SPKI_USUAL_LIMITS, SPKI_USUAL_LIMITS,
                                    SPKI_USUAL_LIMITS};
-    struct spki_question question = granted();
+    struct spki_question question = good_question();
     static const size_t sizes[] = {0, sizeof question - 1, sizeof question + 1, SIZE_MAX};
     limits[0].size = 0;
     limits[1].size++;
@@ -127,11 +129,11 @@ static void wrong_sizes(void)
     limits[4].octets = SIZE_MAX;
     limits[5].work = SPKI_MOST_WORK + 1;
     for (size_t place = 0; place < sizeof limits / sizeof *limits; place++) {
-        opens_no_guard(spki_guard_open("(acl)", 5, SPKI_STRICT, &limits[place], &no_guard, BUFFER), "spki_guard_open: limits");
+        expect_no_guard(spki_guard_open("(acl)", 5, SPKI_STRICT, &limits[place], &no_guard, BUFFER), "spki_guard_open: limits");
     }
     for (size_t place = 0; place < sizeof sizes / sizeof *sizes; place++) {
         question.size = sizes[place];
-        misused_question(&question, "spki_guard_ask: the size of the question");
+        expect_misused_question(&question, "spki_guard_ask: the size of the question");
     }
 }
 
@@ -142,30 +144,30 @@ static void wrong_numbers(void)
     static const unsigned numbers[] = {7, 8, 255, 256, 65536, 0x80000000u, 0xffffffffu};
     const void *octets = &path;
     for (size_t place = 0; place < sizeof numbers / sizeof *numbers; place++) {
-        misused(spki_answer((enum spki_command)numbers[place], "x", 1, BUFFER).status, "spki_answer: command");
-        opens_no_guard(spki_guard_open("(acl)", 5, (enum spki_policy)numbers[place], NULL, &no_guard, BUFFER), "spki_guard_open: policy");
+        expect_misused(spki_answer((enum spki_command)numbers[place], "x", 1, BUFFER).status, "spki_answer: command");
+        expect_no_guard(spki_guard_open("(acl)", 5, (enum spki_policy)numbers[place], NULL, &no_guard, BUFFER), "spki_guard_open: policy");
     }
     for (size_t place = 1; place; place *= 2)
         expect(spki_asked_mark(asked, place - 1) == SPKI_MISUSED && spki_asked_mark(asked, 0 - place) == SPKI_MISUSED, "spki_asked_mark: place");
-    misused_apart(spki_string("1:a", 3, path, TOO_LONG / sizeof *path, &octets, &needed), "spki_string: depth");
-    misused_apart(spki_string("1:a", 3, NULL, 1, &octets, &needed), "spki_string: path");
+    expect_misused_unwritten(spki_string("1:a", 3, path, TOO_LONG / sizeof *path, &octets, &needed), "spki_string: depth");
+    expect_misused_unwritten(spki_string("1:a", 3, NULL, 1, &octets, &needed), "spki_string: path");
     expect(!octets, "spki_string: path");
 }
 
 /* Handles and places of results that are null. */
 static void nulls(void)
 {
-    struct spki_question question = granted(), twice = question;
+    struct spki_question question = good_question(), twice = question;
     struct spki_signed signature;
     memset(&signature, 1, sizeof signature);
-    misused(spki_guard_open("(acl)", 5, SPKI_STRICT, NULL, NULL, BUFFER), "spki_guard_open: guard");
-    opens_no_question(spki_guard_ask(NULL, &question, &no_asked, BUFFER), "spki_guard_ask: guard");
-    misused_question(NULL, "spki_guard_ask: question");
-    misused(spki_guard_ask(guard, &question, NULL, BUFFER), "spki_guard_ask: asked");
-    misused(spki_asked_decide(NULL, BUFFER).status, "spki_asked_decide: asked");
-    misused(spki_asked_explain(NULL, BUFFER).status, "spki_asked_explain: asked");
-    misused(spki_asked_reduce(NULL, BUFFER).status, "spki_asked_reduce: asked");
-    misused_apart(spki_string("1:a", 3, NULL, 0, NULL, &needed), "spki_string: octets");
+    expect_misused(spki_guard_open("(acl)", 5, SPKI_STRICT, NULL, NULL, BUFFER), "spki_guard_open: guard");
+    expect_no_question(spki_guard_ask(NULL, &question, &no_asked, BUFFER), "spki_guard_ask: guard");
+    expect_misused_question(NULL, "spki_guard_ask: question");
+    expect_misused(spki_guard_ask(guard, &question, NULL, BUFFER), "spki_guard_ask: asked");
+    expect_misused(spki_asked_decide(NULL, BUFFER).status, "spki_asked_decide: asked");
+    expect_misused(spki_asked_explain(NULL, BUFFER).status, "spki_asked_explain: asked");
+    expect_misused(spki_asked_reduce(NULL, BUFFER).status, "spki_asked_reduce: asked");
+    expect_misused_unwritten(spki_string("1:a", 3, NULL, 0, NULL, &needed), "spki_string: octets");
     expect(spki_asked_signature(asked, 0, NULL) == SPKI_MISUSED, "spki_asked_signature: signature");
     expect(spki_asked_signature(NULL, 0, &signature) == SPKI_MISUSED && !signature.key.octets && !signature.octets.length,
            "spki_asked_signature: asked");
@@ -174,24 +176,24 @@ static void nulls(void)
     spki_guard_close(NULL);
     spki_asked_close(NULL);
     twice.moment = text("19:2024-01-01_00:00:00");
-    misused_question(&twice, "spki_guard_ask: two moments");
+    expect_misused_question(&twice, "spki_guard_ask: two moments");
     twice = question;
     twice.words = &twice.key.text;
-    misused_question(&twice, "spki_guard_ask: two requests");
+    expect_misused_question(&twice, "spki_guard_ask: two requests");
 }
 
 /* A question in place of a guard, and a guard in place of a question. */
 static void other_kinds(void)
 {
-    struct spki_question question = granted();
+    struct spki_question question = good_question();
     spki_guard *no_such_guard = (spki_guard *)asked;
     spki_asked *no_such_question = (spki_asked *)guard;
     struct spki_signed signature;
     memset(&signature, 1, sizeof signature);
-    opens_no_question(spki_guard_ask(no_such_guard, &question, &no_asked, BUFFER), "spki_guard_ask: a question");
-    misused(spki_asked_decide(no_such_question, BUFFER).status, "spki_asked_decide: a guard");
-    misused(spki_asked_explain(no_such_question, BUFFER).status, "spki_asked_explain: a guard");
-    misused(spki_asked_reduce(no_such_question, BUFFER).status, "spki_asked_reduce: a guard");
+    expect_no_question(spki_guard_ask(no_such_guard, &question, &no_asked, BUFFER), "spki_guard_ask: a question");
+    expect_misused(spki_asked_decide(no_such_question, BUFFER).status, "spki_asked_decide: a guard");
+    expect_misused(spki_asked_explain(no_such_question, BUFFER).status, "spki_asked_explain: a guard");
+    expect_misused(spki_asked_reduce(no_such_question, BUFFER).status, "spki_asked_reduce: a guard");
     expect(!spki_asked_granted(no_such_question) && !spki_asked_possible(no_such_question), "a yes of a guard");
     for (size_t place = 0; place < 3; place++)
         expect(spki_asked_mark(no_such_question, place) == SPKI_MISUSED, "spki_asked_mark: a guard");
@@ -206,7 +208,7 @@ static void other_kinds(void)
 static void allowed(void)
 {
     static const size_t path[1];
-    struct spki_question question = granted();
+    struct spki_question question = good_question();
     struct spki_text empty = {NULL, 0};
     const void *octets;
     spki_guard *other = NULL;
@@ -227,7 +229,7 @@ static void allowed(void)
 
 int main(void)
 {
-    struct spki_question question = granted();
+    struct spki_question question = good_question();
     guard = opened("(acl (entry (public-key (test b)) (tag (*))))", SPKI_STRICT);
     asked = asked_of(guard, &question);
     memset(buffer, UNTOUCHED, sizeof buffer);
@@ -243,7 +245,7 @@ int main(void)
     nulls();
     other_kinds();
     allowed();
-    decides(guard, &question, 0, SPKI_YES, "yes entry 1\n");
+    expect_decision(guard, &question, 0, SPKI_YES, "yes entry 1\n");
     spki_asked_close(asked);
     spki_guard_close(guard);
     return 0;

@@ -30,7 +30,7 @@ static bool is_sig(const spki::signature &it)
     return it.value == "3:sig";
 }
 
-// The line of a refusal, or nothing.
+// The line with which a call is refused, or nothing if it is not.
 template <typename Call> static std::string refusal(Call call)
 {
     try {
@@ -52,6 +52,7 @@ template <typename Call> static bool is_misuse(Call call)
     return false;
 }
 
+// This test and those below return 0, or 1 from a CHECK that fails.
 static int decisions()
 {
     spki::guard guard(list);

@@ -6,8 +6,11 @@
 #include <stdio.h>
 #include <stdlib.h>
 
-enum { MOST_FIELDS = 64, HEAD = 6 };
+enum { MOST_FIELDS = 64 };
+/* The strings of a request before its fields. */
+enum { METHOD, AUTHORITY, TARGET, TIME, BEFORE, FIELD_COUNT, HEAD };
 
+/* Reads LENGTH:OCTETS. An octet 00 that does not count is behind the octets. False at the end of the input, and if memory ran out. */
 static bool read_string(struct spki_text *string)
 {
     size_t length;
@@ -35,22 +38,22 @@ static void free_strings(struct spki_text *strings, size_t count)
         free((void *)strings[--count].octets);
 }
 
-/* Copies a request to places of its own, so that a read behind a text is seen. */
+/* Answers a request of `count` fields: `of_fields` has the name and the value of each. A read past `fields` is seen: its block ends there. */
 static void answer(const struct spki_text *head, struct spki_text *of_fields, size_t count)
 {
     const struct spki_text names[] = {SPKI_LITERAL("example.com")};
     struct http_field *fields = malloc((count + 1) * sizeof *fields);
     struct http_service service = {names, 1, 1792000000, http_nonces_take, http_nonces_open(4)};
-    struct http_request request = {head[0], head[1], head[2], fields, count};
+    struct http_request request = {head[METHOD], head[AUTHORITY], head[TARGET], fields, count};
     struct http_proof proof = {.digest_length = 0};
-    long long now = atoll(head[3].octets);
+    long long now = atoll(head[TIME].octets);
     if (!fields || !service.store)
         exit(1);
     for (size_t i = 0; i < count; i++)
         fields[i] = (struct http_field){of_fields[2 * i], of_fields[2 * i + 1]};
-    if (head[4].length && http_request_proves(&service, &request, now - atoll(head[4].octets), &proof))
+    if (head[BEFORE].length && http_request_refusal(&service, &request, now - atoll(head[BEFORE].octets), &proof))
         exit(1);
-    const char *why = http_request_proves(&service, &request, now, &proof);
+    const char *why = http_request_refusal(&service, &request, now, &proof);
     if (!why && http_proven_key(&proof).text.octets != proof.key)
         exit(1);
     printf("%s ", why ? why : "valid");
@@ -65,7 +68,7 @@ int main(void)
 {
     struct spki_text head[HEAD], of_fields[2 * MOST_FIELDS];
     while (read_strings(head, HEAD)) {
-        size_t count = (size_t)atoll(head[5].octets);
+        size_t count = (size_t)atoll(head[FIELD_COUNT].octets);
         if (count > MOST_FIELDS || !read_strings(of_fields, 2 * count))
             return 1;
         answer(head, of_fields, count);

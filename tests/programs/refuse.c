@@ -19,6 +19,7 @@
 #include <unistd.h>
 
 #define SECONDS 30
+/* Declares `next`, the function of this name that the program would call without this one. */
 #define NEXT(type, name) \
     static __typeof__(type) next; \
     if (next == NULL) next = (__typeof__(type))dlsym(RTLD_NEXT, name)
@@ -32,10 +33,11 @@ typedef int entry(int, char **, char **);
 
 static struct calls memory, reads, writes;
 static unsigned long before_reads;
-static int counting, told, single;
+static int counting, error_number, one_octet;
 static entry *program;
 
-static int refuses(struct calls *calls) {
+/* Counts a call, and returns whether it is refused. */
+static int is_refused(struct calls *calls) {
     if (!counting) return 0;
     calls->asked++;
     if (calls->first == 0 || calls->asked < calls->first || (calls->asked > calls->first && !calls->all)) return 0;
@@ -48,7 +50,8 @@ static void *no_memory(void) {
     return NULL;
 }
 
-static void plan(struct calls *calls, const char *name) {
+/* Reads from a variable which calls are refused: N, or N.. for all from there on. */
+static void read_plan(struct calls *calls, const char *name) {
     const char *words = getenv(name);
     if (words == NULL) return;
     calls->first = strtoul(words, NULL, 10);
@@ -57,67 +60,68 @@ static void plan(struct calls *calls, const char *name) {
 
 void *malloc(size_t size) {
     NEXT(void *(*)(size_t), "malloc");
-    return refuses(&memory) ? no_memory() : next(size);
+    return is_refused(&memory) ? no_memory() : next(size);
 }
 
 void *calloc(size_t count, size_t size) {
     NEXT(void *(*)(size_t, size_t), "calloc");
-    return refuses(&memory) ? no_memory() : next(count, size);
+    return is_refused(&memory) ? no_memory() : next(count, size);
 }
 
 void *realloc(void *old, size_t size) {
     NEXT(void *(*)(void *, size_t), "realloc");
     /* (a block that becomes shorter is not refused: without that it stays as it is) */
-    return (old == NULL || malloc_usable_size(old) < size) && refuses(&memory) ? no_memory() : next(old, size);
+    return (old == NULL || malloc_usable_size(old) < size) && is_refused(&memory) ? no_memory() : next(old, size);
 }
 
 void *reallocarray(void *old, size_t count, size_t size) {
     NEXT(void *(*)(void *, size_t, size_t), "reallocarray");
-    return refuses(&memory) ? no_memory() : next(old, count, size);
+    return is_refused(&memory) ? no_memory() : next(old, count, size);
 }
 
 void *memalign(size_t align, size_t size) {
     NEXT(void *(*)(size_t, size_t), "memalign");
-    return refuses(&memory) ? no_memory() : next(align, size);
+    return is_refused(&memory) ? no_memory() : next(align, size);
 }
 
 void *aligned_alloc(size_t align, size_t size) {
     NEXT(void *(*)(size_t, size_t), "aligned_alloc");
-    return refuses(&memory) ? no_memory() : next(align, size);
+    return is_refused(&memory) ? no_memory() : next(align, size);
 }
 
 int posix_memalign(void **out, size_t align, size_t size) {
     NEXT(int (*)(void **, size_t, size_t), "posix_memalign");
-    return refuses(&memory) ? ENOMEM : next(out, align, size);
+    return is_refused(&memory) ? ENOMEM : next(out, align, size);
 }
 
-static ssize_t refused_call(void) {
-    errno = told;
-    return told == 0 ? 0 : -1;
+/* What a refused read or write returns: REFUSE_WITH. */
+static ssize_t refused_result(void) {
+    errno = error_number;
+    return error_number == 0 ? 0 : -1;
 }
 
 ssize_t read(int file, void *octets, size_t most) {
     NEXT(ssize_t (*)(int, void *, size_t), "read");
     if (file == 0 && reads.asked == 0) before_reads = memory.asked;
-    if (file == 0 && refuses(&reads)) return refused_call();
-    return next(file, octets, file == 0 && single && most > 1 ? 1 : most);
+    if (file == 0 && is_refused(&reads)) return refused_result();
+    return next(file, octets, file == 0 && one_octet && most > 1 ? 1 : most);
 }
 
 ssize_t write(int file, const void *octets, size_t most) {
     NEXT(ssize_t (*)(int, const void *, size_t), "write");
-    if (file == 1 && refuses(&writes)) return refused_call();
-    return next(file, octets, file == 1 && single && most > 1 ? 1 : most);
+    if (file == 1 && is_refused(&writes)) return refused_result();
+    return next(file, octets, file == 1 && one_octet && most > 1 ? 1 : most);
 }
 
-/* Stands round the program's main. */
-static int counted(int count, char **words, char **environment) {
+/* Runs in place of the program's main: reads what is to be refused, and calls it. */
+static int counting_main(int count, char **words, char **environment) {
     const char *word = getenv("REFUSE_IN");
     if (word != NULL && (count == 0 || strcmp(words[0], word) != 0)) return program(count, words, environment);
-    plan(&memory, "REFUSE_MEMORY");
-    plan(&reads, "REFUSE_READ");
-    plan(&writes, "REFUSE_WRITE");
-    told = getenv("REFUSE_WITH") == NULL ? EIO : atoi(getenv("REFUSE_WITH"));
-    single = getenv("REFUSE_STEP") != NULL;
+    read_plan(&memory, "REFUSE_MEMORY");
+    read_plan(&reads, "REFUSE_READ");
+    read_plan(&writes, "REFUSE_WRITE");
+    error_number = getenv("REFUSE_WITH") == NULL ? EIO : atoi(getenv("REFUSE_WITH"));
+    one_octet = getenv("REFUSE_STEP") != NULL;
     alarm(SECONDS);
     counting = 1;
     return program(count, words, environment);
@@ -126,7 +130,7 @@ static int counted(int count, char **words, char **environment) {
 int __libc_start_main(entry *main, int count, char **words, void (*init)(void), void (*fini)(void), void (*end)(void), void *stack) {
     NEXT(int (*)(entry *, int, char **, void (*)(void), void (*)(void), void (*)(void), void *), "__libc_start_main");
     program = main;
-    return next(counted, count, words, init, fini, end, stack);
+    return next(counting_main, count, words, init, fini, end, stack);
 }
 
 __attribute__((destructor)) static void report(void) {

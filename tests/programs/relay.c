@@ -14,8 +14,8 @@ enum { MOST = 4096, ARGUMENTS = 8, BROKEN = 99 };
 typedef uint64_t call(uint64_t, uint64_t, uint64_t, uint64_t, uint64_t, uint64_t, uint64_t, uint64_t);
 typedef void (*any)(void);
 
-/* Decides. It returns a structure, which is no number: the last second is written to an address. */
-static enum spki_status decides(const spki_asked *asked, void *buffer, size_t length, size_t *needed, int64_t *until)
+/* Decides, and writes the last second to `until`: spki_asked_decide returns a structure, and `call` only a number. */
+static enum spki_status decide_to(const spki_asked *asked, void *buffer, size_t length, size_t *needed, int64_t *until)
 {
     const struct spki_decision said = spki_asked_decide(asked, buffer, length, needed);
     *until = said.until;
@@ -26,49 +26,51 @@ static enum spki_status decides(const spki_asked *asked, void *buffer, size_t le
 static const any calls[] = {
     NULL, (any)spki_answer, (any)spki_check_accepted, (any)spki_guard_open, (any)spki_guard_close, (any)spki_guard_entries,
     (any)spki_guard_ask, (any)spki_asked_count, (any)spki_asked_signature, (any)spki_asked_mark, (any)spki_asked_granted,
-    (any)spki_asked_possible, (any)decides, (any)spki_asked_explain, (any)spki_asked_reduce, (any)spki_asked_close, (any)spki_string};
+    (any)spki_asked_possible, (any)decide_to, (any)spki_asked_explain, (any)spki_asked_reduce, (any)spki_asked_close, (any)spki_string};
 
-static void take(void *octets, size_t length)
+/* Reads octets. The program ends if there are fewer. */
+static void read_octets(void *octets, size_t length)
 {
     if (length && fread(octets, 1, length, stdin) != length)
         exit(BROKEN);
 }
 
-static uint64_t number(void)
+static uint64_t read_number(void)
 {
     uint64_t taken;
-    take(&taken, sizeof taken);
+    read_octets(&taken, sizeof taken);
     return taken;
 }
 
-/* A number below a limit. */
-static uint64_t number_below(uint64_t most)
+/* Reads a number, which must be below `most`. */
+static uint64_t read_number_below(uint64_t most)
 {
-    uint64_t taken = number();
+    uint64_t taken = read_number();
     if (taken >= most)
         exit(BROKEN);
     return taken;
 }
 
-static void give(const void *octets, size_t length)
+static void write_octets(const void *octets, size_t length)
 {
     if (length && fwrite(octets, 1, length, stdout) != length)
         exit(BROKEN);
 }
 
-/* A block, which ends where its octets do. */
-static unsigned char *block(uint64_t *length)
+/* Reads a block, which ends where its octets do, so that a read past the end is seen. */
+static unsigned char *read_block(uint64_t *length)
 {
     unsigned char *made;
-    *length = number();
+    *length = read_number();
     made = malloc(*length ? *length : 1);
     if (!made)
         exit(BROKEN);
-    take(made, *length);
+    read_octets(made, *length);
     return made;
 }
 
-static uint64_t done(uint64_t which, const uint64_t *it, unsigned char *const *blocks)
+/* Does the call with this number by its eight arguments, or copies octets into block 0. */
+static uint64_t do_call(uint64_t which, const uint64_t *it, unsigned char *const *blocks)
 {
     if (which)
         return ((call *)calls[which])(it[0], it[1], it[2], it[3], it[4], it[5], it[6], it[7]);
@@ -76,25 +78,26 @@ static uint64_t done(uint64_t which, const uint64_t *it, unsigned char *const *b
     return 0;
 }
 
+/* Reads a request, does its call and writes the answer. */
 static void answer(void)
 {
     static unsigned char *blocks[MOST];
     static uint64_t lengths[MOST];
-    uint64_t count = number_below(MOST), links, which, given[ARGUMENTS], returned;
+    uint64_t count = read_number_below(MOST), links, which, given[ARGUMENTS], returned;
     for (uint64_t i = 0; i < count; i++)
-        blocks[i] = block(&lengths[i]);
-    for (links = number(); links; links--) {
-        uint64_t in = number_below(count), place = number_below(lengths[in]), to = number_below(count);
+        blocks[i] = read_block(&lengths[i]);
+    for (links = read_number(); links; links--) {
+        uint64_t in = read_number_below(count), place = read_number_below(lengths[in]), to = read_number_below(count);
         memcpy(blocks[in] + place, &blocks[to], sizeof blocks[to]);
     }
-    which = number_below(sizeof calls / sizeof *calls);
+    which = read_number_below(sizeof calls / sizeof *calls);
     for (size_t i = 0; i < ARGUMENTS; i++)
-        given[i] = number() ? (uint64_t)(uintptr_t)blocks[number_below(count)] : number();
-    returned = done(which, given, blocks);
-    give(&returned, sizeof returned);
+        given[i] = read_number() ? (uint64_t)(uintptr_t)blocks[read_number_below(count)] : read_number();
+    returned = do_call(which, given, blocks);
+    write_octets(&returned, sizeof returned);
     for (uint64_t i = 0; i < count; i++) {
-        give(&blocks[i], sizeof blocks[i]);
-        give(blocks[i], lengths[i]);
+        write_octets(&blocks[i], sizeof blocks[i]);
+        write_octets(blocks[i], lengths[i]);
         free(blocks[i]);
     }
     fflush(stdout);

@@ -3,6 +3,7 @@
 #include <gcrypt.h>
 #include <stdio.h>
 
+/* The S-expression of a file, or null. */
 static gcry_sexp_t value_in(const char *path)
 {
     static char octets[65536];

@@ -29,6 +29,7 @@ static spki_guard *opened(bool grants)
     return made;
 }
 
+/* Asks under the lock. The answer must be that of the guard which was the current one then. */
 static void *ask(void *unused)
 {
     static const int64_t now = 1704067200;

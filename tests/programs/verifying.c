@@ -14,6 +14,7 @@ enum { MOST = 65536 };
 
 static struct spki_text strings[3 * MOST];
 
+/* Reads LENGTH:OCTETS. False at the end of the input, and if memory ran out. */
 static bool read_string(struct spki_text *string)
 {
     size_t length;
@@ -26,9 +27,9 @@ static bool read_string(struct spki_text *string)
     return true;
 }
 
-/* Verifies the signatures from one place on in a child process, which says at its end what it has not freed. Returns the place behind the last
- * that it answered. */
-static size_t answered(size_t place, size_t count, char *answers)
+/* Verifies the signatures from one place on in a child process, up to its end or to `count`. Sets `answers`, and returns the place behind the last
+ * of them. Where the child ends well, a sanitizer says there what it has not freed. */
+static size_t verify_from(size_t place, size_t count, char *answers)
 {
     int status = 0;
     pid_t child = fork();
@@ -55,7 +56,7 @@ int main(void)
     if (answers == MAP_FAILED || !feof(stdin))
         return 1;
     for (size_t place = 0; place < count / 3;)
-        if ((place = answered(place, count / 3, answers)) < count / 3)
+        if ((place = verify_from(place, count / 3, answers)) < count / 3)
             answers[place++] = 'x';
     puts(answers);
     while (count > 0)

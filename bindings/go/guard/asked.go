@@ -20,7 +20,7 @@ type Asked struct {
 // A heldAsked is what the copies of an Asked share. It is closed when none is left.
 type heldAsked struct {
 	mutex  sync.Mutex
-	handle opened
+	handle askedHandle
 	// What Verified returns: the sequence, the policy by which its signatures are listed, and how many of these are marked, from the first.
 	sequence []byte
 	policy   Policy
@@ -39,7 +39,7 @@ func (h *heldAsked) close() {
 }
 
 // lock returns the open handle. If there is no error, the caller unlocks a.held.mutex.
-func (a *Asked) lock() (opened, error) {
+func (a *Asked) lock() (askedHandle, error) {
 	if a.held == nil {
 		return nil, ErrClosed
 	}
@@ -192,7 +192,7 @@ func (a *Asked) Close() {
 	}
 }
 
-// lines returns an answer that is no decision.
+// lines returns the lines of Explain or Reduce, without the last line feed.
 func (a *Asked) lines(wish wish) (string, error) {
 	handle, err := a.lock()
 	if err != nil {
@@ -202,7 +202,7 @@ func (a *Asked) lines(wish wish) (string, error) {
 	return lines(handle, wish, a.most)
 }
 
-// helps says whether it helps to verify: there is a signature, and the request can be granted.
-func (a *Asked) helps() bool {
+// isWorthVerifying says whether there is a signature, and the request can be granted.
+func (a *Asked) isWorthVerifying() bool {
 	return a.count > 0 && a.Possible()
 }

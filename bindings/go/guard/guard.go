@@ -63,7 +63,7 @@ func (g *Guard) Logged(log func(Event)) *Guard {
 // A heldGuard is what the copies of a Guard share. It is closed when none is left.
 type heldGuard struct {
 	mutex  sync.RWMutex
-	handle handle
+	handle guardHandle
 	policy Policy
 }
 
@@ -79,7 +79,7 @@ func (h *heldGuard) close() {
 }
 
 // lock returns the open handle. If there is no error, the caller unlocks g.held.mutex for reading.
-func (g *Guard) lock() (handle, error) {
+func (g *Guard) lock() (guardHandle, error) {
 	if g.held == nil {
 		return nil, ErrClosed
 	}
@@ -110,7 +110,7 @@ func Open(list []byte, policy Policy, limits Limits) (*Guard, error) {
 	}
 	held := &heldGuard{handle: opened, policy: policy}
 	runtime.SetFinalizer(held, (*heldGuard).close)
-	return &Guard{held: held, most: limits.most()}, nil
+	return &Guard{held: held, most: limits.mostAnswer()}, nil
 }
 
 // Close frees the memory of the guard, once the questions that it was asked are closed too. Nothing else depends on it. It may be called at
@@ -160,11 +160,11 @@ func (g *Guard) ask(question *Question) (Asked, error) {
 // Decide asks a question, verifies its signatures in order, up to the first that is not valid, and decides. Nothing is verified where the
 // request cannot be granted, whatever is valid. The error is that of Ask. With an error the decision is not a yes.
 func (g *Guard) Decide(question Question, verify Verify) (Decision, error) {
-	return g.told(question, func() (Decision, error) { return g.decide(&question, verify) })
+	return g.decideAndLog(question, func() (Decision, error) { return g.decide(&question, verify) })
 }
 
-// told decides, and calls the function of the log, if there is one.
-func (g *Guard) told(question Question, decide func() (Decision, error)) (Decision, error) {
+// decideAndLog decides by a function, and calls that of the log, if there is one.
+func (g *Guard) decideAndLog(question Question, decide func() (Decision, error)) (Decision, error) {
 	if g.log == nil {
 		return decide()
 	}
@@ -174,13 +174,14 @@ func (g *Guard) told(question Question, decide func() (Decision, error)) (Decisi
 	return decision, err
 }
 
+// decide is Decide without the log.
 func (g *Guard) decide(question *Question, verify Verify) (Decision, error) {
 	asked, err := g.ask(question)
 	if err != nil {
 		return Decision{}, err
 	}
 	defer asked.Close()
-	if asked.helps() {
+	if asked.isWorthVerifying() {
 		err = asked.Verify(verify)
 	}
 	if err != nil {
@@ -192,16 +193,17 @@ func (g *Guard) decide(question *Question, verify Verify) (Decision, error) {
 // DecideContext is as Decide, with a verifier that may fail. The context is tested before each signature and before the decision. The error
 // is also that of the verifier or of the context.
 func (g *Guard) DecideContext(ctx context.Context, question Question, verify VerifyContext) (Decision, error) {
-	return g.told(question, func() (Decision, error) { return g.decideContext(ctx, &question, verify) })
+	return g.decideAndLog(question, func() (Decision, error) { return g.decideContext(ctx, &question, verify) })
 }
 
+// decideContext is DecideContext without the log.
 func (g *Guard) decideContext(ctx context.Context, question *Question, verify VerifyContext) (Decision, error) {
 	asked, err := g.ask(question)
 	if err != nil {
 		return Decision{}, err
 	}
 	defer asked.Close()
-	if err = ctx.Err(); err == nil && asked.helps() {
+	if err = ctx.Err(); err == nil && asked.isWorthVerifying() {
 		err = asked.VerifyContext(ctx, verify)
 	}
 	if err != nil {

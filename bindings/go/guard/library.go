@@ -20,10 +20,10 @@ import (
 // status is an enum spki_status.
 type status = C.enum_spki_status
 
-// A handle is an open guard, and an opened is a question that was read by it. Each is closed once.
+// What an open guard is, and a question that it has read. Each is closed once.
 type (
-	handle = *C.spki_guard
-	opened = *C.spki_asked
+	guardHandle = *C.spki_guard
+	askedHandle = *C.spki_asked
 )
 
 // A wish says which answer to a question is asked for.
@@ -72,7 +72,7 @@ func policyOf(policy Policy) C.enum_spki_policy {
 	return ^C.enum_spki_policy(0)
 }
 
-// lineIn returns the line of what a call says. One that did not fit is none.
+// lineIn returns the line that a call has written. It is empty if it did not fit.
 func lineIn(said *C.struct_library_said) string {
 	if said.length > roomForLine {
 		return ""
@@ -80,8 +80,8 @@ func lineIn(said *C.struct_library_said) string {
 	return string(unsafe.Slice((*byte)(unsafe.Pointer(&said.line)), int(said.length)))
 }
 
-// failed returns the error of a call whose status is none that the caller wants.
-func failed(met status, line string) error {
+// errorOf returns the error of a call that failed, by its status and the line that it wrote.
+func errorOf(met status, line string) error {
 	switch met {
 	case C.SPKI_REFUSED:
 		return refusalOf(line)
@@ -93,8 +93,8 @@ func failed(met status, line string) error {
 	return fmt.Errorf("libspki_c is of another version than this module: status %d", uint(met))
 }
 
-// open reads an access list.
-func open(list []byte, policy Policy, limits Limits) (handle, error) {
+// open reads an access list. The caller closes the guard.
+func open(list []byte, policy Policy, limits Limits) (guardHandle, error) {
 	if met := C.GoString(C.spki_version()); !isOurs(met) {
 		return nil, fmt.Errorf("libspki_c has the version %s, and this module needs %s", met, Version)
 	}
@@ -104,22 +104,22 @@ func open(list []byte, policy Policy, limits Limits) (handle, error) {
 	}
 	said := C.library_open(text(list), policyOf(policy), given)
 	if said.status != C.SPKI_DONE || said.guard == nil {
-		return nil, failed(said.status, lineIn(&said))
+		return nil, errorOf(said.status, lineIn(&said))
 	}
 	return said.guard, nil
 }
 
 // closeGuard frees a guard, once its questions are closed too.
-func closeGuard(guard handle) {
+func closeGuard(guard guardHandle) {
 	C.spki_guard_close(guard)
 }
 
 // entries returns the number of entries of a guard's list.
-func entries(guard handle) int {
+func entries(guard guardHandle) int {
 	return int(C.spki_guard_entries(guard))
 }
 
-// A lent is a question as one call takes it.
+// A lent is a question as one call takes it: `joined` has its texts but the sequence in one piece, and `lengths` the length of each.
 type lent struct {
 	parts            C.struct_library_question
 	sequence, joined *C.char
@@ -142,21 +142,21 @@ func lend(question *Question) lent {
 	return made
 }
 
-// ask reads a question, and counts its signatures.
-func ask(guard handle, question *Question) (asked opened, count int, err error) {
+// ask reads a question, and counts its signatures. The caller closes it.
+func ask(guard guardHandle, question *Question) (asked askedHandle, count int, err error) {
 	lent := lend(question)
 	said := C.library_ask(guard, lent.parts, lent.sequence, lent.joined, lent.lengths)
 	if said.status != C.SPKI_DONE || said.asked == nil {
-		return nil, 0, failed(said.status, lineIn(&said))
+		return nil, 0, errorOf(said.status, lineIn(&said))
 	}
 	return said.asked, int(said.count), nil
 }
 
 // signature returns a copy of what is to be verified at a place. Its key is the given one if that is equal.
-func signature(asked opened, place int, key []byte) (Signature, error) {
+func signature(asked askedHandle, place int, key []byte) (Signature, error) {
 	var signed C.struct_spki_signed
 	if met := C.spki_asked_signature(asked, C.size_t(place), &signed); met != C.SPKI_DONE {
-		return Signature{}, failed(met, "")
+		return Signature{}, errorOf(met, "")
 	}
 	if lent := octetsOf(signed.key); !bytes.Equal(lent, key) {
 		key = append([]byte(nil), lent...)
@@ -168,26 +168,26 @@ func signature(asked opened, place int, key []byte) (Signature, error) {
 }
 
 // mark says that the signature at a place is valid.
-func mark(asked opened, place int) error {
+func mark(asked askedHandle, place int) error {
 	if met := C.spki_asked_mark(asked, C.size_t(place)); met != C.SPKI_DONE {
-		return failed(met, "")
+		return errorOf(met, "")
 	}
 	return nil
 }
 
 // possible says whether a question would be granted if all its signatures were valid.
-func possible(asked opened) bool {
+func possible(asked askedHandle) bool {
 	return bool(C.spki_asked_possible(asked))
 }
 
 // decide returns the decision by the marks of a question.
-func decide(asked opened) (Decision, error) {
+func decide(asked askedHandle) (Decision, error) {
 	said := C.library_decide(asked)
 	return decisionIn(&said)
 }
 
-// decideVerified returns the decision of a question that lists so many signatures, of which so many at the front are valid.
-func decideVerified(guard handle, question *Question, listed, valid int) (Decision, error) {
+// decideVerified returns the decision of a question that must list so many signatures, of which the first `valid` are valid.
+func decideVerified(guard guardHandle, question *Question, listed, valid int) (Decision, error) {
 	lent := lend(question)
 	said := C.library_decide_verified(guard, lent.parts, lent.sequence, lent.joined, lent.lengths, C.size_t(listed), C.size_t(valid))
 	return decisionIn(&said)
@@ -201,11 +201,11 @@ func decisionIn(said *C.struct_library_said) (Decision, error) {
 	case C.SPKI_NO:
 		return Decision{}, nil
 	}
-	return Decision{}, failed(said.status, lineIn(said))
+	return Decision{}, errorOf(said.status, lineIn(said))
 }
 
-// lines returns the lines of an answer that is no decision, which has at most so many octets.
-func lines(asked opened, wish wish, most int) (string, error) {
+// lines returns the lines of an answer that is no decision, without the last line feed. It has at most so many octets.
+func lines(asked askedHandle, wish wish, most int) (string, error) {
 	if most < roomForLine {
 		most = roomForLine
 	}
@@ -213,27 +213,27 @@ func lines(asked opened, wish wish, most int) (string, error) {
 	met := C.library_lines(asked, wish, C.size_t(most), &written)
 	defer C.library_free(written)
 	if met != C.SPKI_DONE {
-		return "", failed(met, string(octetsOf(written)))
+		return "", errorOf(met, string(octetsOf(written)))
 	}
 	return lineOf(string(octetsOf(written))), nil
 }
 
 // closeAsked frees a question.
-func closeAsked(asked opened) {
+func closeAsked(asked askedHandle) {
 	C.spki_asked_close(asked)
 }
 
-// converted returns a text in another form.
+// converted returns a text in the form that a command writes.
 func converted(command C.enum_spki_command, given []byte) ([]byte, error) {
 	// (an octet that is printed in base64 takes 7 for the 3 of its canonical text)
 	buffer, needed := make([]byte, 3*len(given)+roomForLine), C.size_t(0)
 	lent := text(given)
 	met := C.spki_answer(command, lent.octets, lent.length, unsafe.Pointer(&buffer[0]), C.size_t(len(buffer)), &needed).status
 	if met == C.SPKI_TOO_SMALL {
-		return nil, failed(met, "")
+		return nil, errorOf(met, "")
 	}
 	if met != C.SPKI_DONE {
-		return nil, failed(met, string(buffer[:needed]))
+		return nil, errorOf(met, string(buffer[:needed]))
 	}
 	return append([]byte(nil), buffer[:needed]...), nil
 }

@@ -26,6 +26,7 @@ struct library_question {
     int64_t seconds;
 };
 
+/* Opens a guard. Limits that are all 0 are the usual ones. `line` is that of a refusal. */
 static inline struct library_said library_open(struct spki_text list, enum spki_policy policy, struct spki_limits limits)
 {
     struct library_said said = {0};
@@ -35,7 +36,7 @@ static inline struct library_said library_open(struct spki_text list, enum spki_
     return said;
 }
 
-/* The text of the next length, behind which the rest begins. */
+/* The first text of the rest, which has the next length. Both go on to the next text. */
 static inline struct spki_text library_next(const char **rest, const size_t **lengths)
 {
     struct spki_text text = {**lengths > 0 ? *rest : NULL, **lengths};
@@ -43,6 +44,7 @@ static inline struct spki_text library_next(const char **rest, const size_t **le
     return text;
 }
 
+/* Reads a question and counts its signatures. `line` is that of a refusal. */
 static inline struct library_said library_ask(const spki_guard *guard, struct library_question parts, const char *sequence, const char *joined,
                                               const size_t *lengths)
 {
@@ -64,6 +66,7 @@ static inline struct library_said library_ask(const spki_guard *guard, struct li
     return said;
 }
 
+/* Decides a question by its marks. `until` is the last second of a yes. */
 static inline struct library_said library_decide(const spki_asked *asked)
 {
     struct library_said said = {0};
@@ -72,7 +75,7 @@ static inline struct library_said library_decide(const spki_asked *asked)
     return said;
 }
 
-/* Decides a question that lists so many signatures, of which so many at the front are valid. */
+/* Decides a question, of which the first `valid` signatures are valid. SPKI_MISUSED unless it lists `listed` signatures. */
 static inline struct library_said library_decide_verified(const spki_guard *guard, struct library_question parts, const char *sequence,
                                                           const char *joined, const size_t *lengths, size_t listed, size_t valid)
 {
@@ -90,8 +93,8 @@ static inline struct library_said library_decide_verified(const spki_guard *guar
     return said;
 }
 
-/* The lines of an answer, which library_free frees. They have room for the longest answer, in memory of C's, of which the system gives no more
- * than is used. */
+/* Sets `lines` to those of an answer, or to an empty text, which library_free frees. They have room for the longest answer, in memory of C's, of
+ * which the system gives no more than is used. */
 static inline enum spki_status library_lines(const spki_asked *asked, enum library_wish wish, size_t room, struct spki_text *lines)
 {
     void *buffer = malloc(room);

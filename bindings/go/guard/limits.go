@@ -36,8 +36,8 @@ func Highest() Limits {
 	return Limits{Octets: mostOctets, Certificates: most, Words: most, Nodes: mostNodes, Work: mostWork, Answer: mostAnswer}
 }
 
-// most returns the most octets of an answer.
-func (l Limits) most() int {
+// mostAnswer returns the most octets of an answer.
+func (l Limits) mostAnswer() int {
 	if l.Answer == 0 {
 		return usualAnswer
 	}

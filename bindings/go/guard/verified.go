@@ -28,6 +28,7 @@ func (v Verified) Sequence() []byte {
 	return append([]byte(nil), v.text()...)
 }
 
+// text returns the sequence, which the caller must not change.
 func (v Verified) text() []byte {
 	if v.sequence == nil {
 		return noCertificates
@@ -69,9 +70,10 @@ func (g *Guard) DecideVerified(question Question, verified Verified) (Decision, 
 		// (a copy, which the function of the log may change)
 		question.Sequence = verified.Sequence()
 	}
-	return g.told(question, func() (Decision, error) { return g.decideVerified(&asked, verified) })
+	return g.decideAndLog(question, func() (Decision, error) { return g.decideVerified(&asked, verified) })
 }
 
+// decideVerified is DecideVerified without the log, for a question that has the sequence.
 func (g *Guard) decideVerified(question *Question, verified Verified) (Decision, error) {
 	handle, err := g.lock()
 	if err != nil {

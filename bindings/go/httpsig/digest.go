@@ -27,7 +27,7 @@ func digestOf(value string) (digest, error) {
 }
 
 // is says whether a digest is that of a body.
-func (d digest) is(body []byte) bool {
+func (d digest) matches(body []byte) bool {
 	if d.algorithm == "sha-512" {
 		made := sha512.Sum512(body)
 		return bytes.Equal(made[:], d.octets)

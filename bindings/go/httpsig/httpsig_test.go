@@ -26,7 +26,8 @@ import (
 	"conguraki/spki"
 )
 
-// A row is one of the table that all languages read: tests/generators/signed_requests.py says what its lines are.
+// A row is one of the table that all languages read: tests/generators/signed_requests.py says what its lines are. With isAgain the same message came
+// so many seconds before.
 type row struct {
 	name, gives string
 	message     Message
@@ -51,7 +52,7 @@ func rowsOf(t testing.TB) (rows []row) {
 	return rows
 }
 
-// set sets what a line says.
+// set sets what a line says, whose first word is this.
 func (r *row) set(word, text string) {
 	switch word {
 	case "on":
@@ -80,8 +81,8 @@ func unescaped(text string) string {
 	return made
 }
 
-// at returns a verifier at a time.
-func at(now *int64) *Verifier {
+// verifierAt returns a verifier whose clock is a number of seconds, which the test may change.
+func verifierAt(now *int64) *Verifier {
 	made := NewVerifier("example.com")
 	made.Start, made.Now = time.Unix(1792000000, 0), func() time.Time { return time.Unix(*now, 0) }
 	return made
@@ -106,7 +107,7 @@ func TestRows(t *testing.T) {
 	}
 	for _, row := range rows {
 		now := row.now
-		verifier := at(&now)
+		verifier := verifierAt(&now)
 		if row.isAgain {
 			now -= row.again
 			if answer := answerOf(verifier.Message(row.message)); answer != "valid" {
@@ -120,6 +121,7 @@ func TestRows(t *testing.T) {
 	}
 }
 
+// octets decodes base64.
 func octets(t testing.TB, text string) []byte {
 	made, err := base64.StdEncoding.DecodeString(text)
 	if err != nil {
@@ -157,7 +159,7 @@ func TestPublishedExamples(t *testing.T) {
 	if err != nil {
 		t.Fatal(err)
 	}
-	made, err := signer.octets(text)
+	made, err := signer.signText(text)
 	if err != nil || base64.StdEncoding.EncodeToString(made) != signatureRFC {
 		t.Errorf("%v, %x", err, made)
 	}
@@ -173,7 +175,7 @@ func TestPublishedExamples(t *testing.T) {
 		t.Error("ECDSA")
 	}
 	digest, err := digestOf("sha-512=:WZDPaVn/7XgHaAy8pmojAkGWoRx2UFChF41A2svX+TaPm+AbwAgBWnrIiYllu7BNNyealdVLvRwEmTHWXvJwew==:")
-	if err != nil || !digest.is([]byte(`{"hello": "world"}`)) {
+	if err != nil || !digest.matches([]byte(`{"hello": "world"}`)) {
 		t.Error("the digest of RFC 9530")
 	}
 }
@@ -300,7 +302,7 @@ func FuzzFields(f *testing.F) {
 		f.Add(header.Get("Signature-Input"), header.Get("Signature"), header.Get("Content-Digest"), header.Get(publicKey), "/foo")
 	}
 	now := int64(1792000100)
-	verifier := at(&now)
+	verifier := verifierAt(&now)
 	asked := false
 	verifier.Verify = func(signed spki.Signature) bool {
 		asked = bytes.HasPrefix(signed.Message, []byte(`"`)) && bytes.Contains(signed.Message, []byte(`"@signature-params": (`))

@@ -12,7 +12,7 @@ const (
 	tag   = "spki"
 )
 
-// The most octets of `Signature-Input`, and the most components.
+// The most octets of `Signature-Input`, components, and digits of a number.
 const (
 	mostInput      = 8192
 	mostComponents = 32
@@ -41,13 +41,13 @@ type input struct {
 	algorithm, tag   string
 }
 
-// A parser takes a field apart from the left.
+// A parser takes a field apart from the left. What a method returns is taken off the rest.
 type parser struct {
 	rest string
 }
 
-// skips says whether the rest begins with a text, and goes behind it.
-func (p *parser) skips(text string) bool {
+// trySkip passes over a text if the rest begins with it, and says whether it does.
+func (p *parser) trySkip(text string) bool {
 	found := strings.HasPrefix(p.rest, text)
 	if found {
 		p.rest = p.rest[len(text):]
@@ -55,10 +55,10 @@ func (p *parser) skips(text string) bool {
 	return found
 }
 
-// label goes behind the label of the first member.
-func (p *parser) label() error {
+// skipLabel passes over the label of the first member and its `=`. Another label than `spki` is OtherLabel.
+func (p *parser) skipLabel() error {
 	name := p.name()
-	if name == "" || !p.skips("=") {
+	if name == "" || !p.trySkip("=") {
 		return Malformed
 	}
 	if name != label {
@@ -67,8 +67,8 @@ func (p *parser) label() error {
 	return nil
 }
 
-// ends says what follows the first member, if anything does.
-func (p *parser) ends() error {
+// expectEnd returns nil if nothing follows the first member, and otherwise a refusal.
+func (p *parser) expectEnd() error {
 	switch {
 	case p.rest == "":
 		return nil
@@ -78,10 +78,10 @@ func (p *parser) ends() error {
 	return Malformed
 }
 
-// name returns the name of a member or of a parameter, or nothing.
+// name returns the name of a member or of a parameter. It is empty if none is there.
 func (p *parser) name() string {
 	end := 0
-	for end < len(p.rest) && isOfName(p.rest[end], end) {
+	for end < len(p.rest) && isNameOctet(p.rest[end], end) {
 		end++
 	}
 	name := p.rest[:end]
@@ -89,15 +89,15 @@ func (p *parser) name() string {
 	return name
 }
 
-// isOfName says whether an octet may be at a place in a name.
-func isOfName(octet byte, place int) bool {
+// isNameOctet says whether an octet may be at a place in a name.
+func isNameOctet(octet byte, place int) bool {
 	return 'a' <= octet && octet <= 'z' || octet == '*' ||
 		place > 0 && ('0' <= octet && octet <= '9' || octet == '_' || octet == '-' || octet == '.')
 }
 
 // string returns a string in quotes. An escape is refused: nothing in the profile needs one.
 func (p *parser) string() (string, error) {
-	if !p.skips(`"`) {
+	if !p.trySkip(`"`) {
 		return "", Malformed
 	}
 	end := strings.IndexByte(p.rest, '"')
@@ -130,12 +130,12 @@ func (p *parser) integer() (int64, error) {
 
 // components reads the list of components.
 func (p *parser) components() ([]string, error) {
-	if !p.skips("(") {
+	if !p.trySkip("(") {
 		return nil, Malformed
 	}
 	var found []string
-	for !p.skips(")") {
-		if len(found) > 0 && !p.skips(" ") || len(found) == mostComponents {
+	for !p.trySkip(")") {
+		if len(found) > 0 && !p.trySkip(" ") || len(found) == mostComponents {
 			return nil, Malformed
 		}
 		name, err := p.string()
@@ -145,7 +145,7 @@ func (p *parser) components() ([]string, error) {
 		if !isComponent(name) || strings.HasPrefix(p.rest, ";") {
 			return nil, UnknownComponent
 		}
-		if has(found, name) {
+		if contains(found, name) {
 			return nil, ComponentTwice
 		}
 		found = append(found, name)
@@ -170,8 +170,8 @@ func isComponent(name string) bool {
 	return true
 }
 
-// has says whether names have a name.
-func has(names []string, name string) bool {
+// contains says whether a name is among others.
+func contains(names []string, name string) bool {
 	for _, each := range names {
 		if each == name {
 			return true
@@ -186,7 +186,7 @@ func inputOf(text string) (*input, error) {
 		return nil, Malformed
 	}
 	p, made := &parser{text}, new(input)
-	if err := p.label(); err != nil {
+	if err := p.skipLabel(); err != nil {
 		return nil, err
 	}
 	made.text = p.rest
@@ -207,23 +207,23 @@ func inputOf(text string) (*input, error) {
 	return made, nil
 }
 
-// hasComponents says whether all components are there that must be.
+// hasComponents says whether all components are there that the profile requires.
 func (i *input) hasComponents() bool {
-	hasTarget := has(i.components, targetURI) || has(i.components, path) && has(i.components, query)
-	return hasTarget && has(i.components, method) && has(i.components, authority) && has(i.components, publicKey)
+	hasTarget := contains(i.components, targetURI) || contains(i.components, path) && contains(i.components, query)
+	return hasTarget && contains(i.components, method) && contains(i.components, authority) && contains(i.components, publicKey)
 }
 
-// places returns where the parameters go: numbers and strings.
+// places returns where the parameters go, by their names: pointers to numbers and to strings.
 func (i *input) places() map[string]any {
 	return map[string]any{
 		"created": &i.created, "expires": &i.expires, "nonce": &i.nonce, "keyid": &i.keyID, "alg": &i.algorithm, "tag": &i.tag,
 	}
 }
 
-// parameters reads the parameters, and returns their number.
+// parameters reads the parameters up to the end of the field, and returns their number.
 func (i *input) parameters(p *parser) (int, error) {
 	places, seen := i.places(), 0
-	for p.skips(";") {
+	for p.trySkip(";") {
 		name := p.name()
 		if name == "" {
 			return 0, Malformed
@@ -234,20 +234,20 @@ func (i *input) parameters(p *parser) (int, error) {
 			return 0, UnknownParameter
 		case place == nil:
 			return 0, ParameterTwice
-		case !p.skips("="):
+		case !p.trySkip("="):
 			return 0, Malformed
 		}
-		if err := p.into(place); err != nil {
+		if err := p.readInto(place); err != nil {
 			return 0, err
 		}
 		places[name] = nil
 		seen++
 	}
-	return seen, p.ends()
+	return seen, p.expectEnd()
 }
 
-// into reads a number or a string.
-func (p *parser) into(place any) (err error) {
+// readInto reads what a place points to: a number or a string.
+func (p *parser) readInto(place any) (err error) {
 	switch place := place.(type) {
 	case *int64:
 		*place, err = p.integer()
@@ -263,26 +263,26 @@ func octetsOf(text string) ([]byte, error) {
 	if len(text) > mostInput {
 		return nil, Malformed
 	}
-	if err := p.label(); err != nil {
+	if err := p.skipLabel(); err != nil {
 		return nil, err
 	}
 	octets, err := p.octets()
 	if err != nil {
 		return nil, err
 	}
-	return octets, p.ends()
+	return octets, p.expectEnd()
 }
 
 // octets returns octets between colons, in base64.
 func (p *parser) octets() ([]byte, error) {
-	if !p.skips(":") {
+	if !p.trySkip(":") {
 		return nil, Malformed
 	}
 	end := strings.IndexByte(p.rest, ':')
 	if end < 0 {
 		return nil, Malformed
 	}
-	octets, isBase64 := decoded(p.rest[:end])
+	octets, isBase64 := decodeBase64(p.rest[:end])
 	if !isBase64 {
 		return nil, Malformed
 	}
@@ -290,8 +290,8 @@ func (p *parser) octets() ([]byte, error) {
 	return octets, nil
 }
 
-// decoded returns the octets of base64 with its padding, in the one text that they have. (Go's decoder passes over ends of lines.)
-func decoded(text string) ([]byte, bool) {
+// decodeBase64 returns the octets of base64 with its padding, in the one text that they have. (Go's decoder passes over ends of lines.)
+func decodeBase64(text string) ([]byte, bool) {
 	if strings.ContainsAny(text, "\r\n") {
 		return nil, false
 	}

@@ -47,12 +47,12 @@ func hashOf(key []byte) string {
 	return hex.EncodeToString(made[:])
 }
 
-// keyOf returns the key that a text is in transport form, its algorithm and the octets that a signature by it has.
+// keyOf returns the key that a text is in transport form, its algorithm, and how many octets a signature by it has.
 func keyOf(text string) (key []byte, algorithm string, octets int, err error) {
 	if len(text) < 2 || len(text) > mostKey || text[0] != '{' || text[len(text)-1] != '}' {
 		return nil, "", 0, BadKey
 	}
-	key, isBase64 := decoded(text[1 : len(text)-1])
+	key, isBase64 := decodeBase64(text[1 : len(text)-1])
 	if !isBase64 {
 		return nil, "", 0, BadKey
 	}
@@ -63,7 +63,7 @@ func keyOf(text string) (key []byte, algorithm string, octets int, err error) {
 	return key, algorithm, octets, nil
 }
 
-// kindOf returns the algorithm of a key, and the octets that a signature by it has. It returns nothing for what is no key.
+// kindOf returns the algorithm of a key, and how many octets a signature by it has. The algorithm of what is no key is empty.
 func kindOf(key []byte) (algorithm string, octets int) {
 	for algorithm, form := range keyForms {
 		strings, isOne := stringsOf(key, form)
@@ -97,7 +97,7 @@ func valueOf(algorithm string, octets []byte) []byte {
 	return made
 }
 
-// stringsOf returns the strings of a canonical text that are at the marks of a form, and whether the text has it.
+// stringsOf returns the strings of a canonical text that are at the marks `%` of a form, and whether the text has this form.
 func stringsOf(text []byte, form string) (found [][]byte, hasForm bool) {
 	for place := 0; place < len(form); place++ {
 		if form[place] != '%' {

@@ -87,21 +87,21 @@ func (b *base) text(components []string, parameters string) ([]byte, error) {
 
 // value returns the value of a component.
 func (b *base) value(name string) (string, error) {
-	sent, asked, hasQuery := strings.Cut(b.Target, "?")
+	sentPath, sentQuery, hasQuery := strings.Cut(b.Target, "?")
 	switch name {
 	case method:
 		return b.Method, nil
 	case authority:
 		return b.authority, nil
 	case path:
-		return sent, nil
+		return sentPath, nil
 	case query:
-		return "?" + asked, nil
+		return "?" + sentQuery, nil
 	case targetURI:
 		if hasQuery {
-			asked = "?" + asked
+			sentQuery = "?" + sentQuery
 		}
-		return b.scheme + "://" + b.authority + sent + asked, nil
+		return b.scheme + "://" + b.authority + sentPath + sentQuery, nil
 	}
 	return fieldOf(b.Header, name)
 }
@@ -118,7 +118,7 @@ func fieldOf(header http.Header, name string) (string, error) {
 	return "", RepeatedField
 }
 
-// cleanValue returns the value of a field without the spaces around it.
+// cleanValue returns the value of a field without the spaces around it, or BadValue if it is not printable ASCII.
 func cleanValue(value string) (string, error) {
 	value = strings.Trim(value, " \t")
 	for place := 0; place < len(value); place++ {

@@ -18,9 +18,10 @@ const usualNonces = 1_000_000
 // A Memory keeps nonces in two sets, as hashes of key and nonce. If the young set is as old as a nonce is kept, it becomes the old one. Where two
 // have the same hash, the second is refused.
 type Memory struct {
-	mutex      sync.Mutex
-	seed       maphash.Seed
-	most       int
+	mutex sync.Mutex
+	seed  maphash.Seed
+	most  int
+	// turned is when the young set began, in seconds.
 	turned     int64
 	old, young map[uint64]struct{}
 }
@@ -55,7 +56,7 @@ func (m *Memory) Take(key []byte, nonce string, now, seconds int64) error {
 	return nil
 }
 
-// turn makes the young set the old one when it is time. If the clock went back, nothing is forgotten. The mutex is held.
+// turn makes the young set the old one once it is so many seconds old. If the clock went back, nothing is forgotten. The mutex is held.
 func (m *Memory) turn(now, seconds int64) {
 	age := now - m.turned
 	if age < seconds {

@@ -50,7 +50,7 @@ func (s *Signer) Sign(scheme string, message Message, covered ...string) error {
 		message.Header.Set("Content-Digest", ContentDigest(message.Body))
 	}
 	for _, name := range append([]string{authorization, "x-spki-sequence", contentDigest}, covered...) {
-		if len(message.Header.Values(name)) > 0 && !has(names, name) {
+		if len(message.Header.Values(name)) > 0 && !contains(names, name) {
 			names = append(names, name)
 		}
 	}
@@ -65,7 +65,7 @@ func (s *Signer) Sign(scheme string, message Message, covered ...string) error {
 	if err != nil {
 		return err
 	}
-	octets, err := s.octets(text)
+	octets, err := s.signText(text)
 	if err != nil {
 		return err
 	}
@@ -85,8 +85,8 @@ func (s *Signer) parameters(names []string) (string, error) {
 		created+mostWindow, base64.RawURLEncoding.EncodeToString(nonce), hashOf(s.key), s.kind, tag), nil
 }
 
-// octets returns the octets of a signature.
-func (s *Signer) octets(text []byte) ([]byte, error) {
+// signText returns the octets of the signature of a text, as RFC 9421 has them.
+func (s *Signer) signText(text []byte) ([]byte, error) {
 	if s.kind == Ed25519 {
 		return s.private.Sign(rand.Reader, text, crypto.Hash(0))
 	}
@@ -117,8 +117,8 @@ var (
 	_ crypto.Signer = (*rsa.PrivateKey)(nil)
 )
 
-// isOf says whether a request goes to one of some names.
-func isOf(names []string, request *http.Request) bool {
+// isToOneOf says whether a request goes to one of some names.
+func isToOneOf(names []string, request *http.Request) bool {
 	for _, name := range names {
 		if AuthorityOf(request.URL.Scheme, name) == AuthorityOf(request.URL.Scheme, request.URL.Host) {
 			return true

@@ -24,18 +24,18 @@ func (t *Transport) RoundTrip(request *http.Request) (*http.Response, error) {
 	if under == nil {
 		under = http.DefaultTransport
 	}
-	if !isOf(t.Names, request) {
+	if !isToOneOf(t.Names, request) {
 		return under.RoundTrip(request)
 	}
-	signed, err := t.signed(request)
+	signed, err := t.signedCopy(request)
 	if err != nil {
 		return nil, err
 	}
 	return under.RoundTrip(signed)
 }
 
-// signed returns a signed copy of a request.
-func (t *Transport) signed(request *http.Request) (*http.Request, error) {
+// signedCopy returns a signed copy of a request. It reads the whole body, and closes it.
+func (t *Transport) signedCopy(request *http.Request) (*http.Request, error) {
 	signed := request.Clone(request.Context())
 	if signed.Header == nil {
 		signed.Header = http.Header{}

@@ -74,7 +74,7 @@ func (p *Proof) Body(from io.Reader, most int64) ([]byte, error) {
 	if p.digest.octets == nil && len(body) == 0 {
 		return nil, nil
 	}
-	if p.digest.octets == nil || !p.digest.is(body) {
+	if p.digest.octets == nil || !p.digest.matches(body) {
 		return nil, OtherDigest
 	}
 	return body, nil
@@ -109,7 +109,7 @@ func (v *Verifier) Check(message Message) (*Proof, error) {
 	if err != nil {
 		return nil, err
 	}
-	if err := v.checkTime(input); err != nil {
+	if err := v.checkParameters(input); err != nil {
 		return nil, err
 	}
 	text, digest, err := v.checkMessage(message, input)
@@ -127,13 +127,13 @@ func (v *Verifier) Check(message Message) (*Proof, error) {
 	if err != nil {
 		return nil, InvalidSignature
 	}
-	if digest.octets != nil && message.Body != nil && !digest.is(message.Body) {
+	if digest.octets != nil && message.Body != nil && !digest.matches(message.Body) {
 		return nil, OtherDigest
 	}
 	return &Proof{proven, v.sequenceOf(message.Header), input.nonce, digest}, nil
 }
 
-// signerOf returns the key that a request names as its signer, and the octets that a signature by it has.
+// signerOf returns the key of a request, which must be that of `keyid` and `alg`, and how many octets a signature by it has.
 func signerOf(header http.Header, input *input) (key []byte, octets int, err error) {
 	text, err := fieldOf(header, publicKey)
 	if err != nil {
@@ -151,7 +151,7 @@ func signerOf(header http.Header, input *input) (key []byte, octets int, err err
 	return key, octets, nil
 }
 
-// sequenceOf returns the certificates that a request shows, whose field is there once at most.
+// sequenceOf returns the certificates that a request shows. Their field was checked before: it has one line at most.
 func (v *Verifier) sequenceOf(header http.Header) []byte {
 	if shown := header.Get(v.Sequence); shown != "" {
 		return []byte(shown)
@@ -159,7 +159,7 @@ func (v *Verifier) sequenceOf(header http.Header) []byte {
 	return []byte("(sequence)")
 }
 
-// signatureOf reads both fields.
+// signatureOf reads `Signature-Input`, and the octets of `Signature`.
 func signatureOf(header http.Header) (*input, []byte, error) {
 	inputs, signatures := header.Values("Signature-Input"), header.Values("Signature")
 	switch {
@@ -178,8 +178,8 @@ func signatureOf(header http.Header) (*input, []byte, error) {
 	return input, octets, err
 }
 
-// checkTime says what is wrong in the tag, the nonce and the window.
-func (v *Verifier) checkTime(input *input) error {
+// checkParameters returns the refusal of the tag, of the length of the nonce or of the times, or nil.
+func (v *Verifier) checkParameters(input *input) error {
 	now := v.Now().Unix()
 	switch {
 	case input.tag != tag:
@@ -206,25 +206,25 @@ func (v *Verifier) checkMessage(message Message, input *input) (text []byte, dig
 	if !isTarget(message.Target) {
 		return nil, digest, BadTarget
 	}
-	of := base{&message, v.Scheme, AuthorityOf(v.Scheme, message.Authority)}
-	if !v.isName(of.authority) {
+	signed := base{&message, v.Scheme, AuthorityOf(v.Scheme, message.Authority)}
+	if !v.isOwnName(signed.authority) {
 		return nil, digest, OtherAuthority
 	}
-	if text, err = of.text(input.components, input.text); err != nil {
+	if text, err = signed.text(input.components, input.text); err != nil {
 		return nil, digest, err
 	}
 	for _, name := range []string{authorization, v.Sequence, contentDigest} {
-		if len(message.Header.Values(name)) > 0 && !has(input.components, name) {
+		if len(message.Header.Values(name)) > 0 && !contains(input.components, name) {
 			return nil, digest, UncoveredField
 		}
 	}
-	if !has(input.components, contentDigest) {
+	if !contains(input.components, contentDigest) {
 		if message.mayHaveBody() {
 			return nil, digest, BodyWithoutDigest
 		}
 		return text, digest, nil
 	}
-	value, err := of.value(contentDigest)
+	value, err := signed.value(contentDigest)
 	if err != nil {
 		return nil, digest, err
 	}
@@ -232,8 +232,8 @@ func (v *Verifier) checkMessage(message Message, input *input) (text []byte, dig
 	return text, digest, err
 }
 
-// isName says whether a name is one of the service.
-func (v *Verifier) isName(authority string) bool {
+// isOwnName says whether an authority, as it is signed, is one of this service.
+func (v *Verifier) isOwnName(authority string) bool {
 	for _, name := range v.Authorities {
 		if AuthorityOf(v.Scheme, name) == authority {
 			return authority != ""

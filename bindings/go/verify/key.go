@@ -60,15 +60,15 @@ func KeyOf(public crypto.PublicKey) ([]byte, error) {
 	switch public := public.(type) {
 	case ed25519.PublicKey:
 		if isOfLargeOrder(public) {
-			return written(beforeEd25519, []byte(public), afterKey), nil
+			return canonicalText(beforeEd25519, []byte(public), afterKey), nil
 		}
 	case *rsa.PublicKey:
 		if isStrong(public) {
-			return written(beforeModulus, number(public.N), beforeE, number(big.NewInt(int64(public.E))), afterKey), nil
+			return canonicalText(beforeModulus, numberOctets(public.N), beforeE, numberOctets(big.NewInt(int64(public.E))), afterKey), nil
 		}
 	case *ecdsa.PublicKey:
 		if of := curveOf(public.Curve); of != nil && public.X != nil && public.Y != nil && public.Curve.IsOnCurve(public.X, public.Y) {
-			return written(of.before, elliptic.Marshal(public.Curve, public.X, public.Y), afterKey), nil
+			return canonicalText(of.before, elliptic.Marshal(public.Curve, public.X, public.Y), afterKey), nil
 		}
 	}
 	return nil, fmt.Errorf("%w: %T", ErrKey, public)
@@ -92,23 +92,23 @@ func PublicOf(key []byte) (crypto.PublicKey, error) {
 	return public, nil
 }
 
-// publicOf reads a key. It returns nil for what is none.
+// publicOf reads a key. It returns nil if the text is none, or its point or numbers are not allowed.
 func publicOf(text *reader) crypto.PublicKey {
 	switch {
-	case text.skips(beforeEd25519):
-		if octets, ok := text.string(ed25519.PublicKeySize); ok && isOfLargeOrder(octets) && text.ends(afterKey) {
+	case text.trySkip(beforeEd25519):
+		if octets, ok := text.string(ed25519.PublicKeySize); ok && isOfLargeOrder(octets) && text.restIs(afterKey) {
 			return ed25519.PublicKey(octets)
 		}
-	case text.skips(beforeModulus):
-		if modulus, ok := text.string(MostBits/8 + 1); ok && text.skips(beforeE) {
-			if exponent, ok := text.string(MostExponentBits/8 + 1); ok && text.ends(afterKey) {
+	case text.trySkip(beforeModulus):
+		if modulus, ok := text.string(MostBits/8 + 1); ok && text.trySkip(beforeE) {
+			if exponent, ok := text.string(MostExponentBits/8 + 1); ok && text.restIs(afterKey) {
 				return rsaKey(modulus, exponent)
 			}
 		}
 	}
 	for _, of := range curves {
-		if text.skips(of.before) {
-			if octets, ok := text.string(mostPoint); ok && text.ends(afterKey) {
+		if text.trySkip(of.before) {
+			if octets, ok := text.string(mostPoint); ok && text.restIs(afterKey) {
 				return pointOf(of, octets)
 			}
 		}
@@ -124,13 +124,13 @@ var (
 	other  = numberOf("7a03ac9277fdc74ec6cc392cfa53202a0f67100d760b3cba4fd84d3d706a17c7")
 )
 
-// numberOf returns the number of hexadecimal digits.
+// numberOf returns the number that hexadecimal digits write.
 func numberOf(digits string) *big.Int {
 	number, _ := new(big.Int).SetString(digits, 16)
 	return number
 }
 
-// isOfLargeOrder says whether a point of Ed25519 has no small order and one text only, as far as y says that.
+// isOfLargeOrder says whether a point of Ed25519 has no small order and one text only, as far as its y says that.
 func isOfLargeOrder(q []byte) bool {
 	if len(q) != ed25519.PublicKeySize {
 		return false
@@ -184,7 +184,7 @@ func isStrong(public *rsa.PublicKey) bool {
 		public.E >= 3 && public.E&1 == 1 && big.NewInt(int64(public.E)).BitLen() <= MostExponentBits
 }
 
-// number returns the octets of a number of a key: big-endian, with an octet 00 in front where the first bit is set.
-func number(value *big.Int) []byte {
+// numberOctets returns the octets of a number of a key: big-endian, with an octet 00 in front where the first bit is set.
+func numberOctets(value *big.Int) []byte {
 	return value.FillBytes(make([]byte, value.BitLen()/8+1))
 }

@@ -10,8 +10,8 @@ type reader struct {
 	rest []byte
 }
 
-// skips says whether the rest begins with a text, and goes behind it.
-func (r *reader) skips(text string) bool {
+// trySkip goes behind a text if the rest begins with it, and says whether it does.
+func (r *reader) trySkip(text string) bool {
 	if !bytes.HasPrefix(r.rest, []byte(text)) {
 		return false
 	}
@@ -19,7 +19,7 @@ func (r *reader) skips(text string) bool {
 	return true
 }
 
-// string returns the string that the rest begins with, and goes behind it. It has at most so many octets.
+// string returns the string that the rest begins with, and goes behind it. It says whether there is one of at most so many octets.
 func (r *reader) string(most int) ([]byte, bool) {
 	colon := bytes.IndexByte(r.rest[:min(len(r.rest), len("4096:"))], ':')
 	if colon < 0 {
@@ -34,8 +34,8 @@ func (r *reader) string(most int) ([]byte, bool) {
 	return octets, true
 }
 
-// ends says whether the rest is a text.
-func (r *reader) ends(text string) bool {
+// restIs says whether the rest is a text.
+func (r *reader) restIs(text string) bool {
 	return string(r.rest) == text
 }
 
@@ -46,8 +46,8 @@ func min(a, b int) int {
 	return b
 }
 
-// written joins texts, and octets as strings in canonical form.
-func written(parts ...any) []byte {
+// canonicalText joins its parts: a string is added as it is, and a []byte as a string in canonical form, LENGTH:OCTETS.
+func canonicalText(parts ...any) []byte {
 	var text []byte
 	for _, part := range parts {
 		switch part := part.(type) {

@@ -26,7 +26,7 @@ const topOfOrder = 0x10
 
 var order = numberOf("1000000000000000000000000000000014def9dea2f79cd65812631a5cf5d3ed")
 
-// ed25519Value returns both halves of a signature by Ed25519.
+// ed25519Value returns both halves of a signature by Ed25519, one after the other, and whether the value is one.
 func ed25519Value(value []byte) ([]byte, bool) {
 	r, s, ok := pair(value, beforeR)
 	if !ok || len(r) != half || len(s) != half || s[half-1] >= topOfOrder && littleEndian(s).Cmp(order) >= 0 {
@@ -35,37 +35,38 @@ func ed25519Value(value []byte) ([]byte, bool) {
 	return append(append(make([]byte, 0, 2*half), r...), s...), true
 }
 
-// rsaValue returns the number of a signature by RSA, with as many octets as the modulus. Go does not test that it is below the modulus.
+// rsaValue returns the number of a signature by RSA, with as many octets as the modulus, and whether the value is one. Go does not
+// test that it is below the modulus.
 func rsaValue(value []byte, public *rsa.PublicKey) ([]byte, bool) {
 	text := reader{rest: value}
-	if len(value) > mostOctets || !text.skips(beforeRSA) {
+	if len(value) > mostOctets || !text.trySkip(beforeRSA) {
 		return nil, false
 	}
 	octets, ok := text.string(mostOctets)
 	s := new(big.Int).SetBytes(octets)
-	if !ok || !text.ends(afterValue) || s.Sign() <= 0 || s.Cmp(public.N) >= 0 {
+	if !ok || !text.restIs(afterValue) || s.Sign() <= 0 || s.Cmp(public.N) >= 0 {
 		return nil, false
 	}
 	return s.FillBytes(make([]byte, public.Size())), true
 }
 
-// ecdsaValue returns the numbers of a signature by ECDSA with a curve.
+// ecdsaValue returns the numbers r and s of a signature by ECDSA with a curve, and whether the value is one.
 func ecdsaValue(value []byte, curve elliptic.Curve) (*big.Int, *big.Int, bool) {
 	first, second, ok := pair(value, beforeECDSA)
 	r, s, order := new(big.Int).SetBytes(first), new(big.Int).SetBytes(second), curve.Params().N
 	return r, s, ok && r.Sign() > 0 && s.Sign() > 0 && r.Cmp(order) < 0 && s.Cmp(order) < 0
 }
 
-// pair reads a value of two strings.
+// pair reads the two strings of a value, of which the first follows a text.
 func pair(value []byte, before string) ([]byte, []byte, bool) {
 	text := reader{rest: value}
-	if len(value) > mostOctets || !text.skips(before) {
+	if len(value) > mostOctets || !text.trySkip(before) {
 		return nil, nil, false
 	}
 	r, ok := text.string(mostOctets)
-	if !ok || !text.skips(betweenBoth) {
+	if !ok || !text.trySkip(betweenBoth) {
 		return nil, nil, false
 	}
 	s, ok := text.string(mostOctets)
-	return r, s, ok && text.ends(afterValue)
+	return r, s, ok && text.restIs(afterValue)
 }

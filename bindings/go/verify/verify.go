@@ -44,7 +44,7 @@ func pss(key *rsa.PublicKey, digest, value []byte) error {
 	return rsa.VerifyPSS(key, crypto.SHA256, digest, value, &rsa.PSSOptions{SaltLength: rsa.PSSSaltLengthEqualsHash})
 }
 
-// signature says whether a signature is valid.
+// signature says whether a signature is valid, which with a key of RSA is by this scheme.
 func signature(signed spki.Signature, scheme scheme) bool {
 	public, err := PublicOf(signed.Key)
 	if err != nil || len(signed.Message) == 0 {

@@ -126,7 +126,7 @@ func TestKeysGoThereAndBack(t *testing.T) {
 
 // rsaText writes a key of RSA with these octets.
 func rsaText(modulus, exponent []byte) []byte {
-	return written(beforeModulus, modulus, beforeE, exponent, afterKey)
+	return canonicalText(beforeModulus, modulus, beforeE, exponent, afterKey)
 }
 
 func TestWeakKeysOfRSA(t *testing.T) {
@@ -135,17 +135,17 @@ func TestWeakKeysOfRSA(t *testing.T) {
 	short.SetBit(short, 0, 1)
 	even := new(big.Int).Lsh(short, 1)
 	e := []byte{1, 0, 1}
-	padded := append(make([]byte, 8), number(short)...)
-	long := number(new(big.Int).SetBit(new(big.Int).SetBit(new(big.Int), MostBits, 1), 0, 1))
-	if _, err := PublicOf(rsaText(number(strong), e)); err != nil {
+	padded := append(make([]byte, 8), numberOctets(short)...)
+	long := numberOctets(new(big.Int).SetBit(new(big.Int).SetBit(new(big.Int), MostBits, 1), 0, 1))
+	if _, err := PublicOf(rsaText(numberOctets(strong), e)); err != nil {
 		t.Errorf("2048 bits are refused: %v", err)
 	}
 	for name, text := range map[string][]byte{
-		"2047 bits": rsaText(number(short), e), "2047 bits, padded": rsaText(padded, e), "even": rsaText(number(even), e),
-		"4097 bits": rsaText(long, e), "nothing": rsaText(nil, e), "e is nothing": rsaText(number(strong), nil),
-		"e is 1": rsaText(number(strong), []byte{1}), "e is even": rsaText(number(strong), []byte{1, 0, 0}),
-		"e is padded": rsaText(number(strong), []byte{0, 1, 0, 1}), "e has 32 bits": rsaText(number(strong), []byte{0, 0x80, 0, 0, 1}),
-		"no octet 00 in front": rsaText(number(strong)[1:], e), "two of them": rsaText(append([]byte{0}, number(strong)...), e),
+		"2047 bits": rsaText(numberOctets(short), e), "2047 bits, padded": rsaText(padded, e), "even": rsaText(numberOctets(even), e),
+		"4097 bits": rsaText(long, e), "nothing": rsaText(nil, e), "e is nothing": rsaText(numberOctets(strong), nil),
+		"e is 1": rsaText(numberOctets(strong), []byte{1}), "e is even": rsaText(numberOctets(strong), []byte{1, 0, 0}),
+		"e is padded": rsaText(numberOctets(strong), []byte{0, 1, 0, 1}), "e has 32 bits": rsaText(numberOctets(strong), []byte{0, 0x80, 0, 0, 1}),
+		"no octet 00 in front": rsaText(numberOctets(strong)[1:], e), "two of them": rsaText(append([]byte{0}, numberOctets(strong)...), e),
 	} {
 		if _, err := PublicOf(text); !errors.Is(err, ErrKey) {
 			t.Errorf("%s: %v", name, err)
@@ -169,7 +169,7 @@ func TestPointsOffTheCurve(t *testing.T) {
 		"off the curve": off, "compressed": elliptic.MarshalCompressed(elliptic.P256(), private.X, private.Y), "infinity": {0}, "nothing": nil,
 		"zeros": append([]byte{4}, make([]byte, 64)...), "long": append(point, 0), "of another curve": elliptic.Marshal(elliptic.P384(), longer.X, longer.Y),
 	} {
-		if _, err := PublicOf(written(curves[0].before, octets, afterKey)); !errors.Is(err, ErrKey) {
+		if _, err := PublicOf(canonicalText(curves[0].before, octets, afterKey)); !errors.Is(err, ErrKey) {
 			t.Errorf("%s: %v", name, err)
 		}
 	}
@@ -210,7 +210,7 @@ func TestPSS(t *testing.T) {
 		if err != nil {
 			t.Fatal(err)
 		}
-		value := written(beforeRSA, octets, afterValue)
+		value := canonicalText(beforeRSA, octets, afterValue)
 		if got := SignatureOrPSS(spki.Signature{Key: key, Message: message, Value: value}); got != (salt == rsa.PSSSaltLengthEqualsHash) {
 			t.Errorf("a salt of the length %d: %v", salt, got)
 		}
@@ -232,7 +232,7 @@ func TestFewerZerosInFront(t *testing.T) {
 	}
 	key, _ := KeyOf(private.Public())
 	for counter := 0; counter < 20_000; counter++ {
-		message := written("(4:cert", []byte(big.NewInt(int64(counter)).String()), ")")
+		message := canonicalText("(4:cert", []byte(big.NewInt(int64(counter)).String()), ")")
 		digest := sha256.Sum256(message)
 		octets, err := rsa.SignPKCS1v15(nil, private, crypto.SHA256, digest[:])
 		if err != nil {
@@ -241,10 +241,10 @@ func TestFewerZerosInFront(t *testing.T) {
 		if octets[0] != 0 || octets[1] == 0 {
 			continue
 		}
-		if !isValid(key, message, written(beforeRSA, octets[1:], afterValue)) || isValid(key, message, written(beforeRSA, octets[2:], afterValue)) {
+		if !isValid(key, message, canonicalText(beforeRSA, octets[1:], afterValue)) || isValid(key, message, canonicalText(beforeRSA, octets[2:], afterValue)) {
 			t.Error("an octet 00 in front may be left out, and no other")
 		}
-		if !isValid(key, message, written(beforeRSA, append([]byte{0}, octets...), afterValue)) {
+		if !isValid(key, message, canonicalText(beforeRSA, append([]byte{0}, octets...), afterValue)) {
 			t.Error("a number may have more octets 00 in front")
 		}
 		return

@@ -30,10 +30,12 @@ impl Input {
         Some(&self.octets[self.at - length..self.at])
     }
 
+    /// The next string as a text.
     fn text(&mut self) -> Option<String> {
         String::from_utf8(self.next()?.to_vec()).ok()
     }
 
+    /// The next list of strings.
     fn list(&mut self) -> Option<Vec<Vec<u8>>> {
         let count = self.text()?.parse().ok()?;
         (0..count)
@@ -42,7 +44,7 @@ impl Input {
     }
 }
 
-/// A line of an explanation.
+/// The line of an explanation as the program writes it.
 fn spelled(reason: Reason) -> String {
     let entry = reason.entry.map(|number| format!("entry {number} "));
     let item = reason.item.map(|number| format!("item {number} "));
@@ -54,12 +56,11 @@ fn spelled(reason: Reason) -> String {
     )
 }
 
-/// The next question's answer, without the last line feed.
+/// Reads the next question, and returns its answer without the last line feed. `None` at the end of the input.
 fn answer(input: &mut Input) -> Option<Result<String, Refusal>> {
     let (command, policy, limits) = (input.text()?, input.text()?, input.text()?);
-    let texts: Vec<_> = (0..3)
-        .map(|_| input.next().map(<[u8]>::to_vec))
-        .collect::<Option<_>>()?;
+    let mut next = || input.next().map(<[u8]>::to_vec);
+    let (list, sequence, key) = (next()?, next()?, next()?);
     let (form, request) = (input.text()?, input.list()?);
     let (clock, moment) = (input.text()?, input.next()?.to_vec());
     let accepted = input.list()?;
@@ -72,8 +73,8 @@ fn answer(input: &mut Input) -> Option<Result<String, Refusal>> {
         "text" => Moment::Text(&moment),
         _ => Moment::Seconds(String::from_utf8(moment).ok()?.parse().ok()?),
     };
-    let key = ProvenKey::assume(&texts[2]);
-    let question = Question::new(&texts[1], &key, request, moment);
+    let key = ProvenKey::assume(&key);
+    let question = Question::new(&sequence, &key, request, moment);
     let policy = if policy == "strict" {
         Policy::Strict
     } else {
@@ -83,10 +84,11 @@ fn answer(input: &mut Input) -> Option<Result<String, Refusal>> {
         "highest" => Limits::highest(),
         _ => Limits::default(),
     };
-    let guard = Guard::read(&texts[0], policy, limits);
+    let guard = Guard::read(&list, policy, limits);
     Some(guard.and_then(|guard| answer_to(&command, &guard, &question, &accepted)))
 }
 
+/// Verifies by the rows of three that are accepted, and answers by a command: `check`, `explain` or `reduce`.
 fn answer_to(
     command: &str,
     guard: &Guard,

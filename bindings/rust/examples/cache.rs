@@ -38,8 +38,9 @@ fn main() -> Result<(), Box<dyn Error>> {
     let mut kept: Option<(String, Grant)> = None;
     for line in io::stdin().lines() {
         let line = line?;
-        let mut words = line.splitn(3, ' ').chain(["", ""]);
-        let [action, path, text] = [(); 3].map(|()| words.next().unwrap_or_default());
+        let mut words = line.splitn(3, ' ');
+        let mut next = || words.next().unwrap_or_default();
+        let (action, path, text) = (next(), next(), next());
         let (file, asked) = (format!("{folder}{path}"), format!("{action} {path}"));
         if !matches!(&kept, Some((last, grant)) if *last == asked && grant.holds_at(SystemTime::now()))
         {

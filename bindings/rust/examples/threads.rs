@@ -18,7 +18,7 @@ fn question<'q>(key: &'q ProvenKey) -> Question<'q> {
     )
 }
 
-/// How often a question is granted, each time anew and once opened.
+/// How many of 2 * TURNS decisions grant a question: TURNS that open it anew, and TURNS on one that was opened.
 fn granted(guard: &Guard) -> usize {
     let key = ProvenKey::assume(&b"(public-key (test b))"[..]);
     let question = question(&key);

@@ -13,13 +13,9 @@ use std::process::{exit, Command};
 /// The versions that this crate can call, from the first and below the second.
 const FIRST: &str = "0.2";
 const END: &str = "0.3";
-const OF_PKG_CONFIG: [&str; 5] = [
-    "PKG_CONFIG_PATH",
-    "PKG_CONFIG_LIBDIR",
-    "PKG_CONFIG_SYSROOT_DIR",
-    "PKG_CONFIG_ALLOW_CROSS",
-    "PKG_CONFIG",
-];
+/// The variables that say where `pkg-config` looks, and those that let it be asked for another target than the host.
+const PLACES: [&str; 2] = ["PKG_CONFIG_PATH", "PKG_CONFIG_LIBDIR"];
+const PERMISSIONS: [&str; 2] = ["PKG_CONFIG_SYSROOT_DIR", "PKG_CONFIG_ALLOW_CROSS"];
 
 fn main() {
     if variable("DOCS_RS").is_some() {
@@ -31,9 +27,9 @@ fn main() {
             "SPKI_LIB_DIR must be a whole path, and is {}",
             named.display()
         )),
-        None => installed(),
+        None => folder_by_pkg_config(),
     };
-    match folder.and_then(|folder| linked(&folder)) {
+    match folder.and_then(|folder| link_lines(&folder)) {
         Ok(lines) => lines.iter().for_each(|line| println!("cargo:{line}")),
         Err(fault) => {
             eprintln!("spki-sys: {fault}");
@@ -42,22 +38,22 @@ fn main() {
     }
 }
 
-/// A variable of the environment, which Cargo watches from now on.
+/// A variable of the environment, which Cargo watches from now on. `None` if it is not set, or empty.
 fn variable(name: &str) -> Option<OsString> {
     println!("cargo:rerun-if-env-changed={name}");
     env::var_os(name).filter(|value| !value.is_empty())
 }
 
-/// The value of a variable for the target, by its name with the target at its end or its own name.
-fn for_target(name: &str) -> Option<OsString> {
+/// The value of a variable for the target: of `NAME_TARGET`, of the same with `_` for each `-`, or of `NAME`. `None` if none of them is set.
+fn variable_for_target(name: &str) -> Option<OsString> {
     let target = env::var("TARGET").unwrap_or_default();
     variable(&format!("{name}_{target}"))
         .or_else(|| variable(&format!("{name}_{}", target.replace('-', "_"))))
         .or_else(|| variable(name))
 }
 
-/// What Cargo is told, to link the library of a folder.
-fn linked(folder: &Path) -> Result<Vec<String>, String> {
+/// The lines that tell Cargo to link the library of a folder. The error says that it has none.
+fn link_lines(folder: &Path) -> Result<Vec<String>, String> {
     let (archive, shared) = (folder.join("libspki_c.a"), folder.join("libspki_c.so"));
     let wants_shared = variable("SPKI_SHARED").is_some();
     let (kind, file) = if archive.is_file() && !wants_shared {
@@ -81,29 +77,20 @@ fn linked(folder: &Path) -> Result<Vec<String>, String> {
     ])
 }
 
-/// The folder in which `pkg-config` has the library, with the root of the target's system before it.
-fn installed() -> Result<PathBuf, String> {
-    let named: Vec<_> = OF_PKG_CONFIG
-        .iter()
-        .map(|name| (name, for_target(name)))
-        .collect();
-    let is_of_target = named[2..].iter().any(|(_, value)| value.is_some());
-    if env::var("HOST") != env::var("TARGET") && !is_of_target {
+/// The folder in which `pkg-config` has the library, with the root of the target's system before it. The error says what to do.
+fn folder_by_pkg_config() -> Result<PathBuf, String> {
+    let set = |name: &&'static str| variable_for_target(name).map(|value| (*name, value));
+    let places: Vec<_> = PLACES.iter().filter_map(set).collect();
+    let permissions: Vec<_> = PERMISSIONS.iter().filter_map(set).collect();
+    let program = variable_for_target("PKG_CONFIG");
+    if env::var("HOST") != env::var("TARGET") && permissions.is_empty() && program.is_none() {
         return Err(String::from(
             "for another target, name the folder of its libspki_c in SPKI_LIB_DIR, or set PKG_CONFIG_SYSROOT_DIR",
         ));
     }
-    let program = named[4]
-        .1
-        .clone()
-        .unwrap_or_else(|| OsString::from("pkg-config"));
-    let mut command = Command::new(&program);
-    for (name, value) in &named[..4] {
-        value.iter().for_each(|value| {
-            command.env(name, value);
-        });
-    }
-    let done = command
+    let program = program.unwrap_or_else(|| OsString::from("pkg-config"));
+    let done = Command::new(&program)
+        .envs(places.into_iter().chain(permissions))
         .env("PKG_CONFIG_ALLOW_SYSTEM_LIBS", "1")
         .args(["--print-errors", "--libs-only-L"])
         .args([format!("spki >= {FIRST}"), format!("spki < {END}")])

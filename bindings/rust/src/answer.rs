@@ -26,7 +26,7 @@ pub struct Refusal {
 }
 
 impl Refusal {
-    /// The refusal of a call.
+    /// The refusal of a call that failed, by its status and its answer.
     pub(crate) fn of(status: Status, answer: &[u8]) -> Refusal {
         let line = match status {
             sys::REFUSED => line_of(answer),
@@ -84,7 +84,7 @@ pub(crate) fn line_of(answer: &[u8]) -> &str {
         .trim_end_matches('\n')
 }
 
-/// The answer of a call that writes one line: what it returns, and what a function makes of both.
+/// Makes a call that writes one line, with a buffer, its room, and where the length goes. `made` gets what it returns, and the line.
 pub(crate) fn with_line<A, T>(
     call: impl FnOnce(*mut c_void, usize, *mut usize) -> A,
     made: impl FnOnce(A, &[u8]) -> T,
@@ -94,8 +94,8 @@ pub(crate) fn with_line<A, T>(
     made(returned, &buffer[..needed.min(LINE)])
 }
 
-/// The answer of a call that writes at most so many octets, or one line: its status and the answer.
-pub(crate) fn answered(
+/// Makes a call that writes at most `most` octets, or one line. Returns its status and the answer, which is empty if it does not fit.
+pub(crate) fn with_answer(
     most: usize,
     call: impl FnOnce(*mut c_void, usize, *mut usize) -> Status,
 ) -> (Status, Vec<u8>) {

@@ -1,6 +1,6 @@
 //! A question that was read, which is decided by the marks that it carries.
 
-use crate::answer::{answered, line_of, with_line, Refusal};
+use crate::answer::{line_of, with_answer, with_line, Refusal};
 use crate::decision::{Denied, Grant, Verdict};
 use crate::explanation::Explanation;
 use crate::signature::Signature;
@@ -27,7 +27,7 @@ use std::slice;
 pub struct Asked {
     handle: NonNull<sys::Asked>,
     count: usize,
-    most: usize,
+    most_answer: usize,
 }
 
 // SAFETY: the library's calls only read what the handle points to, except `mark`, and the last one, which frees it, and only `drop` makes that.
@@ -52,13 +52,13 @@ impl fmt::Debug for Asked {
 
 impl Asked {
     /// The question of a handle that is open, whose answers have at most so many octets.
-    pub(crate) fn new(handle: NonNull<sys::Asked>, most: usize) -> Asked {
+    pub(crate) fn new(handle: NonNull<sys::Asked>, most_answer: usize) -> Asked {
         // SAFETY: the handle is open.
         let count = unsafe { sys::spki_asked_count(handle.as_ptr()) };
         Asked {
             handle,
             count,
-            most,
+            most_answer,
         }
     }
 
@@ -102,14 +102,14 @@ impl Asked {
             sys::DONE => {}
             _ => return Err(Refusal::of(status, b"")),
         }
-        let of = |text: sys::Text| {
+        let octets_of = |text: sys::Text| {
             // SAFETY: the texts last and do not change until the handle is closed, which `self` outlives.
             unsafe { slice::from_raw_parts(text.octets.cast::<u8>(), text.length) }
         };
         Ok(Signature {
-            key: of(signed.key),
-            message: of(signed.message),
-            value: of(signed.value),
+            key: octets_of(signed.key),
+            message: octets_of(signed.message),
+            value: octets_of(signed.value),
         })
     }
 
@@ -172,11 +172,11 @@ impl Asked {
         self.decided()
     }
 
-    /// The same, with the error of any verifier.
+    /// Like `decide`, for a caller whose verifier may fail with an `E`.
     pub(crate) fn decided<E>(&self) -> Result<Grant, Denied<E>> {
         let call = |buffer, room, needed| self.call(sys::spki_asked_decide, (buffer, room, needed));
         with_line(call, |met: sys::Decision, line| match met.status {
-            sys::YES => granted(line, met.until).map_err(Denied::Refused),
+            sys::YES => grant_of(line, met.until).map_err(Denied::Refused),
             sys::NO => Err(Denied::No),
             status => Err(Denied::Refused(Refusal::of(status, line))),
         })
@@ -201,9 +201,9 @@ impl Asked {
         self.lines(sys::spki_asked_reduce)
     }
 
-    /// The lines of a call that decides nothing.
+    /// The lines of a call that decides nothing, without the last line feed.
     fn lines(&self, call: sys::Answers) -> Result<String, Refusal> {
-        let (status, lines) = answered(self.most, |buffer, room, needed| {
+        let (status, lines) = with_answer(self.most_answer, |buffer, room, needed| {
             self.call(call, (buffer, room, needed)).status
         });
         match status {
@@ -212,7 +212,7 @@ impl Asked {
         }
     }
 
-    /// A call with a buffer, its room, and the place of the length of the answer.
+    /// Makes a call with a buffer, its room, and where the length of the answer goes.
     fn call<A>(
         &self,
         call: sys::Answers<A>,
@@ -223,11 +223,11 @@ impl Asked {
     }
 }
 
-/// The grant of a line `yes entry N`, and its last second.
-fn granted(line: &[u8], until: i64) -> Result<Grant, Refusal> {
+/// The grant of a line `yes entry N`, until a second. Another line is a refusal: the library is not the one that was expected.
+fn grant_of(line: &[u8], until: i64) -> Result<Grant, Refusal> {
     line_of(line)
         .strip_prefix("yes entry ")
         .and_then(|number| number.parse().ok())
-        .map(|entry| Grant::until(entry, until))
+        .map(|entry| Grant::lasting(entry, until))
         .ok_or_else(|| Refusal::misused("libspki_c wrote another line"))
 }

@@ -19,8 +19,8 @@ pub struct Grant {
 }
 
 impl Grant {
-    /// The grant by an entry till a second since 1970. The highest number is no end.
-    pub(crate) fn until(entry: usize, seconds: i64) -> Grant {
+    /// The grant by an entry until a second since 1970, which `i64::MAX` says is none.
+    pub(crate) fn lasting(entry: usize, seconds: i64) -> Grant {
         let (after, length) = (seconds >= 0, Duration::from_secs(seconds.unsigned_abs()));
         let until = (seconds < i64::MAX).then(|| match after {
             true => UNIX_EPOCH + length,

@@ -24,6 +24,7 @@ pub enum Policy {
 }
 
 impl Policy {
+    /// The policy as the library takes it.
     fn number(self) -> c_int {
         match self {
             Policy::Strict => sys::STRICT,
@@ -63,7 +64,7 @@ impl Limits {
     }
 
     /// The most octets of an answer.
-    const fn most(&self) -> usize {
+    const fn most_answer(&self) -> usize {
         match self.values.answer {
             0 => sys::USUAL_ANSWER,
             set => set,
@@ -72,8 +73,8 @@ impl Limits {
 
     /// Whether no limit is set.
     const fn is_none(&self) -> bool {
-        let of = &self.values;
-        of.octets | of.certificates | of.words | of.nodes | of.work | of.answer == 0
+        let all = &self.values;
+        all.octets | all.certificates | all.words | all.nodes | all.work | all.answer == 0
     }
 
     /// The limits by the names of the calls that set them. One that is not set is 0.
@@ -160,7 +161,7 @@ impl Default for Limits {
 /// A thread that calls has 256 KiB of stack left. No call is made in a child that a process with several threads forked.
 pub struct Guard {
     handle: NonNull<sys::Guard>,
-    most: usize,
+    most_answer: usize,
 }
 
 // SAFETY: the library's calls only read what the handle points to, except the last one, which frees it, and only `drop` makes that. The library keeps
@@ -219,12 +220,11 @@ impl Guard {
                 )
             }
         };
-        with_line(call, |status, line| (status, line.to_owned()))
-            .opened(handle)
-            .map(|handle| Guard {
-                handle,
-                most: limits.most(),
-            })
+        let answer = with_line(call, |status, line| (status, line.to_owned()));
+        opened(handle, answer).map(|handle| Guard {
+            handle,
+            most_answer: limits.most_answer(),
+        })
     }
 
     /// The number of entries of the list.
@@ -249,9 +249,7 @@ impl Guard {
             };
             with_line(call, |status, line| (status, line.to_owned()))
         });
-        answer
-            .opened(handle)
-            .map(|handle| Asked::new(handle, self.most))
+        opened(handle, answer).map(|handle| Asked::new(handle, self.most_answer))
     }
 
     /// Decides whether the question's request is granted. Only `Ok` is a yes.
@@ -294,17 +292,13 @@ impl Guard {
     }
 }
 
-/// What a call that opens something answers.
-trait Opens {
-    /// The handle, if it is open.
-    fn opened<T>(self, handle: *mut T) -> Result<NonNull<T>, Refusal>;
-}
-
-impl Opens for (sys::Status, Vec<u8>) {
-    fn opened<T>(self, handle: *mut T) -> Result<NonNull<T>, Refusal> {
-        match NonNull::new(handle) {
-            Some(handle) if self.0 == sys::DONE => Ok(handle),
-            _ => Err(Refusal::of(self.0, &self.1)),
-        }
+/// The handle that a call has opened, or the refusal by its status and its line.
+fn opened<T>(
+    handle: *mut T,
+    (status, line): (sys::Status, Vec<u8>),
+) -> Result<NonNull<T>, Refusal> {
+    match NonNull::new(handle) {
+        Some(handle) if status == sys::DONE => Ok(handle),
+        _ => Err(Refusal::of(status, &line)),
     }
 }

@@ -36,6 +36,7 @@ use message::{authority_of, is_target};
 /// The seconds from `created` to `expires` at most, and those that a client's clock may be ahead.
 const MOST_WINDOW: u64 = 300;
 const MOST_AHEAD: u64 = 60;
+/// The characters of a nonce.
 const NONCE: std::ops::RangeInclusive<usize> = 16..=64;
 
 /// Says which key has made a request to one service. Several threads may share it.
@@ -122,7 +123,7 @@ impl<N: TakeNonce> Requests<N> {
         A: Verdict,
     {
         let (input, octets) = signature_of(message)?;
-        self.check_time(&input, now)?;
+        self.check_parameters(&input, now)?;
         let (text, digest) = self.check_message(message, &input)?;
         let (key, kind) = self.signer_of(message, &input)?;
         if octets.len() != kind.octets {
@@ -145,14 +146,14 @@ impl<N: TakeNonce> Requests<N> {
         }
     }
 
-    /// The certificates that a request shows, whose field is there once at most.
+    /// The certificates that a request shows. Their field was checked before: it has one line at most.
     fn sequence_of(&self, message: &Message) -> Vec<u8> {
         let shown = message.values(&self.sequence).next();
         shown.unwrap_or(b"(sequence)").to_vec()
     }
 
-    /// Tests the tag, the nonce and the window.
-    fn check_time(&self, input: &Input, now: u64) -> Result<(), Unproved> {
+    /// Tests the tag, the length of the nonce, and the times.
+    fn check_parameters(&self, input: &Input, now: u64) -> Result<(), Unproved> {
         let faults = [
             (input.tag != fields::TAG, Unproved::OtherTag),
             (!NONCE.contains(&input.nonce.len()), Unproved::BadNonce),
@@ -179,7 +180,7 @@ impl<N: TakeNonce> Requests<N> {
         message: &Message,
         input: &Input,
     ) -> Result<(Vec<u8>, Option<ContentDigest>), Unproved> {
-        if message.method.is_empty() || !message.method.bytes().all(fields::is_of_token) {
+        if message.method.is_empty() || !message.method.bytes().all(fields::is_token_octet) {
             return Err(Unproved::BadMethod);
         }
         if !is_target(message.target) {
@@ -205,7 +206,7 @@ impl<N: TakeNonce> Requests<N> {
         Ok((text, Some(digest)))
     }
 
-    /// The key that a request names as its signer, and its kind.
+    /// The key of a request, which must be that of `keyid` and `alg`, and its kind.
     fn signer_of(&self, message: &Message, input: &Input) -> Result<(Vec<u8>, Kind), Unproved> {
         let (key, kind) = form::key_of(&message.field(PUBLIC_KEY)?)?;
         let hash = (self.sha256)(&key);
@@ -220,7 +221,7 @@ impl<N: TakeNonce> Requests<N> {
     }
 }
 
-/// Reads both fields of a signature.
+/// Reads `Signature-Input`, and the octets of `Signature`.
 fn signature_of<'a>(message: &Message<'a>) -> Result<(Input<'a>, Vec<u8>), Unproved> {
     let inputs: Vec<&[u8]> = message.values("signature-input").collect();
     let signatures: Vec<&[u8]> = message.values("signature").collect();

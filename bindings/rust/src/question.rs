@@ -6,7 +6,7 @@ use std::mem::size_of;
 use std::ptr;
 use std::time::{SystemTime, UNIX_EPOCH};
 
-/// The places of so many strings need no allocation.
+/// A request of at most so many strings is lent without an allocation.
 const WORDS: usize = 16;
 
 /// What a service asks a guard. Each text is one value in any of the three forms of RFC 9804, so that no octets of one part can become
@@ -77,7 +77,7 @@ impl<'q> Question<'q> {
         }
     }
 
-    /// Lends the question to a call, as the library takes it.
+    /// Makes a call with the question as the library takes it. What it points to lasts for this call.
     pub(crate) fn lend<T>(&self, call: impl FnOnce(&sys::Question) -> T) -> T {
         let Request::Words(words) = self.request else {
             return call(&self.with(ptr::null(), 0));
@@ -93,7 +93,7 @@ impl<'q> Question<'q> {
         call(&self.with(few.as_ptr(), words.len()))
     }
 
-    /// The question with the strings of its request.
+    /// The question with the strings of its request: null and 0 if it is a text.
     fn with(&self, words: *const sys::Text, word_count: usize) -> sys::Question {
         let request = match self.request {
             Request::Text(text) => sys::Text::of(text),

@@ -1,6 +1,6 @@
 //! S-expressions as texts.
 
-use crate::answer::{answered, Refusal};
+use crate::answer::{with_answer, Refusal};
 use crate::library;
 use spki_sys as sys;
 use std::ffi::c_int;
@@ -89,10 +89,11 @@ pub fn transport(text: &[u8]) -> Result<Vec<u8>, Refusal> {
     converted(sys::TRANSPORT, text)
 }
 
+/// The answer of a command that writes a text in another form.
 fn converted(command: c_int, text: &[u8]) -> Result<Vec<u8>, Refusal> {
     library::check();
     // (an octet that is printed in base64 takes 7 for the 3 of its canonical text)
-    let (status, answer) = answered(3 * text.len() + 64, |buffer, room, needed| {
+    let (status, answer) = with_answer(3 * text.len() + 64, |buffer, room, needed| {
         // SAFETY: as above.
         unsafe {
             sys::spki_answer(

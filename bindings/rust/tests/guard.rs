@@ -18,7 +18,7 @@ const SIGNED: Signature = Signature {
     value: b"3:sig",
 };
 const KEY: &[u8] = b"(public-key (test b))";
-/// By which key a lets itself do everything: such a certificate may stand in front of another one, also twice.
+/// A certificate by which key a delegates everything to itself: it may precede another one, also twice.
 const OWN: &str = "(cert (issuer (public-key (test a))) (subject (public-key (test a))) (propagate) (tag (*)))
     (signature (hash sha256 #b26a73c3cdcb26bbb71fa21531b5b6a1745fc316ddfcf53862a174f5dccebfb6#) (public-key (test a)) sig)";
 /// A certificate for c in the name of a, whose signature is not valid.
@@ -29,6 +29,7 @@ const NOW: Moment = Moment::Seconds(1_704_067_200); // 2024-01-01_00:00:00
 
 type Outcome = Result<(), Box<dyn Error>>;
 
+/// A guard of a list, with the highest limits.
 fn guard(list: &[u8]) -> Guard {
     Guard::read(list, Policy::Strict, Limits::highest()).expect("a list")
 }
@@ -48,7 +49,8 @@ fn shown(times: usize) -> Vec<u8> {
     format!("(sequence {})", PAIR.repeat(times)).into()
 }
 
-fn right(_: Signature) -> bool {
+/// A verifier that finds each signature valid.
+fn valid(_: Signature) -> bool {
     true
 }
 
@@ -217,7 +219,7 @@ fn a_panic_of_a_verifier_goes_on() {
     let fail = |_: Signature| -> bool { panic!("no such key") };
     let ask = AssertUnwindSafe(|| guard.decide(&shows(&sequence), fail));
     assert!(catch_unwind(ask).is_err());
-    assert!(guard.decide(&shows(&sequence), right).is_ok());
+    assert!(guard.decide(&shows(&sequence), valid).is_ok());
 }
 
 /// The question mark passes on a no, a refusal and an error of the verifier. What is behind it has a grant.
@@ -280,7 +282,7 @@ fn strings_are_strings() {
         (&[b"cache"], false),
     ];
     for (words, is_granted) in rows {
-        let decision = guard.decide(&requests(Request::Words(words)), right);
+        let decision = guard.decide(&requests(Request::Words(words)), valid);
         assert_eq!(decision.is_ok(), is_granted, "{words:?}");
     }
 }
@@ -298,7 +300,7 @@ fn many_strings_are_strings() {
         (1000, true),
     ] {
         let words = vec![&b"w"[..]; count];
-        let decision = guard.decide(&requests(Request::Words(&words)), right);
+        let decision = guard.decide(&requests(Request::Words(&words)), valid);
         assert_eq!(decision.is_ok(), is_granted, "{count}");
     }
 }
@@ -314,7 +316,7 @@ fn requests_and_moments_may_be_texts() {
     for (text, is_granted) in texts {
         let moment = Moment::Text(b"\"2024-01-01_00:00:00\"");
         let question = Question::new(b"(sequence)", held(KEY), Request::Text(text), moment);
-        assert_eq!(guard.decide(&question, right).is_ok(), is_granted);
+        assert_eq!(guard.decide(&question, valid).is_ok(), is_granted);
     }
 }
 
@@ -340,8 +342,8 @@ fn a_moment_before_1970_or_past_9999_is_refused() {
         b"(acl (entry (public-key (test b)) (tag (*)) (not-after \"1999-12-31_23:59:59\")))";
     let guard = guard(ended);
     let at = |seconds| Question::new(b"(sequence)", held(KEY), WORDS, Moment::Seconds(seconds));
-    assert!(guard.decide(&at(0), right).is_ok());
-    assert_eq!(guard.decide(&at(253_402_300_799), right), Err(Denied::No));
+    assert!(guard.decide(&at(0), valid).is_ok());
+    assert_eq!(guard.decide(&at(253_402_300_799), valid), Err(Denied::No));
     for seconds in [
         -1,
         -2_147_483_648,
@@ -350,7 +352,7 @@ fn a_moment_before_1970_or_past_9999_is_refused() {
         253_402_300_800,
         i64::MAX,
     ] {
-        let line = refused(guard.decide(&at(seconds), right));
+        let line = refused(guard.decide(&at(seconds), valid));
         assert_eq!(line, "refused at BadDate", "{seconds}");
     }
     let before = Question::new(
@@ -359,7 +361,7 @@ fn a_moment_before_1970_or_past_9999_is_refused() {
         WORDS,
         UNIX_EPOCH - Duration::from_nanos(1),
     );
-    assert_eq!(refused(guard.decide(&before, right)), "refused at BadDate");
+    assert_eq!(refused(guard.decide(&before, valid)), "refused at BadDate");
 }
 
 /// A grant holds till the least window ends, and no second longer.
@@ -372,7 +374,7 @@ fn a_grant_says_until_when_it_holds() -> Outcome {
         Duration::from_secs(1),
     );
     let ending = guard(list);
-    let ask = |time| ending.decide(&Question::new(&sequence, held(KEY), WORDS, time), right);
+    let ask = |time| ending.decide(&Question::new(&sequence, held(KEY), WORDS, time), valid);
     let grant = ask(last - 1000 * second)?;
     assert_eq!(grant.until, Some(last));
     for (time, holds) in [
@@ -384,7 +386,7 @@ fn a_grant_says_until_when_it_holds() -> Outcome {
         assert_eq!((grant.holds_at(time), ask(time).is_ok()), (holds, holds));
     }
     assert!(!grant.holds_at(UNIX_EPOCH - Duration::from_nanos(1)));
-    let endless = guard(LIST).decide(&shows(&sequence), right)?;
+    let endless = guard(LIST).decide(&shows(&sequence), valid)?;
     assert_eq!(
         (endless.until, endless.holds_at(last + second)),
         (None, true)
@@ -407,7 +409,7 @@ fn a_login_proves_its_key() {
     let failed = ProvenKey::by(login(message), |_| Err("no such key"));
     assert_eq!(failed, Err(NotProved::Verifier("no such key")));
     // (whoever shows a certificate does not hold the key that has signed it)
-    assert_eq!(ProvenKey::by(SIGNED, right), Err(NotProved::No));
+    assert_eq!(ProvenKey::by(SIGNED, valid), Err(NotProved::No));
 }
 
 #[test]
@@ -487,7 +489,7 @@ fn the_words_of_lines_are_types() -> Outcome {
 #[test]
 fn refusals_name_the_part() {
     let guard = guard(LIST);
-    let decided = |question: Question| refused(guard.decide(&question, right));
+    let decided = |question: Question| refused(guard.decide(&question, valid));
     assert_eq!(
         decided(shows(b"(sequence) x")),
         "refused sequence Trailing 11"
@@ -511,7 +513,7 @@ fn refusals_name_the_part() {
 fn questions_have_limits() -> Outcome {
     let decided = |limits, question: &Question| {
         let guard = Guard::read(LIST, Policy::AllowSha1, limits).expect("a list");
-        guard.decide(question, right)
+        guard.decide(question, valid)
     };
     let (one, many) = (shown(1), shown(17));
     let usual = Limits::default();
@@ -578,7 +580,7 @@ fn several_threads_ask_one_guard() -> Outcome {
         for _ in 0..8 {
             scope.spawn(|| {
                 for _ in 0..200 {
-                    assert!(guard.decide(&shows(&sequence), right).is_ok());
+                    assert!(guard.decide(&shows(&sequence), valid).is_ok());
                     assert!(asked.decide().is_ok());
                 }
             });

@@ -18,12 +18,13 @@ const RESPONSE: &str = "\"@status\": 200
 \"content-digest\": sha-512=:mEWXIS7MaLRuGgxOBdODa3xqM1XdEvxoYhvlCFJ41QJgJc4GTsPp29l5oGX69wWdXymyU0rjJuahq4l5aGgfLQ==:
 \"content-length\": 23
 \"@signature-params\": (\"@status\" \"content-type\" \"content-digest\" \"content-length\");created=1618884473;keyid=\"test-key-ecc-p256\"";
-const CURVE: &str = "04a885586552c2acf6471878cfd7b0935b4ffe0fd2dfc341248ea17bc41e058af031ce2737d2d30ce0617e851e83c61ef5679d151867657649035d90a74cd9e85d";
-const OF_CURVE: [&str; 2] = [
+const POINT: &str = "04a885586552c2acf6471878cfd7b0935b4ffe0fd2dfc341248ea17bc41e058af031ce2737d2d30ce0617e851e83c61ef5679d151867657649035d90a74cd9e85d";
+const SIGNATURE: [&str; 2] = [
     "c0d9925008706f92f1b4eb4ea4d6ba5b9c63d3aee6e6116b8f45d0e1fbe96822",
     "f1d0d2a87203eab8b8326a19f30e70c0532e5e09d95850490b223fb7da889ab3",
 ];
 
+/// A row of the table. `on` has the method, the target, the authority and the time. `again`: how many seconds before the same request came.
 #[derive(Default)]
 struct Row {
     name: String,
@@ -34,7 +35,7 @@ struct Row {
     gives: String,
 }
 
-/// The octets of a line in which some are escaped.
+/// The octets of a line, in which a backslash escapes some.
 fn unescaped(text: &str) -> Vec<u8> {
     let mut made = Vec::new();
     let mut rest = text.bytes();
@@ -64,6 +65,7 @@ fn hexadecimal(digits: &str) -> Vec<u8> {
         .collect()
 }
 
+/// Reads the table.
 fn rows() -> Vec<Row> {
     let mut made: Vec<Row> = Vec::new();
     for line in fs::read_to_string(ROWS).expect("the table").lines() {
@@ -95,8 +97,8 @@ fn rows() -> Vec<Row> {
     made
 }
 
-/// Whether a digest is that of a body, by coreutils.
-fn is_of(digest: Option<&ContentDigest>, body: &[u8]) -> bool {
+/// Whether a digest is that of a body, by coreutils. Without a digest the body must be empty.
+fn is_digest_of(digest: Option<&ContentDigest>, body: &[u8]) -> bool {
     let Some(digest) = digest else {
         return body.is_empty();
     };
@@ -113,7 +115,7 @@ fn is_of(digest: Option<&ContentDigest>, body: &[u8]) -> bool {
         == digest.octets
 }
 
-/// `valid`, or the name of the refusal.
+/// Proves the request of a row, and compares its body. Returns `valid`, or the name of the refusal.
 fn answer(requests: &Requests, row: &Row, now: u64) -> &'static str {
     let fields: Vec<(&str, &[u8])> = row
         .fields
@@ -127,7 +129,7 @@ fn answer(requests: &Requests, row: &Row, now: u64) -> &'static str {
             if row
                 .body
                 .as_ref()
-                .map_or(true, |body| is_of(proof.digest.as_ref(), body)) =>
+                .map_or(true, |body| is_digest_of(proof.digest.as_ref(), body)) =>
         {
             "valid"
         }
@@ -173,10 +175,10 @@ fn a_wrong_hash_proves_no_key() {
 #[test]
 fn the_published_signature_is_valid() {
     let string = |octets: Vec<u8>| [format!("{}:", octets.len()).into_bytes(), octets].concat();
-    let [r, s] = OF_CURVE.map(|digits| string(hexadecimal(digits)));
+    let [r, s] = SIGNATURE.map(|digits| string(hexadecimal(digits)));
     let key = [
         &b"(10:public-key(3:ecc(5:curve10:NIST P-256)(1:q"[..],
-        &string(hexadecimal(CURVE)),
+        &string(hexadecimal(POINT)),
         b")))",
     ]
     .concat();

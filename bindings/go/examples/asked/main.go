@@ -23,13 +23,13 @@ import (
 	"conguraki/spki/guard"
 )
 
-// An input reads strings. The first fault stays, and ends the program.
+// An input reads strings. `fault` is that of the last one, such as io.EOF.
 type input struct {
 	*bufio.Reader
 	fault error
 }
 
-// next reads a string.
+// next reads a string. It is empty if that fails.
 func (i *input) next() string {
 	digits, err := i.ReadString(':')
 	if i.fault = err; err != nil {
@@ -89,7 +89,7 @@ func (i *input) task() task {
 	return made
 }
 
-// answer returns the lines of the answer.
+// answer asks a guard of the list, and returns the lines of the answer.
 func (t task) answer() (string, error) {
 	policy, limits := guard.AllowSHA1, guard.Limits{}
 	if t.policy == "strict" {
@@ -117,7 +117,7 @@ func (t task) answer() (string, error) {
 	return decision.String(), err
 }
 
-// spelled returns an explanation, from its lines taken apart.
+// spelled returns the lines of an explanation, each put together from its parts.
 func spelled(explanation guard.Explanation) string {
 	lines := make([]string, 0)
 	for _, reason := range explanation.Reasons() {

@@ -27,6 +27,7 @@ func isGranted(list *guard.Guard, sequence []byte, key spki.ProvenKey, words []s
 	return decision.Granted(), nil
 }
 
+// run prints the answer to the words ACL SEQUENCE KEY WORD ..
 func run(given []string) error {
 	if len(given) < 4 {
 		return errors.New("usage: decide ACL SEQUENCE KEY WORD [WORD ..]")

@@ -16,11 +16,11 @@ import (
 )
 
 func main() {
-	octets, unread := os.ReadFile(os.Args[1])
-	list, refused := guard.Open(octets, guard.Strict, guard.Limits{})
-	listener, broken := net.Listen("tcp", "127.0.0.1:0")
-	if unread != nil || refused != nil || broken != nil {
-		log.Fatal(unread, refused, broken)
+	octets, fileError := os.ReadFile(os.Args[1])
+	list, listError := guard.Open(octets, guard.Strict, guard.Limits{})
+	listener, portError := net.Listen("tcp", "127.0.0.1:0")
+	if fileError != nil || listError != nil || portError != nil {
+		log.Fatal(fileError, listError, portError)
 	}
 	fmt.Println(listener.Addr().(*net.TCPAddr).Port)
 	verifier := httpsig.NewVerifier(os.Args[2])

@@ -87,6 +87,7 @@ pub fn sha256(octets: &[u8]) -> [u8; 32] {
     hashed(octets).unwrap_or_default()
 }
 
+/// The same, or `None` if the command fails.
 fn hashed(octets: &[u8]) -> Option<[u8; 32]> {
     let room = Room::new().ok()?;
     fs::write(room.path.join("message"), octets).ok()?;
@@ -98,6 +99,7 @@ fn hashed(octets: &[u8]) -> Option<[u8; 32]> {
 }
 
 impl Signed {
+    /// Whether the command finds the signature valid. The error is that of a file or of starting the command.
     fn verifies(&self, message: &[u8]) -> io::Result<bool> {
         let room = Room::new()?;
         for (name, octets) in [
@@ -140,13 +142,14 @@ impl Drop for Room {
     }
 }
 
-/// Takes a key and the value of a signature apart. `None` if they are not in the forms of one kind.
+/// Takes a key and the value of a signature apart, by the first of the functions below that knows both. `None` if none does.
 fn signed(key: &[u8], value: &[u8]) -> Option<Signed> {
     ed25519(key, value)
         .or_else(|| CURVES.iter().find_map(|curve| ecdsa(curve, key, value)))
         .or_else(|| rsa(key, value))
 }
 
+/// A key and a signature of Ed25519. `None` for others, and for those that docs/FORMATS.md excludes. So are the next two for theirs.
 fn ed25519(key: &[u8], value: &[u8]) -> Option<Signed> {
     let [point] = strings(
         key,
@@ -169,6 +172,7 @@ fn is_of_large_order(point: &[u8]) -> bool {
     y[..8] != [0; 8] && is_below(&y, LAST_Y) && !is_eighth
 }
 
+/// A key of a curve, and a signature by ECDSA.
 fn ecdsa(curve: &Curve, key: &[u8], value: &[u8]) -> Option<Signed> {
     let [point] = strings(key, curve.form)?;
     let numbers: [&[u8]; 2] = strings(value, b"(7:sig-val(5:ecdsa(1:r%)(1:s%)))")?;
@@ -186,6 +190,7 @@ fn ecdsa(curve: &Curve, key: &[u8], value: &[u8]) -> Option<Signed> {
     })
 }
 
+/// A key and a signature of RSA.
 fn rsa(key: &[u8], value: &[u8]) -> Option<Signed> {
     let [modulus, exponent] = strings(key, b"(10:public-key(3:rsa(1:n%)(1:e%)))")?;
     let [number] = strings(value, b"(7:sig-val(3:rsa(1:s%)))")?;
@@ -224,7 +229,7 @@ fn is_below(number: &[u8], limit: &str) -> bool {
     (number.len(), number) < (limit.len(), limit)
 }
 
-/// The strings of a canonical text that are at the marks `%` of a form. `None` if the text has another form.
+/// The strings of a canonical text that are at the N marks `%` of a form. `None` if the text has another form.
 fn strings<'t, const N: usize>(text: &'t [u8], form: &[u8]) -> Option<[&'t [u8]; N]> {
     if text.len() > MOST_OCTETS {
         return None;
@@ -258,7 +263,7 @@ fn signed_number(number: &[u8]) -> Vec<u8> {
     [&[0; 1][..usize::from(is_high)], number].concat()
 }
 
-/// The bits of an odd number of a key, which is written as keys have it.
+/// The count of bits of a number of a key. `None` if it is even, or is not written as keys have it.
 fn bits_of(number: &[u8]) -> Option<usize> {
     let is_odd = number.last().is_some_and(|last| last % 2 == 1);
     let first = trimmed(number).first()?;
@@ -266,7 +271,7 @@ fn bits_of(number: &[u8]) -> Option<usize> {
     (is_odd && number == signed_number(number)).then_some(bits)
 }
 
-/// A value in DER.
+/// A value in DER, with its tag and length.
 fn der(tag: u8, octets: &[u8]) -> Vec<u8> {
     let length = octets.len().to_be_bytes();
     let length = trimmed(&length);

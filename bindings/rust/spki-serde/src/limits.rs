@@ -23,6 +23,7 @@ pub fn deserialize<'de, D: Deserializer<'de>>(from: D) -> Result<Limits, D::Erro
     from.deserialize_map(Named)
 }
 
+/// Reads limits by their names.
 struct Named;
 
 impl<'de> Visitor<'de> for Named {

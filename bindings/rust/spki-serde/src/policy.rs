@@ -33,6 +33,7 @@ pub fn deserialize<'de, D: Deserializer<'de>>(from: D) -> Result<Policy, D::Erro
     from.deserialize_str(Word)
 }
 
+/// Reads the word of a policy.
 struct Word;
 
 impl Visitor<'_> for Word {

@@ -24,7 +24,7 @@ pub const MISUSED: Status = 5;
 pub const DONE: Status = 6;
 /// There is no string, or no signature, at this place.
 pub const NONE: Status = 7;
-/// `spki_string`: an allocation failed.
+/// `spki_string` and `spki_asked_signature`: an allocation failed.
 pub const NO_MEMORY: Status = 8;
 /// A decision: the request is granted.
 pub const YES: Status = 9;
@@ -41,15 +41,15 @@ pub const STRICT: c_int = 0;
 /// Hashes by SHA-1 name keys too.
 pub const ALLOW_SHA1: c_int = 1;
 
-/// The most octets, nodes and work that limits may set.
+/// The most octets of a question that limits may set.
 pub const MOST_OCTETS: usize = 1_048_576;
-#[allow(missing_docs)]
+/// The most nodes that limits may set.
 pub const MOST_NODES: usize = 1_000_000;
-#[allow(missing_docs)]
+/// The most work that limits may set.
 pub const MOST_WORK: usize = 1_000_000_000;
-/// The usual limit of an answer, and the most that the safe interface lets a limit be.
+/// The octets of the usual limit of an answer.
 pub const USUAL_ANSWER: usize = 1_048_576;
-#[allow(missing_docs)]
+/// The most octets that the safe interface lets this limit be.
 pub const MOST_ANSWER: usize = 268_435_456;
 
 /// `struct spki_text`.
@@ -93,7 +93,7 @@ pub struct Limits {
     pub words: usize,
     /// The most nodes of one tag times nodes of another.
     pub nodes: usize,
-    /// The most of these products together.
+    /// The most work of all certificates and entries together, as `spki.h` counts it.
     pub work: usize,
     /// The most octets of an answer.
     pub answer: usize,
@@ -175,8 +175,9 @@ pub type Answers<A = Answered> = unsafe extern "C" fn(
     needed: *mut usize,
 ) -> A;
 
-#[allow(missing_docs)]
+// (a call with `buffer` writes one answer to its front, and sets `*needed` to the length of the answer, also where the buffer is too small)
 extern "C" {
+    /// Reads an access list, and sets `*guard`: to null unless the status is `DONE`. The answer is the line of a refusal, or none.
     pub fn spki_guard_open(
         list: *const c_void,
         list_length: usize,
@@ -187,8 +188,11 @@ extern "C" {
         buffer_length: usize,
         needed: *mut usize,
     ) -> Status;
+    /// Frees a guard.
     pub fn spki_guard_close(guard: *mut Guard);
+    /// The number of entries of a guard's list; 0 if it is null.
     pub fn spki_guard_entries(guard: *const Guard) -> usize;
+    /// Reads a question, and sets `*asked`: to null unless the status is `DONE`. The answer is the line of a refusal, or none.
     pub fn spki_guard_ask(
         guard: *const Guard,
         question: *const Question,
@@ -197,34 +201,44 @@ extern "C" {
         buffer_length: usize,
         needed: *mut usize,
     ) -> Status;
+    /// The number of signatures that are to be verified; 0 if the question is null.
     pub fn spki_asked_count(asked: *const Asked) -> usize;
+    /// Sets `*signature` to that at a place, from 0. Its texts last until the question is closed.
     pub fn spki_asked_signature(
         asked: *const Asked,
         place: usize,
         signature: *mut Signed,
     ) -> Status;
+    /// Says that the signature at a place, from 0, is valid.
     pub fn spki_asked_mark(asked: *mut Asked, place: usize) -> Status;
+    /// Whether the request is granted, if exactly the marked signatures are valid.
     pub fn spki_asked_granted(asked: *const Asked) -> bool;
+    /// Whether the request would be granted if all signatures were valid.
     pub fn spki_asked_possible(asked: *const Asked) -> bool;
+    /// Decides as `spki_asked_granted` does. The answer is the line `yes entry N` or `no`.
     pub fn spki_asked_decide(
         asked: *const Asked,
         buffer: *mut c_void,
         buffer_length: usize,
         needed: *mut usize,
     ) -> Decision;
+    /// The answer says of each entry why it grants the request or does not.
     pub fn spki_asked_explain(
         asked: *const Asked,
         buffer: *mut c_void,
         buffer_length: usize,
         needed: *mut usize,
     ) -> Answered;
+    /// The answer says which right remains of each entry.
     pub fn spki_asked_reduce(
         asked: *const Asked,
         buffer: *mut c_void,
         buffer_length: usize,
         needed: *mut usize,
     ) -> Answered;
+    /// Frees a question.
     pub fn spki_asked_close(asked: *mut Asked);
+    /// Sets `*octets` and `*length` to a string inside a canonical text, by the numbers of the list members to enter.
     pub fn spki_string(
         text: *const c_void,
         text_length: usize,
@@ -233,6 +247,7 @@ extern "C" {
         octets: *mut *const c_void,
         length: *mut usize,
     ) -> Status;
+    /// Runs a command on a text.
     pub fn spki_answer(
         command: c_int,
         text: *const c_void,
@@ -241,5 +256,6 @@ extern "C" {
         buffer_length: usize,
         needed: *mut usize,
     ) -> Answered;
+    /// The version of the library, a C string that lasts as long as the program.
     pub fn spki_version() -> *const c_char;
 }

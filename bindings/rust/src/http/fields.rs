@@ -34,14 +34,15 @@ pub(super) struct Input<'a> {
     pub(super) tag: &'a str,
 }
 
-/// Takes a field apart from the left.
+/// Takes a field apart from the left. Each call returns what the rest begins with, and goes behind it.
 struct Parser<'a> {
     rest: &'a str,
+    /// Whether an octet beyond ASCII follows the rest.
     is_cut: bool,
 }
 
 impl<'a> Parser<'a> {
-    /// What reads a field behind the label of its first member. The text is read up to an octet beyond ASCII, at which it is malformed.
+    /// A parser behind the label of the first member, which must be `spki`. An octet beyond ASCII ends the text, and is malformed.
     fn new(value: &'a [u8]) -> Result<Parser<'a>, Unproved> {
         if value.len() > MOST_INPUT {
             return Err(Unproved::Malformed);
@@ -53,27 +54,28 @@ impl<'a> Parser<'a> {
             is_cut: end.is_some(),
         };
         let name = parser.name()?;
-        parser.skip("=")?;
+        parser.expect("=")?;
         if name != LABEL {
             return Err(Unproved::OtherLabel);
         }
         Ok(parser)
     }
 
-    /// Whether the rest begins with a text, which is passed over then.
-    fn skips(&mut self, text: &str) -> bool {
+    /// Passes over a text if the rest begins with it, and returns whether it does.
+    fn try_skip(&mut self, text: &str) -> bool {
         let behind = self.rest.strip_prefix(text);
         self.rest = behind.unwrap_or(self.rest);
         behind.is_some()
     }
 
-    fn skip(&mut self, text: &str) -> Result<(), Unproved> {
-        self.skips(text).then_some(()).ok_or(Unproved::Malformed)
+    /// Passes over a text with which the rest must begin.
+    fn expect(&mut self, text: &str) -> Result<(), Unproved> {
+        self.try_skip(text).then_some(()).ok_or(Unproved::Malformed)
     }
 
-    /// The octets that the rest begins with, as long as they are of a kind.
-    fn while_of(&mut self, is_of: impl Fn(u8) -> bool) -> &'a str {
-        let end = self.rest.bytes().position(|octet| !is_of(octet));
+    /// The octets up to the first that is not accepted.
+    fn take_while(&mut self, accepts: impl Fn(u8) -> bool) -> &'a str {
+        let end = self.rest.bytes().position(|octet| !accepts(octet));
         let (taken, rest) = self.rest.split_at(end.unwrap_or(self.rest.len()));
         self.rest = rest;
         taken
@@ -87,21 +89,22 @@ impl<'a> Parser<'a> {
         {
             return Err(Unproved::Malformed);
         }
-        Ok(self
-            .while_of(|it| it.is_ascii_lowercase() || it.is_ascii_digit() || b"_-.*".contains(&it)))
+        Ok(self.take_while(|it| {
+            it.is_ascii_lowercase() || it.is_ascii_digit() || b"_-.*".contains(&it)
+        }))
     }
 
     /// A string in quotes. An escape is refused: nothing in the profile needs one.
     fn string(&mut self) -> Result<&'a str, Unproved> {
-        self.skip("\"")?;
-        let text = self.while_of(|it| (b' '..=b'~').contains(&it) && it != b'"' && it != b'\\');
-        self.skip("\"")?;
+        self.expect("\"")?;
+        let text = self.take_while(|it| (b' '..=b'~').contains(&it) && it != b'"' && it != b'\\');
+        self.expect("\"")?;
         Ok(text)
     }
 
     /// A number of seconds.
     fn integer(&mut self) -> Result<u64, Unproved> {
-        let digits = self.while_of(|it| it.is_ascii_digit());
+        let digits = self.take_while(|it| it.is_ascii_digit());
         if digits.len() > MOST_DIGITS || digits.len() > 1 && digits.starts_with('0') {
             return Err(Unproved::Malformed);
         }
@@ -110,15 +113,15 @@ impl<'a> Parser<'a> {
 
     /// Octets between colons, in base64.
     fn octets(&mut self) -> Result<Vec<u8>, Unproved> {
-        self.skip(":")?;
-        let text = self.while_of(|it| it != b':');
-        let octets = decoded(text.as_bytes()).ok_or(Unproved::Malformed)?;
-        self.skip(":")?;
+        self.expect(":")?;
+        let text = self.take_while(|it| it != b':');
+        let octets = decode_base64(text.as_bytes()).ok_or(Unproved::Malformed)?;
+        self.expect(":")?;
         Ok(octets)
     }
 
-    /// What follows the first member, which must be nothing.
-    fn end(&self) -> Result<(), Unproved> {
+    /// Fails with the refusal of what follows the first member, unless nothing does.
+    fn expect_end(&self) -> Result<(), Unproved> {
         if self.rest.is_empty() && !self.is_cut {
             return Ok(());
         }
@@ -130,12 +133,12 @@ impl<'a> Parser<'a> {
         })
     }
 
-    /// The list of components.
+    /// The names in the list of components.
     fn components(&mut self) -> Result<Vec<&'a str>, Unproved> {
         let mut found = Vec::new();
-        self.skip("(")?;
-        while !self.skips(")") {
-            if found.len() == MOST_COMPONENTS || !found.is_empty() && !self.skips(" ") {
+        self.expect("(")?;
+        while !self.try_skip(")") {
+            if found.len() == MOST_COMPONENTS || !found.is_empty() && !self.try_skip(" ") {
                 return Err(Unproved::Malformed);
             }
             let name = self.string()?;
@@ -152,10 +155,10 @@ impl<'a> Parser<'a> {
 }
 
 impl<'a> Input<'a> {
-    /// Reads the parameters up to the end of the field.
+    /// Reads the parameters up to the end of the field. Then nothing that the profile requires may be missing.
     fn read_parameters(&mut self, parser: &mut Parser<'a>) -> Result<(), Unproved> {
         let mut seen = Vec::new();
-        while parser.skips(";") {
+        while parser.try_skip(";") {
             let name = parser.name()?;
             if !["created", "expires", "nonce", "keyid", "alg", "tag"].contains(&name) {
                 return Err(Unproved::UnknownParameter);
@@ -163,7 +166,7 @@ impl<'a> Input<'a> {
             if seen.contains(&name) {
                 return Err(Unproved::ParameterTwice);
             }
-            parser.skip("=")?;
+            parser.expect("=")?;
             match name {
                 "created" => self.created = parser.integer()?,
                 "expires" => self.expires = parser.integer()?,
@@ -174,7 +177,7 @@ impl<'a> Input<'a> {
             }
             seen.push(name);
         }
-        parser.end()?;
+        parser.expect_end()?;
         let has = |name: &str| self.components.contains(&name);
         let has_target = has("@target-uri") || has("@path") && has("@query");
         if !has("@method") || !has("@authority") || !has(PUBLIC_KEY) || !has_target {
@@ -188,13 +191,13 @@ impl<'a> Input<'a> {
 }
 
 /// Whether an octet may be in a token of HTTP.
-pub(super) fn is_of_token(octet: u8) -> bool {
+pub(super) fn is_token_octet(octet: u8) -> bool {
     octet.is_ascii_alphanumeric() || b"!#$%&'*+-.^_`|~".contains(&octet)
 }
 
 /// Whether a name is one of a field in small letters, or of the five components that are derived.
 fn is_component(name: &str) -> bool {
-    let is_small = |octet: u8| is_of_token(octet) && !octet.is_ascii_uppercase();
+    let is_small = |octet: u8| is_token_octet(octet) && !octet.is_ascii_uppercase();
     DERIVED.contains(&name)
         || !["", "signature", "signature-input"].contains(&name) && name.bytes().all(is_small)
 }
@@ -215,7 +218,7 @@ pub(super) fn input_of(value: &[u8]) -> Result<Input<'_>, Unproved> {
 pub(super) fn signature_of(value: &[u8]) -> Result<Vec<u8>, Unproved> {
     let mut parser = Parser::new(value)?;
     let octets = parser.octets()?;
-    parser.end()?;
+    parser.expect_end()?;
     Ok(octets)
 }
 
@@ -242,8 +245,8 @@ pub(super) fn digest_of(value: &[u8]) -> Result<ContentDigest, Unproved> {
     })
 }
 
-/// The octets of base64 with its padding, in the one text that they have.
-pub(super) fn decoded(text: &[u8]) -> Option<Vec<u8>> {
+/// The octets of base64 with its padding. `None` if it is none, or not the one text that the octets have.
+pub(super) fn decode_base64(text: &[u8]) -> Option<Vec<u8>> {
     let padding = text.iter().rev().take(2).filter(|it| **it == b'=').count();
     if text.len() % 4 != 0 {
         return None;

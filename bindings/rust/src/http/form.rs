@@ -1,6 +1,6 @@
 //! Keys and signatures: octets of HTTP, and the canonical texts of docs/FORMATS.md.
 
-use super::fields::decoded;
+use super::fields::decode_base64;
 use super::Unproved;
 
 const MOST_KEY: usize = 4096;
@@ -34,7 +34,7 @@ const FORMS: [(&str, &str, &str, usize); 4] = [
     ),
 ];
 
-/// The algorithm of a key, and how many octets a signature by it has.
+/// The algorithm of a key, how many octets a signature by it has, and the form of its canonical value.
 pub(super) struct Kind {
     pub(super) algorithm: &'static str,
     pub(super) octets: usize,
@@ -60,14 +60,14 @@ impl Kind {
     }
 }
 
-/// The key that a text is in transport form, and its kind.
+/// The canonical text of a key in transport form, and its kind.
 pub(super) fn key_of(text: &[u8]) -> Result<(Vec<u8>, Kind), Unproved> {
     let bare = text
         .strip_prefix(b"{")
         .and_then(|rest| rest.strip_suffix(b"}"));
     let key = bare
         .filter(|_| text.len() <= MOST_KEY)
-        .and_then(decoded)
+        .and_then(decode_base64)
         .ok_or(Unproved::BadKey)?;
     for (algorithm, form, value, length) in FORMS {
         if let Some(first) = first_string(&key, form) {

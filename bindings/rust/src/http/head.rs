@@ -1,6 +1,6 @@
 //! The head of a request of HTTP/1.1, taken apart.
 
-use super::{fields::is_of_token, Message};
+use super::{fields::is_token_octet, Message};
 
 /// The head of a request of HTTP/1.1. Its authority is that of `Host`.
 #[derive(Clone, Debug)]
@@ -14,7 +14,7 @@ pub struct Head<'a> {
 }
 
 impl<'a> Head<'a> {
-    /// Takes a head apart, which ends with its empty line. Nothing is returned if it is none, if a field has several lines, or if there is not one
+    /// Parses a head, which ends with its empty line. `None` if it is none, if the value of a field goes on in a second line, or if there is not one
     /// `Host`.
     #[must_use]
     pub fn read(head: &'a str) -> Option<Head<'a>> {
@@ -43,9 +43,9 @@ impl<'a> Head<'a> {
     }
 }
 
-/// The name and the value of a line.
+/// The name and the value of a line. `None` if it has no colon, or the name is no token.
 fn field_of(line: &str) -> Option<(&str, &[u8])> {
     let (name, value) = line.split_once(':')?;
-    let is_name = !name.is_empty() && name.bytes().all(is_of_token);
+    let is_name = !name.is_empty() && name.bytes().all(is_token_octet);
     is_name.then_some((name, value.as_bytes()))
 }

@@ -24,6 +24,7 @@ pub struct Nonces {
     sets: Mutex<Sets>,
 }
 
+/// The hashes. `turned` is when the young set began, in seconds.
 #[derive(Debug, Default)]
 struct Sets {
     turned: u64,
@@ -45,22 +46,22 @@ impl Nonces {
 
 impl TakeNonce for Nonces {
     fn take(&self, key: &[u8], nonce: &str, now: u64, seconds: u64) -> Result<(), Unproved> {
-        let name = self.hasher.hash_one((key, nonce));
+        let hash = self.hasher.hash_one((key, nonce));
         let mut sets = self.sets.lock().unwrap_or_else(PoisonError::into_inner);
         sets.turn(now, seconds);
-        if sets.old.contains(&name) || sets.young.contains(&name) {
+        if sets.old.contains(&hash) || sets.young.contains(&hash) {
             return Err(Unproved::NonceSeen);
         }
         if sets.young.len() >= self.most {
             return Err(Unproved::StoreFull);
         }
-        sets.young.insert(name);
+        sets.young.insert(hash);
         Ok(())
     }
 }
 
 impl Sets {
-    /// Makes the young set the old one when it is time. If the clock went back, nothing is forgotten.
+    /// Makes the young set the old one once it is `seconds` old. If the clock went back, nothing is forgotten.
     fn turn(&mut self, now: u64, seconds: u64) {
         let age = now.saturating_sub(self.turned);
         if age < seconds {
