@@ -1,6 +1,6 @@
 -- How a tag without members is represented.
 use Rattle.std.specs.Prelude.{Option, Some, None}
-use Rattle.std.specs.Arc.{arc_slice_items, arc_value}
+use Rattle.std.specs.Arc.{arc_value}
 use Rattle.spki_tag.specs.declared.range.Range.{Range}
 use Rattle.spki_tag.specs.declared.leaf.Leaf.{Leaf}
 use Rattle.spki_tag.specs.declared.leaf.Leaf.TheVariants as leaves
@@ -18,7 +18,7 @@ range_or_nothing (Some r) = range_tag r
 
 abbrev pub leaf_tag : Leaf → Tag
 leaf_tag leaves.Star = star
-leaf_tag (leaves.String octets) = string (arc_slice_items octets)
+leaf_tag (leaves.String octets) = string octets
 leaf_tag (leaves.Prefix octets) = prefix octets
 leaf_tag (leaves.Range r) = range_tag (arc_value r)
 

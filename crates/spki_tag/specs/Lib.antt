@@ -3,6 +3,7 @@ pub mod Request
 pub mod Faults
 pub mod Reading
 pub mod Limits
+pub mod StringOctets
 pub mod Leaves
 pub mod Nodes
 pub mod NodeFalls

@@ -10,6 +10,7 @@ ghost use Rattle.spki_tag.specs.Tag.{contains, is_ordered, is_within, is_above, 
 use crate::moment::{is_date, is_time};
 use crate::prefix::Prefix;
 use crate::range::Range;
+use crate::string_octets::StringOctets;
 use crate::ticks::Ticks;
 use std::alloc::AllocError;
 use std::sync::ledger::Ledger;
@@ -42,7 +43,7 @@ pub(crate) enum Leaf {
     /// `(*)`.
     Star,
     /// A string.
-    String(SharedOctets),
+    String(StringOctets),
     /// `(* prefix p)`.
     Prefix(Prefix),
     /// `(* range ordering low? up?)`. It is rare and large, so it lies apart.

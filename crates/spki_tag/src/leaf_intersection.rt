@@ -1,19 +1,19 @@
 //! The intersection of tags without members.
 
 ghost use Rattle.std.specs.Prelude.{◌≡◌, IfOk};
-ghost use Rattle.std.specs.Arc.{arc_slice_items};
 ghost use Rattle.spki_tag.specs.Leaves.{leaf_tag, leaf_or_nothing, range_tag};
 ghost use Rattle.spki_tag.specs.Meet.{prefixes_meet, string_meet, meet};
 
-use crate::leaf::{Leaf, SharedOctets};
+use crate::leaf::Leaf;
 use crate::prefix::Prefix;
 use crate::range::Range;
+use crate::string_octets::StringOctets;
 use std::alloc::{AllocError, Global};
 use std::sync::Arc;
 
 /// Returns the string as a tag if `other` contains it. None if not. Err if there are too many copies to count.
-fn meet_string(octets: &SharedOctets, other: &Leaf) -> Result<Option<Leaf>, AllocError>
-    ensures { IfOk result (λ r. leaf_or_nothing r ≡ string_meet (arc_slice_items octets.now) (leaf_tag other.now)) }
+fn meet_string(octets: &StringOctets, other: &Leaf) -> Result<Option<Leaf>, AllocError>
+    ensures { IfOk result (λ r. leaf_or_nothing r ≡ string_meet octets.now (leaf_tag other.now)) }
 {
     if other.holds(octets.as_slice()) {
         Ok(Some(Leaf::String(octets.clone()?)))

@@ -23,6 +23,7 @@ mod ranges;
 mod reader;
 mod request;
 mod sets;
+mod string_octets;
 mod tag;
 mod ticks;
 mod weight;

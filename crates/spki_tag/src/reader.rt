@@ -14,6 +14,7 @@ use crate::leaf::Leaf;
 use crate::normal_forms::push_member;
 use crate::prefix::Prefix;
 use crate::ranges::read_range;
+use crate::string_octets::StringOctets;
 use crate::tag::Tag;
 use sexpr_core::syntax::{Members, Node, NodeKind};
 use sexpr_core::{Doc, NodeId};
@@ -75,7 +76,7 @@ fn read_tag(alloc: Global, value: &Node<'_, '_>, used: usize) -> Result<(Tag, us
     match value.kind() {
         NodeKind::List(members) => read_list(alloc, members, used),
         NodeKind::String { hint: None, body } => Ok((
-            Tag::string(ArcSlice::from_slice(alloc, body)?),
+            Tag::string(StringOctets::of(alloc, body)?),
             used + 1,
         )),
         NodeKind::String { hint: Some(_), .. } => Err(TagFault::Hint),
@@ -156,8 +157,10 @@ fn read_set(alloc: Global, further: Members<'_, '_>, used: usize) -> Result<(Tag
     ensures read { IfOk result (λ p. IsRead used (starred (codes "set") (values further.entry)) p.0 p.1) }
     ensures named { IfErr result (λ fault. IsNamed fault (fault_after used (starred (codes "set") (values further.entry)))) }
 {
-    let mut members = Vec::new(alloc);
+    // Room for the members as written. Those of inner sets may make it larger, up to twice what they take.
+    let mut members = Vec::with_capacity(alloc, further.len().min(MOST_READ - used))?;
     let after = put_members(alloc, further, used + 1, &mut members)?;
+    members.shrink_to_fit();
     Ok((Tag::set_of(members), after))
 }
 

@@ -7,6 +7,7 @@ ghost use Rattle.spki_tag.specs.Leaves.{leaf_tag};
 ghost use Rattle.spki_tag.specs.Meet.{gather};
 
 use crate::leaf::{Leaf, SharedOctets};
+use crate::string_octets::StringOctets;
 use std::alloc::{AllocError, Global};
 use std::marker::Model;
 
@@ -69,8 +70,8 @@ impl Tag {
     }
 
     /// The tag that contains this string only.
-    pub(crate) fn string(octets: SharedOctets) -> Tag
-        ensures { result ≡ spec.string (arc_slice_items octets) }
+    pub(crate) fn string(octets: StringOctets) -> Tag
+        ensures { result ≡ spec.string octets }
     {
         Tag {
             node: Node::Leaf(Leaf::String(octets)),

@@ -58,8 +58,8 @@ read_starred-returns-in-String-Some-default-clause-named t c = search (rules, ta
 pub read_tag-returns-then-used-ge-MOST_READ-clause-named : goal.read_tag-returns-then-used-ge-MOST_READ-clause-named
 read_tag-returns-then-used-ge-MOST_READ-clause-named t c = search (rules, tags_read, members_read)
 
-pub read_tag-returns-in_err-from_slice-in-String-None-default-clause-named : goal.read_tag-returns-in_err-from_slice-in-String-None-default-clause-named
-read_tag-returns-in_err-from_slice-in-String-None-default-clause-named t c = search (rules, tags_read, members_read)
+pub read_tag-returns-in_err-of-in-String-None-default-clause-named : goal.read_tag-returns-in_err-of-in-String-None-default-clause-named
+read_tag-returns-in_err-of-in-String-None-default-clause-named t c = search (rules, tags_read, members_read)
 
 pub read_tag-returns-in-String-Some-default-clause-named : goal.read_tag-returns-in-String-Some-default-clause-named
 read_tag-returns-in-String-Some-default-clause-named t c = search (rules, tags_read, members_read)
@@ -101,3 +101,6 @@ put_members-returns-in_err-counted-clause-named t c =
 
 pub read_members-returns-in_err-tags-clause-named : goal.read_members-returns-in_err-tags-clause-named
 read_members-returns-in_err-tags-clause-named t c = search (rules, tags_read, members_read)
+
+pub read_set-returns-in_err-members-clause-named : goal.read_set-returns-in_err-members-clause-named
+read_set-returns-in_err-members-clause-named t c = search (rules, tags_read, members_read)
