@@ -206,7 +206,7 @@ def show(given: argparse.Namespace) -> int:
 
 
 def ask(given: argparse.Namespace) -> int:
-    from .asking import Asked, Words, answered, asked_of_case, case_of
+    from .asking import Asked, Words, asked_of_case, best_answer, case_of
     if given.case:
         asked = asked_of_case(value_of(given.case, "case"), labels_of(given))
     elif not (given.acl and given.key and given.words):
@@ -216,7 +216,7 @@ def ask(given: argparse.Namespace) -> int:
         labels = labels_of(given, *(path for path in [given.key, *filter(os.path.isdir, given.cert)] if path != "-"))
         asked = Asked(value_of(given.acl, "acl"), key, request_of(given.words), given.at or now(), labels,
                       [value_of(path, "sequence") for path in sequences_below(given.cert)], not given.open)
-    answer = answered(asked)
+    answer = best_answer(asked)
     lines = list(Words(asked, answer).lines())
     if answer.entry is not None and answer.sequence not in [*asked.sequences, [b"sequence"]] and not given.sequence:
         lines.append("  these certificates are picked and put in order: --sequence FILE writes them for the service")

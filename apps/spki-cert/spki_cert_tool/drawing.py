@@ -10,7 +10,7 @@ from collections.abc import Callable, Iterable, Iterator
 from html import escape
 from typing import TYPE_CHECKING, NamedTuple
 
-from .asking import Answer, Asked, answered, asked_of_case, case_of, furthest
+from .asking import Answer, Asked, asked_of_case, best_answer, case_of, furthest
 from .certificates import Keys, entries_of, field, headed, keys_in, members, terms_of
 from .sexp import Value, canonical, on_one_line
 from .showing import Labels
@@ -195,7 +195,7 @@ def svg_of(value: Value, labels: Labels) -> bytes:
     """A list, a certificate, a sequence or a case as SVG."""
     if headed(value, b"case"):
         asked = asked_of_case(value, labels)
-        return svg_of_answer(asked, answered(asked))
+        return svg_of_answer(asked, best_answer(asked))
     drawing = Drawing(keys_in(value), labels, PICTURE_WIDTH)
     if headed(value, b"acl"):
         drawing.entries(value)
