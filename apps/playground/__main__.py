@@ -13,7 +13,7 @@ import sys
 import webbrowser
 
 from asking import JOBS
-from engine import TOP, engine
+from engine import TOP, choose_engine
 from examples import EXAMPLES, OTHERS
 from server import MOST_BODY, Server
 from workers import SECONDS, Workers
@@ -29,7 +29,7 @@ def options():
 
 
 def start(name):
-    """What the page begins with, as a file: the examples, and the name of what decides."""
+    """The octets of `start.json`, by which the page begins: the examples, and the name of what decides."""
     with open(os.path.join(TOP, "examples", "guide", "granted.sexp"), encoding="utf-8") as file:
         others = {**OTHERS, "case": file.read()}
     return json.dumps({"engine": name, "examples": EXAMPLES, "others": others, "mostOctets": MOST_BODY}).encode()
@@ -38,7 +38,7 @@ def start(name):
 def main():
     given = options()
     try:
-        decides = engine(given.engine)
+        decides = choose_engine(given.engine)
     except LookupError as why:
         print(why, file=sys.stderr)
         return 2

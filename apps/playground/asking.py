@@ -16,7 +16,7 @@ MOST_REASONS, MOST_LEFT = 100, 20
 
 
 def refused(given, line):
-    """The answer where a text is refused."""
+    """The part of an answer that shows a refusal, by its line."""
     return {"kind": "refused", "line": line, "shown": given.shown(line), "title": REFUSED.get(line, ""), "faults": given.fault(line)}
 
 
@@ -79,7 +79,8 @@ def shown_reasons(story, reasons, line):
 
 
 def add_lefts(given, story, reasons, reduced):
-    """Reads the rights that remain, and the one right before the item that stops the first chain."""
+    """Adds to the story the rights that remain, from the lines of `reduce` in the order of the entries, and the right before the item that stops the
+    first chain."""
     value = given.engine.value
     for reason in reasons[:MOST_LEFT]:
         if reason.entry and "(five" in reduced[reason.entry - 1]:
@@ -93,12 +94,12 @@ def add_lefts(given, story, reasons, reduced):
 
 
 def five_of(line):
-    """The right in a line of `reduce`."""
+    """The text `(five ..)` of the right in a line of `reduce`."""
     return line.split(" ", 2)[2].encode()
 
 
 def times(engine, sent):
-    """When the answer is yes."""
+    """The spans of time, each with its answer."""
     given = Given(engine, sent)
     try:
         acl, sequence, *_ = given.values()
@@ -111,7 +112,7 @@ def tags(engine, sent):
     """Two tags and a request: which of them contains it, and their intersection."""
     words = tuple(it.encode(errors="replace") for it in sent.get("request") or [] if isinstance(it, str))
     octets = {name: text(sent, name).encode(errors="replace") for name in ("first", "second")}
-    done = {name: contains(engine, octets[name], words) for name in octets}
+    done = {name: containment(engine, octets[name], words) for name in octets}
     yield dict(done)
     if len(words) == 1 and is_one_line(words[0]) and any(it.get("contains") is False for it in done.values()):
         yield {"hint": ONE_STRING}
@@ -119,8 +120,9 @@ def tags(engine, sent):
         yield {"both": intersection(engine, octets, words)}
 
 
-def contains(engine, tag, words):
-    """Whether a tag contains a request, which a guard with one entry says."""
+def containment(engine, tag, words):
+    """What a guard with one entry says of a tag and a request: `contains`, which is a boolean, or the `line` of a refusal and its `places` in the
+    tag, or the `requestLine` of one that is about the request."""
     try:
         acl = b"(3:acl(5:entry" + PARTS["key"] + b"(3:tag" + engine.canonical(tag) + b")))"
     except Refused as why:
@@ -133,7 +135,7 @@ def contains(engine, tag, words):
 
 
 def fault_of_tag(engine, tag, line):
-    """The places of a fault in a tag, which `intersect` names."""
+    """What is shown of a refusal by a guard with one entry: the line and its places in the tag, which `intersect` finds, or `requestLine`."""
     if line.split()[1] != "acl":
         return {"requestLine": line}
     line = line.replace("acl 1 Tag", "tag 1").replace("acl 1", "tag 1")
@@ -143,9 +145,10 @@ def fault_of_tag(engine, tag, line):
 
 
 def intersection(engine, octets, words):
+    """The text of the intersection of two tags, and what `containment` says of it; or the line of a refusal."""
     try:
         both = engine.command("intersect", b"(9:intersect" + b"".join(map(engine.canonical, octets.values())) + b")")
-        return {"text": both.decode()[:MOST_LETTERS], "isWhole": len(both) <= MOST_LETTERS, **contains(engine, both, words)}
+        return {"text": both.decode()[:MOST_LETTERS], "isWhole": len(both) <= MOST_LETTERS, **containment(engine, both, words)}
     except Refused as why:
         return {"line": why.line}
 

@@ -17,7 +17,7 @@ def text(given, name):
 
 
 class Given:
-    """A question of separate boxes, as octets."""
+    """A question of separate boxes, as octets. Methods that ask the engine raise `Refused`."""
 
     def __init__(self, engine, given):
         self.engine, self.box = engine, {name: text(given, name).encode(errors="replace") for name in ("acl", "sequence", "key", "at")}
@@ -35,13 +35,15 @@ class Given:
         return value(question.acl), value(question.sequence), value(question.key), request, self.box["at"]
 
     def check(self):
+        """The line of the decision."""
         return self.engine.lines(self.question, "check")[0]
 
     def lines(self, command):
+        """The lines of `check`, `explain` or `reduce`."""
         return self.engine.lines(self.question, command)
 
     def cut(self, items):
-        """The lines of `reduce` with these items only."""
+        """The lines of `reduce` if the sequence had these items only."""
         return self.engine.lines(self.question._replace(sequence=canonical([b"sequence", *items])), "reduce")
 
     def signatures(self, labels):
@@ -55,7 +57,7 @@ class Given:
         return listed
 
     def fault(self, line):
-        """The box that a refusal is about, and its places there."""
+        """What is shown at the box that a refusal is about, with its places there, by the name of the box. Empty if it is about no box."""
         word = line.split()[1]
         name = "acl" if word == "form" else word
         if name not in BOXES:
@@ -78,7 +80,7 @@ class Given:
         return numbered(line, self.heads)
 
     def fault_of_words(self, name, line):
-        """The same of a box whose text is no S-expression, and is written as one."""
+        """As `fault`, for the box of the request or of the moment, which is no S-expression: its first line is the place."""
         typed = self.box["at"]
         why = f"{'this is no moment' if typed else 'the moment is missing'}; choose a date and a time of day, in UTC"
         if name == "request":
@@ -97,7 +99,7 @@ class Given:
 
 
 class GivenCase:
-    """A whole case in one box."""
+    """A whole case in one box, with the same methods as `Given`."""
 
     def __init__(self, engine, given):
         self.engine, self.octets = engine, text(given, "text").encode(errors="replace")

@@ -49,8 +49,8 @@ class Members:
 
 
 def list_of(head: bytes | None, what: str, *readers: tuple[str, Reader]) -> Reader:
-    """The reader of a list with this head, or any head for None, and exactly these members: each by what it is called, and its reader. It returns what
-    the last of these readers returns."""
+    """The reader of a list with this head, or any head for None, and exactly these members: each by what it is called, and its reader. It returns
+    what the last of these readers returns."""
     def reader(node: Node) -> object:
         members, said = Members(node, head or node.head or b"", what), None
         for name, read in readers:
