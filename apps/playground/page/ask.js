@@ -10,7 +10,8 @@ export function bound(octets) {
   mostOctets = octets;
 }
 
-/** Sends what `collect` returns, and gives the answer to `show`, for each call of what is returned. `typed` counts the changes of the texts. */
+/** Returns a function that asks: it sends what `collect` returns as a question of a kind, and calls `show` with the answer. `typed` returns how
+  * often the texts were changed so far. */
 export function asker(kind, collect, show, typed) {
   let underWay = null;
   let isWanted = false;
@@ -21,7 +22,7 @@ export function asker(kind, collect, show, typed) {
     isWanted = false;
     underWay = stops;
     const sent = performance.now();
-    const answer = await answered(kind, JSON.stringify({ ...collect(), page: PAGE }), stops.signal);
+    const answer = await answerTo(kind, JSON.stringify({ ...collect(), page: PAGE }), stops.signal);
     if (underWay === stops) {
       underWay = null;
     }
@@ -45,8 +46,8 @@ export function asker(kind, collect, show, typed) {
   };
 }
 
-/** The answer of the server, or null if another question replaced this one. Without an answer, `notice` says why. */
-async function answered(kind, body, signal) {
+/** The answer of the server, or null if `signal` stopped the question. If the server gives none, an answer whose `notice` says why. */
+async function answerTo(kind, body, signal) {
   const octets = new TextEncoder().encode(body);
   if (octets.length > mostOctets) {
     const [sent, most] = [octets.length, mostOctets].map((it) => it.toLocaleString("en"));
