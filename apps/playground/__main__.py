@@ -20,6 +20,7 @@ from workers import SECONDS, Workers
 
 
 def options():
+    """The words of the command line, as argparse has them."""
     parser = argparse.ArgumentParser(prog="apps/playground", description=__doc__.split("\n")[0])
     parser.add_argument("--port", type=int, default=0, help="the port; the default is one that is free")
     parser.add_argument("--no-browser", action="store_true", help="print the address only")
@@ -36,6 +37,7 @@ def start(name):
 
 
 def main():
+    """Serves the page until it is ended. Returns the exit status."""
     given = options()
     try:
         decides = choose_engine(given.engine)

@@ -76,6 +76,7 @@ class Story:
 
 
 def issuer_of(certificate):
+    """The issuer of a certificate: a principal, or a name that the certificate defines."""
     return field(certificate, b"issuer")[1]
 
 

@@ -113,6 +113,7 @@ class Handler(http.server.BaseHTTPRequestHandler):
     verifier: spki_http.Verifier
 
     def answer_it(self) -> None:
+        """Answers a request."""
         body = self.rfile.read(int(self.headers.get("Content-Length", 0)))
         try:
             proof = self.verifier.prove(self.command, self.headers["Host"], self.path, self.headers.items(), body)

@@ -79,6 +79,7 @@ class Answer:
 
     @property
     def chosen(self) -> Reason | None:
+        """The reason that is said in words, or None if there are no entries."""
         return furthest(self.reasons)
 
     def left(self, entry: int) -> Value:

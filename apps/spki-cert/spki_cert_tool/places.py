@@ -114,6 +114,7 @@ def read_numbered(name: str, read: Reader, nodes: list[Node], first: int = 1) ->
 
 
 def read_list(node: Node) -> None:
+    """Reads an access list. As all functions `read_..` here, raises Wrong where the program `spki` refuses, with its name of the part."""
     part_of("acl 0", partial(Members, head=b"acl", what="the access list"), node)
     entries = node.rest
     if entries and entries[0].head == b"version":
@@ -122,6 +123,7 @@ def read_list(node: Node) -> None:
 
 
 def read_sequence(node: Node) -> None:
+    """Reads a sequence, and tests that each certificate has a signature behind it, with at most operations `(do ..)` between them."""
     part_of("sequence 0", partial(Members, head=b"sequence", what="the sequence"), node)
     waits: tuple[int, Node] | None = None
     items = node.rest
@@ -140,6 +142,7 @@ def read_sequence(node: Node) -> None:
 
 
 def read_case(node: Node) -> None:
+    """Reads a case, part after part."""
     read_outline(node)
     acl, accepted, sequence, key, request, moment = node.rest[:6]
     read_list(acl)
@@ -170,6 +173,7 @@ def read_outline(node: Node) -> None:
 
 
 def read_intersect(node: Node) -> None:
+    """Reads `(intersect A B)`."""
     part_of("intersect", partial(Members, head=b"intersect", what="the text"), node)
     tags = node.rest
     if len(tags) != 2:
@@ -179,6 +183,7 @@ def read_intersect(node: Node) -> None:
 
 
 def read_rows(node: Node) -> None:
+    """Reads the rows `(accepted ..)` as a text of their own."""
     part_of("rows", partial(Members, head=b"accepted", what="the text"), node)
     read_numbered("rows", read_row, node.rest)
 

@@ -98,6 +98,7 @@ def read_hash(node: Node) -> bytes:
 
 
 def read_principal(node: Node) -> None:
+    """Reads a key or a hash."""
     if node.head not in PRINCIPALS:
         raise shape(node, f"a principal must be {but_is(node, *PRINCIPALS)}")
     (read_key if node.head == b"public-key" else read_hash)(node)
@@ -200,6 +201,7 @@ def require_fields(owner: Node, said: Said, *heads: bytes) -> None:
 
 
 def read_entry(node: Node) -> None:
+    """Reads an entry of an access list."""
     if node.head == b"deny":
         raise shape(node, "there are no denials: what no entry gives is denied, so leave this out")
     members = Members(node, b"entry", "an entry")
@@ -210,6 +212,7 @@ def read_entry(node: Node) -> None:
 
 
 def read_certificate(node: Node) -> None:
+    """Reads a certificate, which gives a right or, if its issuer is a name, defines this name."""
     said = read_fields(node, Members(node, b"cert", "a certificate").left, CERTIFICATE_FIELDS)
     require_fields(node, said, b"issuer", b"subject")
     if said[b"issuer"][1]:
@@ -227,6 +230,7 @@ def read_digest_of_row(node: Node) -> None:
 
 
 def read_operation(node: Node) -> None:
+    """Reads an item `(do hash ALGORITHM)`."""
     if not node.rest or not node.rest[0].is_plain(b"hash"):
         raise Wrong("UnknownOp", node.begin, "the only operation is `(do hash ALGORITHM)`")
     list_of(b"do", "an operation", ("hash", lambda _: None), ("the algorithm", read_algorithm))(node)
@@ -238,6 +242,7 @@ ITEMS: dict[bytes, Reader] = {b"public-key": read_key, b"do": read_operation, b"
 
 
 def read_item(node: Node) -> None:
+    """Reads an item of a sequence."""
     if node.head is None or node.head not in ITEMS:
         raise shape(node, f"an item must be {but_is(node, *ITEMS)}")
     ITEMS[node.head](node)
@@ -312,6 +317,7 @@ def read_range(node: Node, behind: list[Node]) -> None:
 
 
 def read_request(node: Node) -> None:
+    """Reads a request: strings and lists of them, as deep as they go."""
     if node.members is None:
         return refuse_hint(node)
     head = list_head(node)

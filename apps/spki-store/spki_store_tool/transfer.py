@@ -37,6 +37,7 @@ class Progress:
 
 
 def digest_of(text: mmap.mmap | bytes) -> bytes:
+    """The SHA-256 digest by which a file is known in `imports`."""
     return hashlib.sha256(text).digest()
 
 

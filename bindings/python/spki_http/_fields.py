@@ -72,6 +72,7 @@ class Parser:
         return found
 
     def expect(self, text: str) -> None:
+        """Skips a text, with which the rest must begin."""
         if not self.skip_if(text):
             raise Refused("malformed")
 
