@@ -13,7 +13,6 @@ MOST, ACTIONS = 65_536, {"GET": b"read", "PUT": b"write"}
 
 class Handler(http.server.BaseHTTPRequestHandler):
     def answer(self) -> None:
-        """Answers a request: who signed it, and whether the access list grants it."""
         body = self.rfile.read(min(int(self.headers.get("Content-Length", 0)), MOST))
         host, status = ", ".join(self.headers.get_all("Host", [])), 403
         try:
