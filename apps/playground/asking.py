@@ -7,20 +7,21 @@ from chain import chain
 from engine import PARTS, Question, Refused, string
 from given import MOST_LETTERS, Given, GivenCase, text
 from labels import Labels
-from place import places, shown
-from sentences import ONE_STRING, REFUSED, is_one_line, right_left, said, title
+from place import places, shown_places
+from sentences import ONE_STRING, REFUSED, is_one_string_of_words, right_left, sentence_of, title
 from spki_cert_tool.sexp import laid_out, read
 from story import Story, reasons_of
 
 MOST_REASONS, MOST_LEFT = 100, 20
 
 
-def refused(given, line):
+def shown_refusal(given, line):
     """The part of an answer that shows a refusal, by its line."""
     return {"kind": "refused", "line": line, "shown": given.shown(line), "title": REFUSED.get(line, ""), "faults": given.fault(line)}
 
 
 def labels_of(engine, given):
+    """The labels that the page sent."""
     return Labels(engine, text(given, "labels"))
 
 
@@ -38,7 +39,7 @@ def question(engine, sent):
         if sent.get("withCase") is True:
             yield {"case": laid_out(read(given.case()))}
     except Refused as why:
-        yield refused(given, why.line)
+        yield shown_refusal(given, why.line)
 
 
 def case(engine, sent):
@@ -48,7 +49,7 @@ def case(engine, sent):
     try:
         yield from explained(given, labels)
     except Refused as why:
-        yield refused(given, why.line)
+        yield shown_refusal(given, why.line)
 
 
 def explained(given, labels):
@@ -73,7 +74,7 @@ def explained(given, labels):
 
 def shown_reasons(story, reasons, line):
     """The sentences, the ones that matter first, and the picture of the first."""
-    sentences = [said(story, reason) for reason in reasons[:MOST_REASONS]]
+    sentences = [sentence_of(story, reason) for reason in reasons[:MOST_REASONS]]
     return {"reasons": sentences, "more": max(0, len(reasons) - MOST_REASONS), "title": title(sentences, line),
             "chain": chain(story, reasons[0] if reasons else None)}
 
@@ -114,7 +115,7 @@ def tags(engine, sent):
     octets = {name: text(sent, name).encode(errors="replace") for name in ("first", "second")}
     done = {name: containment(engine, octets[name], words) for name in octets}
     yield dict(done)
-    if len(words) == 1 and is_one_line(words[0]) and any(it.get("contains") is False for it in done.values()):
+    if len(words) == 1 and is_one_string_of_words(words[0]) and any(it.get("contains") is False for it in done.values()):
         yield {"hint": ONE_STRING}
     if all("line" not in it for it in done.values()):
         yield {"both": intersection(engine, octets, words)}
@@ -126,7 +127,7 @@ def containment(engine, tag, words):
     try:
         acl = b"(3:acl(5:entry" + PARTS["key"] + b"(3:tag" + engine.canonical(tag) + b")))"
     except Refused as why:
-        return {"line": why.line, "places": shown(tag, places(tag, why.line))}
+        return {"line": why.line, "places": shown_places(tag, places(tag, why.line))}
     try:
         answer = engine.lines(Question(acl, PARTS["sequence"], PARTS["key"], words, PARTS["at"]), "check")[0]
         return {"contains": answer != "no"}
@@ -141,7 +142,7 @@ def fault_of_tag(engine, tag, line):
     line = line.replace("acl 1 Tag", "tag 1").replace("acl 1", "tag 1")
     front = b"(intersect "
     found = [(at - len(front), why) for at, why in places(front + tag + b" a)", line)]
-    return {"line": line, "places": shown(tag, [(at, why) for at, why in found if 0 <= at <= len(tag)])}
+    return {"line": line, "places": shown_places(tag, [(at, why) for at, why in found if 0 <= at <= len(tag)])}
 
 
 def intersection(engine, octets, words):
@@ -160,7 +161,7 @@ def forms(engine, sent):
         for name in ("canonical", "advanced", "transport"):
             yield {name: printable(engine.command(name, octets))}
     except Refused as why:
-        yield {"line": why.line, "places": shown(octets, places(octets, why.line))}
+        yield {"line": why.line, "places": shown_places(octets, places(octets, why.line))}
 
 
 def printable(octets):

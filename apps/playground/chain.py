@@ -109,7 +109,7 @@ def chain(story, reason):
 
 
 def shortened(steps, behind):
-    """The same for the page, without the middle of a chain that is very long."""
+    """What `chain` returns for these steps: the middle of a chain of more than MOST_STEPS is left out."""
     if len(steps) > MOST_STEPS:
         half = MOST_STEPS // 2
         left_out = arrow("faint", f"{(len(steps) - MOST_STEPS) // 2} certificates are not drawn")

@@ -3,7 +3,7 @@ import functools
 
 from completion import VALUE, completed
 from engine import Question, case_text, request_text, string
-from place import heads_in, numbered, places, shown
+from place import heads_in, numbered, places, shown_places
 from spki_cert_tool.sexp import canonical, on_one_line, read
 
 BOXES = ("acl", "sequence", "key", "request", "at")
@@ -68,11 +68,11 @@ class Given:
         found = places(octets, line)
         if name == "sequence":
             found = [(self.sequence.typed(at), numbered(why, self.heads)) for at, why in found]
-        return {name: {"line": line, "shown": self.shown(line), "places": shown(self.box[name], found)}}
+        return {name: {"line": line, "shown": self.shown(line), "places": shown_places(self.box[name], found)}}
 
     @functools.cached_property
     def heads(self):
-        """The words that the items of the sequence begin with. One that the page made up is left out by None."""
+        """The words that the items of the sequence begin with. None for one that the page made up."""
         return heads_in(self.question.sequence, [at + 1 for at, _ in self.sequence.added])
 
     def shown(self, line):
@@ -91,7 +91,7 @@ class Given:
         return {"line": line, "places": [place]}
 
     def case(self):
-        """The same question as one text for the program."""
+        """The question as a case, which is one text for the program."""
         question = self.question
         listed = [it for place, it in enumerate(self.engine.signed(question)) if place not in question.refused_signatures]
         parts = map(self.engine.canonical, (question.acl, question.sequence, question.key))
@@ -105,6 +105,7 @@ class GivenCase:
         self.engine, self.octets = engine, text(given, "text").encode(errors="replace")
 
     def values(self):
+        """The access list, the sequence, the key, the request and the moment."""
         case = self.engine.value(self.octets)
         return case[1], case[3], case[4][1], case[5][1], case[6][1]
 
@@ -128,4 +129,4 @@ class GivenCase:
 
     def fault(self, line):
         found = [(at, numbered(why, self.heads)) for at, why in places(self.octets, line)]
-        return {"case": {"line": line, "shown": self.shown(line), "places": shown(self.octets, found)}}
+        return {"case": {"line": line, "shown": self.shown(line), "places": shown_places(self.octets, found)}}

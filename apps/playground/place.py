@@ -36,7 +36,7 @@ def places(text, line):
     return [(inner[min(at, len(inner) - 1)] if inner else at, why) for at, why in places_of(wrong)]
 
 
-def shown(text, found):
+def shown_places(text, found):
     """Places for the page, which underlines them. `found` are offsets and remarks, as `places` returns them."""
     return [shown_place(text, at, why) for at, why in found]
 

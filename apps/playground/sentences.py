@@ -32,21 +32,21 @@ REFUSED = {
 ONE_STRING = "The request is one string with spaces in it. If each word is meant as a string, write each on a line of its own; in a case, as (a b c)."
 
 
-def is_one_line(request):
+def is_one_string_of_words(request):
     """Whether a request is one string of several words."""
     return isinstance(request, bytes) and len(request.split()) > 1
 
 
-def said(story, reason):
+def sentence_of(story, reason):
     """A line of `explain` in words, with the line itself and its numbers."""
     says, hint = WORDS[reason.word]
-    if reason.word == "TagLacks" and is_one_line(story.request):
+    if reason.word == "TagLacks" and is_one_string_of_words(story.request):
         hint = ONE_STRING
     fields = {"entry": reason.entry, "number": story.number(reason.item) if reason.item else 0,
               "client": story.labels.of(story.key), "moment": moment_of(story.at),
               "holder": story.labels.of(story.holder(reason)) if reason.entry else "",
               "issuer": story.labels.of(issuer_of(story.certificate(reason.item))) if reason.item else "",
-              "shown": shown(story), "window": "in another time"}
+              "shown": shown_certificates(story), "window": "in another time"}
     left = story.left(reason)
     if left:
         fields["window"] = window(left) or "at all times"
@@ -54,14 +54,14 @@ def said(story, reason):
             "says": says.format(**fields), "hint": hint}
 
 
-def shown(story):
+def shown_certificates(story):
     """The certificates that are shown, as the end of a sentence."""
     count = sum(item[0] == b"cert" for item in story.items)
     return "" if not count else " and one certificate" if count == 1 else f" and {count} certificates"
 
 
 def title(reasons, line):
-    """The answer itself, in one sentence: the first of `reasons`, which are those of `said`, or one by the line of the decision."""
+    """The answer itself, in one sentence: the first of `reasons`, which are those of `sentence_of`, or one by the line of the decision."""
     if line.startswith("yes"):
         return reasons[0]["says"] if reasons else f"Entry {line.rsplit(' ', 1)[1]} grants the request."
     return reasons[0]["says"] if reasons else "The access list is empty."

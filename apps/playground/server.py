@@ -158,6 +158,7 @@ class Server(http.server.ThreadingHTTPServer):
         super().process_request(request, client_address)
 
     def process_request_thread(self, request, client_address):
+        """Serves a connection, and then makes room for another one."""
         try:
             super().process_request_thread(request, client_address)
         finally:

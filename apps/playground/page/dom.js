@@ -7,7 +7,7 @@ export function made(name, attributes = {}, ...contents) {
   return filled(document.createElement(name), attributes, contents);
 }
 
-/** The same of SVG. */
+/** An element of SVG, as `made` makes one of HTML. */
 export function drawn(name, attributes = {}, ...contents) {
   return filled(document.createElementNS(SVG, name), attributes, contents);
 }

@@ -43,6 +43,7 @@ class CommandParser(argparse.ArgumentParser):
     """Parses the words of a command. Raises Refused for wrong ones. No option is abbreviated: the beginning of one may be another one."""
 
     def __init__(self, **settings: Any) -> None:
+        """Makes `Once` the action of each option that names none."""
         super().__init__(formatter_class=argparse.RawDescriptionHelpFormatter, allow_abbrev=False, **settings)
         for name in (None, "store"):
             self.register("action", name, Once)

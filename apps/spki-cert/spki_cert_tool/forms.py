@@ -289,7 +289,7 @@ class Parser:
         return b"".join(pieces)
 
     def escape_fault(self, begin: int, at: int) -> None:
-        """Raises the fault of an escape: at the first octet that no escape has."""
+        """Raises Wrong for the escape at an offset, which is wrong: at its first octet that no escape has. The string begins at `begin`."""
         first = self.octet(at + 1, begin)
         allowed = [b"0123abtnvfrx\"'?\\\r\n"] + ([b"01234567"] * 2 if first in b"0123" else [b"0123456789abcdefABCDEF"] * 2)
         for place, wanted in enumerate(allowed, at + 1):

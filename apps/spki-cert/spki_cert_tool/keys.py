@@ -45,7 +45,7 @@ def digest_of(value: Value) -> bytes:
 
 
 def hash_of(value: Value) -> Value:
-    """The hash that names a key, or that a signature has of its certificate."""
+    """The list `(hash sha256 DIGEST)` of a value. It names a key, or says of which certificate a signature is."""
     return [b"hash", b"sha256", digest_of(value)]
 
 

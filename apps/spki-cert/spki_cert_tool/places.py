@@ -59,7 +59,7 @@ FLAGS = re.DOTALL | re.MULTILINE
 
 
 def foreign(text: bytes) -> str | None:
-    """What a text is that is neither a key that is used nor an S-expression. None if it is not known."""
+    """A remark on a text that is something known, but neither a key that is used nor an S-expression. None for any other text."""
     return next((why for pattern, why in FOREIGN if re.match(pattern, text.lstrip(), FLAGS)), None)
 
 
@@ -92,7 +92,7 @@ def name_foreign(text: bytes, wrong: Wrong) -> None:
         wrong.shown_at, wrong.why = 0, f"this is no S-expression; one begins on line {line}: delete what is before it, and what is behind its end"
 
 
-def part_of(name: str, read: Reader, node: Node) -> None:
+def read_part(name: str, read: Reader, node: Node) -> None:
     """Reads a part of a text by its reader. A fault that it raises gets the part's name in front of its kind."""
     try:
         read(node)
@@ -106,7 +106,7 @@ def read_numbered(name: str, read: Reader, nodes: list[Node], first: int = 1) ->
     """Reads entries, items or rows, which are counted from `first`. A fault that it raises gets the place where its entry, item or row begins."""
     for number, node in enumerate(nodes, first):
         try:
-            part_of(f"{name} {number}", read, node)
+            read_part(f"{name} {number}", read, node)
         except Wrong as wrong:
             word = {"acl": "entry", "sequence": "item"}.get(name, "row")
             wrong.others.append((node.begin, f"{word} {number} begins here"))
@@ -115,16 +115,16 @@ def read_numbered(name: str, read: Reader, nodes: list[Node], first: int = 1) ->
 
 def read_list(node: Node) -> None:
     """Reads an access list. As all functions `read_..` here, raises Wrong where the program `spki` refuses, with its name of the part."""
-    part_of("acl 0", partial(Members, head=b"acl", what="the access list"), node)
+    read_part("acl 0", partial(Members, head=b"acl", what="the access list"), node)
     entries = node.rest
     if entries and entries[0].head == b"version":
-        part_of("acl 0", read_version, entries.pop(0))
+        read_part("acl 0", read_version, entries.pop(0))
     read_numbered("acl", read_entry, entries)
 
 
 def read_sequence(node: Node) -> None:
     """Reads a sequence, and tests that each certificate has a signature behind it, with at most operations `(do ..)` between them."""
-    part_of("sequence 0", partial(Members, head=b"sequence", what="the sequence"), node)
+    read_part("sequence 0", partial(Members, head=b"sequence", what="the sequence"), node)
     waits: tuple[int, Node] | None = None
     items = node.rest
     for number, item in enumerate([*items, None], 1):
@@ -154,7 +154,7 @@ def read_case(node: Node) -> None:
 
 def read_outline(node: Node) -> None:
     """Tests that a case has its parts, by their heads. Raises Wrong."""
-    part_of("case", partial(Members, head=b"case", what="the text"), node)
+    read_part("case", partial(Members, head=b"case", what="the text"), node)
     parts = node.rest
     for place, head in enumerate(PARTS):
         part = parts[place] if place < len(parts) else None
@@ -174,23 +174,23 @@ def read_outline(node: Node) -> None:
 
 def read_intersect(node: Node) -> None:
     """Reads `(intersect A B)`."""
-    part_of("intersect", partial(Members, head=b"intersect", what="the text"), node)
+    read_part("intersect", partial(Members, head=b"intersect", what="the text"), node)
     tags = node.rest
     if len(tags) != 2:
         raise Wrong("intersect Shape", node.begin, f"`(intersect A B)` has two tags, and this has {len(tags)} members")
     for number, tag in enumerate(tags, 1):
-        part_of(f"tag {number}", read_tag, tag)
+        read_part(f"tag {number}", read_tag, tag)
 
 
 def read_rows(node: Node) -> None:
     """Reads the rows `(accepted ..)` as a text of their own."""
-    part_of("rows", partial(Members, head=b"accepted", what="the text"), node)
+    read_part("rows", partial(Members, head=b"accepted", what="the text"), node)
     read_numbered("rows", read_row, node.rest)
 
 
 READERS: dict[str, Reader] = {
     "case": read_case, "intersect": read_intersect, "rows": read_rows, "acl": read_list, "sequence": read_sequence,
-    "key": partial(part_of, "key", read_key), "request": partial(part_of, "request", read_request), "at": partial(part_of, "at", read_date)}
+    "key": partial(read_part, "key", read_key), "request": partial(read_part, "request", read_request), "at": partial(read_part, "at", read_date)}
 # What a text is by its head. A request and a moment have none.
 BY_HEAD = {b"case": "case", b"intersect": "intersect", b"accepted": "rows", b"acl": "acl", b"sequence": "sequence", b"public-key": "key"}
 # Parts of texts, which no command of the program reads alone.

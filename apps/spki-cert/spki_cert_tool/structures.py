@@ -136,6 +136,7 @@ def read_date(node: Node) -> None:
 
 
 def read_version_number(node: Node) -> None:
+    """Reads the string of a version, which must be 0."""
     if node.members is not None:
         raise shape(node, "a version is a string")
     if not node.is_plain(b"0"):
@@ -258,7 +259,7 @@ def refuse_hint(node: Node) -> None:
 
 
 def list_head(node: Node) -> Node:
-    """The first member of a list in a tag or a request. Raises Wrong if it is no string without a hint."""
+    """The first member of a list in a tag or a request. Raises Wrong if there is none, or it is no string without a hint."""
     if not node.members:
         raise Wrong("EmptyList", node.begin, "a list here has members")
     if node.members[0].members is not None:

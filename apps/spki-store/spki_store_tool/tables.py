@@ -84,8 +84,8 @@ class Store:
         return [make_conninfo(**{**given, "host": host, "port": ports[place % len(ports)]}) for place, host in enumerate(hosts)]
 
     def connect(self) -> None:
-        """Connects to the first of the hosts that takes it, also after the connection was closed. A host that is cut off is left soon: otherwise it
-        would be waited for by minutes, and no other one be asked."""
+        """Connects to the first of the hosts that takes it, whose settings are then in `at`. A host that is cut off is given up after seconds, by
+        PATIENCE: otherwise it would take minutes until the next one is asked."""
         *others, last = self.each_host()
         for self.at in others:
             with contextlib.suppress(psycopg.OperationalError):

@@ -44,7 +44,7 @@ from typing import NoReturn, TypeVar, cast
 from . import _library as of
 from ._library import library
 from ._values import (Denied, Explanation, Grant, Limits, NoDecision, NotProved, Policy, ProvenKey, Question, Reason, Reduction, Refused,
-                      Scheme, Signature, Verify, answer_of, moment_of, octets_of, signature_of, whole)
+                      Scheme, Signature, Verify, answer_of, int_of, moment_of, octets_of, signature_of)
 from ._words import Cause, Fault, Part
 
 __version__ = "0.2.0"
@@ -123,7 +123,7 @@ class Asked(_Open, NoDecision):
     """
 
     def __init__(self, guard: c_void_p, question: Question, most: int) -> None:
-        """`Guard.ask` makes it. Its answers have at most so many octets."""
+        """`Guard.ask` makes it. Its explanation and its reduction have at most `most` octets."""
         self._handle, self._most = _AskedHandle(_opened(guard, question)), most
         self._count = of.count(self._handle)
         self._calls = threading.Lock()
@@ -148,7 +148,7 @@ class Asked(_Open, NoDecision):
     def mark(self, place: int) -> None:
         """Says that the signature at this place, from 0, is valid. The mark is for its place alone, also if the same signature is there twice.
         Raises `IndexError` if there is no such place, and then nothing is marked. `True` is no place, and raises `TypeError`."""
-        handle, at = self._held(), whole(place)
+        handle, at = self._held(), int_of(place)
         if at not in range(self._count):
             raise IndexError(f"there are {self._count} signatures, and none at the place {at}")
         with self._calls:
@@ -268,7 +268,7 @@ def string_at(text: bytes, *path: int) -> bytes | None:
     `None` if no string is there, or the text is no value in canonical form. Raises `Refused` if an allocation failed. Of
     `(public-key (rsa (n ..) (e #010001#)))` the path 1, 1, 1 is that of the modulus.
     """
-    octets, length, text, places = c_void_p(), c_size_t(), octets_of(text), list(map(whole, path))
+    octets, length, text, places = c_void_p(), c_size_t(), octets_of(text), list(map(int_of, path))
     if any(place not in range(len(text)) for place in places):
         return None
     status = library.spki_string(text, len(text), (c_size_t * len(places))(*places), len(places), byref(octets), byref(length))
@@ -283,12 +283,12 @@ def canonical(text: bytes) -> bytes:
 
 
 def advanced(text: bytes) -> bytes:
-    """The same in advanced form, on one line, with a line feed at its end."""
+    """The advanced form of a text, which `canonical` would accept, on one line, with a line feed at its end."""
     return _converted(of.ADVANCED, octets_of(text))
 
 
 def transport(text: bytes) -> bytes:
-    """The same in the transport form, on one line, with a line feed at its end."""
+    """The transport form of a text, which `canonical` would accept, on one line, with a line feed at its end."""
     return _converted(of.TRANSPORT, octets_of(text))
 
 
@@ -342,7 +342,7 @@ def _take_room() -> _Room:
 
 
 def _take_lines() -> _Lines:
-    """Likewise memory for an answer within the usual limit, from `_spare_lines`."""
+    """Memory for an answer within the usual limit, which no other call has. The caller appends it to `_spare_lines` afterwards."""
     try:
         return _spare_lines.pop()
     except IndexError:

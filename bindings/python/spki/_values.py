@@ -74,7 +74,7 @@ class Limits:
         for field in fields(self):
             mosts = {"octets": of.MOST_OCTETS, "nodes": of.MOST_NODES, "work": of.MOST_WORK, "answer": of.MOST_ANSWER}
             most = mosts.get(field.name, of.HIGHEST)
-            if not 0 <= whole(getattr(self, field.name)) <= most:
+            if not 0 <= int_of(getattr(self, field.name)) <= most:
                 raise ValueError(f"the limit `{field.name}` is a number from 0 to {most:,}")
 
     @classmethod
@@ -331,7 +331,7 @@ def octets_of(text: bytes) -> bytes:
     return text if type(text) is bytes else memoryview(text).tobytes()
 
 
-def whole(number: int) -> int:
+def int_of(number: int) -> int:
     """A number as an `int`. Raises `TypeError` for other types and for `bool`. ctypes would cut one that is too large, so callers test its range."""
     if not isinstance(number, int) or isinstance(number, bool):
         raise TypeError(f"this is an int, and not {type(number).__name__}")

@@ -49,6 +49,7 @@ class Memory:
         self.young: set[bytes] = set()
 
     def take(self, key: bytes, nonce: str, now: int, seconds: int) -> None:
+        """Keeps a nonce, as `Nonces` says."""
         name = hashlib.sha256(key + b"\0" + nonce.encode()).digest()[:16]
         with self.lock:
             if now - self.turned >= seconds:
