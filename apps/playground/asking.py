@@ -29,7 +29,7 @@ def labels_of(engine, given):
 
 
 def question(engine, sent):
-    """A question in boxes."""
+    """Yields the answer to a question in boxes."""
     given, labels = Given(engine, sent), labels_of(engine, sent)
     yield {"labelFaults": labels.faults}
     try:
@@ -43,7 +43,7 @@ def question(engine, sent):
 
 
 def case(engine, sent):
-    """A whole case in one box."""
+    """Yields the answer to a whole case in one box."""
     given, labels = GivenCase(engine, sent), labels_of(engine, sent)
     yield {"labelFaults": labels.faults}
     try:
@@ -53,7 +53,7 @@ def case(engine, sent):
 
 
 def explained(given, labels):
-    """The decision, then the explanation and the picture, then the same with what right remains."""
+    """Yields the decision, then the reasons and the picture, then both again with the rights that remain."""
     line = given.check()
     yield {"kind": "yes" if line.startswith("yes") else "no", "line": line}
     acl, sequence, key, request, at = given.values()
@@ -100,7 +100,7 @@ def five_of(line):
 
 
 def times(engine, sent):
-    """The spans of time, each with its answer."""
+    """Yields the spans of time, each with its answer."""
     given = Given(engine, sent)
     try:
         acl, sequence, *_ = given.values()
@@ -110,7 +110,7 @@ def times(engine, sent):
 
 
 def tags(engine, sent):
-    """Two tags and a request: which of them contains it, and their intersection."""
+    """Yields which of two tags contains a request, and then their intersection."""
     words = tuple(it.encode(errors="replace") for it in sent.get("request") or [] if isinstance(it, str))
     octets = {name: text(sent, name).encode(errors="replace") for name in ("first", "second")}
     done = {name: containment(engine, octets[name], words) for name in octets}
@@ -155,7 +155,7 @@ def intersection(engine, octets, words):
 
 
 def forms(engine, sent):
-    """The three forms of a value."""
+    """Yields the three forms of a value, one by one."""
     octets = text(sent, "text").encode(errors="replace")
     try:
         for name in ("canonical", "advanced", "transport"):

@@ -45,7 +45,7 @@ class Labels:
                 self.learn_comment(part)
 
     def learn_comment(self, part):
-        """A comment of an entry or a certificate is a label of its subject."""
+        """Takes the comment of an entry or a certificate as a label of its subject."""
         comment = field(part, b"comment")
         subject = part[1] if part[0] == b"entry" else (field(part, b"subject") or [None, None])[1]
         if comment and len(comment) == 2 and isinstance(comment[1], bytes) and isinstance(subject, list):

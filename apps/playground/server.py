@@ -165,4 +165,4 @@ class Server(http.server.ThreadingHTTPServer):
             self.room.release()
 
     def handle_error(self, request, client_address):
-        """A connection that breaks is no news."""
+        """Prints nothing of a connection that breaks."""

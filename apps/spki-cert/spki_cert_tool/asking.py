@@ -83,7 +83,7 @@ class Answer:
         return furthest(self.reasons)
 
     def left(self, entry: int) -> Value:
-        """What is left of an entry at the end of the chain."""
+        """The right `(five ..)` that is left of an entry, by its number, at the end of the chain."""
         return Parser(self.reduced[entry - 1].split(" ", 2)[2].encode()).whole().value
 
 
@@ -93,7 +93,7 @@ def furthest(reasons: list[Reason]) -> Reason | None:
 
 
 def guard_of(asked: Asked) -> Guard:
-    """The guard of the access list, by the module `spki` and its library."""
+    """The guard of the access list, by the module `spki` and its library. Raises Refused."""
     try:
         import spki
     except (ImportError, OSError) as why:
@@ -106,7 +106,7 @@ def guard_of(asked: Asked) -> Guard:
 
 
 def answer_of(guard: Guard, asked: Asked, sequence: Value) -> Answer:
-    """The decision about a sequence, as a service would decide."""
+    """The decision about a sequence, as a service would decide. Raises Refused."""
     import spki
     key = spki.ProvenKey.assume(canonical(asked.key))
     question: Question = spki.Question(canonical(sequence), key, text=canonical(asked.request), moment=canonical(asked.moment))
@@ -187,7 +187,7 @@ class Words:
         self.asker = self.labels.of(asked.key)
 
     def lines(self) -> Iterator[str]:
-        """All that is said."""
+        """The lines that say the answer: the decision, the chain, and what grants or stops the request."""
         chosen = self.answer.chosen
         wants = f"{self.asker} requests {on_one_line(self.asked.request)} at {self.asked.moment.decode()}"
         yield f"{'yes' if self.answer.entry is not None else 'no'}: {wants}"

@@ -131,6 +131,7 @@ def read_subject(node: Node) -> bool:
 
 
 def read_date(node: Node) -> None:
+    """Reads a date. Whether the calendar has it is not tested."""
     if not node.is_plain() or not MOMENT.fullmatch(node.body or b""):
         raise Wrong("BadDate", node.begin, 'a date is a string YYYY-MM-DD_HH:MM:SS in quotes, in UTC')
 
@@ -226,6 +227,7 @@ def read_certificate(node: Node) -> None:
 
 
 def read_digest_of_row(node: Node) -> None:
+    """Reads the hash in a row, which must be by SHA-256."""
     if read_hash(node) != b"sha256":
         raise Wrong("HashAlg", node.begin, "the hash of a row is by sha256")
 

@@ -1,4 +1,4 @@
-"""The heartbeat, at whichever of several servers takes it."""
+"""The heartbeat: increases a number in the store each second, at whichever of several servers takes that."""
 from __future__ import annotations
 
 from concurrent.futures import Future, ThreadPoolExecutor, wait

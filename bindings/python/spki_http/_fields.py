@@ -77,7 +77,7 @@ class Parser:
             raise Refused("malformed")
 
     def take(self, pattern: re.Pattern[str]) -> re.Match[str]:
-        """Reads what matches a pattern at the begin of the rest."""
+        """Reads what matches a pattern at the beginning of the rest."""
         found = pattern.match(self.text, self.at)
         if not found:
             raise Refused("malformed")
@@ -85,6 +85,7 @@ class Parser:
         return found
 
     def expect_end(self) -> None:
+        """Raises `Refused` if something follows, such as a second signature."""
         if self.at != len(self.text):
             raise Refused("two-signatures" if MORE.match(self.text, self.at) else "malformed")
 

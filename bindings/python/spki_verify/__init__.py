@@ -104,7 +104,7 @@ def number(value: int) -> bytes:
 
 
 def _is_of_large_order(q: bytes) -> bool:
-    """Whether octets are a point of Ed25519 whose order is not small, and whose coordinate y is below the prime, so that it has one text only."""
+    """Whether the coordinate y in a text of Ed25519 rules out a small order and a second text of the point. That it is a point is not tested."""
     y = int.from_bytes(q, "little") % 2**255
     return len(q) == HALF and 2**192 <= y < P_25519 - 1 and y not in EIGHTHS
 
@@ -124,7 +124,7 @@ def _rsa(modulus: bytes, exponent: bytes) -> RSAPublicKey | None:
 
 
 def _is_signed(public: Public, message: bytes, value: bytes) -> bool:
-    """True if a value is a signature by a public key. Otherwise False, or `InvalidSignature` of `cryptography`."""
+    """True if a value is a signature by a public key. Otherwise False or an exception, such as `InvalidSignature`."""
     if isinstance(public, Ed25519PublicKey):
         found = _strings(value, EDDSA)
         if [len(it) for it in found] != [HALF, HALF] or int.from_bytes(found[1], "little") >= ORDER_25519:
