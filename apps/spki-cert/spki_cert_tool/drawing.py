@@ -154,9 +154,9 @@ def box(x: float, y: float, width: float, height: float, lines: list[str], kind:
         yield f'<text{of_class} x="{x + width / 2:g}" y="{top + 18 * place:g}">{escape(line)}</text>'
 
 
-def line_of_text(x: float | str, y: float, text: str, of_class: str = "small left") -> Iterator[str]:
-    """A line of text as SVG, in a class of the style."""
-    yield f'<text class="{of_class}" x="{x}" y="{y}">{escape(text)}</text>'
+def text(x: float | str, y: float, line: str, of_class: str = "small left") -> Iterator[str]:
+    """A line of text as SVG, in a class of STYLE."""
+    yield f'<text class="{of_class}" x="{x}" y="{y}">{escape(line)}</text>'
 
 
 def page(width: float, height: float, title: str, *parts: Iterable[str]) -> Iterator[str]:
@@ -187,7 +187,7 @@ def svg_of_drawing(drawing: Drawing, title: str, width: float = 620) -> Iterator
         if is_end:
             parts.append(f'<path class="line {arrow.colour}" marker-end="url(#end)" d="M{x + 210} {y} L{x + 210} {top - 2}"/>')
             for place, line in enumerate(arrow.lines):
-                parts += line_of_text(x + 224, y + 24 + 16 * place, line, f"small left {arrow.colour}")
+                parts += text(x + 224, y + 24 + 16 * place, line, f"small left {arrow.colour}")
         parts += box(x, top, 420, 22 + 18 * len(shape.lines), shape.lines, KINDS.get(shape.colour, "box"))
         y, last = top + 22 + 18 * len(shape.lines), node
     return page(width, y + 20, title, parts)
