@@ -13,24 +13,25 @@ export function bound(octets) {
 /** Returns a function that asks: it sends what `collect` returns as a question of a kind, and calls `show` with the answer. `typed` returns how
   * often the texts were changed so far. */
 export function asker(kind, collect, show, typed) {
+  // (the controller of the question that was sent last, until its answer comes)
   let underWay = null;
-  let isWanted = false;
+  let isNextWaiting = false;
 
   async function send() {
     const count = typed();
-    const stops = new AbortController();
-    isWanted = false;
-    underWay = stops;
+    const controller = new AbortController();
+    isNextWaiting = false;
+    underWay = controller;
     const sent = performance.now();
-    const answer = await answerTo(kind, JSON.stringify({ ...collect(), page: PAGE }), stops.signal);
-    if (underWay === stops) {
+    const answer = await answerTo(kind, JSON.stringify({ ...collect(), page: PAGE }), controller.signal);
+    if (underWay === controller) {
       underWay = null;
     }
     if (count === typed() && answer) {
       show(answer);
       performance.measure(`answer ${kind}`, { start: sent });
     }
-    if (isWanted && !underWay) {
+    if (isNextWaiting && !underWay) {
       send();
     }
   }
@@ -38,10 +39,10 @@ export function asker(kind, collect, show, typed) {
   return () => {
     if (!underWay) {
       send();
-    } else if (!isWanted) {
-      isWanted = true;
+    } else if (!isNextWaiting) {
+      isNextWaiting = true;
       const before = underWay;
-      setTimeout(() => isWanted && underWay === before && (before.abort(), send()), PATIENCE);
+      setTimeout(() => isNextWaiting && underWay === before && (before.abort(), send()), PATIENCE);
     }
   };
 }

@@ -203,7 +203,7 @@ def fault_of_signature(signed: Signed, keys: Keys) -> str | None:
 
 @dataclass
 class Steps:
-    """How many certificates a search for chains may still put behind others. One that leads to a name takes a step for each of its strings."""
+    """How many steps a search for chains may still take: one for each certificate that it puts behind others, and one for each string of a name."""
 
     most: ClassVar[int] = 20_000
     left: int = most

@@ -65,7 +65,7 @@ class Labels:
 
 
 def row_of_terms(kind: str, number: int | None, terms: Terms, moment: bytes, labels: Labels) -> Row:
-    """What an entry or a certificate says, as a row."""
+    """What an entry or a certificate says, as a row. `kind` is `entry` or `certificate`."""
     return {"kind": kind, "number": number, "issuer": labels.of(terms.issuer),
             "name": terms.name.decode(errors="replace") if terms.name is not None else None,
             "subject": labels.of_subject(terms.subject), "tag": on_one_line(terms.tag) if terms.tag is not None else None,
