@@ -277,7 +277,7 @@ class Parser:
         return octets, body.end() + 1
 
     def unquoted(self, begin: int, at: int) -> bytes:
-        """The octets of the quoted string whose mark is before an offset. Raises Wrong if an escape is wrong or cut off."""
+        """The octets of the quoted string behind its mark. It begins at `begin`. Raises Wrong if an escape is wrong or cut off."""
         pieces = []
         while found := PIECE.match(self.text, at):
             plain, itself, letter, octal, hexadecimal = found.groups(b"")

@@ -47,8 +47,8 @@ def signed_sequence(certificate: Value, signer: Signer, chain: Value | None) -> 
 
 
 def sequence_with(chain: Value | None, key: Value, certificate: Value, value: Value) -> Value:
-    """The sequence of a chain and a certificate with a signature, whose value is given, by the key. If the certificate names the key by its hash, the
-    key is in the sequence."""
+    """The sequence of a chain and a certificate with a signature by the key. `value` is that of the signature. The key is in it if the certificate
+    names the key by its hash."""
     before = members(chain) if chain is not None else []
     shown = [] if principal_of(key) == key or key in before else [key]
     return [b"sequence", *before, *shown, certificate, [b"signature", hash_of(certificate), principal_of(key), value]]

@@ -301,7 +301,7 @@ def places_of(wrong: Wrong) -> list[Place]:
 
 
 def printable(octet: int) -> str:
-    """An octet as it is shown: white space as one space, so that columns stay."""
+    """An octet as it is shown: white space as a space, and what is not printable as `\\x..`."""
     return chr(octet) if 32 <= octet < 127 else " " if octet in b"\t\n\r" else f"\\x{octet:02x}"
 
 
