@@ -206,9 +206,9 @@ def filled(store, count, room):
         file.write(b"(3:acl")
         file.writelines(entries(count))
         file.write(b")")
-    from spki_store_tool.transfer import imported
+    from spki_store_tool.transfer import import_list
     begun = time.monotonic()
-    imported(store, path, sys.stderr.isatty())
+    import_list(store, path, sys.stderr.isatty())
     took = time.monotonic() - begun
     store.connection.execute("VACUUM ANALYZE")
     (octets,), = store.rows("SELECT sum(pg_total_relation_size(oid))::bigint FROM pg_class WHERE relnamespace = %s::regnamespace AND relkind = 'r'",

@@ -13,13 +13,14 @@ import sys
 import webbrowser
 
 from asking import JOBS
-from engine import TOP, engine
+from engine import TOP, choose_engine
 from examples import EXAMPLES, OTHERS
 from server import MOST_BODY, Server
 from workers import SECONDS, Workers
 
 
 def options():
+    """The words of the command line, as argparse has them."""
     parser = argparse.ArgumentParser(prog="apps/playground", description=__doc__.split("\n")[0])
     parser.add_argument("--port", type=int, default=0, help="the port; the default is one that is free")
     parser.add_argument("--no-browser", action="store_true", help="print the address only")
@@ -29,16 +30,17 @@ def options():
 
 
 def start(name):
-    """What the page begins with, as a file: the examples, and the name of what decides."""
+    """The octets of `start.json`, by which the page begins: the examples, and the name of what decides."""
     with open(os.path.join(TOP, "examples", "guide", "granted.sexp"), encoding="utf-8") as file:
         others = {**OTHERS, "case": file.read()}
     return json.dumps({"engine": name, "examples": EXAMPLES, "others": others, "mostOctets": MOST_BODY}).encode()
 
 
 def main():
+    """Serves the page until it is ended. Returns the exit status."""
     given = options()
     try:
-        decides = engine(given.engine)
+        decides = choose_engine(given.engine)
     except LookupError as why:
         print(why, file=sys.stderr)
         return 2

@@ -7,20 +7,21 @@ from chain import chain
 from engine import PARTS, Question, Refused, string
 from given import MOST_LETTERS, Given, GivenCase, text
 from labels import Labels
-from place import places, shown
-from sentences import ONE_STRING, REFUSED, is_one_line, right_left, said, title
+from place import places, shown_places
+from sentences import ONE_STRING, REFUSED, is_one_string_of_words, right_left, sentence_of, title
 from spki_cert_tool.sexp import laid_out, read
 from story import Story, reasons_of
 
 MOST_REASONS, MOST_LEFT = 100, 20
 
 
-def refused(given, line):
-    """The answer where a text is refused."""
+def shown_refusal(given, line):
+    """The part of an answer that shows a refusal, by its line."""
     return {"kind": "refused", "line": line, "shown": given.shown(line), "title": REFUSED.get(line, ""), "faults": given.fault(line)}
 
 
 def labels_of(engine, given):
+    """The labels that the page sent."""
     return Labels(engine, text(given, "labels"))
 
 
@@ -28,7 +29,7 @@ def labels_of(engine, given):
 
 
 def question(engine, sent):
-    """A question in boxes."""
+    """Yields the answer to a question in boxes."""
     given, labels = Given(engine, sent), labels_of(engine, sent)
     yield {"labelFaults": labels.faults}
     try:
@@ -38,21 +39,21 @@ def question(engine, sent):
         if sent.get("withCase") is True:
             yield {"case": laid_out(read(given.case()))}
     except Refused as why:
-        yield refused(given, why.line)
+        yield shown_refusal(given, why.line)
 
 
 def case(engine, sent):
-    """A whole case in one box."""
+    """Yields the answer to a whole case in one box."""
     given, labels = GivenCase(engine, sent), labels_of(engine, sent)
     yield {"labelFaults": labels.faults}
     try:
         yield from explained(given, labels)
     except Refused as why:
-        yield refused(given, why.line)
+        yield shown_refusal(given, why.line)
 
 
 def explained(given, labels):
-    """The decision, then the explanation and the picture, then the same with what right remains."""
+    """Yields the decision, then the reasons and the picture, then both again with the rights that remain."""
     line = given.check()
     yield {"kind": "yes" if line.startswith("yes") else "no", "line": line}
     acl, sequence, key, request, at = given.values()
@@ -73,13 +74,14 @@ def explained(given, labels):
 
 def shown_reasons(story, reasons, line):
     """The sentences, the ones that matter first, and the picture of the first."""
-    sentences = [said(story, reason) for reason in reasons[:MOST_REASONS]]
+    sentences = [sentence_of(story, reason) for reason in reasons[:MOST_REASONS]]
     return {"reasons": sentences, "more": max(0, len(reasons) - MOST_REASONS), "title": title(sentences, line),
             "chain": chain(story, reasons[0] if reasons else None)}
 
 
 def add_lefts(given, story, reasons, reduced):
-    """Reads the rights that remain, and the one right before the item that stops the first chain."""
+    """Adds to the story the rights that remain, from the lines of `reduce` in the order of the entries, and the right before the item that stops the
+    first chain."""
     value = given.engine.value
     for reason in reasons[:MOST_LEFT]:
         if reason.entry and "(five" in reduced[reason.entry - 1]:
@@ -93,12 +95,12 @@ def add_lefts(given, story, reasons, reduced):
 
 
 def five_of(line):
-    """The right in a line of `reduce`."""
+    """The text `(five ..)` of the right in a line of `reduce`."""
     return line.split(" ", 2)[2].encode()
 
 
 def times(engine, sent):
-    """When the answer is yes."""
+    """Yields the spans of time, each with its answer."""
     given = Given(engine, sent)
     try:
         acl, sequence, *_ = given.values()
@@ -108,23 +110,24 @@ def times(engine, sent):
 
 
 def tags(engine, sent):
-    """Two tags and a request: which of them contains it, and their intersection."""
+    """Yields which of two tags contains a request, and then their intersection."""
     words = tuple(it.encode(errors="replace") for it in sent.get("request") or [] if isinstance(it, str))
     octets = {name: text(sent, name).encode(errors="replace") for name in ("first", "second")}
-    done = {name: contains(engine, octets[name], words) for name in octets}
+    done = {name: containment(engine, octets[name], words) for name in octets}
     yield dict(done)
-    if len(words) == 1 and is_one_line(words[0]) and any(it.get("contains") is False for it in done.values()):
+    if len(words) == 1 and is_one_string_of_words(words[0]) and any(it.get("contains") is False for it in done.values()):
         yield {"hint": ONE_STRING}
     if all("line" not in it for it in done.values()):
         yield {"both": intersection(engine, octets, words)}
 
 
-def contains(engine, tag, words):
-    """Whether a tag contains a request, which a guard with one entry says."""
+def containment(engine, tag, words):
+    """What a guard with one entry says of a tag and a request: `contains`, which is a boolean, or the `line` of a refusal and its `places` in the
+    tag, or the `requestLine` of one that is about the request."""
     try:
         acl = b"(3:acl(5:entry" + PARTS["key"] + b"(3:tag" + engine.canonical(tag) + b")))"
     except Refused as why:
-        return {"line": why.line, "places": shown(tag, places(tag, why.line))}
+        return {"line": why.line, "places": shown_places(tag, places(tag, why.line))}
     try:
         answer = engine.lines(Question(acl, PARTS["sequence"], PARTS["key"], words, PARTS["at"]), "check")[0]
         return {"contains": answer != "no"}
@@ -133,31 +136,32 @@ def contains(engine, tag, words):
 
 
 def fault_of_tag(engine, tag, line):
-    """The places of a fault in a tag, which `intersect` names."""
+    """What is shown of a refusal by a guard with one entry: the line and its places in the tag, which `intersect` finds, or `requestLine`."""
     if line.split()[1] != "acl":
         return {"requestLine": line}
     line = line.replace("acl 1 Tag", "tag 1").replace("acl 1", "tag 1")
     front = b"(intersect "
     found = [(at - len(front), why) for at, why in places(front + tag + b" a)", line)]
-    return {"line": line, "places": shown(tag, [(at, why) for at, why in found if 0 <= at <= len(tag)])}
+    return {"line": line, "places": shown_places(tag, [(at, why) for at, why in found if 0 <= at <= len(tag)])}
 
 
 def intersection(engine, octets, words):
+    """The text of the intersection of two tags, and what `containment` says of it; or the line of a refusal."""
     try:
         both = engine.command("intersect", b"(9:intersect" + b"".join(map(engine.canonical, octets.values())) + b")")
-        return {"text": both.decode()[:MOST_LETTERS], "isWhole": len(both) <= MOST_LETTERS, **contains(engine, both, words)}
+        return {"text": both.decode()[:MOST_LETTERS], "isWhole": len(both) <= MOST_LETTERS, **containment(engine, both, words)}
     except Refused as why:
         return {"line": why.line}
 
 
 def forms(engine, sent):
-    """The three forms of a value."""
+    """Yields the three forms of a value, one by one."""
     octets = text(sent, "text").encode(errors="replace")
     try:
         for name in ("canonical", "advanced", "transport"):
             yield {name: printable(engine.command(name, octets))}
     except Refused as why:
-        yield {"line": why.line, "places": shown(octets, places(octets, why.line))}
+        yield {"line": why.line, "places": shown_places(octets, places(octets, why.line))}
 
 
 def printable(octets):

@@ -10,16 +10,18 @@ SHORT = {
     "NoDelegation": "the right must not be passed on", "NoValidity": "no moment is left", "NoTag": "no request is left",
     "NotTheKey": "the right ends at another key", "TagLacks": "the right does not contain the request",
     "WindowLacks": "the moment is not in the validity"}
+# The causes for which two neighbours in the chain do not join.
 APART = ("NotIssuer", "NotTheName", "NotTheKey")
 MOST_STEPS = 60
 
 
 def arrow(state, *lines, whole=""):
+    """The step of an arrow, with the lines that are not empty beside it. Its state is a class of the page, and `whole` its text in full."""
     return {"kind": "arrow", "state": state, "lines": [line for line in lines if line], "whole": whole}
 
 
 def terms(name, value):
-    """What an entry or a certificate gives, by lines."""
+    """The lines beside the arrow of an entry or a certificate: its name, tag, delegation and validity, or None for what it does not say."""
     passes = "may be passed on" if field(value, b"propagate") else None
     return [name, tag_of(value), passes, window(value)]
 
@@ -31,24 +33,25 @@ class Chain:
         self.story, self.steps, self.subject = story, [], None
 
     def box(self, shape, label, whole, note="", state="plain"):
+        """Adds a box."""
         self.steps.append({"kind": "box", "shape": shape, "label": label, "note": note, "whole": whole, "state": state})
 
     def person(self, subject, state="plain"):
-        """The box of a subject, if it is not the one that was drawn last."""
+        """Adds the box of a subject, if it is not the last one."""
         named = self.story.labels.of(subject)
         if subject != self.subject:
             self.box("subject", named, on_one_line(subject), state=state)
         self.subject = subject
 
     def begin(self, number):
-        """The access list and one of its entries."""
+        """Adds the access list and one of its entries, by its number."""
         entry = self.story.entries[number - 1]
         self.box("list", "Access list", f"{len(self.story.entries)} entries")
         self.steps.append(arrow("plain", *terms(f"entry {number}", entry), whole=on_one_line(entry)))
         self.person(entry[1])
 
     def follow(self, reason):
-        """The certificates up to the one that stops the chain."""
+        """Adds the certificates up to the one that stops the chain."""
         for number, item in enumerate(self.story.items, 1):
             if item[0] != b"cert" or (reason.item and number > reason.item):
                 continue
@@ -56,7 +59,8 @@ class Chain:
             self.certificate(number, item, reason.word if is_last else None, self.story.left(reason) if is_last else None)
 
     def certificate(self, number, item, word, before):
-        """One certificate: an arrow to its subject, which is red where it stops the chain. Then the right before it may explain that."""
+        """Adds a certificate: an arrow to its subject. If it stops the chain, `word` is the cause, the arrow is red, and `before` is the right before
+        it, or None."""
         issuer = issuer_of(item)
         if word in APART:
             self.steps.append(arrow("gap", word, SHORT[word]))
@@ -73,7 +77,7 @@ class Chain:
         self.person(joined(self.subject or issuer, item) if state == "plain" else subject_of(item), "faint" if word else "plain")
 
     def end(self, reason, left):
-        """The request, and whether what is left contains it."""
+        """Adds the request, and whether what is left contains it. `left` is None if that is not known."""
         story, word = self.story, reason.word
         good = word == "grants"
         if word == "NotTheKey":
@@ -89,7 +93,8 @@ class Chain:
 
 
 def chain(story, reason):
-    """The steps of the chain that a line of `explain` is about, and how many certificates are not drawn."""
+    """The steps of the chain that a line of `explain` is about, and how many certificates behind them are not drawn. The reason is None where there
+    are no entries."""
     drawn = Chain(story)
     if reason is None:
         drawn.box("list", "Access list", "0 entries", "no entries", "bad")
@@ -104,7 +109,7 @@ def chain(story, reason):
 
 
 def shortened(steps, behind):
-    """The steps, where the middle of a chain that is very long is left out."""
+    """What `chain` returns for these steps: the middle of a chain of more than MOST_STEPS is left out."""
     if len(steps) > MOST_STEPS:
         half = MOST_STEPS // 2
         left_out = arrow("faint", f"{(len(steps) - MOST_STEPS) // 2} certificates are not drawn")

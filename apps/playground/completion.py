@@ -19,7 +19,7 @@ class Completed:
         self.text, self.added = text, []
 
     def add(self, at, signature):
-        """Writes a signature at an offset of the text as it was typed. Offsets are given in their order."""
+        """Writes a signature at an offset of the text as it was typed. Offsets must be given from the least to the greatest."""
         at += sum(length for _, length in self.added)
         self.text = self.text[:at] + signature + self.text[at:]
         self.added.append((at, len(signature)))
@@ -35,6 +35,7 @@ class Completed:
 def completed(engine, text):
     """A sequence with a signature behind each certificate. A text that cannot be read is left as it is."""
     done = Completed(text)
+    # (an operation `(do ..)` may stand between a certificate and its signature)
     items = [item for item in items_of(text) or () if item.head != b"do"]
     for item, behind in zip(items, [*items[1:], None]):
         if item.head == b"cert" and (behind is None or behind.head != b"signature"):

@@ -75,7 +75,7 @@ def request_text(words):
 
 
 class Engine:
-    """What both engines have: commands on one text, whose answers are kept for the next keystroke."""
+    """What both engines have: commands on one text, and of a text its canonical form and its value, which are kept for the next keystroke."""
 
     def __init__(self):
         self.canonical = functools.lru_cache(KEPT)(lambda text: self.command("canonical", text))
@@ -103,7 +103,7 @@ class ByLibrary(Engine):
         self.spki = spki
         self.call = ctypes.CDLL(os.environ.get("SPKI_LIBRARY") or ctypes.util.find_library("spki_c")).spki_answer
         self.call.argtypes = [ctypes.c_int, ctypes.c_char_p, ctypes.c_size_t, ctypes.c_void_p, ctypes.c_size_t, ctypes.c_void_p]
-        self.guard = functools.lru_cache(2)(self.opened)
+        self.guard = functools.lru_cache(2)(self.open_guard)
 
     def answer(self, name, text):
         """The octets that the program writes for a text."""
@@ -113,36 +113,37 @@ class ByLibrary(Engine):
             self.call(COMMANDS.index(name), text, len(text), room, len(room), ctypes.byref(needed))
         return room.raw[:needed.value]
 
-    def opened(self, acl, is_strict):
+    def open_guard(self, acl, is_strict):
+        """The guard of an access list. Raises the library's `Refused`."""
         return self.spki.Guard(acl, self.spki.Policy.STRICT if is_strict else self.spki.Policy.ALLOW_SHA1,
                                self.spki.Limits(octets=MOST_OCTETS, certificates=MOST_OCTETS, words=MOST_OCTETS, nodes=MOST_NODES))
 
-    def asked(self, question, answer):
-        """What a function answers of the opened question. Raises `Refused`."""
+    def ask(self, question, use):
+        """Opens a question, and returns what the function `use` returns of it. Raises `Refused`."""
         key = self.spki.ProvenKey.assume(question.key)
         parts = self.spki.Question(question.sequence, key, words=question.words, moment=question.at)
         try:
             with self.guard(question.acl, question.is_strict).ask(parts) as asked:
-                return answer(asked)
+                return use(asked)
         except self.spki.Refused as why:
             raise Refused(why.line) from None
 
     def signed(self, question):
         """The signatures on which the decision depends."""
-        return self.asked(question, lambda asked: [Signed(it.key, it.message, it.value) for it in asked.signatures()])
+        return self.ask(question, lambda asked: [Signed(it.key, it.message, it.value) for it in asked.signatures()])
 
     def lines(self, question, command):
         """The lines of `check`, `explain` or `reduce`. Raises `Refused`."""
-        def answer(asked):
+        def mark_and_answer(asked):
             for place in range(len(asked)):
                 if place not in question.refused_signatures:
                     asked.mark(place)
             return getattr(asked, "decide" if command == "check" else command)()
 
-        answered = self.asked(question, answer)
+        answer = self.ask(question, mark_and_answer)
         if command == "check":
-            return [f"yes entry {answered.entry}" if answered else "no"]
-        return str(answered).split("\n")
+            return [f"yes entry {answer.entry}" if answer else "no"]
+        return str(answer).split("\n")
 
 
 class ByProgram(Engine):
@@ -164,7 +165,7 @@ class ByProgram(Engine):
         return done.stdout
 
     def parts(self, question):
-        """The canonical forms of the parts. A fault of the form is named after its part, as a guard names it."""
+        """The canonical forms of the parts. Raises `Refused`. A fault of the form is named after its part, as a guard names it."""
         acl = self.canonical(question.acl)
         texts = (question.sequence, question.key, request_text(question.words), question.at)
         if sum(map(len, texts)) > MOST_OCTETS:
@@ -181,9 +182,10 @@ class ByProgram(Engine):
 
     def listed(self, question):
         """The signatures on which the decision depends: up to the first that is not right. Raises `Refused`."""
-        self.decided(question, ())
+        self.answer_of_case(question, ())
         items, listed = [item for item in self.value(question.sequence)[1:] if item[0] != b"do"], []
         keys = [item for item in items if item[0] == b"public-key"]
+        # (each item with the next one: that of a certificate is its signature)
         for certificate, signature in zip(items, items[1:]):
             if certificate[0] != b"cert":
                 continue
@@ -193,18 +195,19 @@ class ByProgram(Engine):
             listed.append(signed)
         return listed
 
-    def decided(self, question, listed, command="check"):
+    def answer_of_case(self, question, listed, command="check"):
+        """The answer of a command to the case of a question, in which the listed signatures are valid. Raises `Refused`."""
         case = case_text(*self.parts(question), listed, question.is_strict)
         return self.command(command, case).decode()
 
     def lines(self, question, command):
         """The lines of `check`, `explain` or `reduce`. Raises `Refused`."""
         listed = [it for place, it in enumerate(self.signed(question)) if place not in question.refused_signatures]
-        return self.decided(question, listed, command).split("\n")
+        return self.answer_of_case(question, listed, command).split("\n")
 
 
 def signed_by(certificate, signature, keys, is_strict):
-    """The signature of a certificate, if it passes the first three tests: its key is shown, and the digest and the signer are right."""
+    """The signature of a certificate, if its key is shown, and the digest and the signer are right. None otherwise."""
     issuer = next(field[1] for field in certificate[1:] if field[0] == b"issuer")
     key, message = key_of(issuer[1] if issuer[0] == b"name" else issuer, keys, is_strict), canonical(certificate)
     _, (_, algorithm, digest, *_), signer, value = signature
@@ -248,8 +251,8 @@ def program():
     return shutil.which(PROGRAM) or shutil.which("spki") or shutil.which(TRIED)
 
 
-def engine(wanted=None):
-    """The library where it can be loaded, else the program. Raises `LookupError` if neither is there."""
+def choose_engine(wanted):
+    """The engine that is wanted, "library" or "program". For None the library where it can be loaded, else the program. Raises `LookupError`."""
     if wanted != "program":
         try:
             return ByLibrary()

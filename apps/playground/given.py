@@ -3,7 +3,7 @@ import functools
 
 from completion import VALUE, completed
 from engine import Question, case_text, request_text, string
-from place import heads_in, numbered, places, shown
+from place import heads_in, numbered, places, shown_places
 from spki_cert_tool.sexp import canonical, on_one_line, read
 
 BOXES = ("acl", "sequence", "key", "request", "at")
@@ -17,7 +17,7 @@ def text(given, name):
 
 
 class Given:
-    """A question of separate boxes, as octets."""
+    """A question of separate boxes, as octets. Methods that ask the engine raise `Refused`."""
 
     def __init__(self, engine, given):
         self.engine, self.box = engine, {name: text(given, name).encode(errors="replace") for name in ("acl", "sequence", "key", "at")}
@@ -35,13 +35,15 @@ class Given:
         return value(question.acl), value(question.sequence), value(question.key), request, self.box["at"]
 
     def check(self):
+        """The line of the decision."""
         return self.engine.lines(self.question, "check")[0]
 
     def lines(self, command):
+        """The lines of `check`, `explain` or `reduce`."""
         return self.engine.lines(self.question, command)
 
     def cut(self, items):
-        """The lines of `reduce` with these items only."""
+        """The lines of `reduce` if the sequence had these items only."""
         return self.engine.lines(self.question._replace(sequence=canonical([b"sequence", *items])), "reduce")
 
     def signatures(self, labels):
@@ -55,7 +57,7 @@ class Given:
         return listed
 
     def fault(self, line):
-        """The box that a refusal is about, and its places there."""
+        """What is shown at the box that a refusal is about, with its places there, by the name of the box. Empty if it is about no box."""
         word = line.split()[1]
         name = "acl" if word == "form" else word
         if name not in BOXES:
@@ -66,11 +68,11 @@ class Given:
         found = places(octets, line)
         if name == "sequence":
             found = [(self.sequence.typed(at), numbered(why, self.heads)) for at, why in found]
-        return {name: {"line": line, "shown": self.shown(line), "places": shown(self.box[name], found)}}
+        return {name: {"line": line, "shown": self.shown(line), "places": shown_places(self.box[name], found)}}
 
     @functools.cached_property
     def heads(self):
-        """The words that the items of the sequence begin with. One that the page made up is left out by None."""
+        """The words that the items of the sequence begin with. None for one that the page made up."""
         return heads_in(self.question.sequence, [at + 1 for at, _ in self.sequence.added])
 
     def shown(self, line):
@@ -78,7 +80,7 @@ class Given:
         return numbered(line, self.heads)
 
     def fault_of_words(self, name, line):
-        """The same of a box whose text is no S-expression, and is written as one."""
+        """As `fault`, for the box of the request or of the moment, which is no S-expression: its first line is the place."""
         typed = self.box["at"]
         why = f"{'this is no moment' if typed else 'the moment is missing'}; choose a date and a time of day, in UTC"
         if name == "request":
@@ -89,7 +91,7 @@ class Given:
         return {"line": line, "places": [place]}
 
     def case(self):
-        """The same question as one text for the program."""
+        """The question as a case, which is one text for the program."""
         question = self.question
         listed = [it for place, it in enumerate(self.engine.signed(question)) if place not in question.refused_signatures]
         parts = map(self.engine.canonical, (question.acl, question.sequence, question.key))
@@ -97,12 +99,13 @@ class Given:
 
 
 class GivenCase:
-    """A whole case in one box."""
+    """A whole case in one box, with the same methods as `Given`."""
 
     def __init__(self, engine, given):
         self.engine, self.octets = engine, text(given, "text").encode(errors="replace")
 
     def values(self):
+        """The access list, the sequence, the key, the request and the moment."""
         case = self.engine.value(self.octets)
         return case[1], case[3], case[4][1], case[5][1], case[6][1]
 
@@ -126,4 +129,4 @@ class GivenCase:
 
     def fault(self, line):
         found = [(at, numbered(why, self.heads)) for at, why in places(self.octets, line)]
-        return {"case": {"line": line, "shown": self.shown(line), "places": shown(self.octets, found)}}
+        return {"case": {"line": line, "shown": self.shown(line), "places": shown_places(self.octets, found)}}

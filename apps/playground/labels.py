@@ -11,7 +11,7 @@ PLAIN = re.compile(rb"[ -~]{1,40}\Z")
 
 
 class Labels:
-    """The labels of keys and hashes, by their canonical texts."""
+    """Labels of keys and hashes: `of_values` has them by canonical texts, `hashes` the keys by algorithm and digest, `faults` the lines refused."""
 
     def __init__(self, engine, lines):
         self.of_values, self.hashes, self.faults = {}, {}, []
@@ -20,7 +20,7 @@ class Labels:
                 self.add_line(engine, number, line)
 
     def add_line(self, engine, number, line):
-        """Reads a line `LABEL KEY`."""
+        """Reads a line `LABEL KEY`, or adds to `faults` why it cannot be read."""
         found = LINE.fullmatch(line)
         try:
             if not found or not found[1]:
@@ -45,7 +45,7 @@ class Labels:
                 self.learn_comment(part)
 
     def learn_comment(self, part):
-        """A comment of an entry or a certificate is a label of its subject."""
+        """Takes the comment of an entry or a certificate as a label of its subject."""
         comment = field(part, b"comment")
         subject = part[1] if part[0] == b"entry" else (field(part, b"subject") or [None, None])[1]
         if comment and len(comment) == 2 and isinstance(comment[1], bytes) and isinstance(subject, list):
@@ -61,7 +61,7 @@ class Labels:
         if given:
             return given
         if subject[0] == b"name":
-            *names, = (it.decode(errors="replace") for it in subject[2:])
+            names = [it.decode(errors="replace") for it in subject[2:]]
             return f"{' '.join(names)} of {self.of(subject[1])}"
         key = self.key(subject)
         if key is not subject:

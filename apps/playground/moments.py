@@ -11,16 +11,17 @@ MOST_LIMITS = 100
 
 
 def parts_of(date):
-    """The numbers of a date."""
+    """The six numbers of a date, from the year to the second."""
     return tuple(map(int, DATE.match(date).groups()))
 
 
 def date_of(parts):
+    """The date of six numbers."""
     return b"%04d-%02d-%02d_%02d:%02d:%02d" % parts
 
 
 def after(parts):
-    """The next date as a string: there is no calendar, and a minute has a second 60. None after the last one."""
+    """The next date, also as six numbers: there is no calendar, so each month has 31 days and a minute a second 60. None after the last one."""
     for place in reversed(range(len(parts))):
         if parts[place] < LAST[place]:
             return (*parts[:place], parts[place] + 1, *FIRST[place + 1:])
@@ -41,18 +42,21 @@ def limits_of(value):
 
 
 def spans(values, answer):
-    """The times between two changes, in their order: the answer, and the limits at both ends. The later changes of many are left out."""
+    """The spans between two changes of an answer, in their order, each with the answer and the limits at both ends. `answer` returns the answer at
+    a date. Only the first MOST_LIMITS changes are looked at."""
     limits = [limits_of(value) for value in values]
     begins = {moment: ("from", moment) for it in limits for moment in it[b"not-before"]}
     ends = {after(moment): ("after", moment) for it in limits for moment in it[b"not-after"] if after(moment)}
     changes = dict(sorted({**ends, **begins}.items())[:MOST_LIMITS])
-    found = answered(changes, answer)
+    found = spans_begun(changes, answer)
+    # (each span ends where the next one begins, and the last one has no end)
     ended = [{**span, "end": following["begin"]} for span, following in zip(found, found[1:])] + found[-1:]
     return {"spans": ended, "limits": sorted({shown(moment) for _, moment in changes.values()}), "isWhole": len(begins) + len(ends) <= MOST_LIMITS}
 
 
-def answered(changes, answer):
-    """The answers at the first moment of each time. Neighbours with the same answer are one."""
+def spans_begun(changes, answer):
+    """The spans with their answers and where they begin: None for the first. Neighbours with the same answer are one. `changes` has the limits by
+    the moments from which the answer may change."""
     found = []
     for moment, limit in [(FIRST, None), *changes.items()]:
         said = answer(date_of(moment))
@@ -62,6 +66,7 @@ def answered(changes, answer):
 
 
 def shown(parts):
+    """A date as the page shows it."""
     return date_of(parts).decode().replace("_", " ")
 
 

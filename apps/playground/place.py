@@ -36,13 +36,14 @@ def places(text, line):
     return [(inner[min(at, len(inner) - 1)] if inner else at, why) for at, why in places_of(wrong)]
 
 
-def shown(text, found):
-    """Places as a page underlines them: from one character to another, counted as JavaScript counts, with line and column."""
+def shown_places(text, found):
+    """Places for the page, which underlines them. `found` are offsets and remarks, as `places` returns them."""
     return [shown_place(text, at, why) for at, why in found]
 
 
 def heads_in(text, made_up=()):
-    """The words that the items of a sequence, or of a case's sequence, begin with. Of an item at a place that the page made up it is None."""
+    """The words that the items of a sequence, or of a case's sequence, begin with. None for an item that the page made up: `made_up` are their
+    offsets."""
     try:
         node = value_in(text)
     except (Wrong, RecursionError):
@@ -53,7 +54,8 @@ def heads_in(text, made_up=()):
 
 
 def numbered(words, heads):
-    """Words in which the number of an item is that of a certificate among the certificates, or of an item among those that were typed."""
+    """Words in which the number of an item is replaced by that of a certificate among the certificates, or of an item among those that were typed.
+    `heads` are those of `heads_in`."""
     def of_item(found):
         number = int(found[1])
         before = heads[:number]
@@ -68,6 +70,7 @@ def numbered(words, heads):
 
 
 def shown_place(text, at, why):
+    """A place with its remark: begin and end, counted as JavaScript counts, line and column from 1."""
     before = text[:at].decode(errors="ignore")
     word = WORD.match(text[at:at + 200].decode(errors="ignore"))[0]
     begin = units(before)
@@ -76,5 +79,5 @@ def shown_place(text, at, why):
 
 
 def units(text):
-    """The length of a string in JavaScript."""
+    """The length of a string as JavaScript counts it: in units of UTF-16."""
     return len(text.encode("utf-16-le", "surrogatepass")) // 2

@@ -32,21 +32,21 @@ REFUSED = {
 ONE_STRING = "The request is one string with spaces in it. If each word is meant as a string, write each on a line of its own; in a case, as (a b c)."
 
 
-def is_one_line(request):
+def is_one_string_of_words(request):
     """Whether a request is one string of several words."""
     return isinstance(request, bytes) and len(request.split()) > 1
 
 
-def said(story, reason):
-    """A line of `explain` in words."""
+def sentence_of(story, reason):
+    """A line of `explain` in words, with the line itself and its numbers."""
     says, hint = WORDS[reason.word]
-    if reason.word == "TagLacks" and is_one_line(story.request):
+    if reason.word == "TagLacks" and is_one_string_of_words(story.request):
         hint = ONE_STRING
     fields = {"entry": reason.entry, "number": story.number(reason.item) if reason.item else 0,
               "client": story.labels.of(story.key), "moment": moment_of(story.at),
               "holder": story.labels.of(story.holder(reason)) if reason.entry else "",
               "issuer": story.labels.of(issuer_of(story.certificate(reason.item))) if reason.item else "",
-              "shown": shown(story), "window": "in another time"}
+              "shown": shown_certificates(story), "window": "in another time"}
     left = story.left(reason)
     if left:
         fields["window"] = window(left) or "at all times"
@@ -54,23 +54,25 @@ def said(story, reason):
             "says": says.format(**fields), "hint": hint}
 
 
-def shown(story):
+def shown_certificates(story):
+    """The certificates that are shown, as the end of a sentence."""
     count = sum(item[0] == b"cert" for item in story.items)
     return "" if not count else " and one certificate" if count == 1 else f" and {count} certificates"
 
 
 def title(reasons, line):
-    """The answer itself, in one sentence, by its line and the sentence that matters most."""
+    """The answer itself, in one sentence: the first of `reasons`, which are those of `sentence_of`, or one by the line of the decision."""
     if line.startswith("yes"):
         return reasons[0]["says"] if reasons else f"Entry {line.rsplit(' ', 1)[1]} grants the request."
     return reasons[0]["says"] if reasons else "The access list is empty."
 
 
 def right_left(story, number, item, left):
-    """A right that remains of an entry, or that it was before an item, in words."""
+    """A right that remains of an entry, in words. If an item is given, the right is that before the item."""
     return {"entry": number, "before": story.number(item) if item else 0, "holder": story.labels.of(field_of(left, b"subject")),
             "tag": tag_of(left), "window": window(left) or "at all times", "passes": any(it == [b"propagate"] for it in left)}
 
 
 def field_of(value, head):
+    """The first value of a field, which must be there."""
     return next(it[1] for it in value[1:] if isinstance(it, list) and it[0] == head)

@@ -24,7 +24,7 @@ HEADERS = {"Content-Security-Policy": POLICY, "X-Content-Type-Options": "nosniff
 
 
 def files():
-    """The files of the page by their names: kinds and octets."""
+    """The files of the page by their names, each as the value of `Content-Type` and its octets."""
     found = {}
     for name in sorted(os.listdir(PAGE)):
         kind = KINDS.get(os.path.splitext(name)[1])
@@ -45,7 +45,7 @@ class Handler(http.server.BaseHTTPRequestHandler):
     wbufsize = -1
 
     def do_GET(self):
-        """A file of the page."""
+        """Answers with a file of the page."""
         name = self.name_asked("index.html")
         if name is None:
             return
@@ -58,7 +58,7 @@ class Handler(http.server.BaseHTTPRequestHandler):
     do_HEAD = do_GET
 
     def do_POST(self):
-        """A job."""
+        """Does a job, and answers with its result in JSON."""
         name = self.name_asked("")
         if name is None:
             return
@@ -74,8 +74,9 @@ class Handler(http.server.BaseHTTPRequestHandler):
             answer = self.server.workers.answer(page if isinstance(page, str) else "", name, sent)
             self.reply(http.HTTPStatus.OK, KINDS[".json"], json.dumps(answer).encode())
 
-    def name_asked(self, none):
-        """What is asked for behind the token. None if the host or the token is wrong, which is answered."""
+    def name_asked(self, default):
+        """The name behind the token in the path, or the default if it is empty. If the host or the token is wrong, refuses the request and returns
+        None."""
         if self.headers.get_all("Host") not in self.server.hosts:
             self.refuse(http.HTTPStatus.MISDIRECTED_REQUEST)
             return None
@@ -83,10 +84,10 @@ class Handler(http.server.BaseHTTPRequestHandler):
         if not slash or not hmac.compare_digest(token.encode(), self.server.token.encode()):
             self.refuse(http.HTTPStatus.FORBIDDEN)
             return None
-        return name or none
+        return name or default
 
     def body(self):
-        """The object that was sent. None if it is too large or no object, which is answered."""
+        """Reads the object that was sent. If it is too large, or no object in JSON, refuses the request and returns None."""
         length = self.headers.get("Content-Length", "")
         if not length.isascii() or not length.isdigit() or "Transfer-Encoding" in self.headers:
             self.refuse(http.HTTPStatus.LENGTH_REQUIRED)
@@ -107,11 +108,12 @@ class Handler(http.server.BaseHTTPRequestHandler):
         return sent
 
     def refuse(self, status):
-        """An answer without contents. The connection ends, because a body may be left in it."""
+        """Answers with a status and its words. The connection ends, because a body may be left in it."""
         self.close_connection = True
         self.reply(status, "text/plain; charset=utf-8", status.phrase.encode())
 
     def reply(self, status, kind, octets):
+        """Answers with octets of a kind, which is the value of `Content-Type`."""
         self.send_response(status)
         for name, value in {**HEADERS, "Content-Type": kind, "Content-Length": str(len(octets))}.items():
             self.send_header(name, value)
@@ -130,7 +132,7 @@ class Handler(http.server.BaseHTTPRequestHandler):
 
 
 class Server(http.server.ThreadingHTTPServer):
-    """The server, with a bound on the connections at once."""
+    """The server, with a bound on the connections at once. `start` are the octets of `start.json`."""
 
     daemon_threads = True
     request_queue_size = 32
@@ -149,16 +151,18 @@ class Server(http.server.ThreadingHTTPServer):
         return f"{self.origins[0]}/{self.token}/"
 
     def process_request(self, request, client_address):
+        """Serves a connection in a thread, or closes it if there are too many."""
         if not self.room.acquire(blocking=False):
             self.shutdown_request(request)
             return
         super().process_request(request, client_address)
 
     def process_request_thread(self, request, client_address):
+        """Serves a connection, and then makes room for another one."""
         try:
             super().process_request_thread(request, client_address)
         finally:
             self.room.release()
 
     def handle_error(self, request, client_address):
-        """A connection that breaks is no news."""
+        """Prints nothing of a connection that breaks."""

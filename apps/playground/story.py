@@ -53,10 +53,11 @@ class Story:
     """The remaining right of an entry by its number, and by a number and an item the right before this item."""
 
     def certificate(self, item):
+        """The item with a number, from 1."""
         return self.items[item - 1]
 
     def number(self, item):
-        """The number of a certificate among the certificates, where keys and signatures are not counted."""
+        """The number of a certificate among the certificates, by its number among all items."""
         return sum(it[0] == b"cert" for it in self.items[:item])
 
     def holder(self, reason):
@@ -70,11 +71,12 @@ class Story:
         return subject
 
     def left(self, reason):
-        """The right where the chain ends, or None if it is not known."""
+        """The right where the chain of a reason ends or stops, or None if it is not known."""
         return self.lefts.get((reason.entry, reason.item))
 
 
 def issuer_of(certificate):
+    """The issuer of a certificate: a principal, or a name that the certificate defines."""
     return field(certificate, b"issuer")[1]
 
 
@@ -87,7 +89,7 @@ def subject_of(certificate):
 
 
 def joined(before, certificate):
-    """The subject after a certificate. After one that defines a name the further names stay."""
+    """The subject of a right after a certificate, by that before it. One that defines a name replaces the first name, and further names stay."""
     subject = subject_of(certificate)
     rest = before[3:] if issuer_of(certificate)[0] == b"name" and before[0] == b"name" else []
     if not rest:
@@ -103,6 +105,7 @@ def window(value):
 
 
 def moment_of(date):
+    """A date as the page shows it."""
     return date.decode(errors="replace").replace("_", " ")
 
 

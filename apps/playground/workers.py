@@ -12,16 +12,17 @@ import threading
 import time
 
 from asking import JOBS
-from engine import Failed, engine
+from engine import Failed, choose_engine
 
 SECONDS, MOST_WORKERS, MEMORY = 2, 6, 2 << 30
 
 
 def serve(pipe, wanted, seconds):
-    """The life of a process: a job comes, and its parts go back."""
+    """Runs in a process until the pipe is closed: takes a job from it, and sends back the parts of its answer, then None. `wanted` is for
+    `choose_engine`, and a job that takes over `seconds` + 3 ends the process."""
     os.setsid()
     signal.signal(signal.SIGINT, signal.SIG_IGN)
-    decides = engine(wanted)
+    decides = choose_engine(wanted)
     if decides.limits_memory:
         resource.setrlimit(resource.RLIMIT_AS, (MEMORY, MEMORY))
     while True:
@@ -52,7 +53,7 @@ class Worker:
         there.close()
 
     def answer(self, name, sent):
-        """The parts of an answer together, and whether the process can be asked again."""
+        """Sends a job, and waits for its answer, or for what there is of it in time. Returns it, and whether the process can be asked again."""
         whole, ends = {}, time.monotonic() + self.seconds
         try:
             self.pipe.send((name, sent))
@@ -67,7 +68,7 @@ class Worker:
         return whole | {"notice": f"{late} took longer than {self.seconds} seconds and was stopped. A shorter text takes less."}, False
 
     def end(self):
-        """Ends the process, and the programs that it runs."""
+        """Ends the process, and the programs that it runs, and waits for that."""
         with contextlib.suppress(ProcessLookupError, PermissionError):
             os.killpg(self.process.pid, signal.SIGKILL)
         self.process.kill()
@@ -83,7 +84,7 @@ class Workers:
         self.busy, self.idle = {}, [Worker(*self.given) for _ in range(spare)]
 
     def answer(self, page, name, sent):
-        """The answer to a job of a page."""
+        """The answer to a job of a page. Ends the job of the same name that the page has under way, and may wait for a free process."""
         with self.lock:
             before = self.busy.pop((page, name), None)
             if before is not None:
@@ -91,17 +92,19 @@ class Workers:
         if not self.room.acquire(timeout=self.seconds):
             return {"notice": "The page is busy with other questions. Change a letter to ask again."}
         try:
-            return self.answered_by(self.taken(page, name), page, name, sent)
+            return self.answer_by(self.take_worker(page, name), page, name, sent)
         finally:
             self.room.release()
 
-    def taken(self, page, name):
+    def take_worker(self, page, name):
+        """A process for a job of a page, which is busy from now on."""
         with self.lock:
             worker = self.idle.pop() if self.idle else Worker(*self.given)
             self.busy[page, name] = worker
         return worker
 
-    def answered_by(self, worker, page, name, sent):
+    def answer_by(self, worker, page, name, sent):
+        """The answer of a process. Then it is idle, or ended if there are enough idle ones, or if it cannot be asked again."""
         whole, is_alive = worker.answer(name, sent)
         with self.lock:
             if self.busy.get((page, name)) is worker:
@@ -122,6 +125,7 @@ class Workers:
                 self.idle.append(Worker(*self.given))
 
     def end(self):
+        """Ends all processes."""
         with self.lock:
             for worker in [*self.idle, *self.busy.values()]:
                 worker.end()

@@ -23,7 +23,7 @@ BUILT = os.path.join(HERE, "..", "..", "crates", "spki_c", "out", "libspki_c.so"
 
 
 def installed():
-    """The library that pkg-config knows."""
+    """The path of the library that pkg-config knows, or "" without pkg-config. The file may be missing."""
     try:
         done = subprocess.run(["pkg-config", "--variable=libdir", "spki"], stdout=subprocess.PIPE, stderr=subprocess.DEVNULL, text=True)
     except FileNotFoundError:
@@ -32,7 +32,7 @@ def installed():
 
 
 def library():
-    """The path of the library that goes into the wheel."""
+    """The path of the library that goes into the wheel. Ends setup if there is none."""
     named = os.environ.get("SPKI_LIBRARY")
     if named and not os.path.isabs(named):
         raise SystemExit(f"SPKI_LIBRARY must be a whole path, and is {named}: pip builds in another folder")

@@ -44,14 +44,17 @@ HIGHEST = spki.Limits.highest()
 
 
 def asked(sequence=SHOWN, key=KEY, words=WORDS, moment=NOW, text=None):
+    """A question, by default one that LIST grants. A `text` replaces the words."""
     return spki.Question(sequence, spki.ProvenKey.assume(key), words=words if text is None else None, text=text, moment=moment)
 
 
 def right(signature):
+    """A verifier for which each signature is valid."""
     return True
 
 
 def wrong(signature):
+    """A verifier for which none is."""
     return False
 
 
@@ -693,13 +696,13 @@ class Libraries(unittest.TestCase):
                 except FileNotFoundError:
                     self.skipTest("there is no cc; Debian: gcc")
                 if is_used:
-                    self.assertIsInstance(_library.checked(path), ctypes.CDLL)
+                    self.assertIsInstance(_library.load(path), ctypes.CDLL)
                     continue
                 with self.assertRaises(ImportError) as met:
-                    _library.checked(path)
+                    _library.load(path)
                 self.assertIn(f"has version {version}, and this module needs 0.2", str(met.exception))
         with self.assertRaises(ImportError):
-            _library.checked(ctypes.util.find_library("m"))
+            _library.load(ctypes.util.find_library("m"))
 
     def test_a_library_that_is_not_there_is_named(self):
         done = subprocess.run([sys.executable, "-c", "import spki"], env={**os.environ, "SPKI_LIBRARY": "/nowhere/libspki_c.so"},

@@ -52,11 +52,12 @@ RESPONSE = """"@status": 200
 
 
 def unescaped(text: str) -> str:
+    r"""A text of a row without its escapes, such as `\n` and `\xff`."""
     return ESCAPE.sub(lambda found: chr(int(found[1], 16)) if found[1] else {"t": "\t", "n": "\n", "r": "\r", "\\": "\\"}[found[2]], text)
 
 
 def rows() -> Iterator[tuple[str, spki_http.Message, int, int | None, str]]:
-    """The rows: the name, the request, the time, how long before the same came, the answer."""
+    """The rows: the name, the request, its time in seconds, how many seconds before it the same request came or None, the answer."""
     with open(ROWS, encoding="ascii") as file:
         blocks = [block.splitlines() for block in file.read().split("\n\n") if block.startswith("row ")]
     for lines in blocks:
@@ -70,12 +71,12 @@ def rows() -> Iterator[tuple[str, spki_http.Message, int, int | None, str]]:
 
 
 def verifier_at(clock: list[int]) -> spki_http.Verifier:
-    """The service of the rows, at a time."""
+    """The service of the rows. `clock` is a list of the one time that it reads, which the test may change."""
     return spki_http.Verifier("example.com", start=1792000000, now=lambda: clock[0])
 
 
 def answer(verifier: spki_http.Verifier, message: spki_http.Message) -> str:
-    """`valid`, or the name of the refusal."""
+    """What the service says of a request: `valid`, or the name of the refusal."""
     try:
         proof = verifier.prove(message.method, message.authority, message.target, iter(message.fields), message.body)
     except spki_http.Refused as why:
@@ -84,6 +85,7 @@ def answer(verifier: spki_http.Verifier, message: spki_http.Message) -> str:
 
 
 def string(octets: bytes) -> bytes:
+    """A string in canonical form."""
     return b"%d:%s" % (len(octets), octets)
 
 
@@ -111,6 +113,7 @@ class Handler(http.server.BaseHTTPRequestHandler):
     verifier: spki_http.Verifier
 
     def answer_it(self) -> None:
+        """Answers a request."""
         body = self.rfile.read(int(self.headers.get("Content-Length", 0)))
         try:
             proof = self.verifier.prove(self.command, self.headers["Host"], self.path, self.headers.items(), body)
@@ -190,7 +193,7 @@ class Clients(unittest.TestCase):
         self.signers = [ed25519_signer(Ed25519PrivateKey.generate()), curve_signer()]
 
     def each(self, send: Callable[[spki_http.Signer, str, bytes | None], bytes]) -> None:
-        """Each signer's requests show its key."""
+        """Sends requests of each signer by `send(signer, method, body)`. It returns the server's answer, which must be the signer's key."""
         for signer in self.signers:
             for method, body in (("GET", None), ("PUT", b"some octets"), ("PUT", b""), ("DELETE", None)):
                 self.assertEqual(send(signer, method, body), signer.key, method)

@@ -18,7 +18,7 @@ from html import escape
 HERE = os.path.dirname(os.path.abspath(__file__))
 sys.path.append(os.path.join(HERE, "..", "..", "examples"))
 from picture import drawn, given_program  # noqa: E402
-from spki_cert_tool.drawing import PICTURE_WIDTH, box, page, said, svg_of_drawing  # noqa: E402
+from spki_cert_tool.drawing import PICTURE_WIDTH, box, page, svg_of_drawing, text  # noqa: E402
 
 CASES = {"granted": "The chain of a request that is granted", "no-delegation": "A chain that stops at a certificate"}
 
@@ -42,8 +42,8 @@ def chain():
         box(335, 180, 190, 50, ["yes entry 1"], "good"),
         box(650, 180, 190, 50, ["request on 2026-03-01", "read /builds/web/index.html"]),
         arrow(745, 140, 745, 178), arrow(650, 205, 527, 205, "is it granted?"),
-        said(20, 30, "kept by the service"), said(335, 30, "keys, which stand for their holders"),
-        said(20, 200, "Each step grants the same right"), said(20, 218, "or a part of it, and never more."))
+        text(20, 30, "kept by the service"), text(335, 30, "keys, which stand for their holders"),
+        text(20, 200, "Each step grants the same right"), text(20, 218, "or a part of it, and never more."))
 
 
 CRATES = {

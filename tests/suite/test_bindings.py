@@ -328,7 +328,7 @@ class InPython(Binding):
             status, said = output_of(sys.executable, *words, seconds=SECONDS, env={**os.environ, "SPKI_LIBRARY": self.shared})
             self.assertEqual(status, 0, said)
             settings = {name: value for name, value in os.environ.items() if name != "SPKI_LIBRARY"}
-            answer = output_of(sys.executable, "-c", "import spki; print(spki.__file__, spki.Guard(b'(acl)').entries, spki._library.found())",
+            answer = output_of(sys.executable, "-c", "import spki; print(spki.__file__, spki.Guard(b'(acl)').entries, spki._library.library_path())",
                                cwd=room, env={**settings, "PYTHONPATH": target})
             folder = os.path.join(target, "spki")
             self.assertEqual(answer, (0, f"{folder}/__init__.py 0 {folder}/libspki_c.so\n"))

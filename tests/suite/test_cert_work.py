@@ -147,7 +147,7 @@ class OfCheck(unittest.TestCase):
         checking.remarks_on("/dev/null", NOW)
         for make in CHECKED:
             texts = {parts: Text(make(parts)) for parts in (FEW, FEW * TIMES)}
-            read = checking.of_key_file if make is keys_in_lines else lambda path, octets: checking.of_text(path, octets, NOW)
+            read = checking.remarks_on_key_file if make is keys_in_lines else lambda path, octets: checking.remarks_on_text(path, octets, NOW)
             with self.subTest(make.__name__):
                 self.steps(lambda parts: read("text", texts[parts]) and None)
 

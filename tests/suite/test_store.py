@@ -73,7 +73,7 @@ class OfStore(built.OfLibrary):
         """What a command writes, whose exit status must be this one."""
         out, fault = io.StringIO(), io.StringIO()
         with contextlib.redirect_stdout(out), contextlib.redirect_stderr(fault):
-            status = commands.done(["--database", self.server.address, "--schema", self.schema, *words])
+            status = commands.main(["--database", self.server.address, "--schema", self.schema, *words])
         self.assertEqual(status, wanted, (words, out.getvalue(), fault.getvalue()))
         return out.getvalue() + fault.getvalue()
 
@@ -124,9 +124,9 @@ class Command(OfStore):
         self.does(2, "import", self.file(b"(3:acl" + A + b"(5:entry))"))
         self.does(2, "end", "00")
         self.does(3, "add", os.path.join(self.room, "none"))
-        self.assertEqual(commands.done(["--database", self.server.address, "--schema", 'a"; DROP TABLE x', "log"]), 2)
-        self.assertEqual(commands.done(["--database", self.server.address, "--schema", "none", "log"]), 2)
-        self.assertEqual(commands.done(["--database", "host=/none", "log"]), 3)
+        self.assertEqual(commands.main(["--database", self.server.address, "--schema", 'a"; DROP TABLE x', "log"]), 2)
+        self.assertEqual(commands.main(["--database", self.server.address, "--schema", "none", "log"]), 2)
+        self.assertEqual(commands.main(["--database", "host=/none", "log"]), 3)
         self.assertEqual(self.does(0, "log"), "")
 
     @needs.needs("openssl", "import cryptography")
@@ -153,7 +153,7 @@ class Command(OfStore):
         path, stopping = self.file(b"(3:acl" + b"".join(wanted) + b")"), Stopping(self.server.address, self.schema)
         self.addCleanup(stopping.close)
         with self.assertRaises(ZeroDivisionError):
-            transfer.imported(stopping, path, False)
+            transfer.import_list(stopping, path, False)
         (count,), = self.store.rows("SELECT count(*) FROM {entries}")
         self.assertEqual(count, 2 * transfer.MOST_AT_ONCE)
         self.assertEqual(self.does(0, "import", path), f"entries added: {len(wanted) - count}, and {count} before\n")
@@ -204,8 +204,8 @@ class Stopping(Store):
 
     count = 0
 
-    def copy(self, texts: list[bytes]) -> None:
-        super().copy(texts)
+    def add_many(self, texts: list[bytes]) -> None:
+        super().add_many(texts)
         self.count += 1
         if self.count == 3:
             raise ZeroDivisionError
@@ -294,7 +294,7 @@ class Schema(OfStore):
                      "UPDATE {entries} SET who = ''", "SELECT * FROM {imports}", "SELECT text FROM {changes}"):
             with self.subTest(text), self.assertRaises(psycopg.errors.InsufficientPrivilege):
                 ann.rows(text)
-        carl.copy([A, ZEROS])
+        carl.add_many([A, ZEROS])
         self.assertEqual([(who.rpartition("_")[2], what) for who, what in self.store.rows("SELECT who, what FROM {changes} ORDER BY number")],
                          [("ann", "add"), ("ben", "add"), ("ben", "remove"), ("carl", "remove"), ("carl", "add"), ("carl", "add")])
 

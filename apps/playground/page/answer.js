@@ -11,14 +11,14 @@ const where = (reason) => [reason.entry && `entry ${reason.entry}`, reason.certi
   .filter(Boolean).join(" ");
 const EXPLAINED = "spki explain counts all items: keys, certificates and signatures. It writes: ";
 
-/** Says above an answer, or in its place, what is missing of it. */
+/** Shows above an answer, or in its place, what is missing of it. Without a text it hides that. */
 export function notice(id, text) {
   at(id).hidden = !text;
   say(at(id), text ?? "");
 }
 
 export class Answer {
-  /** `refused` has the places of the signatures that do not count, and `changed` is called when one of them was ticked. */
+  /** `changed` is called when a signature was ticked. `refused` has the places, from 0, of the signatures that do not count. */
   constructor(boxes, changed) {
     this.boxes = boxes;
     this.changed = changed;
@@ -31,6 +31,7 @@ export class Answer {
     new ResizeObserver(() => this.draw()).observe(at("picture"));
   }
 
+  /** Shows an answer to a question or a case, of which parts may be missing. */
   show(answer) {
     renew("question");
     if (!answer.kind) {
@@ -51,7 +52,7 @@ export class Answer {
     say(at("text"), answer.case ?? "");
   }
 
-  /** There is no answer, and why. Nothing of an earlier one is left. */
+  /** Shows that there is no answer, and why. Nothing of an earlier one is left. */
   showNone(why) {
     notice("notice", "");
     this.verdict("none", "No answer", why, "");
@@ -60,7 +61,7 @@ export class Answer {
     CARDS.forEach((id) => at(id).hidden = true);
   }
 
-  /** The answer takes long. */
+  /** Shows that the answer takes long. */
   wait() {
     at("verdict").dataset.kind = "none";
     notice("notice", "");
@@ -69,6 +70,7 @@ export class Answer {
     say(at("line"), "");
   }
 
+  /** Shows the decision: its kind as a word, its title, and the line of `spki`, which is `exact` where the shown one has other numbers. */
   verdict(kind, word, text, line, exact = "") {
     at("verdict").dataset.kind = kind;
     at("line").title = exact;
@@ -78,7 +80,7 @@ export class Answer {
     say(at("spoken"), `${word}. ${text}`);
   }
 
-  /** The title of a refusal: its box, and the remark on its place. */
+  /** The title of a refusal: its box, and the remark on its place. Empty if no box is refused. */
   titleOfFault(answer) {
     const [name, fault] = Object.entries(answer.faults ?? {})[0] ?? [];
     const label = this.boxes[name] ? document.querySelector(`[data-box="${name}"] label`).textContent : "Moment";
@@ -89,10 +91,10 @@ export class Answer {
   showFaults(answer) {
     const faults = answer.faults ?? {};
     for (const name of ["acl", "sequence", "key", "request", "case"]) {
-      this.boxes[name].fault(faults[name] ?? null);
+      this.boxes[name].showFault(faults[name] ?? null);
     }
     const label = answer.labelFaults?.[0];
-    this.boxes.labels.fault(label ? { line: `line ${label.line}: ${label.why}`, places: [] } : null);
+    this.boxes.labels.showFault(label ? { line: `line ${label.line}: ${label.why}`, places: [] } : null);
     at("at").setAttribute("aria-invalid", String(Boolean(faults.at)));
     at("at-fault").replaceChildren(...(faults.at ? [made("li", {}, faults.at.places[0]?.why || "This is no moment.")] : []));
   }
@@ -127,7 +129,7 @@ export class Answer {
     at("signatures").querySelectorAll("input")[focused]?.focus();
   }
 
-  /** A signature with its tick. */
+  /** The line of a signature, by its place from 0, with its tick. */
   tick(signature, place) {
     const tick = made("input", { type: "checkbox" });
     tick.checked = !this.refused.includes(place);
@@ -151,6 +153,7 @@ export class Answer {
     }
   }
 
+  /** Draws the picture of the last chain, for the width that there is. */
   draw() {
     const width = Math.floor(at("picture").clientWidth);
     if (this.chain && width) {

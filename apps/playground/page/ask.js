@@ -10,26 +10,28 @@ export function bound(octets) {
   mostOctets = octets;
 }
 
-/** Sends what `collect` returns, and gives the answer to `show`, for each call of what is returned. `typed` counts the changes of the texts. */
+/** Returns a function that asks: it sends what `collect` returns as a question of a kind, and calls `show` with the answer. `typed` returns how
+  * often the texts were changed so far. */
 export function asker(kind, collect, show, typed) {
+  // (the controller of the question that was sent last, until its answer comes)
   let underWay = null;
-  let isWanted = false;
+  let isNextWaiting = false;
 
   async function send() {
     const count = typed();
-    const stops = new AbortController();
-    isWanted = false;
-    underWay = stops;
+    const controller = new AbortController();
+    isNextWaiting = false;
+    underWay = controller;
     const sent = performance.now();
-    const answer = await answered(kind, JSON.stringify({ ...collect(), page: PAGE }), stops.signal);
-    if (underWay === stops) {
+    const answer = await answerTo(kind, JSON.stringify({ ...collect(), page: PAGE }), controller.signal);
+    if (underWay === controller) {
       underWay = null;
     }
     if (count === typed() && answer) {
       show(answer);
       performance.measure(`answer ${kind}`, { start: sent });
     }
-    if (isWanted && !underWay) {
+    if (isNextWaiting && !underWay) {
       send();
     }
   }
@@ -37,16 +39,16 @@ export function asker(kind, collect, show, typed) {
   return () => {
     if (!underWay) {
       send();
-    } else if (!isWanted) {
-      isWanted = true;
+    } else if (!isNextWaiting) {
+      isNextWaiting = true;
       const before = underWay;
-      setTimeout(() => isWanted && underWay === before && (before.abort(), send()), PATIENCE);
+      setTimeout(() => isNextWaiting && underWay === before && (before.abort(), send()), PATIENCE);
     }
   };
 }
 
-/** The answer of the server, or null if another question replaced this one. Without an answer, `notice` says why. */
-async function answered(kind, body, signal) {
+/** The answer of the server, or null if `signal` stopped the question. If the server gives none, an answer whose `notice` says why. */
+async function answerTo(kind, body, signal) {
   const octets = new TextEncoder().encode(body);
   if (octets.length > mostOctets) {
     const [sent, most] = [octets.length, mostOctets].map((it) => it.toLocaleString("en"));

@@ -15,7 +15,7 @@ export class Box {
       this.reflect();
       changed();
     });
-    this.fault(null);
+    this.showFault(null);
   }
 
   get value() {
@@ -24,11 +24,11 @@ export class Box {
 
   set value(text) {
     this.text.value = text;
-    this.fault(null);
+    this.showFault(null);
   }
 
-  /** Shows a refusal: its line, and the places with their remarks. */
-  fault(fault) {
+  /** Shows a refusal: its line, and its places with their remarks. For null it shows none. */
+  showFault(fault) {
     const places = fault?.places ?? [];
     this.reflect(places[0]);
     this.text.setAttribute("aria-invalid", String(Boolean(fault)));
@@ -40,6 +40,7 @@ export class Box {
     this.faults.replaceChildren(...(fault ? [this.remark(fault, places[0]), ...places.slice(1, 4).map((it) => this.further(it))] : []));
   }
 
+  /** The first line of a refusal, with a place if it has one. */
   remark(fault, place) {
     const line = made("code", {}, ` ${fault.shown ?? fault.line}`);
     if (!place) {
@@ -48,6 +49,7 @@ export class Box {
     return made("li", {}, this.goTo(place), `: ${place.why}`, line);
   }
 
+  /** A line for a further place of a refusal. */
   further(place) {
     return made("li", { class: "further" }, this.goTo(place), `: ${place.why}`);
   }
@@ -62,7 +64,7 @@ export class Box {
     return button;
   }
 
-  /** Copies the text into the mirror, with a place underlined. */
+  /** Copies the text into the mirror, with a place underlined if one is given. */
   reflect(place) {
     // (a line feed at the end has no height without something behind it)
     const text = this.value, end = "\u200b";

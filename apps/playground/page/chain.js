@@ -5,7 +5,7 @@ const GAP = 10, LINE = 17, PAD = 10, SHAFT = 22, BESIDE = 42, MOST_LINES = 3, MO
 const FONTS = { name: "600 13px", plain: "13px", mono: "12px", why: "650 13px" };
 const measuring = document.createElement("canvas").getContext("2d");
 
-/** Draws steps for a width. */
+/** Draws the steps of a chain as SVG for a width. `summary` is read out in the place of the picture. */
 export function picture(chain, width, summary) {
   const svg = drawn("svg", { width, role: "img", "aria-label": summary });
   let y = 1;
@@ -25,7 +25,7 @@ export function picture(chain, width, summary) {
   return svg;
 }
 
-/** The same in words, for a list. */
+/** The steps of a chain in words, as lines of a list. */
 export function words(chain) {
   return chain.steps.map((step) => {
     const says = step.kind === "box" ? [step.label, step.note].filter(Boolean).join(", ") : step.lines.join(", ");
@@ -33,6 +33,7 @@ export function words(chain) {
   });
 }
 
+/** The box of a step, and its height. */
 function box(step, width) {
   const lines = wrapped(step.label, width - 2 * PAD - 2, step.shape === "request" ? "mono" : "name", 12);
   const notes = step.note ? [step.note] : step.shape === "list" ? [step.whole] : [];
@@ -46,6 +47,7 @@ function box(step, width) {
   return { element: group, height };
 }
 
+/** The arrow of a step with its lines, and its height. One where the chain does not join is no arrow, but a gap with a cross. */
 function arrow(step, width) {
   const stops = step.state !== "plain" && step.state !== "faint";
   const group = drawn("g", { class: step.state }, title(step.whole));
@@ -73,13 +75,14 @@ function arrow(step, width) {
 
 const title = (text) => (text ? drawn("title", {}, text) : "");
 
+/** The width of a text in a font of FONTS. */
 function measure(text, kind) {
   const family = getComputedStyle(document.documentElement).getPropertyValue(kind === "mono" ? "--mono" : "--sans");
   measuring.font = `${FONTS[kind]} ${family}`;
   return measuring.measureText(text).width;
 }
 
-/** A text in lines that fit a width. A line breaks at a space, else anywhere. What is too long ends in dots. */
+/** A text in at most `most` lines that fit a width in a font of FONTS. A line breaks at a space, else anywhere. What is too long ends in dots. */
 function wrapped(text, width, kind, most) {
   const lines = [];
   let rest = text.slice(0, MOST_LETTERS);

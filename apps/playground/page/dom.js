@@ -7,11 +7,12 @@ export function made(name, attributes = {}, ...contents) {
   return filled(document.createElement(name), attributes, contents);
 }
 
-/** The same of SVG. */
+/** An element of SVG, as `made` makes one of HTML. */
 export function drawn(name, attributes = {}, ...contents) {
   return filled(document.createElementNS(SVG, name), attributes, contents);
 }
 
+/** The element, with attributes and with those contents that are not empty. */
 function filled(element, attributes, contents) {
   for (const [name, value] of Object.entries(attributes)) {
     element.setAttribute(name, value);
@@ -20,6 +21,7 @@ function filled(element, attributes, contents) {
   return element;
 }
 
+/** The element with an id. */
 export const at = (id) => document.getElementById(id);
 
 /** Puts a text into an element, if it is another one: so that nothing is read out twice. */

@@ -1,13 +1,13 @@
 // A link that holds the whole question in its fragment, which a browser never sends.
 
-/** The address of this page with the state behind it. */
+/** The address of this page with a state, which is an object, in its fragment. */
 export function linked(state) {
   const octets = new TextEncoder().encode(JSON.stringify(state));
   const letters = btoa(Array.from(octets, (it) => String.fromCharCode(it)).join(""));
   return `${location.origin}${location.pathname}#q=${letters.replaceAll("+", "-").replaceAll("/", "_").replaceAll("=", "")}`;
 }
 
-/** The state in the fragment of this page's address, or null. */
+/** The state in the fragment of this page's address, or null if there is none that can be read. */
 export function inFragment() {
   const found = /^#q=([\w-]+)$/.exec(location.hash);
   try {

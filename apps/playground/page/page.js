@@ -23,18 +23,20 @@ let changes = 0;
 
 const lines = (text) => (text === "" ? [] : text.replace(/\n$/, "").split("\n"));
 
-/** The moment as a case has it. */
+/** The moment as a case has it, or an empty text. */
 function moment() {
   const [date, time = ""] = at("at").value.split("T");
   return date && `${date}_${time.length === 5 ? `${time}:00` : time.slice(0, 8)}`;
 }
 
+/** The question in boxes, as it is sent. */
 function question() {
   return { acl: boxes.acl.value, sequence: boxes.sequence.value, key: boxes.key.value, request: lines(boxes.request.value), at: moment(),
     labels: boxes.labels.value, refused: answer.refused, strict: at("strict").checked, withCase: at("text-card").open };
 }
 
-function shown(got) {
+/** Shows an answer. If it decides the question in boxes, it is then asked at which times the answer is yes. */
+function showAnswer(got) {
   answer.show(got);
   if (got.kind && chosen === "question") {
     askers.times();
@@ -45,14 +47,15 @@ function shown(got) {
 
 const typed = () => changes;
 const askers = {
-  question: asker("question", question, shown, typed),
-  case: asker("case", () => ({ text: boxes.case.value, labels: boxes.labels.value }), shown, typed),
+  question: asker("question", question, showAnswer, typed),
+  case: asker("case", () => ({ text: boxes.case.value, labels: boxes.labels.value }), showAnswer, typed),
   times: asker("times", question, (got) => times.show(got), typed),
   tags: asker("tags", () => ({ first: boxes.first.value, second: boxes.second.value, request: lines(boxes.words.value) }),
     (got) => showTags(boxes, got), typed),
   forms: asker("forms", () => ({ text: boxes.value.value }), (got) => showForms(boxes, got), typed),
 };
 
+/** Something that is asked was changed: what is shown is out of date, and the chosen panel asks again. */
 function changed() {
   changes += 1;
   outdate(() => answer.wait());
@@ -61,6 +64,7 @@ function changed() {
 
 // ---- what is chosen
 
+/** Fills the boxes of a question, from an example or from the address, whose types may be wrong. */
 function load(given) {
   for (const name of ["acl", "sequence", "key", "labels"]) {
     boxes[name].value = String(given[name] ?? "");
@@ -72,6 +76,7 @@ function load(given) {
   at("all").checked = !answer.refused.length;
 }
 
+/** Fills the other boxes, as far as there are texts for them. */
 function loadOthers(given) {
   for (const name of OTHERS) {
     if (typeof given[name] === "string") {
@@ -80,6 +85,7 @@ function loadOthers(given) {
   }
 }
 
+/** Shows a panel, or that of the question if there is none of this name, and asks what is in it. */
 function choose(panel) {
   chosen = PANELS.includes(panel) ? panel : "question";
   for (const name of PANELS) {
@@ -93,6 +99,7 @@ function choose(panel) {
   changed();
 }
 
+/** Chooses another panel by an arrow key, Home or End. */
 function moveTab(event) {
   const place = PANELS.indexOf(chosen);
   const step = { ArrowRight: 1, ArrowLeft: -1, Home: -place, End: PANELS.length - 1 - place }[event.key];

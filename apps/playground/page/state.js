@@ -8,7 +8,7 @@ let waits;
 
 const elements = (name) => document.querySelectorAll(PARTS[name]);
 
-/** Marks all parts as those of an earlier text. `waited` is called when there is no answer yet after a while. */
+/** Marks all parts as those of an earlier text. `waited` is called if there is no verdict yet after WAITING milliseconds. */
 export function outdate(waited) {
   clearTimeout(waits);
   for (const name of Object.keys(PARTS)) {
@@ -22,7 +22,7 @@ export function outdate(waited) {
   }, WAITING);
 }
 
-/** Marks a part as the answer to what is typed. */
+/** Marks a part, by its name in PARTS, as the answer to what is typed. */
 export function renew(name) {
   elements(name).forEach((it) => it.classList.remove("old", "blank"));
 }

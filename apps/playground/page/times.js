@@ -6,7 +6,7 @@ const DAY = 86400, STEPS = 1000;
 // The seconds of the first and the last moment of a calendar.
 const FIRST = Date.UTC(1000, 0, 1) / 1000, LAST = Date.UTC(9999, 11, 31, 23, 59, 59) / 1000;
 
-/** The seconds of `YYYY-MM-DD HH:MM:SS` in UTC. A date that the calendar does not have is a near one. */
+/** The seconds from 1970 to `YYYY-MM-DD HH:MM:SS` in UTC. A date that the calendar does not have is a near one, and another text is NaN. */
 function seconds(moment) {
   const [, ...parts] = /^(\d+)-(\d+)-(\d+).(\d+):(\d+)(?::(\d+))?/.exec(moment) ?? [];
   const date = new Date(0);
@@ -15,7 +15,7 @@ function seconds(moment) {
   return Math.floor(date.getTime() / 1000);
 }
 
-/** The value of a calendar for seconds. */
+/** The value of the input of the moment for seconds from 1970. */
 export function calendar(time) {
   return new Date(time * 1000).toISOString().slice(0, 19);
 }
@@ -35,7 +35,7 @@ export class Times {
     });
   }
 
-  /** Shows when the answer is yes. */
+  /** Shows when the answer is yes: the answer to `times`, or none if it has no spans. */
   show(answer) {
     renew("times");
     at("slider").closest(".times").hidden = !answer.spans;
@@ -61,6 +61,7 @@ export class Times {
     [this.key, this.low, this.high] = [key, within(Math.floor((low - room) / DAY) * DAY), within(Math.ceil((high + room) / DAY) * DAY)];
   }
 
+  /** Draws the spans as parts of a bar, and the dates at its ends. */
   draw() {
     const place = (limit, end) => (limit ? Math.min(100, Math.max(0, ((seconds(limit.moment) - this.low) / (this.high - this.low)) * 100)) : end);
     at("bar").replaceChildren(...this.spans.map((span) => {
@@ -81,7 +82,7 @@ export class Times {
     this.slider.setAttribute("aria-valuetext", this.moment.value.replace("T", " "));
   }
 
-  /** When the answer is yes, in words. */
+  /** When the answer is yes, in words. Empty if no spans are known. */
   words() {
     const granted = this.spans.filter((span) => span.answer !== "no");
     if (!this.spans.length) {

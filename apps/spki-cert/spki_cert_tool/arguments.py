@@ -39,15 +39,17 @@ class Once(argparse._StoreAction):
         setattr(namespace, self.dest, values)
 
 
-class Words(argparse.ArgumentParser):
-    """The words of a command. No option is abbreviated: the beginning of one may be another one."""
+class CommandParser(argparse.ArgumentParser):
+    """Parses the words of a command. Raises Refused for wrong ones. No option is abbreviated: the beginning of one may be another one."""
 
     def __init__(self, **settings: Any) -> None:
+        """Makes `Once` the action of each option that names none."""
         super().__init__(formatter_class=argparse.RawDescriptionHelpFormatter, allow_abbrev=False, **settings)
         for name in (None, "store"):
             self.register("action", name, Once)
 
     def parse_known_args(self, args: Sequence[str] | None = None, namespace: Any = None) -> Any:
+        """As argparse does, but for a word that is not known it says which option or command may be meant."""
         options = [os.fsencode(it[2:]) for each in self._actions for it in each.option_strings]
         commands = [it for each in self._actions if isinstance(each, argparse._SubParsersAction) for it in each.choices]
         for word in itertools.takewhile(lambda it: it != "--", args or []):
@@ -84,7 +86,7 @@ def count_of(text: str) -> int:
     return int(text)
 
 
-def some(text: str) -> str:
+def not_empty(text: str) -> str:
     """A word that is not empty."""
     if not text:
         raise argparse.ArgumentTypeError("this is empty")
@@ -95,12 +97,12 @@ def plain(text: str) -> str:
     """A word that is not empty, and has no line breaks or other controls."""
     if re.search("[\0-\x1f\x7f]", text):
         raise argparse.ArgumentTypeError("this has line breaks or other controls in it")
-    return some(text)
+    return not_empty(text)
 
 
 FLAG: dict[str, Any] = {"action": "store_true"}
-FILE: dict[str, Any] = {"metavar": "FILE", "type": some}
-DATE: dict[str, Any] = {"metavar": "DATE", "type": lambda text: moment_of(some(text))}
+FILE: dict[str, Any] = {"metavar": "FILE", "type": not_empty}
+DATE: dict[str, Any] = {"metavar": "DATE", "type": lambda text: moment_of(not_empty(text))}
 MANY: dict[str, Any] = {"action": "append", "default": []}
 # What argparse is told of each option and word. Where a command has its own, the name of the command is in front.
 OPTIONS: dict[str, dict[str, Any]] = {
@@ -122,16 +124,16 @@ OPTIONS: dict[str, dict[str, Any]] = {
     "--at": {**DATE, "help": "the moment, as 2026-03-01 or 2026-03-01_12:00:00 in UTC; now if it is not given"},
     "--braces": {**FLAG, "help": "write each file on one line in braces instead, as `Authorization: SPKI {..}` has it"},
     "--key": {"metavar": "N", "type": count_of, "dest": "number", "help": "which key of a file of public keys, if it has several"},
-    "--by": {"metavar": "KEY", "required": True, "type": some, "help": "who signs: a private key, or a public key that ssh-agent holds"},
-    "--to": {"metavar": "KEY", "type": some, "help": "the subject: a file with its key, or an S-expression as '(hash sha256 #..#)'"},
+    "--by": {"metavar": "KEY", "required": True, "type": not_empty, "help": "who signs: a private key, or a public key that ssh-agent holds"},
+    "--to": {"metavar": "KEY", "type": not_empty, "help": "the subject: a file with its key, or an S-expression as '(hash sha256 #..#)'"},
     "--named": {"metavar": "NAME", **MANY, "type": plain, "help": "a name of --to, instead of the key itself, or without --to of the issuer"},
     "--name": {"metavar": "NAME", "required": True, "type": plain, "help": "the name that the issuer gives to the subject"},
-    "--tag": {"metavar": "TAG", "type": some, "help": "the requests that are allowed, as '(packages read (* prefix /web/))'"},
+    "--tag": {"metavar": "TAG", "type": not_empty, "help": "the requests that are allowed, as '(packages read (* prefix /web/))'"},
     "--propagate": {**FLAG, "help": "the subject may delegate the right"},
     "--try": {"metavar": "WORD", "nargs": "+", **MANY, "dest": "tries", "help": "a request that the tag is to contain, by its words"},
     "--from": {**DATE, "dest": "begins", "help": "valid from this day or moment on"},
     "--days": {"metavar": "N", "type": count_of, "help": "valid for so many days from now"},
-    "--until": {**DATE, "type": lambda text: moment_of(some(text), DAY_ENDS), "help": "valid until this day or moment, in UTC"},
+    "--until": {**DATE, "type": lambda text: moment_of(not_empty(text), DAY_ENDS), "help": "valid until this day or moment, in UTC"},
     "--comment": {"metavar": "TEXT", "type": plain, "help": "a comment, which grants nothing"},
     f"{NEW_KEY} --comment": {"metavar": "TEXT", "type": plain, "help": "what the key is called; the name of the file if it is not given"},
     "--yes": {**FLAG, "help": "make it although it is probably a mistake"},
@@ -139,7 +141,7 @@ OPTIONS: dict[str, dict[str, Any]] = {
     "--chain": {**FILE, "help": "the sequence by which the issuer has the right: it is verified, and written in front"},
     "--anyway": {**FLAG, "help": "make it although by --chain its issuer cannot give it"},
     "--acl": {**FILE, "help": "the access list to put it in, which is made if it is not there"},
-    "--store": {"metavar": "DATABASE", "type": some, "help": "the store of spki-store to put it in, by settings of libpq as 'dbname=acl'"},
+    "--store": {"metavar": "DATABASE", "type": not_empty, "help": "the store of spki-store to put it in, by settings of libpq as 'dbname=acl'"},
     "--remove": {**FLAG, "help": "remove the entries for --to from the list instead"},
     "ask --acl": {**FILE, "help": "the access list"},
     "ask --key": {**FILE, "help": "the key that requests"},
@@ -215,8 +217,8 @@ the file of a private key, or of the public one of a key that ssh-agent holds.""
 
 
 def parser_of_commands() -> argparse.ArgumentParser:
-    """The words of the command line."""
-    parser = Words(prog="spki-cert", description=DESCRIPTION, epilog=EPILOG)
+    """The parser of the command line, by COMMANDS and OPTIONS."""
+    parser = CommandParser(prog="spki-cert", description=DESCRIPTION, epilog=EPILOG)
     parser.add_argument("--version", action="version", version=f"spki-cert {__version__}", help="write the version")
     parser.set_defaults(name=None, tag=None, propagate=False, tries=[])
     commands = parser.add_subparsers(dest="command", required=True, metavar="COMMAND")
@@ -245,13 +247,13 @@ complete -o default -F _spki_cert spki-cert"""
 
 @functools.cache
 def commands_with_options() -> dict[str, list[str]]:
-    """The commands, and the options of each."""
+    """The options of each command, by the command's name."""
     commands = next(it for it in parser_of_commands()._actions if isinstance(it, argparse._SubParsersAction)).choices
     return {name: [option for it in each._actions for option in it.option_strings] for name, each in commands.items() if name != NEW_KEY}
 
 
 def completion() -> str:
-    """The completion of bash."""
+    """A script of bash, which completes the commands and their options."""
     commands = commands_with_options()
     cases = (f"""            {name}) COMPREPLY=($(compgen -W '{" ".join(options)}' -- "$word")) ;;""" for name, options in commands.items())
     return COMPLETION.format(commands=" ".join(commands), cases="\n".join(cases))

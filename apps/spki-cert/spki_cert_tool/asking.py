@@ -51,7 +51,7 @@ class Asked:
     """A certificate that is not signed yet, in canonical form. It counts as if it were."""
 
     def verify(self, key: bytes, message: bytes, value: bytes) -> bool:
-        """Whether a signature counts."""
+        """Whether a signature counts. The three texts are canonical: the key, the certificate, and the value of the signature."""
         from spki_verify import verify_texts
         if self.accepted is None:
             return message == self.unsigned or verify_texts(key=key, message=message, value=value)
@@ -79,10 +79,11 @@ class Answer:
 
     @property
     def chosen(self) -> Reason | None:
+        """The reason that is said in words, or None if there are no entries."""
         return furthest(self.reasons)
 
     def left(self, entry: int) -> Value:
-        """What is left of an entry at the end of the chain."""
+        """The right `(five ..)` that is left of an entry, by its number, at the end of the chain."""
         return Parser(self.reduced[entry - 1].split(" ", 2)[2].encode()).whole().value
 
 
@@ -92,7 +93,7 @@ def furthest(reasons: list[Reason]) -> Reason | None:
 
 
 def guard_of(asked: Asked) -> Guard:
-    """The guard of the access list, by the module `spki` and its library."""
+    """The guard of the access list, by the module `spki` and its library. Raises Refused."""
     try:
         import spki
     except (ImportError, OSError) as why:
@@ -105,7 +106,7 @@ def guard_of(asked: Asked) -> Guard:
 
 
 def answer_of(guard: Guard, asked: Asked, sequence: Value) -> Answer:
-    """The decision about a sequence, as a service would decide."""
+    """The decision about a sequence, as a service would decide. Raises Refused."""
     import spki
     key = spki.ProvenKey.assume(canonical(asked.key))
     question: Question = spki.Question(canonical(sequence), key, text=canonical(asked.request), moment=canonical(asked.moment))
@@ -119,7 +120,7 @@ def answer_of(guard: Guard, asked: Asked, sequence: Value) -> Answer:
         raise Refused(f"a service would refuse the question: {why.line}") from None
 
 
-def answered(asked: Asked) -> Answer:
+def best_answer(asked: Asked) -> Answer:
     """The answer of the first chain that grants the request; else of the one sequence that is given, or of the chain that goes furthest."""
     with guard_of(asked) as guard:
         given = asked.sequences[0] if len(asked.sequences) == 1 else [b"sequence"]
@@ -137,14 +138,14 @@ def answered(asked: Asked) -> Answer:
 
 
 def rank(answer: Answer) -> tuple[bool, int]:
-    """How far an answer goes: a chain that joins to its end goes furthest."""
+    """A key for `max`: how far the chain of an answer goes. One that joins to its end goes furthest, else one that is stopped by a later item."""
     chosen = answer.chosen
     return (chosen is not None and chosen.word in ("TagLacks", "WindowLacks"), (chosen.item or sys.maxsize) if chosen else 0)
 
 
 def sequences_to(asked: Asked, steps: Steps) -> Iterator[Value]:
-    """The sequences of the chains that lead from an entry to the key, of all certificates at hand: of those whose signatures are valid, and if
-    there is none, of all, so that it can be said what stops them."""
+    """The sequences of the chains that lead from an entry to the key, from the certificates at hand whose signatures are valid. If there is no such
+    chain, one of all certificates, so that it can be said what stops it. Sets `steps.is_cut` if some are left out."""
     keys = Keys([asked.key, *(key for one in asked.sequences for key in keys_in(one)), *asked.labels.keys.by_hash.values()])
     certificates = [it for one in asked.sequences for it in certificates_in(one)]
     valid = [it for it in certificates if asked.accepted is not None or fault_of_signature(it, keys) is None]
@@ -186,7 +187,7 @@ class Words:
         self.asker = self.labels.of(asked.key)
 
     def lines(self) -> Iterator[str]:
-        """All that is said."""
+        """The lines that say the answer: the decision, the chain, and what grants or stops the request."""
         chosen = self.answer.chosen
         wants = f"{self.asker} requests {on_one_line(self.asked.request)} at {self.asked.moment.decode()}"
         yield f"{'yes' if self.answer.entry is not None else 'no'}: {wants}"
@@ -195,14 +196,14 @@ class Words:
             return
         if chosen.entry is not None:
             yield from (f"  {name}: {self.step(terms)}" for name, terms in self.way(chosen, is_whole=True))
-        yield from self.end(chosen)
+        yield from self.lines_of_cause(chosen)
         if self.answer.unused:
             yield f"  of the {self.answer.unused} certificates at hand, no chain leads from an entry to {self.asker}"
         if self.answer.is_cut:
             yield f"  the search for chains ended after {Steps.most:,} steps or {MOST_CHAINS} chains: give only the certificates of the chain"
 
     def way(self, chosen: Reason, is_whole: bool = False) -> list[tuple[str, Terms]]:
-        """The entry and the certificates before the item that stops the chain, each with its name. The whole way has that item too."""
+        """The entry of a reason and the certificates before the item that stops it, each as name and terms. The whole way has that item too."""
         last = (chosen.item or sys.maxsize) - (not is_whole)
         entry = [(f"entry {chosen.entry}", self.entries[chosen.entry - 1])] if chosen.entry else []
         return entry + [(f"item {it.number}", it.terms) for it in self.chain if it.number <= last]
@@ -215,25 +216,27 @@ class Words:
         delegates = ", and may delegate it" if terms.delegates else ""
         return f"{self.labels.of(terms.issuer)} lets {subject} {on_one_line(terms.tag or b'')}{delegates}, {terms.window}"
 
-    def end(self, chosen: Reason) -> Iterator[str]:
-        """What the last word of the library means here."""
+    def lines_of_cause(self, chosen: Reason) -> Iterator[str]:
+        """What the cause in a reason means in these files."""
         if chosen.word == "grants":
             yield f"  so entry {chosen.entry} grants it"
             return
         item = next((it for it in self.chain if it.number == chosen.item), None)
-        said = {"TagLacks": self.tag_lacks, "WindowLacks": self.window_lacks, "NotTheKey": self.not_the_key}.get(chosen.word)
-        if said is not None:
-            yield from (f"  {line} ({chosen.word})" for line in said(chosen))
+        lines_of = {"TagLacks": self.tag_lacks, "WindowLacks": self.window_lacks, "NotTheKey": self.not_the_key}.get(chosen.word)
+        if lines_of is not None:
+            yield from (f"  {line} ({chosen.word})" for line in lines_of(chosen))
         elif item is not None:
-            yield f"  item {item.number}: {self.stop(item, chosen)} ({chosen.word})"
+            yield f"  item {item.number}: {self.why_it_stops(item, chosen)} ({chosen.word})"
 
     def tag_lacks(self, chosen: Reason) -> Iterator[str]:
+        """For each tag of the chain that does not contain the request, why."""
         for name, terms in self.way(chosen):
             why = lacks(terms.tag, self.asked.request) if terms.tag is not None else None
             if why:
                 yield f"the tag of {name} does not contain the request: {why}"
 
     def window_lacks(self, chosen: Reason) -> Iterator[str]:
+        """Each window of the chain that does not contain the moment."""
         for name, terms in self.way(chosen):
             if terms.ends is not None and terms.ends < self.asked.moment:
                 yield f"{name} ended on {terms.ends.decode()}"
@@ -241,6 +244,7 @@ class Words:
                 yield f"{name} begins on {terms.begins.decode()}"
 
     def not_the_key(self, chosen: Reason) -> Iterator[str]:
+        """Who has the right at the end of the chain, instead of the one who asks."""
         holder, names = self.holder(chosen)
         if names:
             defined = {it.terms.name: self.labels.of(it.terms.issuer) for one in self.asked.sequences for it in certificates_in(one) if it.terms.name}
@@ -263,8 +267,8 @@ class Words:
         names = left[::-1]
         return self.labels.of_subject([b"name", principal, *names] if names else principal), names
 
-    def stop(self, item: Signed, chosen: Reason) -> str:
-        """Why a certificate stops the chain."""
+    def why_it_stops(self, item: Signed, chosen: Reason) -> str:
+        """Why a certificate stops the chain, by the cause in a reason."""
         if chosen.word in FAULTS:
             return FAULTS[chosen.word]
         issuer, (holder, names) = self.labels.of(item.terms.issuer), self.holder(chosen)
@@ -291,7 +295,8 @@ def asked_of_case(case: Value, labels: Labels) -> Asked:
 
 
 def what_cannot_be_given(chain: Value, certificate: Value, key: Value, label: str) -> list[str]:
-    """What of a certificate that is to be signed its issuer, who is called so, cannot give, by the chain that leads to the issuer."""
+    """What its issuer cannot give of a certificate that is to be signed, in words. The issuer has `key`, is called `label`, and has the right by a
+    chain, which is a sequence. An empty list if all can be given."""
     found = certificates_in(chain)
     if not found:
         return ["the chain has no certificate"]
@@ -307,11 +312,12 @@ def what_cannot_be_given(chain: Value, certificate: Value, key: Value, label: st
 
 
 def left_of(subject: Value, sequence: Value, certificate: Value, key: Value, labels: Labels) -> tuple[Value, list[str]]:
-    """The tag that is left of a sequence, by a list that gives everything to a subject; or why none is, in the words of `ask`."""
+    """The tag that remains after a sequence whose access list would give everything to a subject, and an empty list. Or an empty string and why none
+    remains, in the words of `ask`. The certificate counts as signed."""
     access_list: Value = [b"acl", [b"entry", subject, [b"propagate"], [b"tag", [b"*"]]]]
     asked = Asked(access_list, key, b"", now(), labels, [sequence], unsigned=canonical(certificate))
     with guard_of(asked) as guard:
         answer = answer_of(guard, asked, sequence)
     if answer.chosen is not None and answer.chosen.word not in JOINED:
-        return b"", [line.strip() for line in Words(asked, answer).end(answer.chosen)]
+        return b"", [line.strip() for line in Words(asked, answer).lines_of_cause(answer.chosen)]
     return only(field_of(answer.left(1), b"tag")) or b"", []

@@ -30,7 +30,7 @@ def field(value: Value, head: bytes) -> Value | None:
 
 
 def only(value: Value | None) -> Value | None:
-    """The one member of a field, or None."""
+    """The first member of a field after its head, or None."""
     return members(value)[0] if value is not None and members(value) else None
 
 
@@ -96,7 +96,7 @@ def terms_of(value: Value) -> Terms:
 
 
 def remarks_on_window(begins: bytes | None, ends: bytes | None, moment: bytes, what: str = "it") -> Iterator[tuple[bytes, str]]:
-    """What is probably a mistake in a window, each with the head of its field."""
+    """What is probably a mistake in a window: for each the head of its field, and a remark. `what` is what has the window."""
     for head, limit in ((b"not-before", begins), (b"not-after", ends)):
         if limit and not is_in_calendar(limit):
             yield head, f"no calendar has the moment {limit.decode()}"
@@ -154,11 +154,12 @@ class Keys:
             self.add(key)
 
     def add(self, key: Value) -> None:
+        """Adds a key, by its hash in each algorithm. The first of equal ones stays."""
         octets = canonical(key)
         for algorithm in ("sha1", "sha256", "sha512"):
-            names = algorithm.encode(), hashlib.new(algorithm, octets).digest()
-            self.by_hash.setdefault(names, key)
-            self.texts.setdefault(names, (octets, hashlib.sha256(octets).digest()))
+            name = algorithm.encode(), hashlib.new(algorithm, octets).digest()
+            self.by_hash.setdefault(name, key)
+            self.texts.setdefault(name, (octets, hashlib.sha256(octets).digest()))
 
     def named(self, principal: Value) -> Value | None:
         """The key that a principal names, or None if it is a hash of no key that is known."""
@@ -170,7 +171,7 @@ class Keys:
         return None
 
     def text_of(self, principal: Value) -> tuple[bytes, bytes]:
-        """The canonical text of the key that a principal names, and its SHA-256 digest; of the principal itself if the key is not known."""
+        """The canonical text of the key that a principal names, and its SHA-256 digest. Both of the principal itself if the key is not known."""
         match principal:
             case [b"hash", bytes() as algorithm, bytes() as digest, *_] if (algorithm, digest) in self.texts:
                 return self.texts[algorithm, digest]
@@ -178,14 +179,14 @@ class Keys:
         return octets, hashlib.sha256(octets).digest()
 
     def are_one(self, one: Value | None, other: Value | None) -> bool:
-        """Whether two principals name one key, as far as it is known."""
+        """Whether two principals name the same key, by the keys that are known."""
         if one is None or other is None:
             return False
         return self.text_of(one)[1] == self.text_of(other)[1]
 
 
 def fault_of_signature(signed: Signed, keys: Keys) -> str | None:
-    """Which of the four tests of a certificate fails, by the word that `explain` has for it, or None."""
+    """The word of `explain` for the first test that a certificate's signature does not pass. None if it is valid."""
     issuer = signed.terms.issuer or b""
     if keys.named(issuer) is None:
         return "KeyNotShown"
@@ -202,7 +203,7 @@ def fault_of_signature(signed: Signed, keys: Keys) -> str | None:
 
 @dataclass
 class Steps:
-    """How many certificates a search for chains may still put behind others. One that leads to a name takes a step for each of its strings."""
+    """How many steps a search for chains may still take: one for each certificate that it puts behind others, and one for each string of a name."""
 
     most: ClassVar[int] = 20_000
     left: int = most
@@ -215,13 +216,14 @@ Holder = tuple[bytes, ...]
 
 
 def holder_of(principal: Value, names: Iterable[Value], keys: Keys) -> Holder:
+    """The holder that a principal and names are."""
     return keys.text_of(principal)[1], *map(canonical, names)
 
 
-def chains(entries: Iterable[Terms], certificates: list[Signed], keys: Keys, holder: Value, steps: Steps, most: int = 16) -> Iterator[list[Signed]]:
-    """The chains of certificates that lead from an entry to the holder of a key, the shortest first. None leads to a holder twice: without
-    what is between, it would give at least as much. The search ends when no steps are left."""
-    wanted, by_issuer = holder_of(holder, [], keys), dict[Holder, list[tuple[Signed, Holder]]]()
+def chains(entries: Iterable[Terms], certificates: list[Signed], keys: Keys, key: Value, steps: Steps, most: int = 16) -> Iterator[list[Signed]]:
+    """The chains of at most `most` certificates that lead from an entry to a key, the shortest first. No chain passes a holder twice: without the
+    certificates in between it would give at least as much. The search ends when no steps are left, and then sets `steps.is_cut`."""
+    wanted, by_issuer = holder_of(key, [], keys), dict[Holder, list[tuple[Signed, Holder]]]()
     for each in certificates:
         terms = each.terms
         begins = holder_of(terms.issuer or b"", [terms.name] if terms.name is not None else [], keys)

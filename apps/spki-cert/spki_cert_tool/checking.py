@@ -50,7 +50,8 @@ def files_below(paths: list[str]) -> Iterator[tuple[str, bool]]:
 
 
 def remarks_on(path: str, moment: bytes, is_given: bool = True) -> tuple[str | None, list[Remark]]:
-    """What a file is, and what is said of it. It is None if it is none that is read: one of a folder, by its name and how it begins."""
+    """What a file is, in words, and the remarks on it. What it is is None for a file of a folder that is not read, by its name and how it begins.
+    `is_given` says that its path was given itself."""
     try:
         octets = octets_of(path)
     except Refused as why:
@@ -59,12 +60,12 @@ def remarks_on(path: str, moment: bytes, is_given: bool = True) -> tuple[str | N
     if not (is_given or suffix in S_EXPRESSIONS + OTHER_KEYS or is_key_file(octets) or not suffix and is_list):
         return None, []
     if is_key_file(octets) or is_private(octets) and not is_text(octets):
-        return of_key_file(path, octets)
-    return of_text(path, octets, moment)
+        return remarks_on_key_file(path, octets)
+    return remarks_on_text(path, octets, moment)
 
 
-def of_key_file(path: str, octets: bytes) -> tuple[str, list[Remark]]:
-    """What a key of OpenSSH or PEM is, or a private key, and what is said of it."""
+def remarks_on_key_file(path: str, octets: bytes) -> tuple[str, list[Remark]]:
+    """What a file is that has keys of OpenSSH or PEM, or a private key, and the remarks on it."""
     found, kind, pieces = list[Remark](), "a file of keys", [octets] if is_private(octets) else pieces_of(octets)
     lines, end = Lines(octets), 0
     for piece in pieces[:MOST_KEYS]:
@@ -84,8 +85,8 @@ def of_key_file(path: str, octets: bytes) -> tuple[str, list[Remark]]:
     return f"{len(pieces)} public keys" if len(pieces) > 1 else kind, found
 
 
-def of_text(path: str, octets: bytes, moment: bytes) -> tuple[str, list[Remark]]:
-    """What an S-expression is, and what is said of it. What is in braces has the place where they begin."""
+def remarks_on_text(path: str, octets: bytes, moment: bytes) -> tuple[str, list[Remark]]:
+    """What an S-expression is, and the remarks on it. A remark on what is in braces has line 1 and column 1."""
     (wrong, text, places), node = read_text(octets)
     if wrong is None and node.head not in (*BY_HEAD, *ALONE):
         wrong = fault_of_tag(node)
@@ -97,7 +98,7 @@ def of_text(path: str, octets: bytes, moment: bytes) -> tuple[str, list[Remark]]
 
 
 def fault_of_tag(node: Node) -> Wrong | None:
-    """The fault of a value that is a tag, or that is headed by a word that is nearly known."""
+    """Why a value is no tag: the fault in it, or a head that is probably misspelled. None if it is one."""
     if node.head is not None and meant(node.head, HEADS):
         return shape(node, f"no kind of text begins with `({node.head.decode(errors='replace')} ..)`{meant(node.head, HEADS)}")
     try:
@@ -108,41 +109,41 @@ def fault_of_tag(node: Node) -> Wrong | None:
 
 
 def tag_of(node: Node) -> Node:
-    """A tag that is given with its field, or alone."""
+    """The tag in `(tag ..)`, or a value that is given without this field."""
     return node.members[1] if node.head == b"tag" and node.members and len(node.members) == 2 else node
 
 
 def probable_mistakes(node: Node, moment: bytes) -> Iterator[tuple[int, str]]:
-    """What is legal and probably a mistake in a value, with its places."""
+    """What is legal and probably a mistake in a value: for each the offset in the text, and a remark. The functions below return the same."""
     kind = BY_HEAD.get(node.head or b"")
     if kind in ("acl", "sequence", "case") or node.head == b"cert":
-        yield from of_parts(node, moment)
+        yield from mistakes_in_parts(node, moment)
     if kind in ("acl", "case"):
-        yield from of_entries(node if kind == "acl" else node.rest[0])
+        yield from needless_entries(node if kind == "acl" else node.rest[0])
     if kind in ("sequence", "case"):
-        yield from of_signatures(node)
+        yield from invalid_signatures(node)
     elif kind == "key":
-        yield from of_key(node)
+        yield from mistakes_in_key(node)
     elif kind is None and node.head not in (*ALONE, b"request"):
         yield from remarks(tag_of(node))
 
 
-def of_parts(node: Node, moment: bytes) -> Iterator[tuple[int, str]]:
+def mistakes_in_parts(node: Node, moment: bytes) -> Iterator[tuple[int, str]]:
     """What is probably a mistake in the entries, certificates, keys and hashes of a value."""
     waiting = deque([node])
     while waiting:
         each = waiting.popleft()
         if each.head in (b"cert", b"entry"):
-            yield from of_terms(each, moment)
+            yield from mistakes_in_terms(each, moment)
         if each.head == b"public-key":
-            yield from of_key(each)
+            yield from mistakes_in_key(each)
         elif each.head == b"hash" and each.members and each.members[1].body == b"sha1":
             yield each.begin, "a hash by sha1 names no key under the strict policy; `spki-cert key --hash` writes one by sha256"
         elif each.head not in (b"tag", b"request", b"comment", b"accepted"):
             waiting += [member for member in each.members or [] if member.members is not None]
 
 
-def of_terms(node: Node, moment: bytes) -> Iterator[tuple[int, str]]:
+def mistakes_in_terms(node: Node, moment: bytes) -> Iterator[tuple[int, str]]:
     """What is probably a mistake in an entry or a certificate."""
     is_certificate = node.head == b"cert"
     terms = terms_of(node.value)
@@ -161,25 +162,26 @@ def of_terms(node: Node, moment: bytes) -> Iterator[tuple[int, str]]:
     yield from ((places[head], f"{why}: {mending}") for head, why in remarks_on_window(terms.begins, terms.ends, moment, what))
 
 
-def of_entries(node: Node) -> Iterator[tuple[int, str]]:
-    """The entries of a list that give nothing that another one does not give. Of those for one subject the first ones are compared."""
+def needless_entries(node: Node) -> Iterator[tuple[int, str]]:
+    """The entries of a list that give nothing that another one does not give. Of those for one subject the first MOST_COMPARED are compared, until
+    the work is MOST_PRODUCTS."""
     entries = [(it, terms_of(it.value)) for it in node.rest if it.head == b"entry"]
     keys, by_subject = Keys(it.principal for _, it in entries), dict[object, list[int]]()
     for number, (_, terms) in enumerate(entries):
         by_subject.setdefault(canonical([keys.text_of(terms.principal)[1], *terms.names]), []).append(number)
-    left, told = MOST_PRODUCTS, set[int]()
+    work_left, told = MOST_PRODUCTS, set[int]()
     for one, other in (pair for same in by_subject.values() for pair in itertools.permutations(same[:MOST_COMPARED], 2)):
         (node, narrow), (its_node, wide) = entries[one], entries[other]
-        left -= (node.end - node.begin) * (its_node.end - its_node.begin)
-        if left < 0:
+        work_left -= (node.end - node.begin) * (its_node.end - its_node.begin)
+        if work_left < 0:
             return
         if one not in told and contains(wide, narrow, keys) and (other < one or not contains(narrow, wide, keys)):
             told.add(one)
             yield node.begin, f"entry {other + 1} gives all of entry {one + 1}: remove entry {one + 1}"
 
 
-def of_key(node: Node) -> Iterator[tuple[int, str]]:
-    """What is probably a mistake with a key: one of a kind that services verify, in another form."""
+def mistakes_in_key(node: Node) -> Iterator[tuple[int, str]]:
+    """What is probably a mistake with a key: a key in a key, or one of a kind that services verify, in another form."""
     inner = node.members[1] if node.members and len(node.members) > 1 else node
     if inner.head == b"public-key":
         yield inner.begin, "this is a key in a key, so no signature by it counts: replace the whole outer `(public-key ..)` by the inner one"
@@ -187,7 +189,7 @@ def of_key(node: Node) -> Iterator[tuple[int, str]]:
         yield inner.begin, "this is no whole key of Ed25519, RSA, ECDSA P-256 or P-384, so no signature by it counts; `spki-cert key FILE` writes one"
 
 
-def of_signatures(node: Node) -> Iterator[tuple[int, str]]:
+def invalid_signatures(node: Node) -> Iterator[tuple[int, str]]:
     """The certificates of a sequence whose signatures are not valid. Keys of kinds that are not known are left out."""
     sequence = node if node.head == b"sequence" else (node.members or [])[3]
     value = sequence.value

@@ -1,4 +1,4 @@
-"""The commands of `spki-cert`, and its exit statuses."""
+"""The commands of `spki-cert`. Each is a function of the words that were given, and returns the exit status."""
 import argparse
 import base64
 import contextlib
@@ -35,6 +35,7 @@ NOT_SHOWN = "only an access list, a certificate, a sequence or a case is shown; 
 
 
 def key(given: argparse.Namespace) -> int:
+    """Writes the SPKI keys of files, or their hashes."""
     keys = [(path, key_at(path, given.number, True)) for path in given.files]
     rows = [{"file": path, "key": on_one_line(it), "hash": on_one_line(hash_of(it)), "algorithm": kind_of(it)} for path, it in keys]
     text = b"".join(text_of(hash_of(it) if given.hash else it) for _, it in keys)
@@ -79,7 +80,7 @@ def sign(given: argparse.Namespace) -> int:
         cannot = what_cannot_be_given(chain, certificate, signer.key, os.path.basename(given.by)) if chain is not None else []
     except Refused as why:
         cannot = list(why.lines)
-    if not all([is_confirmed(given.anyway, "--anyway", cannot), is_confirmed(given.yes, "--yes", warnings)]):
+    if not all([confirm(given.anyway, "--anyway", cannot), confirm(given.yes, "--yes", warnings)]):
         return UNCONFIRMED
     write((given.output, text_of(signed_sequence(certificate, signer, chain))), force=given.force)
     return DONE
@@ -103,16 +104,16 @@ def add(given: argparse.Namespace) -> int:
     before = list_at(given.acl) if is_there else b"(acl)"
     text = list_with(made, before)
     warnings = [*warnings_of(terms_of(made), given.tag, [*map(request_of, given.tries)]), *warnings_of_list(made, before)]
-    if not is_confirmed(given.yes, "--yes", warnings):
+    if not confirm(given.yes, "--yes", warnings):
         return UNCONFIRMED
     if given.store is not None:
-        return stored(text_of(made), given.store)
+        return add_to_store(text_of(made), given.store)
     write((given.acl or given.output, text if given.acl else text_of(made)), force=given.force, edits=is_there)
     return say(*([] if is_there else [f"made {given.acl}"]), "entries added: 1", is_aside=given.acl == "-") if given.acl else DONE
 
 
-def stored(text: bytes, settings: str) -> int:
-    """Has `spki-store`, from the folder beside that of this command or as it is installed, add an entry to a store."""
+def add_to_store(text: bytes, settings: str) -> int:
+    """Has `spki-store`, from the folder beside that of this command or as it is installed, add an entry to the store at some settings of libpq."""
     beside = os.path.join(os.path.dirname(os.path.realpath(__file__)), "..", "..", "spki-store", "spki-store")
     program = beside if os.path.exists(beside) else "spki-store"
     try:
@@ -139,12 +140,12 @@ def list_at(path: str) -> bytes:
     return text_at(path, "refused acl")[0]
 
 
-def is_confirmed(is_wanted: bool, option: str, warnings: Iterable[str]) -> bool:
-    """Whether something is to be made: nothing is probably a mistake in it, or it is confirmed."""
+def confirm(is_given: bool, option: str, warnings: Iterable[str]) -> bool:
+    """Tells the warnings about something that is to be made. Returns whether to make it: there are no warnings, or the option is given."""
     said = list(warnings)
-    nothing = [f"nothing was written; {option} makes it as it is"] if said and not is_wanted else []
+    nothing = [f"nothing was written; {option} makes it as it is"] if said and not is_given else []
     tell(*(f"spki-cert: {it}" for it in [*said, *nothing]))
-    return is_wanted or not said
+    return is_given or not said
 
 
 def fields_given(given: argparse.Namespace) -> list[Value]:
@@ -156,7 +157,7 @@ def fields_given(given: argparse.Namespace) -> list[Value]:
 
 
 def subject_of(given: argparse.Namespace) -> Value:
-    """The subject of the words: a key, a hash, or a name."""
+    """The subject that --to and --named say: a key, a hash, or a name."""
     if given.to is None:
         if not given.named:
             raise Refused("a certificate needs --to, or --named for a name of the issuer")
@@ -189,6 +190,7 @@ def labels_of(given: argparse.Namespace, *paths: str) -> Labels:
 
 
 def show(given: argparse.Namespace) -> int:
+    """Says in words, in JSON, in braces or as a picture what files have."""
     labels, moment = labels_of(given), given.at or now()
     values = [(path, value_headed(path, (b"acl", b"cert", b"sequence", b"case"), NOT_SHOWN)) for path in given.files]
     if given.braces:
@@ -206,7 +208,8 @@ def show(given: argparse.Namespace) -> int:
 
 
 def ask(given: argparse.Namespace) -> int:
-    from .asking import Asked, Words, answered, asked_of_case, case_of
+    """Decides a request, says why, and writes the files that are wanted of the decision."""
+    from .asking import Asked, Words, asked_of_case, best_answer, case_of
     if given.case:
         asked = asked_of_case(value_of(given.case, "case"), labels_of(given))
     elif not (given.acl and given.key and given.words):
@@ -216,7 +219,7 @@ def ask(given: argparse.Namespace) -> int:
         labels = labels_of(given, *(path for path in [given.key, *filter(os.path.isdir, given.cert)] if path != "-"))
         asked = Asked(value_of(given.acl, "acl"), key, request_of(given.words), given.at or now(), labels,
                       [value_of(path, "sequence") for path in sequences_below(given.cert)], not given.open)
-    answer = answered(asked)
+    answer = best_answer(asked)
     lines = list(Words(asked, answer).lines())
     if answer.entry is not None and answer.sequence not in [*asked.sequences, [b"sequence"]] and not given.sequence:
         lines.append("  these certificates are picked and put in order: --sequence FILE writes them for the service")
@@ -242,6 +245,7 @@ def sequences_below(paths: list[str]) -> Iterator[str]:
 
 
 def check(given: argparse.Namespace) -> int:
+    """Says what is wrong in files."""
     from .checking import files_below, remarks_on
     moment = now()
     found = [(path, is_given, *remarks_on(path, moment, is_given)) for path, is_given in files_below(given.paths)]
@@ -264,7 +268,7 @@ COMMANDS: dict[str, Callable[[argparse.Namespace], int]] = {
 
 
 def main() -> int:
-    """Runs the command of the command line."""
+    """Runs the command of the command line. Returns the exit status, and tells why it failed."""
     words = sys.argv[1:]
     READ.clear()
     try:
@@ -291,8 +295,8 @@ def main() -> int:
     return FAILED
 
 
-def ended(number: int, frame: object) -> NoReturn:
-    """Ends the program by a signal. No file is half written, since a signal waits until a file is in its place."""
+def end_by_signal(number: int, frame: object) -> NoReturn:
+    """Handles a signal: ends the program. No file is half written, since a signal waits until a file is in its place."""
     for descriptor, attributes in TERMINAL:
         termios.tcsetattr(descriptor, termios.TCSAFLUSH, attributes)
     with contextlib.suppress(OSError):
@@ -305,7 +309,7 @@ def run() -> NoReturn:
     warnings.simplefilter("ignore")
     for number in ENDING:
         if signal.getsignal(number) is not signal.SIG_IGN:
-            signal.signal(number, ended)
+            signal.signal(number, end_by_signal)
     try:
         status = main()
     except SystemExit as end:

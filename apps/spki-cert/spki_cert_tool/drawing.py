@@ -10,7 +10,7 @@ from collections.abc import Callable, Iterable, Iterator
 from html import escape
 from typing import TYPE_CHECKING, NamedTuple
 
-from .asking import Answer, Asked, answered, asked_of_case, case_of, furthest
+from .asking import Answer, Asked, asked_of_case, best_answer, case_of, furthest
 from .certificates import Keys, entries_of, field, headed, keys_in, members, terms_of
 from .sexp import Value, canonical, on_one_line
 from .showing import Labels
@@ -29,7 +29,7 @@ MEANINGS = {
 
 
 class Shape(NamedTuple):
-    """A subject, or a box with a colour."""
+    """A subject, which has no colour, or a box with one."""
 
     lines: list[str]
     colour: str = ""
@@ -58,7 +58,7 @@ class Drawing:
         return textwrap.wrap(text, self.width, break_on_hyphens=False) or [""]
 
     def of(self, value: Value) -> bytes:
-        """The shape of a subject."""
+        """Adds the shape of a subject, unless it is there. Returns its name."""
         principal, *names = members(value) if headed(value, b"name") else [value]
         identity = canonical([self.keys.text_of(principal)[1], *names])
         label = [f"{' '.join(on_one_line(name) for name in names)} of"] if names else []
@@ -67,6 +67,7 @@ class Drawing:
         return identity
 
     def arrow(self, begin: bytes, end: bytes, colour: str, *lines: str) -> None:
+        """Adds an arrow between two shapes by their names, with those of the lines that are not empty."""
         self.arrows.append(Arrow(begin, end, [line for line in lines if line], colour))
 
     def terms(self, value: Value) -> list[str]:
@@ -75,14 +76,14 @@ class Drawing:
         return [line for part in parts if part for line in self.in_lines(on_one_line(part))]
 
     def entries(self, access_list: Value, only: int | None = None) -> None:
-        """The access list, with an arrow for each of its entries or for one of them."""
+        """Adds the access list, with an arrow for each of its entries, or for the one with the number `only`."""
         self.shapes[b"list"] = Shape(["access list"], "blue")
         for number, entry in enumerate(entries_of(access_list), 1):
             if only in (None, number):
                 self.arrow(b"list", self.of(entry.subject), BLACK, f"entry {number}", *self.terms(entry.value))
 
     def links(self, sequence: Value, stops: int | None = None, cause: str = "") -> None:
-        """An arrow for each certificate up to the one that stops the chain, which is red."""
+        """Adds an arrow for each certificate up to item `stops`, which is red and stops the chain for a cause."""
         for number, item in enumerate(members(sequence), 1):
             if headed(item, b"cert") and number <= (stops or number):
                 terms = terms_of(item)
@@ -91,7 +92,7 @@ class Drawing:
                 self.arrow(self.of(begin), self.of(terms.subject), RED if number == stops else BLACK, *said, *self.terms(item))
 
     def ends(self, case: Value, entry: int, word: str, left: Value) -> None:
-        """The request, and the arrow to it from what is left of the entry."""
+        """Adds the request, and the arrow to it from the subject of what is left of an entry by its number. `word` is the cause, or `grants`."""
         key, request, moment = members(case)[3:6]
         colour = GREEN if word == "grants" else RED
         said = [f"yes entry {entry}"] if word == "grants" else [f"{word}:", MEANINGS[word]]
@@ -103,7 +104,7 @@ class Drawing:
 
 
 def drawing_of_case(case: Value, reasons: list[Reason], reduced: Callable[[int], Value], labels: Labels | None = None, width: int = WIDTH) -> Drawing:
-    """The picture of a case, of which `explain` and `reduce` said this."""
+    """The drawing of a case. `reasons` are those of `explain`, and `reduced` returns what is left of an entry by its number."""
     chosen = furthest(reasons)
     access_list, _, sequence, key = members(case)[:4]
     drawing = Drawing([members(key)[0], *keys_in(sequence)], labels, width)
@@ -153,12 +154,13 @@ def box(x: float, y: float, width: float, height: float, lines: list[str], kind:
         yield f'<text{of_class} x="{x + width / 2:g}" y="{top + 18 * place:g}">{escape(line)}</text>'
 
 
-def said(x: float | str, y: float, text: str, of_class: str = "small left") -> Iterator[str]:
-    yield f'<text class="{of_class}" x="{x}" y="{y}">{escape(text)}</text>'
+def text(x: float | str, y: float, line: str, of_class: str = "small left") -> Iterator[str]:
+    """A line of text as SVG, in a class of STYLE."""
+    yield f'<text class="{of_class}" x="{x}" y="{y}">{escape(line)}</text>'
 
 
 def page(width: float, height: float, title: str, *parts: Iterable[str]) -> Iterator[str]:
-    """A picture of some parts."""
+    """The lines of a whole picture, which has these parts."""
     yield (f'<svg xmlns="http://www.w3.org/2000/svg" viewBox="0 0 {width} {height}" width="{width}" height="{height}" role="img" '
            f'aria-label="{escape(title)}">')
     yield f"<title>{escape(title)}</title>"
@@ -185,7 +187,7 @@ def svg_of_drawing(drawing: Drawing, title: str, width: float = 620) -> Iterator
         if is_end:
             parts.append(f'<path class="line {arrow.colour}" marker-end="url(#end)" d="M{x + 210} {y} L{x + 210} {top - 2}"/>')
             for place, line in enumerate(arrow.lines):
-                parts += said(x + 224, y + 24 + 16 * place, line, f"small left {arrow.colour}")
+                parts += text(x + 224, y + 24 + 16 * place, line, f"small left {arrow.colour}")
         parts += box(x, top, 420, 22 + 18 * len(shape.lines), shape.lines, KINDS.get(shape.colour, "box"))
         y, last = top + 22 + 18 * len(shape.lines), node
     return page(width, y + 20, title, parts)
@@ -195,7 +197,7 @@ def svg_of(value: Value, labels: Labels) -> bytes:
     """A list, a certificate, a sequence or a case as SVG."""
     if headed(value, b"case"):
         asked = asked_of_case(value, labels)
-        return svg_of_answer(asked, answered(asked))
+        return svg_of_answer(asked, best_answer(asked))
     drawing = Drawing(keys_in(value), labels, PICTURE_WIDTH)
     if headed(value, b"acl"):
         drawing.entries(value)

@@ -37,7 +37,7 @@ def visible(text: str) -> str:
 
 
 def rows_of(lines: Iterable[bytes]) -> list[re.Match[bytes]]:
-    """The lines that have a digest."""
+    """The matches of the lines that have a digest."""
     return [row for line in lines if (row := ENDED.fullmatch(line))]
 
 
@@ -52,7 +52,8 @@ def last_line(lines: list[bytes]) -> bytes:
 
 
 def lines_in(path: str) -> list[bytes]:
-    """The lines of the file before the last one, which must be that of these lines. Refused otherwise, with what differs."""
+    """The lines of the file before the last one. Raises Refused if they or the last line are not in the form, or do not belong together."""
+    # (one more line in front, since two are unpacked, and an empty file is only one)
     *lines, last, behind = [b"", *read_ended(path).split(b"\n")]
     lines, met = lines[1:], LAST.fullmatch(last)
     advice = f"compare it with a copy; then `spki-cert end --adopt --ended {path}` takes its lines as they are"
@@ -124,7 +125,7 @@ def meant_at(path: str, place: int | None) -> tuple[str, str]:
 
 
 def meant_by(given: argparse.Namespace) -> dict[str, str]:
-    """The digests of all certificates that the command line names, with what they are called there."""
+    """The digests of all certificates that the command line names, in its order, each with the first that it is called there."""
     for digest in given.digest:
         if not DIGITS.fullmatch(digest):
             raise Refused(f"--digest {digest}: a digest has 64 hexadecimal digits; `spki-cert show FILE` prints that of a certificate")
@@ -175,7 +176,7 @@ def undo(given: argparse.Namespace) -> int:
 
 
 def listed(row: re.Match[bytes]) -> str:
-    """A digest with its date and reason. A comment that begins with no date is all reason."""
+    """What is printed of a digest: with its date and reason. A comment that begins with no date is all reason."""
     comment = visible((row[2] or b"").decode(errors="backslashreplace"))
     date, reason = met.groups() if (met := DATED.fullmatch(comment)) else ("-", comment)
     return f"{row[1].decode()} {date} {reason or ''}".rstrip()

@@ -18,7 +18,7 @@ from .agent import AgentSigner
 from .certificates import DATE_FORMAT, is_in_calendar
 from .forms import MOST_OCTETS, Node, Wrong, meant
 from .keys import BadKey, FileSigner, is_key_file, is_private, read_private, read_public
-from .places import may_be_secret, name_foreign, read_text, told, value_in
+from .places import lines_of_fault, may_be_secret, name_foreign, read_text, value_in
 from .sexp import Value
 from .structures import MOMENT, Reader
 
@@ -59,8 +59,8 @@ class Failed(Refused):
 # ---- streams
 
 
-def said(stream: TextIO | None, text: str | bytes) -> None:
-    """Writes to a stream of the system, at once. What its encoding or a terminal does not take is escaped."""
+def write_at_once(stream: TextIO | None, text: str | bytes) -> None:
+    """Writes to a stream of the system, past its buffer. What its encoding or a terminal does not take is escaped. Raises OSError or ValueError."""
     if stream is None:
         raise OSError(errno.EBADF, "it is closed")
     if isinstance(text, str):
@@ -72,10 +72,10 @@ def said(stream: TextIO | None, text: str | bytes) -> None:
 
 
 def put(text: str | bytes) -> None:
-    """Writes to standard output, if there is something to write."""
+    """Writes to standard output, if there is something to write. Raises Failed."""
     try:
         if text:
-            said(sys.stdout, text)
+            write_at_once(sys.stdout, text)
     except (OSError, ValueError) as why:
         is_broken = isinstance(why, BrokenPipeError)
         raise Failed(*([] if is_broken else [f"standard output: {getattr(why, 'strerror', None) or why}"])) from None
@@ -84,11 +84,11 @@ def put(text: str | bytes) -> None:
 def tell(*lines: str) -> None:
     """Writes to standard error, if that is possible."""
     with contextlib.suppress(OSError, ValueError, AttributeError):
-        said(sys.stderr, "".join(f"{line}\n" for line in lines))
+        write_at_once(sys.stderr, "".join(f"{line}\n" for line in lines))
 
 
 def say(*lines: str, is_aside: bool = False) -> int:
-    """Writes lines to standard output, or to standard error beside what standard output gets."""
+    """Writes lines to standard output, or with `is_aside` to standard error, where standard output gets a file. Returns DONE."""
     if is_aside:
         tell(*lines)
     else:
@@ -100,11 +100,13 @@ def say(*lines: str, is_aside: bool = False) -> int:
 
 
 def identity(found: os.stat_result) -> tuple[int, int]:
+    """What a file is known by in READ."""
     return found.st_dev, found.st_ino
 
 
 def octets_of(path: str, most: int = MOST_OCTETS + 1) -> bytes:
-    """The octets of a file, or of standard input for `-`. One octet more than the limit shows that there are more, and -1 reads all."""
+    """The octets of a file, or of standard input for `-`: at most `most`, or all for -1. By default it is one more than a text may have, so that
+    callers see that there are more. Raises Refused."""
     try:
         if path != "-":
             with open(path, "rb") as file:
@@ -117,11 +119,11 @@ def octets_of(path: str, most: int = MOST_OCTETS + 1) -> bytes:
             READ.add(identity(os.fstat(sys.stdin.fileno())))
         return sys.stdin.buffer.read(most)
     except OSError as why:
-        raise unread(path, why) from None
+        raise refusal_to_read(path, why) from None
 
 
-def unread(path: str, why: OSError) -> Refused:
-    """What is said of a file that cannot be read. What is perhaps a key itself is not repeated, since it may be secret."""
+def refusal_to_read(path: str, why: OSError) -> Refused:
+    """The exception for a file that cannot be read. A path that is perhaps a key itself is not repeated, since it may be secret."""
     shown, (folder, name) = PASTED.sub("..", path), os.path.split(path)
     if shown != path and not os.path.lexists(path):
         return Refused(f"{shown}: this is no file, and perhaps a key itself: write it into a file; --to also takes '(hash sha256 #..#)'")
@@ -133,11 +135,12 @@ def unread(path: str, why: OSError) -> Refused:
 
 
 def text_at(path: str, given: str = "") -> tuple[bytes, Node]:
-    """The octets of a file, and its value. Refused as a service would, with the place."""
+    """The octets of a file, and its value. `given` says what it is read as, such as `refused acl`: see `read_text`. Raises Refused with the place if
+    a service would refuse it."""
     octets = octets_of(path)
     found, node = read_text(octets, given)
     if found[0] is not None:
-        raise Refused(*told(path, found))
+        raise Refused(*lines_of_fault(path, found))
     return octets, node
 
 
@@ -147,7 +150,7 @@ def value_of(path: str, kind: str) -> Value:
 
 
 def value_headed(path: str, heads: tuple[bytes, ...], wanted: str) -> Value:
-    """The value of a file, which must have one of these heads."""
+    """The value of a file, which must have one of these heads. Otherwise raises Refused with `wanted`, which says what is wanted."""
     _, node = text_at(path)
     if node.head not in heads:
         raise Refused(f"{path}: {wanted}")
@@ -155,7 +158,7 @@ def value_headed(path: str, heads: tuple[bytes, ...], wanted: str) -> Value:
 
 
 def node_of(octets: bytes, what: str, read: Reader) -> Node:
-    """The value of a text, which has this name, read by a reader of its structure."""
+    """The value of a text, which `read` must accept. Raises Refused, where the text is called `what`."""
     try:
         node = value_in(octets)
         read(node)
@@ -165,11 +168,11 @@ def node_of(octets: bytes, what: str, read: Reader) -> Node:
         if wrong.kind == "Trailing":
             whole = octets.decode(errors="surrogateescape")
             wrong.why = f"these are several values; a list is in parentheses, as '({'* set ' if whole.lstrip()[:1] == '(' else ''}{whole})'"
-        raise Refused(*told(what, (wrong, octets, None))) from None
+        raise Refused(*lines_of_fault(what, (wrong, octets, None))) from None
 
 
 def passphrase_for(path: str) -> bytes:
-    """Asks for a passphrase on the terminal, and nowhere else."""
+    """Asks for a passphrase on the terminal, and nowhere else. Raises BadKey without a terminal."""
     try:
         with open("/dev/tty", "rb") as terminal:
             TERMINAL.append((terminal.fileno(), termios.tcgetattr(terminal)))
@@ -185,7 +188,8 @@ def passphrase_for(path: str) -> bytes:
 
 
 def key_at(path: str, number: int | None = None, is_private_too: bool = False) -> Value:
-    """The public key of a file in any form: the one with this number, where there are several."""
+    """The public key of a file in any form: the one with this number, where there are several. Raises Refused, also for a private key unless
+    `is_private_too`."""
     with octets_of_key(path) as octets:
         if is_private(octets) and not is_private_too:
             raise BadKey(f"this is a private key, which nobody else may have; give the public one{', ' + path + '.pub' if path != '-' else ''}")
@@ -193,7 +197,7 @@ def key_at(path: str, number: int | None = None, is_private_too: bool = False) -
 
 
 def signer_at(path: str) -> Signer:
-    """Who signs: the private key of a file, or for a public key ssh-agent."""
+    """Who signs: the private key of a file, or for a public key ssh-agent. Raises Refused."""
     with octets_of_key(path) as octets:
         if is_private(octets):
             return FileSigner(read_private(octets, lambda: passphrase_for(path)))
@@ -202,18 +206,18 @@ def signer_at(path: str) -> Signer:
 
 @contextlib.contextmanager
 def octets_of_key(path: str) -> Iterator[bytes]:
-    """The octets of a file, while its key is read. What is wrong with it is said with its name."""
+    """The octets of a file, for the block that reads its key. BadKey and Wrong in the block become Refused with the file's name."""
     octets = octets_of(path)
     try:
         yield octets
     except BadKey as why:
         raise Refused(f"{path}: {why}") from None
     except Wrong:
-        raise Refused(*told(path, read_text(octets, "refused key")[0])) from None
+        raise Refused(*lines_of_fault(path, read_text(octets, "refused key")[0])) from None
 
 
 def remark_on_mode(path: str) -> Iterator[str]:
-    """What is said of the file of a private key that others may read."""
+    """A remark if a file has a private key and others may read it, else nothing."""
     with contextlib.suppress(OSError):
         found = os.stat(path)
         mode = stat.S_IMODE(found.st_mode)
@@ -222,16 +226,16 @@ def remark_on_mode(path: str) -> Iterator[str]:
 
 
 def now(days: int = 0) -> bytes:
-    """The moment that is so many days from now."""
+    """The moment that is so many days from now, as a date of a certificate."""
     try:
         return (datetime.now(timezone.utc) + timedelta(days)).strftime(DATE_FORMAT).encode()
     except OverflowError:
         raise Refused(f"{days} days from now is after the year 9999") from None
 
 
-def moment_of(text: str, day: str = "_00:00:00") -> bytes:
-    """The moment of a word: a date with its time, or a day."""
-    whole = os.fsencode(text if "_" in text else text + day)
+def moment_of(text: str, time_of_day: str = "_00:00:00") -> bytes:
+    """The moment of a word: a date with its time, or a day, to which the time is added. Raises Refused."""
+    whole = os.fsencode(text if "_" in text else text + time_of_day)
     if MOMENT.fullmatch(whole) and is_in_calendar(whole):
         return whole
     right, why = "YYYY-MM-DD or YYYY-MM-DD_HH:MM:SS", "no date in the form that is read"
@@ -250,7 +254,8 @@ def moment_of(text: str, day: str = "_00:00:00") -> bytes:
 
 
 def target_of(path: str, made: bytes, force: bool, edits: bool) -> tuple[str, os.stat_result | None]:
-    """The file that a path leads to, which may be written, and what is there."""
+    """The file that a path leads to, and its state before it is written, or None if there is none. Raises Refused if it must not be written:
+    `force` and `edits` are those of `write`. `made` are the octets to be written."""
     place = os.path.realpath(path)
     try:
         before = os.stat(place)
@@ -281,7 +286,7 @@ def target_of(path: str, made: bytes, force: bool, edits: bool) -> tuple[str, os
 
 
 def instead(path: str, there: bytes, made: bytes) -> str:
-    """What to do where a file is there already. One of another kind, also in braces, was hardly meant."""
+    """What to do where a file is there already, in words. One of another kind, also in braces, was hardly meant."""
     head = HEAD.match(read_text(there)[0][1])
     if head is None or made.startswith(b"(" + head[1]):
         return "--force writes over it"
@@ -331,15 +336,15 @@ def replace(place: str, octets: bytes, mode: int, before: os.stat_result | None)
                 raise
             # (a file system without links)
             os.rename(made, place)
-        on_disk(os.path.dirname(place))
+        wait_for_disk(os.path.dirname(place))
     finally:
         with contextlib.suppress(FileNotFoundError):
             os.unlink(made)
         signal.pthread_sigmask(signal.SIG_SETMASK, blocked)
 
 
-def on_disk(folder: str) -> None:
-    """Waits until the names in a folder are on the disk, if it may be read, and its file system does that."""
+def wait_for_disk(folder: str) -> None:
+    """Waits until the names in a folder are on the disk, if it may be read, and its file system does that. Raises Failed."""
     with contextlib.suppress(PermissionError):
         handle = os.open(folder, os.O_RDONLY)
         try:
@@ -353,7 +358,7 @@ def on_disk(folder: str) -> None:
 
 @contextlib.contextmanager
 def locked(path: str) -> Iterator[None]:
-    """Holds the lock of the folder of a file that is edited, so that no other edit is lost."""
+    """Holds the lock of the folder of a file that is edited, so that no other edit is lost. Raises Refused if it is not free for SECONDS_TO_LOCK."""
     end = time.monotonic() + SECONDS_TO_LOCK
     try:
         folder = os.open(os.path.dirname(os.path.realpath(path)), os.O_RDONLY)

@@ -57,6 +57,7 @@ class Node:
         return self.members[1:] if self.members else []
 
     def is_plain(self, *words: bytes) -> bool:
+        """Whether it is a string without a hint, and one of the words if any are given."""
         return self.body is not None and self.hint is None and (not words or self.body in words)
 
     @property
@@ -79,7 +80,7 @@ class Wrong(Exception):
 
 
 def said_of(text: bytes, at: int) -> str | None:
-    """What is said of an octet that begins no value, and was probably meant to."""
+    """A remark on an octet that begins no value, and was probably meant to. None if there is nothing to say of it."""
     octet, character = text[at:at + 1], text[at:at + 4].decode(errors="ignore")[:1]
     if octet >= b"\x80" and character and text.startswith(character.encode(), at):
         if character in "“”„‟«»‘’‚‹›´":
@@ -105,11 +106,12 @@ def column(text: bytes, at: int) -> int:
 
 
 def shape(node: Node, why: str, others: Iterable[Place] = ()) -> Wrong:
+    """The fault of a value that has not the shape that it must have."""
     return Wrong("Shape", node.begin, why, others)
 
 
 def meant(word: bytes | None, allowed: Iterable[bytes]) -> str:
-    """The question whether one of the allowed words is meant, if the word is none of them and one is near."""
+    """The end of a remark, which asks whether the most similar of the allowed words is meant. Empty if the word is allowed, or none is similar."""
     allowed = list(allowed)
     if word in allowed or len(word or b"") > MOST_MEANT:
         return ""
@@ -127,12 +129,14 @@ def shown(octets: bytes) -> str:
 
 @dataclass
 class Parser:
-    """Reads advanced form, which contains canonical form, or canonical form alone."""
+    """Reads advanced form, which contains canonical form, or canonical form alone. Its methods raise Wrong."""
 
     text: bytes
     is_canonical: bool = False
     opened: list[int] = field(default_factory=list)
+    """The offsets of the lists that are being read."""
     unclosed: tuple[int, int] | None = None
+    """Where a list begins that was to end earlier, by the indentation, and where."""
 
     def whole(self) -> Node:
         """The value of the text. Nothing may follow it."""
@@ -163,10 +167,11 @@ class Parser:
                      [(behind, "this follows the value"), begins], node.end - 1)
 
     def skip(self, at: int) -> int:
+        """The offset after whitespace, which canonical form does not have."""
         return at if self.is_canonical else spaces_end(self.text, at)
 
     def octet(self, at: int, begun: int | None = None) -> bytes:
-        """The octet at an offset. If the text ends there, it says what is open."""
+        """The octet at an offset. If the text ends there, it raises Wrong with what is open: lists, and the string that has begun at `begun`."""
         if at < len(self.text):
             return self.text[at:at + 1]
         places = [(begin, "this list is not closed") for begin in reversed(self.opened)]
@@ -183,6 +188,7 @@ class Parser:
                     places)
 
     def value(self, at: int, wanted: str) -> Node:
+        """The value at an offset. A remark says that `wanted` is expected there."""
         octet = self.octet(at)
         if octet == b"(":
             return self.list_at(at)
@@ -192,6 +198,7 @@ class Parser:
         return Node(at, end, body)
 
     def list_at(self, at: int) -> Node:
+        """The list whose `(` is at an offset."""
         if len(self.opened) == MOST_LISTS:
             raise Wrong("TooDeep", at, f"the {MOST_LISTS + 1}th list that is open at once begins here", [(self.opened[0], "the first one")])
         self.opened.append(at)
@@ -209,6 +216,7 @@ class Parser:
         return Node(at, next_at + 1, members=members)
 
     def hinted(self, at: int) -> Node:
+        """The string whose display hint begins at an offset."""
         hint, end = self.string(self.skip(at + 1), "a display hint, which is a string")
         end = self.skip(end)
         if self.octet(end, at) != b"]":
@@ -217,7 +225,7 @@ class Parser:
         return Node(at, end, body, hint)
 
     def string(self, at: int, wanted: str) -> tuple[bytes, int]:
-        """The octets of a string, and the offset after it."""
+        """The octets of the string at an offset, and the offset after it. `wanted` is as for `value`."""
         octet, token = self.octet(at), None if self.is_canonical else TOKEN.match(self.text, at)
         if token:
             return token[0], token.end()
@@ -230,7 +238,7 @@ class Parser:
         return self.of_length(at, length.end(), length[0])
 
     def of_length(self, begin: int, at: int, digits: bytes) -> tuple[bytes, int]:
-        """The string after the digits of its length."""
+        """As `string`, after the digits of its length, which end at an offset. It begins at `begin`."""
         octet = self.octet(at, begin)
         length = int(digits) if len(digits) < 10 else 10**9
         if octet == b":":
@@ -248,7 +256,7 @@ class Parser:
         raise Wrong("Bad", at, f"{why}; otherwise the digits are the length of a string", [(at, "no length is followed by this")], begin)
 
     def marked(self, begin: int, at: int, length: int | None) -> tuple[bytes, int]:
-        """The string between two marks, of which the first is at an offset."""
+        """As `string`, between two marks, the first of them at an offset. It begins at `begin`, with its length if one is given."""
         mark = self.octet(at)
         body = found_at(BODIES[mark], self.text, at + 1)
         octets: bytes | None = self.unquoted(begin, at + 1) if mark == b'"' else b""
@@ -269,7 +277,7 @@ class Parser:
         return octets, body.end() + 1
 
     def unquoted(self, begin: int, at: int) -> bytes:
-        """The octets of a quoted string. An escape may be wrong, or cut off by the end of the text."""
+        """The octets of the quoted string behind its mark. It begins at `begin`. Raises Wrong if an escape is wrong or cut off."""
         pieces = []
         while found := PIECE.match(self.text, at):
             plain, itself, letter, octal, hexadecimal = found.groups(b"")
@@ -281,7 +289,7 @@ class Parser:
         return b"".join(pieces)
 
     def escape_fault(self, begin: int, at: int) -> None:
-        """Raises the fault of an escape: at the first octet that no escape has."""
+        """Raises Wrong for the escape at an offset, which is wrong: at its first octet that no escape has. The string begins at `begin`."""
         first = self.octet(at + 1, begin)
         allowed = [b"0123abtnvfrx\"'?\\\r\n"] + ([b"01234567"] * 2 if first in b"0123" else [b"0123456789abcdefABCDEF"] * 2)
         for place, wanted in enumerate(allowed, at + 1):
@@ -297,7 +305,7 @@ def found_at(pattern: re.Pattern[bytes], text: bytes, at: int) -> re.Match[bytes
 
 
 def of_base64(body: bytes) -> bytes | None:
-    """The octets of base64 whose whitespace is ignored and whose padding may be left out; None if it is none."""
+    """The octets of a text in base64, or None if it is none. Whitespace is ignored, and padding may be left out."""
     found = SYMBOLS.fullmatch(b"".join(body.split()))
     if not found:
         return None
@@ -309,8 +317,8 @@ def of_base64(body: bytes) -> bytes | None:
 
 
 def without_braces(text: bytes) -> tuple[bytes, list[int] | None, int]:
-    """The canonical text in the braces of a text, the place of each of its octets, and where the text should end. Without braces the text
-    itself and no places."""
+    """The canonical text in the braces of a text, the offset in the text of each of its octets and of its end, and the offset where the text
+    should end. Without braces the text itself, None, and its length. Raises Wrong."""
     begin = spaces_end(text, 0)
     if text[begin:begin + 1] != b"{":
         return text, None, len(text)

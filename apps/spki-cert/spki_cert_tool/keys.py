@@ -31,7 +31,7 @@ PEM = re.compile(rb"-----BEGIN ([A-Z0-9 ]+)-----")
 OPENSSH = re.compile(rb"^(?![ \t]*#)(?:.*?[ \t])?((?:ssh-|ecdsa-|sk-)[\w@.-]{1,64}[ \t]{1,64}AAAA[A-Za-z0-9+/=]+)[ \t]*([^\r\n]*)", re.MULTILINE)
 NEEDS_BCRYPT = "encrypted OpenSSH keys need python3-bcrypt (pip: bcrypt); or let ssh-agent sign by it"
 ENCRYPTED = "this is an encrypted private key"
-# Asks for the passphrase of a file.
+# A function that asks for the passphrase of a file.
 Asking = Callable[[], bytes]
 
 
@@ -45,7 +45,7 @@ def digest_of(value: Value) -> bytes:
 
 
 def hash_of(value: Value) -> Value:
-    """The hash that names a key, or that a signature has of its certificate."""
+    """The list `(hash sha256 DIGEST)` of a value. It names a key, or says of which certificate a signature is."""
     return [b"hash", b"sha256", digest_of(value)]
 
 
@@ -56,7 +56,7 @@ def principal_of(key: Value) -> Value:
 
 
 def key_of(public: object) -> Value:
-    """The SPKI key of a public key of `cryptography`."""
+    """The SPKI key of a public key of `cryptography`. Raises BadKey for a kind or a length that is not used."""
     from cryptography.hazmat.primitives.asymmetric import ec, ed25519, rsa
     from cryptography.hazmat.primitives.serialization import Encoding, PublicFormat
     from spki_verify import LEAST_BITS, MOST_BITS, MOST_EXPONENT_BITS, number
@@ -100,25 +100,25 @@ def kind_of(key: Value) -> str:
 
 
 def value_of_octets(kind: str, octets: bytes) -> Value:
-    """The value of a signature of Ed25519, or of RSA."""
+    """The value `(sig-val ..)` of the octets of a signature by a key of the kind ED25519 or RSA."""
     if kind == ED25519:
         return [b"sig-val", [b"eddsa", [b"r", octets[:HALF]], [b"s", octets[HALF:]]]]
     return [b"sig-val", [b"rsa", [b"s", octets]]]
 
 
 def value_of_numbers(r: int, s: int, octets: int = HALF) -> Value:
-    """The value of a signature of ECDSA, with so many octets for each number."""
+    """The value `(sig-val ..)` of a signature of ECDSA, with so many octets for each number."""
     return [b"sig-val", [b"ecdsa", [b"r", r.to_bytes(octets, "big")], [b"s", s.to_bytes(octets, "big")]]]
 
 
 class FileSigner:
-    """A private key of a file."""
+    """Signs by a private key that was read from a file."""
 
     def __init__(self, private: Private) -> None:
         self.private, self.key = private, key_of(private.public_key())
 
     def sign(self, message: bytes) -> Value:
-        """The value of a signature of these octets."""
+        """The value `(sig-val ..)` of a signature of these octets."""
         from cryptography.hazmat.primitives.asymmetric import ec, ed25519, padding, utils
         from cryptography.hazmat.primitives.hashes import SHA256, SHA384
         if isinstance(self.private, ed25519.Ed25519PrivateKey):
@@ -174,7 +174,7 @@ def read_public(octets: bytes, asking: Asking, number: int | None = None) -> Val
 
 
 def pieces_of(octets: bytes) -> list[bytes]:
-    """The public keys of the octets of a file, each still as it is written."""
+    """The parts of the octets of a file that are one key each: lines of OpenSSH, else blocks of PEM, else the whole."""
     if is_text(octets):
         return [octets]
     begin = b"-----BEGIN "
@@ -182,12 +182,12 @@ def pieces_of(octets: bytes) -> list[bytes]:
 
 
 def no_passphrase() -> bytes:
-    """No passphrase is asked for where a key is only looked at."""
+    """For callers that only look at keys: raises BadKey instead of asking for a passphrase."""
     raise BadKey(ENCRYPTED)
 
 
 def public_in(octets: bytes) -> object:
-    """The public key of one line of OpenSSH, or of one block of PEM."""
+    """The public key, as `cryptography` has it, of one line of OpenSSH or one block of PEM. Raises BadKey."""
     from cryptography.exceptions import UnsupportedAlgorithm
     from cryptography.hazmat.primitives.serialization import load_pem_public_key, load_ssh_public_key
     try:
@@ -199,15 +199,15 @@ def public_in(octets: bytes) -> object:
 
 
 def public_part(octets: bytes) -> bytes | None:
-    """The line of the public key that the file of a private key of OpenSSH has in clear. None if it is another file."""
+    """The line of the public key that the file of a private key of OpenSSH has in clear. None if it is another file. Raises BadKey if it is cut."""
     if b"BEGIN OPENSSH" not in octets:
         return None
     try:
         rest = base64.b64decode(octets.partition(b"KEY-----")[2].partition(b"-----END")[0]).removeprefix(b"openssh-key-v1\0")
         for _ in range(3):
-            _, rest = taken(rest)
-        blob, _ = taken(rest[4:])
-        kind, _ = taken(blob)
+            _, rest = split_string(rest)
+        blob, _ = split_string(rest[4:])
+        kind, _ = split_string(blob)
         if re.fullmatch(rb"[\w@.-]+", kind):
             return kind + b" " + base64.b64encode(blob)
     except (ValueError, BadKey):
@@ -215,8 +215,8 @@ def public_part(octets: bytes) -> bytes | None:
     raise BadKey("no whole private key of OpenSSH: was it copied to its end?")
 
 
-def taken(octets: bytes) -> tuple[bytes, bytes]:
-    """The first string of some octets, as SSH has it with its length, and what follows it."""
+def split_string(octets: bytes) -> tuple[bytes, bytes]:
+    """The first string of some octets, which SSH writes behind its length, and the octets after it. Raises BadKey."""
     end = 4 + int.from_bytes(octets[:4], "big")
     if len(octets) < max(end, 4):
         raise BadKey("ssh-agent sent an answer that is not whole")
@@ -277,7 +277,7 @@ def private_of_text(octets: bytes) -> Private:
 
 
 def new_private(kind: str) -> Private:
-    """A new private key."""
+    """A new private key of one of `KINDS`."""
     from cryptography.hazmat.primitives.asymmetric import ec, ed25519, rsa
     if kind == ED25519:
         return ed25519.Ed25519PrivateKey.generate()
@@ -297,6 +297,6 @@ def file_of(private: Private, passphrase: bytes, is_pem: bool = False) -> bytes:
 
 
 def openssh_line(public: Public) -> bytes:
-    """A public key, as OpenSSH has it, without a comment."""
+    """The line of a public key in the form of OpenSSH, without a comment."""
     from cryptography.hazmat.primitives.serialization import Encoding, PublicFormat
     return public.public_bytes(Encoding.OpenSSH, PublicFormat.OpenSSH)

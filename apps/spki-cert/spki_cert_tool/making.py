@@ -6,13 +6,13 @@ from collections.abc import Iterator
 from .certificates import Keys, Terms, certificates_in, entries_of, headed, members, remarks_on_window, terms_of
 from .files import Refused, Signer, now
 from .keys import hash_of, principal_of, verifies
-from .places import place_shown, read_text, told, value_in
+from .places import lines_of_fault, place_shown, read_text, value_in
 from .sexp import Value, canonical, laid_out, on_one_line
 from .tag_words import MOST_PRODUCTS, contains, is_everything, lacks, remarks
 
 
 def certificate_of(key: Value, subject: Value, fields: list[Value], name: bytes | None = None) -> Value:
-    """The certificate by the holder of a key, which gives a right or defines a name. The subject is a principal, or a name."""
+    """The certificate by the holder of a key, which defines `name`, or gives a right if it is None. The subject is a principal, or a name."""
     issuer = principal_of(key)
     return [b"cert", [b"issuer", [b"name", issuer, name] if name is not None else issuer], [b"subject", subject], *fields]
 
@@ -25,28 +25,30 @@ def fields_of(tag: Value | None, begins: bytes | None, ends: bytes | None, deleg
 
 
 def list_with(entry: Value, before: bytes) -> bytes:
-    """The text of an access list with an entry at its end. What is before the entry stays as it is, unless it is in braces."""
+    """The text of an access list with an entry at its end. What is before the entry stays as it is, unless it is in braces. Raises Refused."""
     node = value_in(before)
     text = text_of([b"acl", *members(node.value), entry])
     if not before.lstrip().startswith(b"{"):
         text = before[:node.end - 1].rstrip() + b"\n " + laid_out(entry, 1).encode() + b")\n"
-    needs_no_refusal("acl", text)
+    refuse_as_service("acl", text)
     return text
 
 
 def signed_sequence(certificate: Value, signer: Signer, chain: Value | None) -> Value:
-    """The sequence of a chain and a certificate with its signature. A key that the certificate names by its hash is in it."""
+    """Signs a certificate. Returns the sequence of a chain, if there is one, and the certificate with its signature. Raises Refused if a service
+    would refuse that."""
     octets = canonical(certificate)
     value = signer.sign(octets)
     if not verifies(signer.key, octets, value):
         raise Refused("the signature that was made does not verify; nothing was written")
     sequence = sequence_with(chain, signer.key, certificate, value)
-    needs_no_refusal("sequence", canonical(sequence))
+    refuse_as_service("sequence", canonical(sequence))
     return sequence
 
 
 def sequence_with(chain: Value | None, key: Value, certificate: Value, value: Value) -> Value:
-    """The sequence of a chain and a certificate with its signature."""
+    """The sequence of a chain and a certificate with a signature by the key. `value` is that of the signature. The key is in it if the certificate
+    names the key by its hash."""
     before = members(chain) if chain is not None else []
     shown = [] if principal_of(key) == key or key in before else [key]
     return [b"sequence", *before, *shown, certificate, [b"signature", hash_of(certificate), principal_of(key), value]]
@@ -61,24 +63,25 @@ def list_without(subject: Value, before: bytes) -> tuple[bytes, list[tuple[int, 
     keys = Keys(it.principal for it in (wanted, *terms))
     gone = [at for at, it in enumerate(terms) if it.names == wanted.names and keys.are_one(it.principal, wanted.principal)]
     ends = [0, *(entries[at].end for at in gone)]
+    # (the text before each entry that goes; what is after the last one follows)
     pieces = [before[end:entries[at].begin].rstrip() for end, at in zip(ends, gone)]
     before = b"".join(pieces) + before[ends[-1]:]
     return before, [(at + 1, on_one_line(terms[at].tag or b"")) for at in gone]
 
 
-def needs_no_refusal(what: str, text: bytes) -> None:
-    """Refuses a text here that a service would refuse."""
+def refuse_as_service(what: str, text: bytes) -> None:
+    """Raises Refused if a service would refuse a text, which is an `acl` or a `sequence`."""
     found = read_text(text, f"refused {what}")[0]
     if found[0] is not None:
-        raise Refused("a service would refuse this:", *told(f"the {what}", found))
+        raise Refused("a service would refuse this:", *lines_of_fault(f"the {what}", found))
 
 
 # ---- what is probably a mistake
 
 
 def warnings_of_certificate(terms: Terms, tag_text: str, needed: bytes | None, chain: Value | None, tries: list[Value]) -> Iterator[str]:
-    """What is probably a mistake in a certificate. It is made only if that is confirmed. The chain must not end before the moment that is
-    needed, if there is one."""
+    """What is probably a mistake in a certificate. It is made only if that is confirmed. The chain must not end before the moment `needed`, or not
+    end at all if it is None. `tag_text` is the tag as it was written, and `tries` are requests that the tag is to contain."""
     if terms.ends is None:
         yield "it has no end: give --days or --until; otherwise it counts until a service ends it by `spki-cert end`"
     if terms.name is None and not terms.names and Keys([terms.issuer or b"", terms.principal]).are_one(terms.issuer, terms.principal):
@@ -88,21 +91,21 @@ def warnings_of_certificate(terms: Terms, tag_text: str, needed: bytes | None, c
         ends = each.terms.ends
         if ends is not None and (needed is None or needed > ends):
             yield f"item {each.number} of the chain ends earlier, on {ends.decode()}, and the right ends with it"
-        yield from (f"item {each.number} of the chain: {why}" for why in not_tried(each.terms.tag, tries))
+        yield from (f"item {each.number} of the chain: {why}" for why in tries_lacked(each.terms.tag, tries))
 
 
 def warnings_of_list(made: Value, before: bytes) -> Iterator[str]:
-    """What is probably a mistake in an entry for a list that has others."""
-    entries, new, left = entries_of(value_in(before).value), terms_of(made), MOST_PRODUCTS
+    """What is probably a mistake in a new entry for an access list, whose text is given, until the work is MOST_PRODUCTS."""
+    entries, new, work_left = entries_of(value_in(before).value), terms_of(made), MOST_PRODUCTS
     keys = Keys(it.principal for it in (*entries, new))
     for number, it in enumerate(entries, 1):
-        left -= len(canonical(it.tag or b"")) * len(canonical(new.tag or b""))
-        if left > 0 and contains(it, new, keys):
+        work_left -= len(canonical(it.tag or b"")) * len(canonical(new.tag or b""))
+        if work_left > 0 and contains(it, new, keys):
             yield f"entry {number} of the list gives all of this already"
 
 
 def warnings_of(terms: Terms, tag_text: str, tries: list[Value]) -> Iterator[str]:
-    """The same of what certificates and entries have alike. An entry needs no end, since it can be removed from its list."""
+    """What is probably a mistake in what certificates and entries both have. An entry needs no end, since it can be removed from its list."""
     yield from (f"{why}: give a later date by --until" for _, why in remarks_on_window(terms.begins, terms.ends, now()))
     if headed(terms.principal, b"hash") and members(terms.principal)[0] == b"sha1":
         yield "its subject is a hash by sha1, which names no key under the strict policy"
@@ -118,11 +121,11 @@ def warnings_of(terms: Terms, tag_text: str, tries: list[Value]) -> Iterator[str
     for at, why in remarks(value_in(os.fsencode(tag_text))):
         where, around = place_shown(os.fsencode(tag_text), None, at)
         yield f"--tag, {where}: {why}\n{around}"
-    yield from not_tried(terms.tag, tries)
+    yield from tries_lacked(terms.tag, tries)
 
 
-def not_tried(tag: Value | None, tries: list[Value]) -> Iterator[str]:
-    """The requests that a tag does not contain, and why."""
+def tries_lacked(tag: Value | None, tries: list[Value]) -> Iterator[str]:
+    """A remark for each request that a tag does not contain. Nothing if there is no tag."""
     for request in tries:
         why_not = lacks(tag, request) if tag is not None else None
         if why_not:

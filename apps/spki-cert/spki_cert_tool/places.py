@@ -14,6 +14,8 @@ from .structures import (Members, Reader, but_is, read_certificate, read_date, r
 
 WIDTH = 60
 PARTS = (b"acl", b"accepted", b"sequence", b"key", b"request", b"at")
+# What is wrong with a text, or None; the canonical text in its braces, or else itself, which has the place of the fault; and, if there are braces,
+# the offset in the text of each octet in them.
 Found = tuple[Optional[Wrong], bytes, Optional[list[int]]]
 PEM_END = rb"-----.*?(?:-----END [A-Z0-9 ]+-----|\Z)"
 USED = "only Ed25519, RSA of 2048 bits or more and ECDSA with the curve P-256 or P-384 are used; `spki-cert key new FILE` makes a key"
@@ -57,7 +59,7 @@ FLAGS = re.DOTALL | re.MULTILINE
 
 
 def foreign(text: bytes) -> str | None:
-    """What a text is that is neither a key that is used nor an S-expression. None if it is not known."""
+    """A remark on a text that is something known, but neither a key that is used nor an S-expression. None for any other text."""
     return next((why for pattern, why in FOREIGN if re.match(pattern, text.lstrip(), FLAGS)), None)
 
 
@@ -72,7 +74,7 @@ def has_private_key(word: bytes) -> bool:
 
 
 def name_foreign(text: bytes, wrong: Wrong) -> None:
-    """Says what is wrong if the place is in what is no S-expression."""
+    """Changes the remark and the place of a fault that lies in something known that is no S-expression, such as a key of OpenSSH or a comment."""
     for pattern, why in [*FOREIGN, *PASTED]:
         for found in re.finditer(pattern, text, FLAGS):
             if found.start() <= wrong.at <= found.end():
@@ -90,8 +92,8 @@ def name_foreign(text: bytes, wrong: Wrong) -> None:
         wrong.shown_at, wrong.why = 0, f"this is no S-expression; one begins on line {line}: delete what is before it, and what is behind its end"
 
 
-def part_of(name: str, read: Reader, node: Node) -> None:
-    """Reads a part. A fault gets the part's name in front."""
+def read_part(name: str, read: Reader, node: Node) -> None:
+    """Reads a part of a text by its reader. A fault that it raises gets the part's name in front of its kind."""
     try:
         read(node)
     except Wrong as wrong:
@@ -101,10 +103,10 @@ def part_of(name: str, read: Reader, node: Node) -> None:
 
 
 def read_numbered(name: str, read: Reader, nodes: list[Node], first: int = 1) -> None:
-    """Reads entries, items or rows. A fault gets the place where the one begins that it is in."""
+    """Reads entries, items or rows, which are counted from `first`. A fault that it raises gets the place where its entry, item or row begins."""
     for number, node in enumerate(nodes, first):
         try:
-            part_of(f"{name} {number}", read, node)
+            read_part(f"{name} {number}", read, node)
         except Wrong as wrong:
             word = {"acl": "entry", "sequence": "item"}.get(name, "row")
             wrong.others.append((node.begin, f"{word} {number} begins here"))
@@ -112,15 +114,17 @@ def read_numbered(name: str, read: Reader, nodes: list[Node], first: int = 1) ->
 
 
 def read_list(node: Node) -> None:
-    part_of("acl 0", partial(Members, head=b"acl", what="the access list"), node)
+    """Reads an access list. As all functions `read_..` here, raises Wrong where the program `spki` refuses, with its name of the part."""
+    read_part("acl 0", partial(Members, head=b"acl", what="the access list"), node)
     entries = node.rest
     if entries and entries[0].head == b"version":
-        part_of("acl 0", read_version, entries.pop(0))
+        read_part("acl 0", read_version, entries.pop(0))
     read_numbered("acl", read_entry, entries)
 
 
 def read_sequence(node: Node) -> None:
-    part_of("sequence 0", partial(Members, head=b"sequence", what="the sequence"), node)
+    """Reads a sequence, and tests that each certificate has a signature behind it, with at most operations `(do ..)` between them."""
+    read_part("sequence 0", partial(Members, head=b"sequence", what="the sequence"), node)
     waits: tuple[int, Node] | None = None
     items = node.rest
     for number, item in enumerate([*items, None], 1):
@@ -138,6 +142,7 @@ def read_sequence(node: Node) -> None:
 
 
 def read_case(node: Node) -> None:
+    """Reads a case, part after part."""
     read_outline(node)
     acl, accepted, sequence, key, request, moment = node.rest[:6]
     read_list(acl)
@@ -148,8 +153,8 @@ def read_case(node: Node) -> None:
 
 
 def read_outline(node: Node) -> None:
-    """The parts of a case, by their heads."""
-    part_of("case", partial(Members, head=b"case", what="the text"), node)
+    """Tests that a case has its parts, by their heads. Raises Wrong."""
+    read_part("case", partial(Members, head=b"case", what="the text"), node)
     parts = node.rest
     for place, head in enumerate(PARTS):
         part = parts[place] if place < len(parts) else None
@@ -168,22 +173,24 @@ def read_outline(node: Node) -> None:
 
 
 def read_intersect(node: Node) -> None:
-    part_of("intersect", partial(Members, head=b"intersect", what="the text"), node)
+    """Reads `(intersect A B)`."""
+    read_part("intersect", partial(Members, head=b"intersect", what="the text"), node)
     tags = node.rest
     if len(tags) != 2:
         raise Wrong("intersect Shape", node.begin, f"`(intersect A B)` has two tags, and this has {len(tags)} members")
     for number, tag in enumerate(tags, 1):
-        part_of(f"tag {number}", read_tag, tag)
+        read_part(f"tag {number}", read_tag, tag)
 
 
 def read_rows(node: Node) -> None:
-    part_of("rows", partial(Members, head=b"accepted", what="the text"), node)
+    """Reads the rows `(accepted ..)` as a text of their own."""
+    read_part("rows", partial(Members, head=b"accepted", what="the text"), node)
     read_numbered("rows", read_row, node.rest)
 
 
 READERS: dict[str, Reader] = {
     "case": read_case, "intersect": read_intersect, "rows": read_rows, "acl": read_list, "sequence": read_sequence,
-    "key": partial(part_of, "key", read_key), "request": partial(part_of, "request", read_request), "at": partial(part_of, "at", read_date)}
+    "key": partial(read_part, "key", read_key), "request": partial(read_part, "request", read_request), "at": partial(read_part, "at", read_date)}
 # What a text is by its head. A request and a moment have none.
 BY_HEAD = {b"case": "case", b"intersect": "intersect", b"accepted": "rows", b"acl": "acl", b"sequence": "sequence", b"public-key": "key"}
 # Parts of texts, which no command of the program reads alone.
@@ -197,7 +204,8 @@ NAMED = ("rows", "sequence", "key", "request", "at")
 
 
 def kind_of(node: Node, word: str) -> str | None:
-    """What a text is read as: by its head, or if no such text is refused by this word, by the word. None if neither says it."""
+    """The kind in READERS as which a text is read: by its head, or by the first word of a refusal if no text of this head is refused by it. None if
+    neither says it."""
     kind = BY_HEAD.get(node.head or b"")
     if kind and (word in (kind, *WORDS.get(kind, ())) or word not in READERS and word not in BY_WORD):
         return kind
@@ -205,7 +213,8 @@ def kind_of(node: Node, word: str) -> str | None:
 
 
 def read_as(node: Node, word: str, fault: str) -> None:
-    """Reads a value as what it is. Then its canonical form too is a text with a limit."""
+    """Reads a value by the reader of its kind, and tests how long its canonical form is. Raises Wrong. `word` and `fault` are the words of a refusal
+    that was given, or empty: a fault of the form says nothing of the value."""
     if fault in FORM_FAULTS[1:]:
         return
     kind, length = kind_of(node, word), len(canonical(node.value))
@@ -218,8 +227,8 @@ def read_as(node: Node, word: str, fault: str) -> None:
 
 
 def read_text(text: bytes, given: str = "") -> tuple[Found, Node]:
-    """What is wrong with a text, or None; the text in which its places are, and the places of that text's octets in the text. And the value
-    of the text, which is an empty list where the text has no form. Given is a refusal: it names the part that the text is, and a fault."""
+    """What is wrong with a text, and its value, which is an empty list where the text has no form. `given` is empty or a refusal, such as
+    `refused sequence 3 Shape`, which names the part that the text is, and a fault."""
     word, fault, *_ = *given.split()[1:3], "", ""
     node, inner, places = Node(0, members=[]), text, None
     try:
@@ -254,7 +263,7 @@ def value_in(text: bytes) -> Node:
 
 
 def refusal(wrong: Wrong, places: list[int] | None) -> str:
-    """The line that the program writes."""
+    """The line by which the program `spki` refuses such a fault. `places` are those of `Found`."""
     if wrong.kind.split()[-1] not in ("Bad", "Trailing"):
         return f"refused {wrong.kind}"
     return f"refused {wrong.kind} {places[-1] if places else wrong.at}"
@@ -273,7 +282,7 @@ class Lines:
 
 
 def place_shown(text: bytes, places: list[int] | None, at: int) -> tuple[str, str]:
-    """A place as line and column, with the text around it and a mark below."""
+    """A place in words, as line and column, and the text around it with a mark below."""
     line, column = Lines(text).line_and_column(at)
     starts, ends = at - column + 1, text.find(b"\n", at)
     first, last = max(starts, at - WIDTH), min(len(text) if ends < 0 else ends, at + WIDTH)
@@ -292,10 +301,11 @@ def places_of(wrong: Wrong) -> list[Place]:
 
 
 def printable(octet: int) -> str:
+    """An octet as it is shown: white space as a space, and what is not printable as `\\x..`."""
     return chr(octet) if 32 <= octet < 127 else " " if octet in b"\t\n\r" else f"\\x{octet:02x}"
 
 
-def told(name: str, found: Found) -> list[str]:
+def lines_of_fault(name: str, found: Found) -> list[str]:
     """The lines that show a fault of a file: the refusal, and each place with the text around it, unless that may be secret."""
     wrong, text, places = found
     if wrong is None:

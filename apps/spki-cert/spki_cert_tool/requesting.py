@@ -16,7 +16,7 @@ ADDRESS = re.compile(r"https?://[^/?#@\s]+(?:[/?][!\"$-~]*)?")
 
 
 def request(given: argparse.Namespace) -> int:
-    """Prints the fields of a signed request, or has curl send it."""
+    """Prints the fields of a signed request, or has curl send it. Returns the exit status."""
     from spki_http import Signer
     method, body = given.method or ("PUT" if given.body is not None else "GET"), octets_of(given.body, -1) if given.body is not None else b""
     if not METHOD.fullmatch(method):
@@ -31,13 +31,14 @@ def request(given: argparse.Namespace) -> int:
     signer = Signer(canonical(by.key), lambda message: canonical(by.sign(message)), sequence)
     lines = "".join(f"{name}: {value}\n" for name, value in signer.fields(method, given.address, body).items())
     if given.curl:
-        return sent(method, given.address, lines.encode(), body if given.body is not None else None, given.words)
+        return send_by_curl(method, given.address, lines.encode(), body if given.body is not None else None, given.words)
     put(lines)
     return DONE
 
 
-def sent(method: str, address: str, lines: bytes, body: bytes | None, words: list[str]) -> int:
-    """Has curl send a request as it is. The fields and the body are files without a name, so that no list of processes shows them."""
+def send_by_curl(method: str, address: str, lines: bytes, body: bytes | None, words: list[str]) -> int:
+    """Has curl send a request as it is, and returns its exit status. `lines` are the fields, and `words` are more options of curl. The fields and the
+    body are files without a name, so that no list of processes shows them."""
     files = [file_of(octets) for octets in [lines, *([body] if body is not None else [])]]
     words = ["curl", "--path-as-is", "--globoff", *(["--head"] if method == "HEAD" else ["--request", method]), "--header", f"@/dev/fd/{files[0]}",
              *(["--header", "Content-Type: application/octet-stream", "--data-binary", f"@/dev/fd/{files[1]}"] if body is not None else []),
@@ -53,7 +54,7 @@ def sent(method: str, address: str, lines: bytes, body: bytes | None, words: lis
 
 
 def file_of(octets: bytes) -> int:
-    """A file in memory with these octets."""
+    """A file in memory with these octets: its descriptor, which the caller closes."""
     file = os.memfd_create("spki-cert")
     with os.fdopen(os.dup(file), "wb") as writer:
         writer.write(octets)

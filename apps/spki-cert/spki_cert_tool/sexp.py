@@ -35,6 +35,7 @@ def spelled(octets: bytes) -> str:
 
 
 def on_one_line(value: Value) -> str:
+    """A value in advanced form, on one line."""
     if isinstance(value, list):
         return f"({' '.join(map(on_one_line, value))})"
     if isinstance(value, tuple):
@@ -43,7 +44,7 @@ def on_one_line(value: Value) -> str:
 
 
 def in_short(value: Value, room: int = 400) -> str:
-    """A value on one line, cut off where it is long. No more of it is read."""
+    """A value on one line of about `room` letters, cut off with `..` where it is longer. What is cut off is not read."""
     if isinstance(value, list):
         parts: list[str] = []
         for member in value:

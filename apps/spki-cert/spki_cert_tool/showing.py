@@ -16,6 +16,7 @@ FAULTS = {"KeyNotShown": "the key of its issuer is not here, so the signature is
           "SignerDiffers": "signed by another key than its issuer's", "NotAccepted": "the signature is not valid"}
 KINDS = {b"cert": "a certificate", b"case": "a case", b"intersect": "a question of two tags", b"accepted": "rows of valid signatures",
          b"signature": "a signature", b"hash": "a hash", b"entry": "an entry"}
+# What is shown of one item, as JSON has it.
 Row = dict[str, object]
 
 
@@ -27,7 +28,7 @@ class Labels:
         self.labels: dict[bytes, str] = {}
 
     def add(self, key: Value, label: str) -> None:
-        """Calls a key so, if it is called nothing yet."""
+        """Adds a key. It is called by this label, unless it has one or this is empty."""
         self.keys.add(key)
         if label:
             self.labels.setdefault(digest_of(key), label)
@@ -64,7 +65,7 @@ class Labels:
 
 
 def row_of_terms(kind: str, number: int | None, terms: Terms, moment: bytes, labels: Labels) -> Row:
-    """What an entry or a certificate says, as a row."""
+    """What an entry or a certificate says, as a row. `kind` is `entry` or `certificate`."""
     return {"kind": kind, "number": number, "issuer": labels.of(terms.issuer),
             "name": terms.name.decode(errors="replace") if terms.name is not None else None,
             "subject": labels.of_subject(terms.subject), "tag": on_one_line(terms.tag) if terms.tag is not None else None,
@@ -95,7 +96,7 @@ def rows_of(value: Value, moment: bytes, labels: Labels) -> Iterator[Row]:
 
 
 def lines_of(row: Row) -> Iterator[str]:
-    """A row in words."""
+    """A row of `rows_of` in words."""
     kind, number = row["kind"], row.get("number")
     front = f"{'entry' if kind == 'entry' else 'item'} {number}" if number else "certificate without a signature"
     if kind == "key":

@@ -12,13 +12,14 @@ STARS, ORDERINGS = (b"set", b"prefix", b"range"), (b"alpha", b"time", b"date")
 LIMITS = (b"not-before", b"not-after")
 ENTRY_FIELDS = (*LIMITS, b"valid", b"tag", b"propagate", b"comment")
 CERTIFICATE_FIELDS = (*ENTRY_FIELDS, b"issuer", b"subject", b"version", b"display", b"issuer-info", b"subject-info")
+# Reads a value, and raises Wrong where a service would refuse it: so do all functions `read_..`. Some return what others need of the value.
 Reader = Callable[[Node], object]
 # What each field says, by its head, with the list of the field.
 Said = dict[bytes, tuple[Node, object]]
 
 
 def but_is(node: Node, *heads: bytes) -> str:
-    """Which heads a list must have, and what a value is instead."""
+    """The end of a remark: which heads a list must have, and what a value is instead."""
     wanted = [f"`({head.decode()} ..)`" for head in heads]
     is_instead = f"the string `{shown(node.body or b'')}`" if node.members is None else "a list without a word as its head"
     if node.head is not None:
@@ -27,7 +28,7 @@ def but_is(node: Node, *heads: bytes) -> str:
 
 
 class Members:
-    """The members of a list after its head, taken from the left."""
+    """The members of a list after its head, which are read from the left. Raises Wrong for another head; `what` is what must have this head."""
 
     def __init__(self, node: Node, head: bytes, what: str) -> None:
         if node.head != head:
@@ -35,18 +36,21 @@ class Members:
         self.node, self.left = node, node.rest
 
     def next(self, what: str) -> Node:
+        """The next member. Raises Wrong if there is none; `what` is what is missing then."""
         if not self.left:
             raise Wrong("Shape", self.node.end - 1, f"{what} is missing here", [(self.node.begin, "in the list that begins here")])
         return self.left.pop(0)
 
     def end(self) -> None:
+        """Raises Wrong if there is one more member."""
         if self.left:
             head = (self.node.head or b"").decode(errors="replace")
             raise shape(self.left[0], f"this is one member too many in `({head} ..)`", [(self.node.begin, "which begins here")])
 
 
 def list_of(head: bytes | None, what: str, *readers: tuple[str, Reader]) -> Reader:
-    """The reader of a list with this head, or with any, that has exactly these members. It says what the last one says."""
+    """The reader of a list with this head, or any head for None, and exactly these members: each by what it is called, and its reader. It returns
+    what the last of these readers returns."""
     def reader(node: Node) -> object:
         members, said = Members(node, head or node.head or b"", what), None
         for name, read in readers:
@@ -57,6 +61,7 @@ def list_of(head: bytes | None, what: str, *readers: tuple[str, Reader]) -> Read
 
 
 def read_key(node: Node) -> None:
+    """Reads `(public-key (ALGORITHM PART ..))`."""
     members = Members(node, b"public-key", "a key")
     inner = members.next("(ALGORITHM PART ..)")
     if inner.head is None:
@@ -67,6 +72,7 @@ def read_key(node: Node) -> None:
 
 
 def read_algorithm(node: Node) -> bytes:
+    """Reads the algorithm of a hash, and returns it."""
     if node.members is not None:
         raise shape(node, "the algorithm of a hash is a string")
     if node.hint is not None or node.body not in DIGESTS:
@@ -76,6 +82,7 @@ def read_algorithm(node: Node) -> bytes:
 
 
 def read_hash(node: Node) -> bytes:
+    """Reads `(hash ALGORITHM DIGEST)`, and returns the algorithm."""
     members = Members(node, b"hash", "a hash")
     algorithm = read_algorithm(members.next("the algorithm"))
     digest = members.next("the digest")
@@ -91,13 +98,14 @@ def read_hash(node: Node) -> bytes:
 
 
 def read_principal(node: Node) -> None:
+    """Reads a key or a hash."""
     if node.head not in PRINCIPALS:
         raise shape(node, f"a principal must be {but_is(node, *PRINCIPALS)}")
     (read_key if node.head == b"public-key" else read_hash)(node)
 
 
 def read_name(node: Node) -> tuple[bool, int]:
-    """Whether a name has a principal, and how many strings."""
+    """Reads `(name PRINCIPAL n ..)`. Returns whether it has a principal, and how many strings."""
     members = Members(node, b"name", "a name")
     has_principal = bool(members.left) and members.left[0].members is not None
     if has_principal:
@@ -110,7 +118,7 @@ def read_name(node: Node) -> tuple[bool, int]:
 
 
 def read_subject(node: Node) -> bool:
-    """Whether a subject has a principal of its own."""
+    """Reads a subject. Returns whether it is or has a principal, and so is no relative name."""
     for head, kind in ((b"k-of-n", "Threshold"), (b"keyholder", "Keyholder")):
         if node.head == head:
             raise Wrong(kind, node.begin, f"a subject `({head.decode()} ..)` is not supported")
@@ -123,11 +131,13 @@ def read_subject(node: Node) -> bool:
 
 
 def read_date(node: Node) -> None:
+    """Reads a date. Whether the calendar has it is not tested."""
     if not node.is_plain() or not MOMENT.fullmatch(node.body or b""):
         raise Wrong("BadDate", node.begin, 'a date is a string YYYY-MM-DD_HH:MM:SS in quotes, in UTC')
 
 
-def read_number(node: Node) -> None:
+def read_version_number(node: Node) -> None:
+    """Reads the string of a version, which must be 0."""
     if node.members is not None:
         raise shape(node, "a version is a string")
     if not node.is_plain(b"0"):
@@ -135,7 +145,7 @@ def read_number(node: Node) -> None:
 
 
 def read_issuer(node: Node) -> bool:
-    """Whether a certificate with this issuer defines a name."""
+    """Reads an issuer. Returns whether a certificate with it defines a name."""
     if node.head != b"name":
         read_principal(node)
         return False
@@ -146,17 +156,18 @@ def read_issuer(node: Node) -> bool:
 
 
 def field_of(read: Reader) -> Reader:
+    """The reader of a field with one member. It returns what the reader of the member returns."""
     return list_of(None, "a field", ("the member of this field", read))
 
 
-read_version = list_of(b"version", "a version", ("the version's string", read_number))
+read_version = list_of(b"version", "a version", ("the version's string", read_version_number))
 FIELDS: dict[bytes, Reader] = {
     b"not-before": field_of(read_date), b"not-after": field_of(read_date), b"tag": field_of(lambda node: read_tag(node)),
     b"issuer": field_of(read_issuer), b"subject": field_of(read_subject), b"version": read_version,
     b"propagate": list_of(None, "a field"), b"valid": lambda node: read_fields(node, node.rest, LIMITS)}
 
 
-def no_field(node: Node, allowed: tuple[bytes, ...]) -> str:
+def remark_on_no_field(node: Node, allowed: tuple[bytes, ...]) -> str:
     """The remark on a value that is no field here."""
     if node.head is not None:
         return f"`{shown(node.head)}` is no field here{meant(node.head, allowed)}"
@@ -165,14 +176,14 @@ def no_field(node: Node, allowed: tuple[bytes, ...]) -> str:
 
 
 def read_fields(owner: Node, nodes: list[Node], allowed: tuple[bytes, ...]) -> Said:
-    """What each field says, by its head, with the place of its list."""
+    """Reads fields, whose heads must be allowed. Returns by head the field's node and what its reader returns. `owner` is the list that has them."""
     said: Said = {}
     for node in nodes:
         head = node.head
         if head == b"online":
             raise Wrong("Online", node.begin, "an online test is not supported; give a short validity by `(not-after ..)`")
         if head is None or head not in allowed:
-            raise shape(node, no_field(node, allowed))
+            raise shape(node, remark_on_no_field(node, allowed))
         if head in said:
             both = f"one `(tag (* set A B))` contains both, or write a second `({shown(owner.head or b'')} ..)`"
             raise shape(node, f"the field `{head.decode()}` is here a second time: {both if head == b'tag' else 'remove one of them'}",
@@ -184,40 +195,45 @@ def read_fields(owner: Node, nodes: list[Node], allowed: tuple[bytes, ...]) -> S
     return said
 
 
-def needed(owner: Node, said: Said, *heads: bytes) -> None:
+def require_fields(owner: Node, said: Said, *heads: bytes) -> None:
+    """Raises Wrong if one of these fields is not among those that were read."""
     for head in heads:
         if head not in said:
             raise shape(owner, f"the field `({head.decode()} ..)` is missing in the list that begins here")
 
 
 def read_entry(node: Node) -> None:
+    """Reads an entry of an access list."""
     if node.head == b"deny":
         raise shape(node, "there are no denials: what no entry gives is denied, so leave this out")
     members = Members(node, b"entry", "an entry")
     subject = members.next("the subject")
     if not read_subject(subject):
         raise Wrong("RelativeInEntry", subject.begin, "a name in an entry needs the key that defines it: `(name KEY n ..)`")
-    needed(node, read_fields(node, members.left, ENTRY_FIELDS), b"tag")
+    require_fields(node, read_fields(node, members.left, ENTRY_FIELDS), b"tag")
 
 
 def read_certificate(node: Node) -> None:
+    """Reads a certificate, which gives a right or, if its issuer is a name, defines this name."""
     said = read_fields(node, Members(node, b"cert", "a certificate").left, CERTIFICATE_FIELDS)
-    needed(node, said, b"issuer", b"subject")
+    require_fields(node, said, b"issuer", b"subject")
     if said[b"issuer"][1]:
         for head in (b"tag", b"propagate"):
             if head in said:
                 raise shape(said[head][0], f"its issuer is a name, so it defines a name and must have no `{head.decode()}`: remove the "
                             f"`{head.decode()}`, or write the key alone as issuer", [(said[b"issuer"][0].begin, "its issuer is a name")])
     else:
-        needed(node, said, b"tag")
+        require_fields(node, said, b"tag")
 
 
 def read_digest_of_row(node: Node) -> None:
+    """Reads the hash in a row, which must be by SHA-256."""
     if read_hash(node) != b"sha256":
         raise Wrong("HashAlg", node.begin, "the hash of a row is by sha256")
 
 
 def read_operation(node: Node) -> None:
+    """Reads an item `(do hash ALGORITHM)`."""
     if not node.rest or not node.rest[0].is_plain(b"hash"):
         raise Wrong("UnknownOp", node.begin, "the only operation is `(do hash ALGORITHM)`")
     list_of(b"do", "an operation", ("hash", lambda _: None), ("the algorithm", read_algorithm))(node)
@@ -229,6 +245,7 @@ ITEMS: dict[bytes, Reader] = {b"public-key": read_key, b"do": read_operation, b"
 
 
 def read_item(node: Node) -> None:
+    """Reads an item of a sequence."""
     if node.head is None or node.head not in ITEMS:
         raise shape(node, f"an item must be {but_is(node, *ITEMS)}")
     ITEMS[node.head](node)
@@ -237,36 +254,37 @@ def read_item(node: Node) -> None:
 # ---- tags and requests
 
 
-def no_hint(node: Node) -> None:
+def refuse_hint(node: Node) -> None:
+    """Raises Wrong if a string has a display hint."""
     if node.hint is not None:
         raise Wrong("Hint", node.begin, "no string here has a display hint")
 
 
 def list_head(node: Node) -> Node:
-    """The first member of a list in a tag or a request, which is a string without a hint."""
+    """The first member of a list in a tag or a request. Raises Wrong if there is none, or it is no string without a hint."""
     if not node.members:
         raise Wrong("EmptyList", node.begin, "a list here has members")
     if node.members[0].members is not None:
         raise Wrong("ListHead", node.members[0].begin, "the first member of a list here is a string")
-    no_hint(node.members[0])
+    refuse_hint(node.members[0])
     return node.members[0]
 
 
 def read_tag(node: Node, nodes: list[int] | None = None) -> None:
-    """A tag. `nodes` counts in its one place, for the tags in a tag too."""
+    """Reads a tag, and the tags in it. `nodes` is a list of one number, which counts all of them."""
     nodes = [0] if nodes is None else nodes
     nodes[0] += 1
     if nodes[0] > MOST_NODES:
         raise Wrong("TooManyNodes", node.begin, f"the {MOST_NODES + 1}th node of the tag begins here")
     if node.members is None:
-        return no_hint(node)
+        return refuse_hint(node)
     behind = node.members
     if list_head(node).body == b"*":
         if len(behind) == 1:
             return None
         word = behind[1]
         if word.members is None:
-            no_hint(word)
+            refuse_hint(word)
         if word.body not in STARS:
             raise Wrong("UnknownStar", word.begin, "the star is followed by `set`, `prefix` or `range`" + meant(word.body, STARS))
         behind = behind[2:]
@@ -277,20 +295,22 @@ def read_tag(node: Node, nodes: list[int] | None = None) -> None:
 
 
 def read_prefix(node: Node, behind: list[Node]) -> None:
+    """Reads a tag `(* prefix ..)`, of which the members behind the word are given."""
     if len(behind) != 1 or behind[0].members is not None:
         raise Wrong("UnknownStar", node.begin, "`prefix` is followed by one string")
-    no_hint(behind[0])
+    refuse_hint(behind[0])
 
 
 def read_range(node: Node, behind: list[Node]) -> None:
+    """Reads a tag `(* range ..)`, of which the members behind the word are given."""
     ordering = behind[0] if behind else node
     if ordering.members is None:
-        no_hint(ordering)
+        refuse_hint(ordering)
     if ordering.body not in ORDERINGS:
         raise Wrong("RangeOrdering", ordering.begin, "`range` is followed by `alpha`, `time` or `date`" + meant(ordering.body, ORDERINGS))
     for member in behind[1:]:
         if member.members is None:
-            no_hint(member)
+            refuse_hint(member)
     limits = behind[1:]
     for words in ((b"g", b"ge"), (b"l", b"le")):
         if len(limits) >= 2 and limits[0].is_plain(*words) and limits[1].is_plain():
@@ -300,8 +320,9 @@ def read_range(node: Node, behind: list[Node]) -> None:
 
 
 def read_request(node: Node) -> None:
+    """Reads a request: strings and lists of them, as deep as they go."""
     if node.members is None:
-        return no_hint(node)
+        return refuse_hint(node)
     head = list_head(node)
     if head.body == b"*":
         raise Wrong("StarInRequest", head.begin, "a list in a request does not begin with `*`")

@@ -33,7 +33,7 @@ def holds(tag: Value, request: Value) -> bool:
 
 
 def lacks(tag: Value, request: Value, place: str = "the request") -> str | None:
-    """Why a tag does not contain a request: the first member that differs. None if it contains it."""
+    """Why a tag does not contain a request, which is called `place`: the first member that differs. None if it contains it."""
     if holds(tag, request):
         return None
     asked = in_short(request)
@@ -55,7 +55,7 @@ def lacks(tag: Value, request: Value, place: str = "the request") -> str | None:
 
 
 def is_in_range(behind: list[Value], request: bytes) -> bool:
-    """Whether a string is in a range, of which the ordering and the limits are given."""
+    """Whether a string is in a range `(* range ..)`, whose members behind `range` are the ordering and the limits."""
     ordering, limits = string_of(behind[0]) or b"", [string_of(it) or b"" for it in behind[1:]]
     given = dict(zip(limits[::2], limits[1::2]))
     return has_form(ordering, request) and all(COMPARED[word](request, limit) for word, limit in given.items())
@@ -67,7 +67,7 @@ def has_form(ordering: bytes, octets: bytes) -> bool:
 
 
 def covers(wide: Value, narrow: Value) -> bool:
-    """Whether a tag contains all that another one contains. Of two ranges it is said only if they are equal."""
+    """Whether a tag contains all that another one contains. For two ranges it is True only if they are equal."""
     if wide == narrow or wide == [b"*"]:
         return True
     if headed(narrow, b"*") and members(narrow)[:1] == [b"set"]:
@@ -83,7 +83,7 @@ def covers(wide: Value, narrow: Value) -> bool:
 
 
 def contains(wide: Terms, narrow: Terms, keys: Keys) -> bool:
-    """Whether an entry gives all that another one gives."""
+    """Whether the entry `wide` gives all that `narrow` gives."""
     is_for = wide.names == narrow.names and keys.are_one(wide.principal, narrow.principal) and wide.delegates >= narrow.delegates
     is_as_long = (wide.begins or b"") <= (narrow.begins or b"") and (wide.ends or b"~") >= (narrow.ends or b"~")
     return is_for and is_as_long and covers(wide.tag or b"", narrow.tag or b"")
@@ -93,13 +93,13 @@ def contains(wide: Terms, narrow: Terms, keys: Keys) -> bool:
 
 
 def remarks(node: Node, is_outermost: bool = True) -> Iterator[Place]:
-    """What in a tag is probably a mistake, each with its place. The tag is one that can be read."""
+    """What in a tag is probably a mistake, each with its offset. `read_tag` must have accepted the tag. The functions below yield the same."""
     if node.members is None:
-        yield from of_string(node)
+        yield from remarks_on_string(node)
         return
     head, rest = node.members[0].body or b"", node.members[1:]
     if head == b"*":
-        yield from of_star(node, rest, is_outermost)
+        yield from remarks_on_star(node, rest, is_outermost)
         return
     if head == b"tag" and len(rest) == 1 and is_outermost:
         yield node.begin, f"`(tag ..)` is written around it: give `{on_one_line(rest[0].value)}` alone"
@@ -117,7 +117,7 @@ def remarks(node: Node, is_outermost: bool = True) -> Iterator[Place]:
         yield from remarks(member, False)
 
 
-def of_string(node: Node) -> Iterator[Place]:
+def remarks_on_string(node: Node) -> Iterator[Place]:
     """Remarks on a string."""
     body = node.body or b""
     front = re.match(rb"[^*?]*", body)
@@ -131,8 +131,8 @@ def of_string(node: Node) -> Iterator[Place]:
         yield node.begin, "this string is empty, and contains only the empty string"
 
 
-def of_star(node: Node, rest: list[Node], is_outermost: bool) -> Iterator[Place]:
-    """Remarks on a set, a prefix or a range. The members of an outermost set are whole tags."""
+def remarks_on_star(node: Node, rest: list[Node], is_outermost: bool) -> Iterator[Place]:
+    """Remarks on a set, a prefix or a range, whose members behind the star are `rest`. The members of an outermost set are whole tags."""
     word = rest[0].body if rest else None
     if word == b"set":
         if len(rest) == 1:
@@ -140,12 +140,13 @@ def of_star(node: Node, rest: list[Node], is_outermost: bool) -> Iterator[Place]
         for member in rest[1:]:
             yield from remarks(member, is_outermost)
     elif word == b"prefix":
-        yield from of_prefix(node, rest[1].body or b"")
+        yield from remarks_on_prefix(node, rest[1].body or b"")
     elif word == b"range":
-        yield from of_range(node, rest[1].body or b"", [it.body or b"" for it in rest[2:]])
+        yield from remarks_on_range(node, rest[1].body or b"", [it.body or b"" for it in rest[2:]])
 
 
-def of_prefix(node: Node, body: bytes) -> Iterator[Place]:
+def remarks_on_prefix(node: Node, body: bytes) -> Iterator[Place]:
+    """Remarks on a prefix with this string."""
     if body == b"":
         yield node.begin, "each string begins with the empty string"
     elif b"*" in body:
@@ -156,7 +157,8 @@ def of_prefix(node: Node, body: bytes) -> Iterator[Place]:
         yield node.begin, f"`{text}` is also the beginning of `{text}-other`; the prefix of a folder ends with `/`"
 
 
-def of_range(node: Node, ordering: bytes, limits: list[bytes]) -> Iterator[Place]:
+def remarks_on_range(node: Node, ordering: bytes, limits: list[bytes]) -> Iterator[Place]:
+    """Remarks on a range with an ordering and limits, which are `g s`, `ge s`, `l s` or `le s` one after the other."""
     given = dict(zip(limits[::2], limits[1::2]))
     low, up = given.get(b"g", given.get(b"ge")), given.get(b"l", given.get(b"le"))
     for limit in filter(None, (low, up)):

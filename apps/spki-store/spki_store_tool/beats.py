@@ -1,4 +1,4 @@
-"""The heartbeat, at whichever of several servers takes it."""
+"""The heartbeat: increases a number in the store each second, at whichever of several servers takes that."""
 from __future__ import annotations
 
 from concurrent.futures import Future, ThreadPoolExecutor, wait
@@ -6,7 +6,7 @@ from typing import Any
 
 import psycopg
 
-from .tables import Store, opened
+from .tables import Store, connect_to
 
 # The time between two beats, and between two looks for a server that takes them, in seconds.
 EVERY, AGAIN = 1.0, 0.2
@@ -22,7 +22,7 @@ class Beats:
         self.pool = ThreadPoolExecutor(len(self.hosts))
 
     def beat(self) -> None:
-        """Beats once, or raises a fault of the database. The next beat is then tried at another connection."""
+        """Beats once. Raises `psycopg.Error` if that fails, and the next beat is then tried at another connection."""
         if self.store.connection.closed:
             self.connect()
         try:
@@ -33,10 +33,11 @@ class Beats:
             raise
 
     def connect(self) -> None:
-        """Connects to a server that takes connections now."""
+        """Connects to the first server in order that takes a connection within AGAIN seconds, and closes the others. Raises OperationalError if none
+        does. Connections that are still being made are looked at again in the next call."""
         for host in self.hosts:
             if host not in self.opening:
-                self.opening[host] = self.pool.submit(opened, host)
+                self.opening[host] = self.pool.submit(connect_to, host)
         wait(self.opening.values(), AGAIN)
         done = {host: self.opening.pop(host) for host in self.hosts if self.opening[host].done()}
         found = {host: each.result() for host, each in done.items() if not each.exception() and not each.result().closed}
@@ -47,10 +48,10 @@ class Beats:
         for _, connection in others:
             connection.close()
         for late in self.opening.values():
-            late.add_done_callback(closes)
+            late.add_done_callback(close_late)
 
 
-def closes(late: Future[psycopg.Connection[Any]]) -> None:
-    """Closes a connection that is not used."""
+def close_late(late: Future[psycopg.Connection[Any]]) -> None:
+    """Closes a connection that was opened too late, and is not used."""
     if not late.exception():
         late.result().close()

@@ -1,4 +1,4 @@
-"""The commands of `spki-store`, and its exit statuses."""
+"""The commands of `spki-store`. Each is a function of a store and the words that were given, and returns the exit status."""
 from __future__ import annotations
 
 import argparse
@@ -12,8 +12,8 @@ import psycopg
 
 from .beats import AGAIN, EVERY, Beats
 from .tables import ROLES, Store
-from .texts import MOST, Wrong, advanced, alone, batches, entry_of, fault_of, principal_of
-from .transfer import MOST_AT_ONCE, differences, exported, forget, imported
+from .texts import MOST, Wrong, advanced, batches, entry_of, fault_of, fault_of_one, principal_of
+from .transfer import MOST_AT_ONCE, differences, export_list, forget, import_list
 
 DONE, FOUND, REFUSED, FAILED = 0, 1, 2, 3
 DESCRIPTION = """Keeps the entries of an access list in PostgreSQL, where spki-authd reads those that a request can need."""
@@ -30,30 +30,35 @@ def put(line: str) -> None:
 
 
 def init(store: Store, given: argparse.Namespace) -> int:
+    """Makes the schema and the roles."""
     store.make()
     put(f"made the schema {store.schema} and the roles {', '.join(f'{store.schema}_{role}' for role in ROLES)}: grant these to accounts")
     return DONE
 
 
 def import_(store: Store, given: argparse.Namespace) -> int:
+    """Adds the entries of a list, or goes on with an import that was stopped."""
     if given.again:
         forget(store, given.file)
-    added, before = imported(store, given.file, sys.stderr.isatty() or given.progress)
+    added, before = import_list(store, given.file, sys.stderr.isatty() or given.progress)
     put(f"entries added: {added}" + (f", and {before} before" if before else ""))
     return DONE
 
 
 def export(store: Store, given: argparse.Namespace) -> int:
-    put(f"entries written: {exported(store, given.file)}")
+    """Writes all entries as a list into a new file."""
+    put(f"entries written: {export_list(store, given.file)}")
     return DONE
 
 
 def add(store: Store, given: argparse.Namespace) -> int:
+    """Adds an entry, and prints its number."""
     put(f"entry {store.add(entry_of(text_at(given.file)))}")
     return DONE
 
 
 def remove(store: Store, given: argparse.Namespace) -> int:
+    """Removes entries by their numbers. The status is FOUND if one is not there."""
     there = [number for number in given.numbers if store.remove(number)]
     put(f"entries removed: {len(there)}")
     for number in sorted(set(given.numbers) - set(there)):
@@ -62,6 +67,7 @@ def remove(store: Store, given: argparse.Namespace) -> int:
 
 
 def end(store: Store, given: argparse.Namespace) -> int:
+    """Ends certificates by their digests."""
     if wrong := [digest for digest in given.digests if not DIGEST.match(digest)]:
         raise Wrong(f"{wrong[0]!r} is no digest of 64 hexadecimal digits in small letters")
     put(f"certificates ended: {sum(store.end(bytes.fromhex(digest), given.remark) for digest in given.digests)}")
@@ -75,7 +81,7 @@ def check(store: Store, given: argparse.Namespace) -> int:
         count += len(page)
         is_right = fault_of([row.text for row in page]) is None
         for row in page:
-            why = None if is_right else alone(row.text)
+            why = None if is_right else fault_of_one(row.text)
             if why is None and principal_of(row.text) != row.principal:
                 why = "its principal is not that of its text"
             if why is not None:
@@ -127,7 +133,7 @@ def beat(store: Store, given: argparse.Namespace) -> int:
 
 
 def text_at(path: str) -> bytes:
-    """The octets of a file, or of standard input."""
+    """The octets of a file, or of standard input for `-`: at most one more than the library reads."""
     if path == "-":
         return sys.stdin.buffer.read(MOST + 1)
     with open(path, "rb") as file:
@@ -135,6 +141,7 @@ def text_at(path: str) -> bytes:
 
 
 def parser_of_commands() -> argparse.ArgumentParser:
+    """The parser of the command line. It gives the function of the command as `does`."""
     parser = argparse.ArgumentParser(prog="spki-store", description=DESCRIPTION, epilog=EPILOG, formatter_class=argparse.RawDescriptionHelpFormatter)
     parser.add_argument("--database", default=os.environ.get("SPKI_STORE", ""), help="the settings of libpq; SPKI_STORE if it is not given")
     parser.add_argument("--schema", default="spki", help="the schema of the store, by default spki")
@@ -168,7 +175,7 @@ def first_line(why: BaseException) -> str:
     return (str(why).strip() or type(why).__name__).splitlines()[0]
 
 
-def done(words: Sequence[str] | None = None) -> int:
+def main(words: Sequence[str] | None = None) -> int:
     """Runs a command, and returns the exit status."""
     given = parser_of_commands().parse_args(words)
     try:
@@ -188,4 +195,4 @@ def done(words: Sequence[str] | None = None) -> int:
 
 
 def run() -> None:
-    sys.exit(done())
+    sys.exit(main())

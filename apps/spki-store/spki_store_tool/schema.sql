@@ -112,6 +112,7 @@ INSERT INTO @SCHEMA@.heartbeat (number, moment) VALUES (0, clock_timestamp());
 -- How far a file was imported, by its SHA-256 digest.
 CREATE TABLE @SCHEMA@.imports (file bytea PRIMARY KEY, octets bigint NOT NULL, entries bigint NOT NULL, is_done boolean NOT NULL);
 
+-- Writes the rows that a statement has added or removed into `changes`, with the next numbers.
 CREATE FUNCTION @SCHEMA@.note_change() RETURNS trigger LANGUAGE plpgsql SECURITY DEFINER SET search_path = pg_catalog, pg_temp AS $$
 DECLARE
     changed CONSTANT bigint := (SELECT count(*) FROM changed);

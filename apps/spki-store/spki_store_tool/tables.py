@@ -32,13 +32,14 @@ WAITS = 500
 PAGE = 2000
 
 
-def opened(settings: str) -> psycopg.Connection[Any]:
-    """A connection to one host."""
+def connect_to(settings: str) -> psycopg.Connection[Any]:
+    """A new connection to one host, by its settings of libpq."""
     return psycopg.connect(settings, autocommit=True, fallback_application_name="spki-store")
 
 
-def answered(connection: PGconn, text: bytes, seconds: float) -> bytes:
-    """The value in the only row of the last of some statements. Raises OperationalError if one fails, or if the server does not answer in time."""
+def value_of(connection: PGconn, text: bytes, seconds: float) -> bytes:
+    """Sends statements, and waits for so many seconds. Returns the value in the only row of the last one that has a row. Raises OperationalError if
+    one fails, or if the server does not answer in time."""
     end, value = time.monotonic() + seconds, b""
     connection.send_query(text)
     connection.flush()
@@ -83,27 +84,28 @@ class Store:
         return [make_conninfo(**{**given, "host": host, "port": ports[place % len(ports)]}) for place, host in enumerate(hosts)]
 
     def connect(self) -> None:
-        """Connects to the first of the hosts that takes it, also after the connection was closed. A host that is cut off is left soon: otherwise it
-        would be waited for by minutes, and no other one be asked."""
+        """Connects to the first of the hosts that takes it, whose settings are then in `at`. A host that is cut off is given up after seconds, by
+        PATIENCE: otherwise it would take minutes until the next one is asked."""
         *others, last = self.each_host()
         for self.at in others:
             with contextlib.suppress(psycopg.OperationalError):
-                self.connection = opened(self.at)
+                self.connection = connect_to(self.at)
                 return
         self.at = last
-        self.connection = opened(last)
+        self.connection = connect_to(last)
 
     def close(self) -> None:
+        """Closes the connection. `connect` makes another one."""
         self.connection.close()
 
-    def named(self, text: str) -> sql.Composed:
+    def statement(self, text: str) -> sql.Composed:
         """A statement with the name of the schema before each table: `{entries}` is one."""
         return sql.SQL(text).format(**{table: sql.Identifier(self.schema, table)
                                        for table in ("entries", "ended", "chains", "changes", "state", "heartbeat", "imports")})
 
     def rows(self, text: str, *values: Any) -> list[Any]:
-        """The rows of one statement, which is one transaction outside of another one."""
-        done = self.connection.execute(self.named(text), values, binary=True)
+        """Runs one statement, with values for its `%s`. Returns its rows. It is a transaction of its own, unless one was begun."""
+        done = self.connection.execute(self.statement(text), values, binary=True)
         return done.fetchall() if done.description else []
 
     def make(self) -> None:
@@ -124,11 +126,11 @@ class Store:
             raise Wrong(f"the store has version {version}, and this program reads {VERSION}")
 
     def add(self, text: bytes) -> int:
-        """Adds an entry in canonical form behind the others, and returns its number, which is never used again."""
+        """Adds an entry in canonical form behind the others. Returns its number, which is never used again. Raises `psycopg.Error`."""
         (number,), = self.rows("INSERT INTO {entries} (text) VALUES (%s) RETURNING number", text)
         return int(number)
 
-    def copy(self, texts: list[bytes]) -> None:
+    def add_many(self, texts: list[bytes]) -> None:
         """Adds many entries in canonical form, by one statement: COPY knows no grants of single rows."""
         self.rows("INSERT INTO {entries} (text) SELECT * FROM unnest(%b::bytea[])", texts)
 
@@ -144,7 +146,7 @@ class Store:
         """Increases the number of the heartbeat. Raises OperationalError if that fails, or takes longer: the server is not told to cancel it then,
         since a change that waits for a replica would count at once. A beat that waits so keeps others waiting, and they give up soon."""
         text = f"SET LOCAL lock_timeout = {WAITS}; UPDATE {{heartbeat}} SET number = number + 1, moment = clock_timestamp() RETURNING number"
-        return int(answered(self.connection.pgconn, self.named(text).as_string(self.connection).encode(), seconds))
+        return int(value_of(self.connection.pgconn, self.statement(text).as_string(self.connection).encode(), seconds))
 
     def all(self) -> Iterator[Row]:
         """All entries in order, of one state of the store."""
@@ -152,14 +154,14 @@ class Store:
             yield Row(*row)
 
     def paged(self, text: str) -> Iterator[tuple[Any, ...]]:
-        """The rows of a statement, as of one moment. They may be more than fit into memory."""
+        """The rows of a statement, as of one moment. They are read in parts, so they may be more than fit into memory."""
         with self.connection.transaction(), self.connection.cursor("all_rows", binary=True) as cursor:
             cursor.itersize = PAGE
-            cursor.execute(self.named(text))
+            cursor.execute(self.statement(text))
             yield from cursor
 
     def found(self, principals: list[bytes]) -> list[tuple[int, bytes]]:
-        """The number and the text of each entry that is found by one of these, in order."""
+        """The number and the text of each entry whose principal, a digest, is one of these, in order."""
         known = [each for each in principals if len(each) in LENGTHS]
         # (each length has an index of its own)
         found = " UNION ALL ".join(f"SELECT number, text FROM {{entries}} WHERE octet_length(principal) = {len(each)} AND principal = %s"

@@ -23,7 +23,7 @@ class Wrong(Exception):
 
 
 def end_of(text: mmap.mmap | bytes, at: int) -> int:
-    """The place behind the list in canonical form that begins at a place."""
+    """The offset behind the list in canonical form that begins at an offset. Raises Wrong if there is none."""
     depth = 0
     while at < len(text):
         octet = text[at]
@@ -46,7 +46,8 @@ def end_of(text: mmap.mmap | bytes, at: int) -> int:
 
 
 def entries_in(text: mmap.mmap | bytes, begin: int = 0) -> Iterator[tuple[bytes, int]]:
-    """The lists in a list in canonical form that is headed by `acl`, and the place behind each: from a place that was given so, or all."""
+    """The entries of an access list in canonical form, each with the offset behind it. `begin` is such an offset, from which an import goes on, or 0.
+    Raises Wrong where no list follows, and does not test that the lists are entries."""
     if text[:len(BEGIN)] != BEGIN:
         raise Wrong("a list of over 1 MiB must be in canonical form, and begin with (3:acl")
     at = begin or len(BEGIN)
@@ -61,8 +62,8 @@ def entries_in(text: mmap.mmap | bytes, begin: int = 0) -> Iterator[tuple[bytes,
 
 
 @contextlib.contextmanager
-def opened(path: str) -> Iterator[mmap.mmap | bytes]:
-    """The text of a list in canonical form. A file of at most 1 MiB may have any of the three forms."""
+def open_list(path: str) -> Iterator[mmap.mmap | bytes]:
+    """Opens a file for the block, which gets the text of its list in canonical form. A file of at most 1 MiB may have any of the three forms."""
     with open(path, "rb") as file:
         if os.fstat(file.fileno()).st_size <= MOST:
             text = file.read(MOST + 1)
@@ -73,7 +74,7 @@ def opened(path: str) -> Iterator[mmap.mmap | bytes]:
 
 
 def canonical(text: bytes) -> bytes:
-    """The canonical form of a text of one value."""
+    """The canonical form of a text of one value. Raises Wrong."""
     import spki
     try:
         return spki.canonical(text)
@@ -82,7 +83,7 @@ def canonical(text: bytes) -> bytes:
 
 
 def advanced(text: bytes) -> str:
-    """A text in canonical form on one line, for people to read."""
+    """A text in canonical form on one line, for people to read. If it is refused, its octets and why."""
     import spki
     try:
         return spki.advanced(text).decode().rstrip("\n")
@@ -91,7 +92,7 @@ def advanced(text: bytes) -> str:
 
 
 def entry_of(text: bytes) -> bytes:
-    """The canonical form of a text that is one entry."""
+    """The canonical form of a text that is one entry. Raises Wrong if it is none."""
     made = canonical(text)
     if why := fault_of([made]):
         raise Wrong(why[1])
@@ -108,12 +109,12 @@ def fault_of(texts: list[bytes]) -> tuple[int, str] | None:
                 if guard.entries == len(texts):
                     return None
     for place, text in enumerate(texts):
-        if why := alone(text):
+        if why := fault_of_one(text):
             return place, why
     return None
 
 
-def alone(text: bytes) -> str | None:
+def fault_of_one(text: bytes) -> str | None:
     """Why a text is no entry in canonical form. None if it is one."""
     import spki
     try:
@@ -126,7 +127,7 @@ def alone(text: bytes) -> str | None:
 
 
 def principal_of(text: bytes) -> bytes:
-    """What an entry in canonical form is found by: the digest of its hash, or the SHA-256 digest of its key."""
+    """What an entry in canonical form is found by: the digest of its hash, or the SHA-256 digest of its key. Raises Wrong."""
     import spki
     at = 15 if text[8:15] == b"(4:name" else 8
     principal = text[at:end_of(text, at)]
@@ -139,7 +140,7 @@ Sized = TypeVar("Sized")
 
 
 def batches(items: Iterable[tuple[Sized, int]], most: int) -> Iterator[list[Sized]]:
-    """Items, each given with its octets, in lists of at most so many, and of at most 1 MiB together where a list has more than one."""
+    """Items, each given with how many octets it has, in lists of at most `most` items and at most 1 MiB. A longer item is a list alone."""
     made: list[Sized] = []
     size = len(BEGIN) + len(END)
     for item, octets in items:

@@ -11,7 +11,7 @@ from collections import Counter
 from collections.abc import Iterator
 
 from .tables import Row, Store
-from .texts import BEGIN, END, Wrong, batches, entries_in, fault_of, opened
+from .texts import BEGIN, END, Wrong, batches, entries_in, fault_of, open_list
 
 # The entries of one transaction of an import.
 MOST_AT_ONCE = 5000
@@ -20,13 +20,13 @@ PAUSE = 0.5
 
 
 class Progress:
-    """A line on the terminal that says how far something is."""
+    """A line on the terminal that says how far something is. `most` is the octets of the whole, and `first` the entries that were done before."""
 
     def __init__(self, most: int, is_shown: bool) -> None:
         self.most, self.is_shown, self.begun, self.last, self.first = most, is_shown, time.monotonic(), 0.0, 0
 
     def show(self, done: int, entries: int) -> None:
-        """Shows how many octets and entries are done."""
+        """Shows how many octets and entries are done, at most once in PAUSE seconds."""
         now = time.monotonic()
         if self.is_shown and (now - self.last > PAUSE or done == self.most):
             self.last, rate = now, (entries - self.first) / max(now - self.begun, 0.001)
@@ -37,13 +37,14 @@ class Progress:
 
 
 def digest_of(text: mmap.mmap | bytes) -> bytes:
+    """The SHA-256 digest by which a file is known in `imports`."""
     return hashlib.sha256(text).digest()
 
 
-def imported(store: Store, path: str, is_shown: bool) -> tuple[int, int]:
+def import_list(store: Store, path: str, is_shown: bool) -> tuple[int, int]:
     """Adds the entries of a list. Returns how many were added now, and how many before by an import of this file that did not end. Entries and
     how far the import is are one transaction: nothing is added twice."""
-    with opened(path) as text:
+    with open_list(path) as text:
         digest, octets, before = digest_of(text), 0, 0
         for octets, before, is_done in store.rows("SELECT octets, entries, is_done FROM {imports} WHERE file = %s", digest):
             if is_done:
@@ -56,7 +57,7 @@ def imported(store: Store, path: str, is_shown: bool) -> tuple[int, int]:
                 raise Wrong(f"{path}: entry {done + fault[0] + 1}: {fault[1]}")
             done += len(texts)
             with store.connection.transaction():
-                store.copy(texts)
+                store.add_many(texts)
                 note(store, digest, end, done, False)
             progress.show(end, done)
         note(store, digest, len(text), done, True)
@@ -65,19 +66,19 @@ def imported(store: Store, path: str, is_shown: bool) -> tuple[int, int]:
 
 
 def note(store: Store, digest: bytes, octets: int, entries: int, is_done: bool) -> None:
-    """Notes how far a file was imported."""
+    """Notes how far a file was imported: up to an offset, and how many entries."""
     store.rows("INSERT INTO {imports} (file, octets, entries, is_done) VALUES (%s, %s, %s, %s) ON CONFLICT (file) DO UPDATE"
                " SET octets = excluded.octets, entries = excluded.entries, is_done = excluded.is_done", digest, octets, entries, is_done)
 
 
 def forget(store: Store, path: str) -> None:
     """Forgets that a file was imported."""
-    with opened(path) as text:
+    with open_list(path) as text:
         store.rows("DELETE FROM {imports} WHERE file = %s", digest_of(text))
 
 
-def exported(store: Store, path: str) -> int:
-    """Writes all entries as one list in canonical form into a new file, whole or not at all. Returns how many they are."""
+def export_list(store: Store, path: str) -> int:
+    """Writes all entries as one list in canonical form into a new file, whole or not at all. Returns how many they are. Raises Wrong or OSError."""
     if os.path.lexists(path):
         raise Wrong(f"{path} is there already, and is not written over")
     count, handle = 0, None
@@ -99,8 +100,9 @@ def exported(store: Store, path: str) -> int:
 
 
 def differences(store: Store, path: str) -> Iterator[tuple[Row | None, bytes]]:
-    """The rows that a list does not have, and the entries of the list that the store does not have. An entry may be there more than once."""
-    with opened(path) as text:
+    """The rows that a list does not have, each with its text, and then None with each entry of the list that the store does not have. An entry may be
+    there more than once."""
+    with open_list(path) as text:
         listed = Counter(hashlib.sha256(each).digest() for each, _ in entries_in(text))
         for row in store.all():
             digest = hashlib.sha256(row.text).digest()
@@ -108,6 +110,7 @@ def differences(store: Store, path: str) -> Iterator[tuple[Row | None, bytes]]:
                 listed[digest] -= 1
             else:
                 yield row, row.text
+        # (unary plus leaves out what all rows have used up)
         missing = +listed
         for each, _ in entries_in(text) if missing else ():
             digest = hashlib.sha256(each).digest()

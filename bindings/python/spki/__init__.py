@@ -44,7 +44,7 @@ from typing import NoReturn, TypeVar, cast
 from . import _library as of
 from ._library import library
 from ._values import (Denied, Explanation, Grant, Limits, NoDecision, NotProved, Policy, ProvenKey, Question, Reason, Reduction, Refused,
-                      Scheme, Signature, Verify, answer_of, moment_of, octets_of, signature_of, whole)
+                      Scheme, Signature, Verify, answer_of, int_of, moment_of, octets_of, signature_of)
 from ._words import Cause, Fault, Part
 
 __version__ = "0.2.0"
@@ -72,9 +72,9 @@ class _Handle(c_void_p, _Alone):
         super().__init__(address)
         self.process = os.getpid()
 
-    def closed(self, close: Callable[[c_void_p], None], process: Callable[[], int] = os.getpid) -> None:
-        """Frees its memory. A child that was forked has a copy of the memory, which ends with it."""
-        if self.process == process():
+    def free(self, close: Callable[[c_void_p], None], current_process: Callable[[], int] = os.getpid) -> None:
+        """Frees its memory by `close`, in the process that has opened it. A child that was forked has a copy of the memory, which ends with it."""
+        if self.process == current_process():
             close(self)
 
 
@@ -82,14 +82,14 @@ class _GuardHandle(_Handle):
     """A guard of the library. It is closed when nothing refers to it. A call refers to it, so no call on it can be under way."""
 
     def __del__(self, close: Callable[[c_void_p], None] = library.spki_guard_close) -> None:
-        self.closed(close)
+        self.free(close)
 
 
 class _AskedHandle(_Handle):
     """An opened question of the library, closed likewise."""
 
     def __del__(self, close: Callable[[c_void_p], None] = of.close) -> None:
-        self.closed(close)
+        self.free(close)
 
 
 class _Open(_Alone):
@@ -98,7 +98,7 @@ class _Open(_Alone):
     _handle: c_void_p | None
 
     def _held(self) -> c_void_p:
-        """The handle, which the caller keeps as long as it calls the library."""
+        """The handle, which the caller keeps as long as it calls the library. Raises `ValueError` if it is closed."""
         handle = self._handle
         if handle is None:
             raise ValueError(f"the {type(self).__name__} is closed")
@@ -123,8 +123,8 @@ class Asked(_Open, NoDecision):
     """
 
     def __init__(self, guard: c_void_p, question: Question, most: int) -> None:
-        """`Guard.ask` makes it. Its answers have at most so many octets."""
-        self._handle, self._most = _AskedHandle(_asked(guard, question)), most
+        """`Guard.ask` makes it. Its explanation and its reduction have at most `most` octets."""
+        self._handle, self._most = _AskedHandle(_opened(guard, question)), most
         self._count = of.count(self._handle)
         self._calls = threading.Lock()
 
@@ -148,20 +148,20 @@ class Asked(_Open, NoDecision):
     def mark(self, place: int) -> None:
         """Says that the signature at this place, from 0, is valid. The mark is for its place alone, also if the same signature is there twice.
         Raises `IndexError` if there is no such place, and then nothing is marked. `True` is no place, and raises `TypeError`."""
-        handle, at = self._held(), whole(place)
+        handle, at = self._held(), int_of(place)
         if at not in range(self._count):
             raise IndexError(f"there are {self._count} signatures, and none at the place {at}")
         with self._calls:
-            _marked(handle, at)
+            _mark(handle, at)
 
     def verify(self, verify: Verify) -> None:
         """Marks each signature of which `verify(signature)` answers `True`, in order. It is not called after the first `False`. Raises
         `TypeError` if it answers anything but `True` or `False`, such as a coroutine. To explain a denial, verify also where the request is not
         possible."""
         handle = self._held()
-        for place in range(_verified(handle, self._count, verify)):
+        for place in range(_count_valid(handle, self._count, verify)):
             with self._calls:
-                _marked(handle, place)
+                _mark(handle, place)
 
     @property
     def is_possible(self) -> bool:
@@ -175,7 +175,7 @@ class Asked(_Open, NoDecision):
         """The grant, if exactly the marked signatures are valid. `None` is a no. It may be asked any number of times."""
         handle = self._held()
         with self._calls:
-            return _decided(handle)
+            return _decide(handle)
 
     def require(self) -> int:
         """The number of the entry that grants the request, by the marks. Raises `Denied` if none does."""
@@ -190,7 +190,7 @@ class Asked(_Open, NoDecision):
         return Reduction(self._lines(of.reduce))
 
     def _lines(self, call: of.Answers) -> str:
-        """The lines of a call that decides nothing."""
+        """The lines of `of.explain` or `of.reduce`, without the last line feed. Raises `Refused`."""
         handle = self._held()
         with self._calls:
             status, lines = _answered(self._most, call, handle)
@@ -232,12 +232,12 @@ class Guard(_Open):
     def decide(self, question: Question, verify: Verify) -> Grant | None:
         """The grant of the question's request. `None` is a no. Raises `Refused` if a part of the question cannot be read."""
         # (the same as `ask`, `is_possible`, `verify` and `decide`, without an object for the question, which no other thread can close or mark)
-        handle = c_void_p(_asked(self._held(), question))
+        handle = c_void_p(_opened(self._held(), question))
         try:
             count = of.count(handle)
-            for place in range(_verified(handle, count, verify) if count and of.possible(handle) else 0):
-                _marked(handle, place)
-            return _decided(handle)
+            for place in range(_count_valid(handle, count, verify) if count and of.possible(handle) else 0):
+                _mark(handle, place)
+            return _decide(handle)
         finally:
             of.close(handle)
 
@@ -268,7 +268,7 @@ def string_at(text: bytes, *path: int) -> bytes | None:
     `None` if no string is there, or the text is no value in canonical form. Raises `Refused` if an allocation failed. Of
     `(public-key (rsa (n ..) (e #010001#)))` the path 1, 1, 1 is that of the modulus.
     """
-    octets, length, text, places = c_void_p(), c_size_t(), octets_of(text), list(map(whole, path))
+    octets, length, text, places = c_void_p(), c_size_t(), octets_of(text), list(map(int_of, path))
     if any(place not in range(len(text)) for place in places):
         return None
     status = library.spki_string(text, len(text), (c_size_t * len(places))(*places), len(places), byref(octets), byref(length))
@@ -283,16 +283,17 @@ def canonical(text: bytes) -> bytes:
 
 
 def advanced(text: bytes) -> bytes:
-    """The same in advanced form, on one line, with a line feed at its end."""
+    """The advanced form of a text, which `canonical` would accept, on one line, with a line feed at its end."""
     return _converted(of.ADVANCED, octets_of(text))
 
 
 def transport(text: bytes) -> bytes:
-    """The same in the transport form, on one line, with a line feed at its end."""
+    """The transport form of a text, which `canonical` would accept, on one line, with a line feed at its end."""
     return _converted(of.TRANSPORT, octets_of(text))
 
 
 def _converted(command: int, text: bytes) -> bytes:
+    """The form of a text that a command gives: `of.CANONICAL`, `of.ADVANCED` or `of.TRANSPORT`. Raises `Refused`."""
     # (an octet that is printed in base64 takes 7 for the 3 of its canonical text)
     status, answer = _answered(3 * len(text), library.spki_answer, command, text, len(text))
     _expect(status, answer)
@@ -303,7 +304,7 @@ def _converted(command: int, text: bytes) -> bytes:
 
 
 class _Room:
-    """Memory for the answer of one call, and what the call is given of it."""
+    """Memory for what one call returns: a short answer, a handle or a signature. `at_..` are the addresses that the call is given."""
 
     def __init__(self) -> None:
         self.buffer, self.needed, self.opened, self.signed = (c_char * _LINE)(), c_size_t(), c_void_p(), bytearray(of.SIGNED.size)
@@ -318,7 +319,7 @@ class _Room:
 
 
 class _Lines:
-    """Memory for the longest answer of a call. The system gives no more of it than was used."""
+    """Memory for an answer of at most so many octets. The system gives no more of it than was used."""
 
     def __init__(self, octets: int) -> None:
         self.buffer, self.octets, self.needed = mmap.mmap(-1, octets, mmap.MAP_PRIVATE), c_size_t(octets), c_size_t()
@@ -332,16 +333,16 @@ _spare_lines: list[_Lines] = []
 _numbers = [c_size_t(number) for number in range(64)]
 
 
-def _taken() -> _Room:
-    """A room that no other call has."""
+def _take_room() -> _Room:
+    """A room that no other call has. The caller appends it to `_spare` afterwards."""
     try:
         return _spare.pop()
     except IndexError:
         return _Room()
 
 
-def _room_for_lines() -> _Lines:
-    """The same for the usual limit of an answer."""
+def _take_lines() -> _Lines:
+    """Memory for an answer within the usual limit, which no other call has. The caller appends it to `_spare_lines` afterwards."""
     try:
         return _spare_lines.pop()
     except IndexError:
@@ -354,10 +355,11 @@ def _number(number: int) -> c_size_t:
 
 
 def _answered(most: int, call: Callable[..., int], *given: object) -> tuple[int, bytes]:
-    """The status and the answer of a call that writes at most so many octets, or one line. So no call is made twice."""
+    """Makes a call whose answer has at most `most` octets, or one line. `given` are its arguments before those of the answer. Returns its status and
+    the answer. The memory is large enough, so no call is made twice."""
     is_usual = most <= of.USUAL_ANSWER
     try:
-        room = _room_for_lines() if is_usual else _Lines(most)
+        room = _take_lines() if is_usual else _Lines(most)
     except OSError:
         return of.NO_MEMORY, b""
     status = call(*given, room.at_buffer, room.octets, byref(room.needed))
@@ -367,11 +369,11 @@ def _answered(most: int, call: Callable[..., int], *given: object) -> tuple[int,
     return status, answer
 
 
-def _asked(guard: c_void_p, question: Question) -> int | None:
-    """The address of an opened question."""
+def _opened(guard: c_void_p, question: Question) -> int | None:
+    """Opens a question and returns its address, which the caller must free by `of.close`. Raises `Refused`, or `TypeError`."""
     if not isinstance(question, Question):
         raise TypeError(f"a guard is asked a `Question`, and not {type(question).__name__}")
-    room = _taken()
+    room = _take_room()
     status = of.ask(guard, question._at, room.at_opened, room.at_buffer, room.octets, room.at_needed)
     opened, answer = room.opened.value, room.answer() if status != of.DONE else b""
     _spare.append(room)
@@ -380,7 +382,7 @@ def _asked(guard: c_void_p, question: Question) -> int | None:
 
 
 def _texts(handle: c_void_p, place: int, room: _Room) -> tuple[int, ...]:
-    """Where the texts of a signature are, and how long they are."""
+    """The address and the length of each text of `struct spki_signed`: the key, the message, the value, and its octets. `room` is for the call."""
     status = of.signature(handle, _number(place), room.at_signed)
     if status != of.DONE:
         raise _refused(status, b"")
@@ -388,17 +390,17 @@ def _texts(handle: c_void_p, place: int, room: _Room) -> tuple[int, ...]:
 
 
 def _signature(handle: c_void_p, place: int, keys: dict[bytes, bytes]) -> Signature:
-    """A signature of an opened question. Its key is the one of `keys` that is equal, which gets it otherwise."""
-    room = _taken()
+    """Copies a signature of an opened question. `keys` has the keys of those that were copied before, so that equal keys are one object."""
+    room = _take_room()
     numbers = _texts(handle, place, room)
     _spare.append(room)
     key, message, value, _ = (of.memory[at:at + length] for at, length in zip(numbers[::2], numbers[1::2]))
     return signature_of(keys.setdefault(key, key), message, value)
 
 
-def _verified(handle: c_void_p, count: int, verify: Verify) -> int:
-    """How many signatures are valid, up to the first that is not."""
-    memory, room, last = of.memory, _taken(), b""
+def _count_valid(handle: c_void_p, count: int, verify: Verify) -> int:
+    """How many of `count` signatures are valid before the first that is not. Raises `TypeError` if `verify` answers neither `True` nor `False`."""
+    memory, room, last = of.memory, _take_room(), b""
     try:
         for place in range(count):
             at, length, message, message_length, value, value_length, _, _ = _texts(handle, place, room)
@@ -415,17 +417,17 @@ def _verified(handle: c_void_p, count: int, verify: Verify) -> int:
     return count
 
 
-def _marked(handle: c_void_p, place: int) -> None:
-    """Marks the signature at a place."""
+def _mark(handle: c_void_p, place: int) -> None:
+    """Says that the signature at a place, from 0, is valid."""
     status = of.mark(handle, _number(place))
     if status != of.DONE:
         raise _refused(status, b"")
 
 
-def _decided(handle: c_void_p) -> Grant | None:
-    """The decision by the marks."""
+def _decide(handle: c_void_p) -> Grant | None:
+    """The grant by the marks, or `None` for a no."""
     # (each line of a decision fits)
-    room = _taken()
+    room = _take_room()
     decision, line = of.decide(handle, room.at_buffer, room.octets, room.at_needed), room.answer()
     _spare.append(room)
     status = decision.status
@@ -437,7 +439,7 @@ def _decided(handle: c_void_p) -> Grant | None:
 
 
 def _required(grant: Grant | None) -> int:
-    """The entry of a grant."""
+    """The entry of a grant. Raises `Denied` if there is none."""
     if grant is None:
         raise Denied
     return grant.entry
@@ -445,17 +447,18 @@ def _required(grant: Grant | None) -> int:
 
 @functools.lru_cache(1024)
 def _granted(line: bytes, until: int) -> Grant:
-    """The grant of a line till a second, which does not change."""
+    """The grant of a line `yes entry N`, until a second since 1970. Equal ones are one object, since a grant does not change."""
     return Grant(int(line[len("yes entry "):]), None if until == of.ENDLESS else moment_of(until))
 
 
 def _expect(status: int, answer: bytes) -> None:
+    """Raises the exception of a call that failed."""
     if status != of.DONE:
         raise _refused(status, answer)
 
 
 def _refused(status: int, answer: bytes) -> Exception:
-    """The exception of a call that failed."""
+    """The exception of a call that failed, by its status and its answer."""
     if status == of.NO_MEMORY:
         return Refused("refused Memory")
     if status != of.REFUSED:

@@ -46,7 +46,7 @@ class Signed(Structure):
     _fields_ = [(f"{name}{part}", kind) for name in ("key", "message", "value", "octets") for part, kind in (("", c_void_p), ("_length", c_size_t))]
 
 
-# The same as numbers. A null address is 0.
+# The members of `struct spki_signed` as numbers. A null address is 0.
 SIGNED = struct.Struct("8N")
 
 
@@ -73,7 +73,7 @@ memory = cast(Memory, (ctypes.c_char * sys.maxsize).from_address(0))
 
 
 def of_this_version() -> str | None:
-    """The name of the library of this version, if the loader finds it. Those of other versions may be installed beside it."""
+    """The file name of the library of this version, or None if the loader does not find it. Other versions may be installed beside it."""
     name = f"libspki_c.so.{VERSION}"
     try:
         ctypes.CDLL(name)
@@ -82,8 +82,8 @@ def of_this_version() -> str | None:
     return name
 
 
-def found() -> str:
-    """The path of the library: what SPKI_LIBRARY names, else the file beside this module, else what the loader finds."""
+def library_path() -> str:
+    """What SPKI_LIBRARY names, else the file beside this module, else what the loader finds. Raises ImportError if there is none."""
     beside = os.path.join(os.path.dirname(os.path.abspath(__file__)), "libspki_c.so")
     path = os.environ.get("SPKI_LIBRARY") or (beside if os.path.exists(beside) else of_this_version() or ctypes.util.find_library("spki_c"))
     if path is None:
@@ -91,8 +91,8 @@ def found() -> str:
     return path
 
 
-def checked(path: str) -> ctypes.CDLL:
-    """The library at a path. Raises ImportError if it is of another version than this module."""
+def load(path: str) -> ctypes.CDLL:
+    """Loads the library at a path. Raises ImportError if it is of another version than this module."""
     loaded = ctypes.CDLL(path)
     version: Callable[[], bytes] | None = getattr(loaded, "spki_version", None)
     if version is not None:
@@ -103,7 +103,7 @@ def checked(path: str) -> ctypes.CDLL:
     return loaded
 
 
-library = checked(found())
+library = load(library_path())
 # (the same library, for calls that take less time than letting other threads of Python run meanwhile)
 at_once = ctypes.PyDLL(library._name)
 # The calls about a question. ctypes converts none of their arguments: they are objects of ctypes and octets, as mypy checks.

@@ -74,7 +74,7 @@ class Limits:
         for field in fields(self):
             mosts = {"octets": of.MOST_OCTETS, "nodes": of.MOST_NODES, "work": of.MOST_WORK, "answer": of.MOST_ANSWER}
             most = mosts.get(field.name, of.HIGHEST)
-            if not 0 <= whole(getattr(self, field.name)) <= most:
+            if not 0 <= int_of(getattr(self, field.name)) <= most:
                 raise ValueError(f"the limit `{field.name}` is a number from 0 to {most:,}")
 
     @classmethod
@@ -240,7 +240,7 @@ _Parts = tuple[bytes, ProvenKey, Union[Sequence[bytes], None], Union[bytes, None
 
 
 def _question_of(sequence: bytes, key: ProvenKey, words: Sequence[bytes] | None, text: bytes | None, moment: bytes | datetime) -> Question:
-    """A copy of a question, of its parts."""
+    """The question of these parts: how a copy is made."""
     return Question(sequence, key, words=words, text=text, moment=moment)
 
 
@@ -318,34 +318,34 @@ class Reduction(NoDecision):
 
 
 def answer_of(answer: object) -> bool:
-    """An answer of a verifier."""
+    """The answer of a verifier. Raises `TypeError` if it is neither `True` nor `False`."""
     if answer is not True and answer is not False:
         raise TypeError(f"a signature is valid by True or not by False, and not by {type(answer).__name__}")
     return answer
 
 
 def octets_of(text: bytes) -> bytes:
-    """The octets of a text. A subclass of bytes may say another length than it has, so its octets are copied."""
+    """The octets of a text. A subclass of bytes may say another length than it has, so its octets are copied. Raises `TypeError` for other types."""
     if not isinstance(text, bytes):
         raise TypeError(f"a text is bytes, and not {type(text).__name__}")
     return text if type(text) is bytes else memoryview(text).tobytes()
 
 
-def whole(number: int) -> int:
-    """A number. ctypes would cut one that is too large, so what calls this compares it."""
+def int_of(number: int) -> int:
+    """A number as an `int`. Raises `TypeError` for other types and for `bool`. ctypes would cut one that is too large, so callers test its range."""
     if not isinstance(number, int) or isinstance(number, bool):
         raise TypeError(f"this is an int, and not {type(number).__name__}")
     return int.__index__(number)
 
 
 def moment_of(seconds: int) -> datetime:
-    """The moment of seconds, or the last or the first that Python has."""
+    """The moment of seconds since 1970, or the last or the first moment that Python has."""
     last, first = (limit.replace(tzinfo=timezone.utc) for limit in (datetime.max, datetime.min))
     return last if seconds > seconds_of(last) else first if seconds < seconds_of(first) else EPOCH + seconds * SECOND
 
 
 def seconds_of(moment: datetime) -> int:
-    """A moment in seconds: the one that it is in."""
+    """The seconds from 1970 to a moment, rounded down. Raises `TypeError` if it is no `datetime` or has no time zone."""
     if not isinstance(moment, datetime):
         raise TypeError(f"a moment is a `datetime` or the text of a date, and not {type(moment).__name__}: use datetime.now(timezone.utc)")
     if moment.tzinfo is None:

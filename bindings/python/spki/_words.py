@@ -12,6 +12,7 @@ class _Word(str, enum.Enum):
 
     @classmethod
     def _missing_(cls, value: object) -> _Word:
+        """Called by `enum` for a word of no member."""
         return cls["OTHER"]
 
 

@@ -21,8 +21,8 @@ OCTETS = re.compile(r":([A-Za-z0-9+/]*={0,2}):")
 MORE = re.compile(r"[ \t]*,")
 DIGESTS = {"sha-256": 32, "sha-512": 64}
 ECDSA = b"(7:sig-val(5:ecdsa(1:r%)(1:s%)))"
-# The algorithms, the canonical texts of their keys and of the values of their signatures, with `%` for each string, and the octets of a signature: 0
-# where the key says it.
+# Of each algorithm: the templates of its keys and of the values of its signatures, which are canonical texts with `%` for each string, and how many
+# octets a signature has: 0 where the key says it.
 FORMS = {
     "ed25519": (b"(10:public-key(3:ecc(5:curve7:Ed25519)(5:flags5:eddsa)(1:q%)))", b"(7:sig-val(5:eddsa(1:r%)(1:s%)))", 64),
     "ecdsa-p256-sha256": (b"(10:public-key(3:ecc(5:curve10:NIST P-256)(1:q%)))", ECDSA, 64),
@@ -54,47 +54,49 @@ class Input:
 
 
 class Parser:
-    """Takes a field apart from the left."""
+    """Reads a field from the left, behind its label `spki=`. Each method raises `Refused` where it finds something else than it reads."""
 
     def __init__(self, text: str) -> None:
         if len(text) > MOST_INPUT:
             raise Refused("malformed")
         self.text, self.at = text, 0
-        name = self.taken(NAME)
-        self.skip("=")
+        name = self.take(NAME)
+        self.expect("=")
         if name[0] != LABEL:
             raise Refused("other-label")
 
-    def skips(self, text: str) -> bool:
-        """Whether the rest begins with a text, which is passed over then."""
+    def skip_if(self, text: str) -> bool:
+        """Skips a text if the rest begins with it. Returns whether it does."""
         found = self.text.startswith(text, self.at)
         self.at += len(text) if found else 0
         return found
 
-    def skip(self, text: str) -> None:
-        if not self.skips(text):
+    def expect(self, text: str) -> None:
+        """Skips a text, with which the rest must begin."""
+        if not self.skip_if(text):
             raise Refused("malformed")
 
-    def taken(self, form: re.Pattern[str]) -> re.Match[str]:
-        """What the rest begins with, in a form."""
-        found = form.match(self.text, self.at)
+    def take(self, pattern: re.Pattern[str]) -> re.Match[str]:
+        """Reads what matches a pattern at the beginning of the rest."""
+        found = pattern.match(self.text, self.at)
         if not found:
             raise Refused("malformed")
         self.at = found.end()
         return found
 
-    def end(self) -> None:
+    def expect_end(self) -> None:
+        """Raises `Refused` if something follows, such as a second signature."""
         if self.at != len(self.text):
             raise Refused("two-signatures" if MORE.match(self.text, self.at) else "malformed")
 
     def components(self) -> list[str]:
-        """The list of components."""
+        """Reads the list of components, `("@method" ..)`. Returns their names in order."""
         found: list[str] = []
-        self.skip("(")
-        while not self.skips(")"):
-            if len(found) == MOST_COMPONENTS or found and not self.skips(" "):
+        self.expect("(")
+        while not self.skip_if(")"):
+            if len(found) == MOST_COMPONENTS or found and not self.skip_if(" "):
                 raise Refused("malformed")
-            name = self.taken(STRING)[1]
+            name = self.take(STRING)[1]
             if not is_component(name) or self.text.startswith(";", self.at):
                 raise Refused("unknown-component")
             if name in found:
@@ -103,17 +105,17 @@ class Parser:
         return found
 
     def parameters(self) -> dict[str, str]:
-        """The parameters, as they are written without quotes."""
+        """Reads the parameters, `;created=1700000000 ..`, and the end. Returns the texts by name, without quotes."""
         found: dict[str, str] = {}
-        while self.skips(";"):
-            name = self.taken(NAME)[0]
+        while self.skip_if(";"):
+            name = self.take(NAME)[0]
             if name not in NUMBERS + STRINGS:
                 raise Refused("unknown-parameter")
             if name in found:
                 raise Refused("parameter-twice")
-            self.skip("=")
-            found[name] = self.taken(INTEGER)[0] if name in NUMBERS else self.taken(STRING)[1]
-        self.end()
+            self.expect("=")
+            found[name] = self.take(INTEGER)[0] if name in NUMBERS else self.take(STRING)[1]
+        self.expect_end()
         return found
 
 
@@ -138,15 +140,15 @@ def input_of(text: str) -> Input:
 def signature_of(text: str) -> bytes:
     """Reads `Signature`."""
     parser = Parser(text)
-    octets = decoded(parser.taken(OCTETS)[1])
+    octets = decoded(parser.take(OCTETS)[1])
     if octets is None:
         raise Refused("malformed")
-    parser.end()
+    parser.expect_end()
     return octets
 
 
 def decoded(text: str) -> bytes | None:
-    """The octets of base64 with its padding, in the one text that they have."""
+    """The octets of a text in base64. None if the text is not exactly how these octets are encoded, with padding."""
     try:
         octets = base64.b64decode(text, validate=True)
     except (binascii.Error, ValueError):
@@ -175,46 +177,45 @@ def hash_of(key: bytes) -> str:
 
 
 def in_braces(key: bytes) -> str:
-    """A key in transport form."""
+    """A key in transport form: its base64 in braces."""
     return f"{{{base64.b64encode(key).decode()}}}"
 
 
 def key_of(text: str) -> tuple[bytes, str, int]:
-    """The key that a text is in transport form, its algorithm, and the octets of a signature by it."""
+    """Reads a key in transport form. Returns its canonical text, its algorithm, and how many octets a signature by it has. Raises `Refused`."""
     key = decoded(text[1:-1]) if len(text) <= MOST_KEY and text.startswith("{") and text.endswith("}") else None
-    return (key, *kind_of(key)) if key else refuse_key()
-
-
-def refuse_key() -> tuple[bytes, str, int]:
-    raise Refused("bad-key")
+    if not key:
+        raise Refused("bad-key")
+    return (key, *kind_of(key))
 
 
 def kind_of(key: bytes) -> tuple[str, int]:
-    """The algorithm of a key, and the octets of a signature by it."""
-    for name, (form, _, length) in FORMS.items():
-        if strings := strings_of(key, form):
+    """The algorithm of a canonical key, and how many octets a signature by it has: with RSA those of the modulus. Raises `Refused`."""
+    for name, (template, _, length) in FORMS.items():
+        if strings := strings_of(key, template):
             return name, length or len(strings[0].lstrip(b"\0"))
     raise Refused("bad-key")
 
 
 def value_of(algorithm: str, octets: bytes) -> bytes:
-    """The canonical value of the octets of a signature."""
+    """The canonical value, `(7:sig-val..)`, of a signature's octets. They are split into two equal strings, with RSA into one."""
     half = len(octets) if algorithm.startswith("rsa") else len(octets) // 2
     strings = [octets[:half], octets[half:]][:len(octets) // half]
     return FORMS[algorithm][1].replace(b"%", b"%d:%s") % tuple(part for it in strings for part in (len(it), it))
 
 
 def octets_of(value: bytes) -> bytes:
-    """The octets of a signature with a canonical value, whose halves are equally long."""
-    for _, form, _ in FORMS.values():
-        if strings := strings_of(value, form):
+    """The octets of a signature with a canonical value: its strings joined. Those of a pair must be equally long. Raises `ValueError`."""
+    for _, template, _ in FORMS.values():
+        if strings := strings_of(value, template):
             return b"".join(strings)
     raise ValueError("this is no value of a signature")
 
 
-def strings_of(text: bytes, form: bytes) -> list[bytes]:
-    """The strings of a canonical text that are at the marks of a form. None of them if the text has another form."""
-    first, *rest = form.split(b"%")
+def strings_of(text: bytes, template: bytes) -> list[bytes]:
+    """The strings of a canonical text at the `%` places of a template of `FORMS`. An empty list if the text does not match it, or if a string has
+    over 9,999 octets."""
+    first, *rest = template.split(b"%")
     at, found = len(first), []
     if not text.startswith(first):
         return []

@@ -33,7 +33,7 @@ class Message:
         return [value.strip(" \t") for known, value in self.fields if known.lower() == name]
 
     def may_have_body(self) -> bool:
-        """Whether a digest must be covered."""
+        """Whether it may have a body, so that a digest must be covered."""
         lengths = [it for it in self.values("content-length") if it != "0"]
         return self.method not in ("GET", "HEAD") or self.has_body or bool(self.body or lengths or self.values("transfer-encoding"))
 
@@ -44,13 +44,14 @@ def authority_of(scheme: str, authority: str) -> str:
 
 
 def base_of(message: Message, scheme: str, components: list[str], parameters: str) -> bytes:
-    """The signature base. The parameters are those of `Signature-Input`, as they were sent."""
+    """The signature base: the text that is signed. `components` are names, and `parameters` is the rest of `Signature-Input` after `spki=`. Raises
+    `Refused` as `value_of` does."""
     lines = [f'"{name}": {value_of(message, scheme, name)}' for name in components]
     return "\n".join([*lines, f'"@signature-params": {parameters}']).encode("ascii")
 
 
 def value_of(message: Message, scheme: str, name: str) -> str:
-    """The value of a component."""
+    """The value of a component by its name. Raises `Refused` if it is a field that is absent, repeated or not printable ASCII."""
     path, mark, query = message.target.partition("?")
     authority = authority_of(scheme, message.authority)
     match name:

@@ -28,26 +28,26 @@ class Signer:
         self.algorithm, self.length = kind_of(key)
 
     def fields(self, method: str, url: str, body: bytes = b"", fields: Iterable[tuple[str, str]] = (), covered: Iterable[str] = ()) -> dict[str, str]:
-        """The fields that a request to an address gets, in place of those of these names. Of the others that it has, those are covered that the
-        profile asks for, and those that are named in small letters."""
+        """The fields to set in a request, which replace its own fields of the same names. `fields` are those that it has. The signature covers what
+        the profile asks for, and those of `covered`, which are names in small letters. Raises `ValueError` for an address that cannot be signed."""
         parts = urllib.parse.urlsplit(url)
         if parts.scheme not in ("https", "http") or not parts.hostname or parts.username is not None:
             raise ValueError("no address of https or http, or one with a name and a password")
         target = (parts.path or "/") + (f"?{parts.query}" if "?" in url.partition("#")[0] else "")
-        own, known = {KEY: in_braces(self.key), **({SEQUENCE: self.sequence} if self.sequence else {})}, [*fields]
-        if Message(method, parts.netloc, target, known, body).may_have_body():
+        own, given = {KEY: in_braces(self.key), **({SEQUENCE: self.sequence} if self.sequence else {})}, [*fields]
+        if Message(method, parts.netloc, target, given, body).may_have_body():
             own["Content-Digest"] = content_digest(body)
         replaced = {name.lower() for name in own}
-        kept = [(name, value) for name, value in known if name.lower() not in replaced]
+        kept = [(name, value) for name, value in given if name.lower() not in replaced]
         message = Message(method, parts.netloc, target, [*kept, *own.items()], body)
-        more = (CHAINED, SEQUENCE.lower(), DIGEST, *covered)
-        names = ["@method", "@authority", "@path", "@query", PUBLIC_KEY, *(it for it in more if message.values(it))]
+        where_present = (CHAINED, SEQUENCE.lower(), DIGEST, *covered)
+        names = ["@method", "@authority", "@path", "@query", PUBLIC_KEY, *(it for it in where_present if message.values(it))]
         parameters = self._parameters(names)
         octets = octets_of(self.sign(base_of(message, parts.scheme, names, parameters))).rjust(self.length, b"\0")
         return {**own, "Signature-Input": f"{LABEL}={parameters}", "Signature": f"{LABEL}=:{base64.b64encode(octets).decode()}:"}
 
     def _parameters(self, names: list[str]) -> str:
-        """The value of `@signature-params`, with a new nonce."""
+        """The value of `@signature-params` for these components, from now on and with a new nonce."""
         created, listed = int(time.time()), " ".join(f'"{name}"' for name in names)
         keyid, nonce = hash_of(self.key), secrets.token_urlsafe(16)
         return f'({listed});created={created};expires={created + MOST_WINDOW};nonce="{nonce}";keyid="{keyid}";alg="{self.algorithm}";tag="{TAG}"'
@@ -64,6 +64,7 @@ class Auth:
         self.signer, self.names = signer, {name.lower() for name in names}
 
     def __call__(self, request: Any) -> Any:
+        """Adds the fields to a request, which it returns. Raises `TypeError` for a body that is a stream."""
         url = str(request.url)
         if urllib.parse.urlsplit(url).netloc.lower() in self.names:
             body = request.content if hasattr(request, "content") else request.body
@@ -84,6 +85,7 @@ class Handler(urllib.request.BaseHandler):
         self.signer, self.names = signer, {name.lower() for name in names}
 
     def https_request(self, request: urllib.request.Request) -> urllib.request.Request:
+        """Adds the fields to a request, which it returns. `urllib` calls it for each request."""
         if urllib.parse.urlsplit(request.full_url).netloc.lower() in self.names:
             body = request.data or b""
             if not isinstance(body, bytes):

@@ -27,7 +27,7 @@ class Signed(NamedTuple):
 
 
 def usual_verify() -> Callable[[Signed], bool]:
-    """What verifies signatures, if nothing else is given."""
+    """The function that verifies signatures if a `Verifier` is given none. It is imported here, since it needs `cryptography`."""
     import spki_verify
     return spki_verify.verify
 
@@ -40,7 +40,8 @@ class Nonces(Protocol):
 
 
 class Memory:
-    """Nonces in two sets of at most so many, as digests of key and nonce. If the young set is as old as a nonce is kept, it becomes the old one."""
+    """Nonces in two sets of at most `most` each, as digests of key and nonce. When the young set is as old as a nonce is kept, it replaces the old
+    one."""
 
     def __init__(self, most: int = USUAL_NONCES) -> None:
         self.most, self.turned, self.lock = most, 0, threading.Lock()
@@ -48,6 +49,7 @@ class Memory:
         self.young: set[bytes] = set()
 
     def take(self, key: bytes, nonce: str, now: int, seconds: int) -> None:
+        """Keeps a nonce, as `Nonces` says."""
         name = hashlib.sha256(key + b"\0" + nonce.encode()).digest()[:16]
         with self.lock:
             if now - self.turned >= seconds:
@@ -62,8 +64,8 @@ class Memory:
 
 @dataclass(frozen=True)
 class Proof:
-    """The key that has signed a request, in canonical form, and the certificates that the request shows, as a question has them. `digest` is that of
-    its body, if one is covered."""
+    """The key that has signed a request, in canonical form, and the certificates that the request shows, as a question takes them. `digest` is the
+    algorithm and the octets of its body's digest, or None if none is covered."""
 
     key: bytes
     sequence: bytes
@@ -71,7 +73,7 @@ class Proof:
     digest: tuple[str, bytes] | None
 
     def covers(self, body: bytes) -> bool:
-        """Whether a body is the signed one. A request without a digest has none."""
+        """Whether a body is the signed one, which is empty if no digest is covered."""
         return body == b"" if self.digest is None else hashlib.new(self.digest[0].replace("-", ""), body).digest() == self.digest[1]
 
 
@@ -97,11 +99,11 @@ class Verifier:
         return proof
 
     def take(self, proof: Proof) -> None:
-        """Uses up a nonce. NO PROOF COUNTS WITHOUT IT: `check` leaves that to its caller, who may decide first."""
+        """Uses up the nonce of a proof from `check`. NO PROOF COUNTS WITHOUT IT, but the caller may decide before. Raises `Refused`."""
         self.nonces.take(proof.key, proof.nonce, int(self.now()), MOST_WINDOW + MOST_AHEAD)
 
     def check(self, message: Message) -> Proof:
-        """The proof of a request. `take` must follow."""
+        """The proof of a request, whose nonce is not used up: `take` must follow. Raises `Refused`."""
         message = replace(message, fields=[*message.fields])
         inputs, signatures = message.values("signature-input"), message.values("signature")
         if not inputs and not signatures:
@@ -127,7 +129,7 @@ class Verifier:
         return proof
 
     def _check_time(self, given: Input) -> None:
-        """Tests the tag, the nonce and the window."""
+        """Tests the tag, the length of the nonce, and the times. Raises `Refused` by the first test that fails."""
         now = int(self.now())
         for is_wrong, name in (
             (given.tag != TAG, "other-tag"), (not LEAST_NONCE <= len(given.nonce) <= MOST_NONCE, "bad-nonce"),
@@ -138,7 +140,8 @@ class Verifier:
                 raise Refused(name)
 
     def _check_message(self, message: Message, given: Input) -> tuple[bytes, tuple[str, bytes] | None]:
-        """The signed text of a message, and the digest of its body if one is covered."""
+        """Tests what is covered. Returns the signed text, and the algorithm and octets of the body's digest, or None if none is covered. Raises
+        `Refused`."""
         if not METHOD.fullmatch(message.method):
             raise Refused("bad-method")
         if not TARGET.fullmatch(message.target):

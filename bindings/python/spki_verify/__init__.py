@@ -29,7 +29,7 @@ MOST_OCTETS = 4096
 P_25519, ORDER_25519 = 2**255 - 19, 2**252 + 27742317777372353535851937790883648493
 # The coordinate y of the four points of order 8.
 EIGHTHS = (0x05FC536D880238B13933C6D305ACDFD5F098EFF289F4C345B027B2C28F95E826, 0x7A03AC9277FDC74EC6CC392CFA53202A0F67100D760B3CBA4FD84D3D706A17C7)
-# The canonical texts of keys and of values, with `%` for each string that differs.
+# The templates of keys and of values of signatures: canonical texts with `%` for each string that differs.
 ED25519_KEY = b"(10:public-key(3:ecc(5:curve7:Ed25519)(5:flags5:eddsa)(1:q%)))"
 RSA_KEY = b"(10:public-key(3:rsa(1:n%)(1:e%)))"
 ECDSA_KEY = b"(10:public-key(3:ecc(5:curve%)(1:q%)))"
@@ -76,7 +76,7 @@ def verify(signature: Signed) -> bool:
 
 
 def verify_texts(*, key: bytes, message: bytes, value: bytes) -> bool:
-    """The same of three texts, each by its name."""
+    """As `verify`, of three texts."""
     public = public_of(key)
     try:
         return public is not None and message != b"" and _is_signed(public, message, value)
@@ -92,7 +92,7 @@ def public_of(key: bytes) -> Public | None:
             return Ed25519PublicKey.from_public_bytes(found[0]) if _is_of_large_order(found[0]) else None
         if found := _strings(key, ECDSA_KEY):
             curve = CURVES.get(found[0])
-            return EllipticCurvePublicKey.from_encoded_point(curve.curve, found[1]) if curve and _is_written_point(curve, found[1]) else None
+            return EllipticCurvePublicKey.from_encoded_point(curve.curve, found[1]) if curve and _are_coordinates(curve, found[1]) else None
         return _rsa(*found) if (found := _strings(key, RSA_KEY)) else None
     except ValueError:
         return None
@@ -104,19 +104,19 @@ def number(value: int) -> bytes:
 
 
 def _is_of_large_order(q: bytes) -> bool:
-    """Whether a point of Ed25519 has no small order and one text only, as far as y says that."""
+    """Whether the coordinate y in a text of Ed25519 rules out a small order and a second text of the point. That it is a point is not tested."""
     y = int.from_bytes(q, "little") % 2**255
     return len(q) == HALF and 2**192 <= y < P_25519 - 1 and y not in EIGHTHS
 
 
-def _is_written_point(curve: Curve, q: bytes) -> bool:
-    """Whether octets are those of two coordinates of a curve. The library tests that they are a point."""
+def _are_coordinates(curve: Curve, q: bytes) -> bool:
+    """Whether octets are 4 and then two coordinates below the prime of a curve. `cryptography` tests that the point is on the curve."""
     x, y = int.from_bytes(q[1:1 + curve.octets], "big"), int.from_bytes(q[1 + curve.octets:], "big")
     return len(q) == 1 + 2 * curve.octets and q[0] == 4 and x < curve.prime and y < curve.prime
 
 
 def _rsa(modulus: bytes, exponent: bytes) -> RSAPublicKey | None:
-    """The key of a modulus and an exponent."""
+    """The key of a modulus and an exponent. None if one is not as `number` writes it, or is even or out of bounds."""
     n, e = int.from_bytes(modulus, "big"), int.from_bytes(exponent, "big")
     is_written = (modulus, exponent) == (number(n), number(e))
     is_within = LEAST_BITS <= n.bit_length() <= MOST_BITS and 3 <= e < 2**MOST_EXPONENT_BITS
@@ -124,7 +124,7 @@ def _rsa(modulus: bytes, exponent: bytes) -> RSAPublicKey | None:
 
 
 def _is_signed(public: Public, message: bytes, value: bytes) -> bool:
-    """True if a value is a signature by a public key. Otherwise False or an exception."""
+    """True if a value is a signature by a public key. Otherwise False or an exception, such as `InvalidSignature`."""
     if isinstance(public, Ed25519PublicKey):
         found = _strings(value, EDDSA)
         if [len(it) for it in found] != [HALF, HALF] or int.from_bytes(found[1], "little") >= ORDER_25519:
@@ -143,9 +143,10 @@ def _is_signed(public: Public, message: bytes, value: bytes) -> bool:
     return False
 
 
-def _strings(text: bytes, form: bytes) -> list[bytes]:
-    """The strings of a text that are at the marks of a form. None of them if the text has another form."""
-    first, *rest = form.split(b"%")
+def _strings(text: bytes, template: bytes) -> list[bytes]:
+    """The strings of a canonical text at the `%` places of a template, such as `RSA_KEY`. An empty list if the text does not match it or is too
+    long."""
+    first, *rest = template.split(b"%")
     at, found = len(first), []
     if len(text) > MOST_OCTETS or not text.startswith(first):
         return []
