@@ -198,6 +198,18 @@ class Clients(unittest.TestCase):
             for method, body in (("GET", None), ("PUT", b"some octets"), ("PUT", b""), ("DELETE", None)):
                 self.assertEqual(send(signer, method, body), signer.key, method)
 
+    def test_numbers_of_signatures(self) -> None:
+        """A number of a signature gets its share of the octets, with fewer or more octets 00 in front; the halves of Ed25519 are no numbers."""
+        def value(kind: bytes, *strings: bytes) -> bytes:
+            return b"(7:sig-val(5:%b(1:r%d:%b)(1:s%d:%b)))" % (kind, len(strings[0]), strings[0], len(strings[1]), strings[1])
+
+        for given in ((b"r" * 31, b"s" * 32), (b"\0" + b"r" * 31, b"s" * 32), (b"\0\0" + b"r" * 31, b"\0" + b"s" * 32)):
+            self.assertEqual(spki_http.octets_of(value(b"ecdsa", *given), 64), b"\0" + b"r" * 31 + b"s" * 32)
+        self.assertEqual(spki_http.octets_of(value(b"ecdsa", b"r" * 31, b"s" * 31), 64), b"\0" + b"r" * 31 + b"\0" + b"s" * 31)
+        self.assertEqual(spki_http.octets_of(value(b"eddsa", b"\0" * 32, b"s" * 32), 64), b"\0" * 32 + b"s" * 32)
+        self.assertEqual(spki_http.octets_of(b"(7:sig-val(3:rsa(1:s3:\0ab)))", 4), b"\0\0ab")
+        self.assertEqual(spki_http.octets_of(value(b"ecdsa", b"\0r", b"ss")), b"\0rss")
+
     def test_urllib(self) -> None:
         def send(signer: spki_http.Signer, method: str, body: bytes | None) -> bytes:
             opener = urllib.request.build_opener(urllib.request.ProxyHandler({}), spki_http.Handler(signer, self.name))

@@ -204,11 +204,13 @@ def value_of(algorithm: str, octets: bytes) -> bytes:
     return FORMS[algorithm][1].replace(b"%", b"%d:%s") % tuple(part for it in strings for part in (len(it), it))
 
 
-def octets_of(value: bytes) -> bytes:
-    """The octets of a signature with a canonical value: its strings joined. Those of a pair must be equally long. Raises `ValueError`."""
-    for _, template, _ in FORMS.values():
+def octets_of(value: bytes, length: int = 0) -> bytes:
+    """The octets of a signature with a canonical value: its strings joined. With the length of all, each number gets its share of it, since a signer
+    may write fewer or more octets 00 in front. Without, those of a pair must be equally long. Raises `ValueError`."""
+    for name, (_, template, _) in FORMS.items():
         if strings := strings_of(value, template):
-            return b"".join(strings)
+            share = 0 if name == "ed25519" else length // len(strings)
+            return b"".join(it.lstrip(b"\0").rjust(share, b"\0") if share else it for it in strings)
     raise ValueError("this is no value of a signature")
 
 

@@ -43,7 +43,7 @@ class Signer:
         where_present = (CHAINED, SEQUENCE.lower(), DIGEST, *covered)
         names = ["@method", "@authority", "@path", "@query", PUBLIC_KEY, *(it for it in where_present if message.values(it))]
         parameters = self._parameters(names)
-        octets = octets_of(self.sign(base_of(message, parts.scheme, names, parameters))).rjust(self.length, b"\0")
+        octets = octets_of(self.sign(base_of(message, parts.scheme, names, parameters)), self.length)
         return {**own, "Signature-Input": f"{LABEL}={parameters}", "Signature": f"{LABEL}=:{base64.b64encode(octets).decode()}:"}
 
     def _parameters(self, names: list[str]) -> str:
