@@ -20,7 +20,7 @@ pub enum WordsFault {
     #[error("{0}")]
     Help(String),
     /// Memory ran out.
-    #[error("memory was refused")]
+    #[error("out of memory")]
     Memory,
 }
 
