@@ -1,5 +1,6 @@
 pub mod Printed
 pub mod Converted
+pub mod CanonicalLaws
 pub mod CountedLaws
 pub mod Marked
 pub mod OneValue

@@ -1,4 +1,5 @@
 pub mod AdvancedForm
+pub mod CanonicalTexts
 pub mod Refusal
 pub mod Reads
 pub mod Sinks

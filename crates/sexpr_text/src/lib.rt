@@ -7,6 +7,7 @@
 #![tactic(auto)]
 
 mod canonical_printer;
+mod canonical_text;
 mod converter;
 mod hexadecimal_strings;
 mod hinted_strings;
@@ -19,6 +20,7 @@ mod sinks;
 mod strings;
 
 pub use canonical_printer::print_canonical;
+pub use canonical_text::{CanonicalText, OpenText};
 pub use converter::{Form, convert};
 pub use printer::{print_advanced, print_octets, print_tree};
 pub use reader::{read_advanced, read_any};
