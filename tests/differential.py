@@ -186,7 +186,7 @@ class Comparison:
         try:
             wanted = model_answer(asked)
             rng = random.Random(number)
-            laws.hold(asked.command, asked.text, wanted, lambda near: [tags.request_near(it, rng) for it in near])
+            laws.check_laws(asked.command, asked.text, wanted, lambda near: [tags.request_near(it, rng) for it in near])
         except ModelDisagrees as why:
             return f"the model disagrees with itself: {why}"
         except Exception as why:
@@ -206,7 +206,7 @@ class Comparison:
 
 def work(comparison: Comparison, numbers: range, at: MutableSequence[int], job: int, results: Connection) -> None:
     """Compares the cases of these numbers. Sends the numbers of those that differ, the counts of the rows, and how many the program answered."""
-    coverage.forget()
+    coverage.reset_counts()
     differ = []
     for number in numbers:
         at[job] = number

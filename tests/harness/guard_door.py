@@ -227,16 +227,16 @@ class GuardDoor:
         status, line = self.opened(question, handle, ROOM)
         if status != DONE:
             status, said = self.opened(question, c_void_p(), len(line) - 1)
-            return (status, said) == (guard.kept_back("the line of a refused list"), len(line) * b"\0")
+            return (status, said) == (guard.status_too_small("the line of a refused list"), len(line) * b"\0")
         status, line = self.asked(question, handle, asked, ROOM)
         if status != DONE:
             status, said = self.asked(question, handle, c_void_p(), len(line) - 1)
-            return (status, said) == (guard.kept_back("the line of a refused question"), len(line) * b"\0")
+            return (status, said) == (guard.status_too_small("the line of a refused question"), len(line) * b"\0")
         self.mark_all(question, asked, self.listed(asked))
         _, said = self.answer(question, asked)
         octets, needed = ctypes.create_string_buffer(len(said)), c_size_t()
         status = self.by_wish[question.command.removeprefix("guard ")](asked, octets, len(said) - 1, byref(needed))
-        return (status, needed.value, octets.raw) == (guard.kept_back("an answer"), len(said), len(said) * b"\0")
+        return (status, needed.value, octets.raw) == (guard.status_too_small("an answer"), len(said), len(said) * b"\0")
 
 
 def octets_of_value(value: bytes) -> bytes | None:
