@@ -175,7 +175,7 @@ class OnMachines(built.OfLibrary):
             copied(clone, tracked())
             put_built(clone)
             before = put_key(room) if "~/.ssh" in script else ""
-            return machines.said_on_machine(packages, clone, machine.by_root + by_root,
+            return machines.output_on_machine(packages, clone, machine.by_root + by_root,
                                             f"echo {machine.page}\n{machine.before}{before}echo '{END}' 0\n{script}")
 
     def is_right(self, machine: Machine) -> None:
