@@ -121,7 +121,7 @@ class Site:
         self.askers = []
         for place, each in enumerate(self.replicas):
             process, socket = store.started(program, each, room, place, stale_seconds=stale)
-            stack.enter_context(databases.ended(process))
+            stack.enter_context(databases.killed_at_end(process))
             self.askers.append(Asker(socket, people))
             databases.waits_for("the daemon has the entries", lambda: people[GOES].status(self.askers[-1].socket) == 200)
 

@@ -114,7 +114,7 @@ def processes_of(parent):
 def beats(address, *before):
     """The program that increases the heartbeat."""
     words = [*before, os.path.join(TOP, "apps", "spki-store", "spki-store"), "--database", address, "--schema", SCHEMA, "beat"]
-    return databases.ended(subprocess.Popen(words, stderr=subprocess.DEVNULL))
+    return databases.killed_at_end(subprocess.Popen(words, stderr=subprocess.DEVNULL))
 
 
 def started(program, server, room, number, **more):
@@ -136,7 +136,7 @@ def asked_by_people(server, library, count, program, number, rate, share=0.0):
         for each in range(number):
             group = running.enter_context(shares.Share(share)) if share else None
             made.append(started(program, server, room, each))
-            running.enter_context(databases.ended(made[-1][0]))
+            running.enter_context(databases.killed_at_end(made[-1][0]))
             if group:
                 group.take(made[-1][0].pid)
         found = figures(server, "served", count, library, SPKI_STORE_SOCKETS=",".join(path for _, path in made),

@@ -39,12 +39,12 @@ def library() -> str:
     return existing(os.environ.get("SPKI_TEST_LIBRARY", LIBRARY))
 
 
-def shared_library() -> str:
+def shared() -> str:
     """The shared library that is tested."""
     return existing(library().removesuffix(".a") + ".so")
 
 
-def arm_library() -> str:
+def arm() -> str:
     """The static library for ARM that is tested. The shared one lies beside it."""
     return existing(os.path.join(os.path.dirname(library()), ARM, "libspki_c.a"))
 
@@ -68,4 +68,4 @@ class OfLibrary(OfProgram):
     @classmethod
     def setUpClass(cls) -> None:
         super().setUpClass()
-        cls.library, cls.shared = library(), shared_library()
+        cls.library, cls.shared = library(), shared()

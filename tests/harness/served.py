@@ -27,7 +27,7 @@ def path_of_commands() -> str:
 
 
 def daemon_built(folder: str) -> str:
-    """The daemon, built over the library that is tested. It is kept, and linked again only if something has changed."""
+    """Builds the daemon with the library that is tested, and returns the path of a copy in a folder. Go builds only what has changed."""
     kept, program = os.path.join(TESTS, "out", "spki-authd"), os.path.join(folder, "spki-authd")
     os.makedirs(os.path.dirname(kept), exist_ok=True)
     with open(f"{kept}.lock", "w", encoding="ascii") as lock:
@@ -58,9 +58,10 @@ class Site:
         self.start_server()
 
     def prepare(self) -> None:
-        """What is written before the programs start."""
+        """Writes what another web server needs, before the programs start. nginx needs nothing more."""
 
     def at(self, name: str) -> str:
+        """The path of a file of the site."""
         return os.path.join(self.room, name)
 
     def text(self, name: str) -> str:
@@ -145,7 +146,7 @@ class Site:
     # ---- asking
 
     def context(self, who: str | None) -> ssl.SSLContext:
-        """The side of TLS of a client, by the names of its certificate and key, as `ann`, or `ann.crt ann`; of None it has none."""
+        """The TLS settings of a client. `who` names its certificate and key, as `ann`, or `ann.crt ann`. None: it has no certificate."""
         if who not in self.contexts:
             self.contexts[who] = context = ssl.create_default_context(cafile=self.at("ca/ca.crt"))
             if who is not None:
@@ -167,7 +168,7 @@ class Site:
         return said
 
     def answer_at_once(self, who: str | None, request: bytes) -> bytes:
-        """The same, also where the rate is exceeded."""
+        """The same, but returns an answer 429 too."""
         said = b""
         with contextlib.suppress(OSError), self.connected(who) as client:
             client.sendall(request)
@@ -176,7 +177,7 @@ class Site:
         return said
 
     def status(self, who: str | None, method: str, path: str, *lines: str, body: str = "") -> int:
-        """The status of a plain request, with more lines in its header."""
+        """The status of the answer to a request, with these lines added to its header."""
         header = [f"{method} {path} HTTP/1.1", "Host: localhost", "Connection: close", *lines]
         header += [f"Content-Length: {len(body)}"] if body else []
         return int(self.answer(who, "\r\n".join([*header, "", body]).encode("latin-1")).split(b" ", 2)[1])

@@ -30,7 +30,7 @@ SECONDS, SECONDS_TO_COMPILE, SECONDS_TO_WAIT = 120, 900, 600
 
 __all__ = ["ARM", "BENCH", "COMMANDS", "EXAMPLES", "LIBRARY", "ON_ARM", "PROGRAM", "SECONDS", "TESTS", "TOP", "braced", "canonical",
            "given_program", "group", "is_compiled", "loaded", "on_one_line", "output_of", "read", "run", "room_for", "string",
-           "tables_here", "text_of", "wait_for"]
+           "tables_here", "text_of", "waits_for"]
 
 
 def given_program(place=1):
@@ -79,7 +79,7 @@ def braced(octets):
     return b"{" + base64.b64encode(octets) + b"}"
 
 
-def wait_for(what: str, is_so: Callable[[], bool]) -> None:
+def waits_for(what: str, is_so: Callable[[], bool]) -> None:
     """Waits until `is_so` returns true. Raises AssertionError, which says `what`, after SECONDS_TO_WAIT."""
     end = time.monotonic() + SECONDS_TO_WAIT
     while not is_so():

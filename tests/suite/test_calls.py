@@ -60,7 +60,7 @@ class OfCalls(unittest.TestCase):
 
     @classmethod
     def setUpClass(cls) -> None:
-        said = call_rows.answers(built.there(cls.path), cls.rows.values())
+        said = call_rows.answers(built.existing(cls.path), cls.rows.values())
         cls.answers = dict(zip(cls.rows, said))
 
     def is_answered(self, name: str) -> None:

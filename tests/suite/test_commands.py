@@ -105,7 +105,7 @@ class InACopy(built.OfLibrary):
         """Those of examples/README.md that no list leaves out, each block in a shell of its own."""
         for block in page_commands.indented_blocks(text_of("examples/README.md")):
             each = [Command("examples/README.md", "indented", line) for line in block.splitlines()]
-            lines = [it.line for it in each if not any(page_commands.is_about(row, it) for row in NOT_RUN)]
+            lines = [it.line for it in each if not any(page_commands.covers(row, it) for row in NOT_RUN)]
             with self.subTest(block):
                 self.is_right(os.path.join(self.room, "clone"), "examples/README.md", lines)
 

@@ -227,7 +227,7 @@ class Snippets(built.OfLibrary):
         self.assertTrue(texts, f"the pages have no snippet in {language}")
         with tempfile.TemporaryDirectory() as room:
             for text in texts:
-                self.assertIsNone(snippets.otherwise(language, text, room, self.program, self.library))
+                self.assertIsNone(snippets.fault_of_snippet(language, text, room, self.program, self.library))
 
     def test_c(self) -> None:
         self.is_right("C")

@@ -204,7 +204,7 @@ def refused_in_turn(program, example, behind):
 
 def call_refused(program, row, behind):
     """The same for a call by itself."""
-    one_call = Program(built.there(built.ONE_CALL), program.library)
+    one_call = Program(built.existing(built.ONE_CALL), program.library)
     answer = 0, row.answer.hex().encode() + b"\n", b""
     return refused_in_turn(one_call, Example(row.place, row.call, row.line(), answer), behind)
 

@@ -644,7 +644,7 @@ class Replicated(OfServed):
             config = self.file(PROXY.format(front=front, certificate=urllib.parse.quote(check.certificate).replace("%", "%%"),
                                             one=daemons[0].daemon.socket, other=daemons[1].daemon.socket).encode(), "haproxy.cfg")
             process = subprocess.Popen(["haproxy", "-f", config], stdout=subprocess.DEVNULL, stderr=subprocess.DEVNULL)
-            stack.enter_context(databases.ended(process))
+            stack.enter_context(databases.killed_at_end(process))
 
             def is_always(wanted: int) -> bool:
                 with contextlib.suppress(OSError):

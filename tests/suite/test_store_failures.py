@@ -112,7 +112,7 @@ class Questions(Failing):
         words = [*before, self.questions, "-test.run", "^TestQuestionsUnderFailures$", "-test.v", "-test.timeout", "30m"]
         with open(os.path.join(self.room, "said"), "w+b") as said:
             process = subprocess.Popen(words, cwd=golang.DAEMON, env=settings, stdout=said, stderr=said)
-            with databases.ended(process):
+            with databases.killed_at_end(process):
                 time.sleep(1)
                 try:
                     fails()

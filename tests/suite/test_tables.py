@@ -21,7 +21,7 @@ class BySecondCompiler(built.OfProgram):
 
     @classmethod
     def setUpClass(cls) -> None:
-        cls.program = built.there(built.BY_RATTLE)
+        cls.program = built.existing(built.BY_RATTLE)
 
 
 # ---- rows
