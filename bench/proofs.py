@@ -35,7 +35,7 @@ def main():
     name, rows = sys.argv[1], int(sys.argv[2]) if len(sys.argv) > 2 else 20
     crate = toolchain.crates(name)[name]
     with tempfile.TemporaryDirectory() as room:
-        ran = toolchain.inside().checked(crate, {}, toolchain.ONE, room)
+        ran = toolchain.rt_module().checked(crate, {}, toolchain.ONE, room)
         if ran.returncode:
             sys.exit(ran.stdout)
         parts = list(parts_in(room))

@@ -12,15 +12,17 @@ STRUCTURES = {"intersect": "intersect Shape", "check": "case Shape", "reduce": "
 
 
 def strings(count, each="a"):
+    """One string so many times."""
     return " ".join([each] * count)
 
 
 def numbered(count):
+    """So many different strings."""
     return " ".join(f"n{place}" for place in range(count))
 
 
 def one_string(size, form):
-    """A text of `size` octets that is a string, in a form, and its canonical form."""
+    """A text of `size` octets with one string, in a form of FORMS, and the canonical form of the string."""
     room = {"canonical": size - len(f"{size}:"), "advanced": size - 2, "braces": (size - 2) // 4 * 3 - len(f"{size}:")}[form]
     octets = b"x" * room
     canonical = b"%d:%s" % (room, octets)
@@ -49,7 +51,7 @@ def lengths():
 
 
 def longer_in_canonical_form():
-    """A text of fewer octets than may be, whose canonical form has more."""
+    """A text with fewer octets than the limit, whose canonical form has more."""
     text = b"(" + b"a " * 400000 + b")"
     yield "400,000 tokens", "canonical", text, (0, b"(" + b"1:a" * 400000 + b")")
     for command in STRUCTURES:
@@ -140,11 +142,13 @@ def work():
     yield "23 entries and a certificate for all requests", "check", case(each * 23, *chain_of(1, "(*)"), **asked), NO
 
 
-def octets(words):
-    return words if isinstance(words, bytes) else words.encode()
+def octets_of(text):
+    """A text as octets, which it may be already."""
+    return text if isinstance(text, bytes) else text.encode()
 
 
 def rows():
+    """The fields of each row: its place, command, text, status and answer."""
     for rows_of in (lengths, longer_in_canonical_form, lists_in_lists, deep_parts, nodes, products, work):
         for name, command, text, (status, answer) in rows_of():
-            yield f"limits: {name}", command, octets(text), status, octets(answer)
+            yield f"limits: {name}", command, octets_of(text), status, octets_of(answer)

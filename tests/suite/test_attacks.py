@@ -28,7 +28,7 @@ def columns_of(kind: type[web_servers.Behind]) -> list[str]:
 
 def rows_of(kind: type[web_servers.Behind], column: str) -> list[tuple[str, attacks.Attack]]:
     """The rows of a column, by name."""
-    return [(f"{kind.name}, {column}: {each.what}", each) for each in attacks.all_of_them() if (kind.name, each.what) not in attacks.GRANTED]
+    return [(f"{kind.name}, {column}: {each.what}", each) for each in attacks.all_attacks() if (kind.name, each.what) not in attacks.GRANTED]
 
 
 class Pages(unittest.TestCase):
@@ -73,7 +73,7 @@ class Table(unittest.TestCase):
     def rows_pass(self, column: str) -> None:
         """Each row of a column. Before them and behind them Ann is granted what she may do, unless the daemon is stopped."""
         is_stopped = column.startswith("stopped")
-        self.site.becomes(self.kind.sites.get(column.removeprefix(STOPPED), []))
+        self.site.restart_with(self.kind.sites.get(column.removeprefix(STOPPED), []))
         self.grants_ann()
         if is_stopped:
             self.site.stop_daemon()
@@ -99,7 +99,7 @@ class Table(unittest.TestCase):
         for name, more in self.kind.sites.items():
             if not is_chosen(f"{self.kind.name}, {name}", 3):
                 continue
-            self.site.becomes(more)
+            self.site.restart_with(more)
             with self.subTest(name):
                 if not name.endswith(" that fails"):
                     self.grants_ann()
@@ -112,11 +112,11 @@ class Table(unittest.TestCase):
 
     def probe_finds(self) -> None:
         """`-probe` finds nothing with the daemon, nor `-stopped` without it, and finds a hole."""
-        self.site.becomes([])
+        self.site.restart_with([])
         self.probes(0, "nothing was granted")
-        self.site.becomes(self.kind.hole)
+        self.site.restart_with(self.kind.hole)
         self.probes(1, "granted: ")
-        self.site.becomes([])
+        self.site.restart_with([])
         self.site.stop_daemon()
         try:
             self.probes(0, "nothing was granted", "-stopped")
@@ -138,7 +138,7 @@ class Table(unittest.TestCase):
         for name, is_granted in (("authd", True), ("other", False)):
             impostor = web_servers.Impostor(self.site.at(f"etc/{name}.crt"), self.site.at(f"etc/{name}.key"))
             try:
-                self.site.asks_port(impostor.server_port)
+                self.site.restart_asking_port(impostor.server_port)
                 self.assertEqual(self.site.status("eve", "GET", "/secret/plan.txt") == 200, is_granted)
                 self.assertEqual(impostor.secrets, ["THE-SECRET"] if is_granted else [])
             finally:
@@ -175,12 +175,12 @@ class Caddy(Table):
 
     def test_without_certificate(self) -> None:
         """Who has no certificate sends none: the placeholder's name would be refused as a malformed one."""
-        self.site.becomes([])
+        self.site.restart_with([])
         self.assertEqual(self.site.status(None, "GET", "/web/index.html"), 401)
 
     def test_who_only_writes(self) -> None:
         """PUT and DELETE are not answered as GET, also where the daemon grants them."""
-        self.site.becomes([])
+        self.site.restart_with([])
         for method in ("PUT", "DELETE"):
             self.assertEqual(attackers.faults_of(self.site, ("robot", method, "/web/out/main.js"), {403}), [])
 
