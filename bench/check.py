@@ -58,7 +58,7 @@ def many_structures(size):
 
 
 def many_certificates(size):
-    """A sequence of certificates with their signatures, of which the first has another digest."""
+    """A sequence of one certificate many times, whose signature has another digest."""
     cert = group(string("cert"), group(string("issuer"), key("a")), group(string("subject"), key("b")), group(string("tag"), STAR))
     pair = cert + group(string("signature"), group(string("hash"), string("sha256"), string("d" * 32)), key("a"), string("sig"))
 
@@ -95,7 +95,7 @@ def no_value(size):
 
 
 def run(text, wanted, timeout=None):
-    """The processor time of a decision, whose answer begins as wanted."""
+    """The processor time of a decision in seconds. Ends the script if the answer does not begin as wanted."""
     done, took = processor_seconds([PROGRAM, "check"], input=text, stdout=subprocess.PIPE, timeout=timeout)
     if not done.stdout.startswith(wanted):
         sys.exit(f"wrong answer: {done.stdout!r}, wanted {wanted!r}")

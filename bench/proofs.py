@@ -21,7 +21,7 @@ PART = re.compile(r"Rattle-\w+-proofs\.(?:(?P<function>.*)\.)?(?P<part>[^.]+)")
 
 
 def parts_in(folder):
-    """The parts of proofs that a check has written, in order: the function, its part, and the seconds that this took."""
+    """Yields the parts of proofs that a check has written to a folder, in order: the function, its part, and the seconds that this took."""
     files = sorted((os.stat(os.path.join(at, name)).st_mtime, name) for at, _, names in os.walk(folder) for name in names)
     for (before, _), (time, name) in zip(files, files[1:]):
         part = PART.fullmatch(name.removesuffix(".oantt").removesuffix(".decls"))
