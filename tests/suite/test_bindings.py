@@ -59,7 +59,7 @@ class Asked(NamedTuple):
 
 
 def questions(program) -> list[Asked]:
-    """The questions of all cases, each with the place of the first row that has the case."""
+    """The questions of all cases of the tables and of chains.py. The name of each is the place of the first row that has its case."""
     rows = [row for table in tables_here() for row in rows_of(table)] + list(chains.rows())
     rows = [row for row in rows if row[1] in COMMANDS.values() and not row[4].startswith(NO_CASE)]
     with ThreadPoolExecutor(os.cpu_count()) as pool:
@@ -70,21 +70,21 @@ def questions(program) -> list[Asked]:
 
 
 def accepted_by(rows, sequence):
-    """What the rows of a case accept: keys, messages and values. The messages are the certificates that have their digests."""
+    """What the rows of a case accept, each as key, message and value. The message is the certificate of the sequence that has the row's digest."""
     certificates = [canonical(item) for item in sequence if isinstance(item, list) and item[:1] == [b"cert"]]
     messages = {hashlib.sha256(text).digest(): text for text in certificates}
     return tuple((canonical(key), messages[digest[2]], canonical(value)) for _, key, digest, value in rows if digest[2] in messages)
 
 
 def words_of(request):
-    """The strings of a request that a guard takes by its strings, or None."""
+    """The strings of a request, None if it has lists inside or is a list of fewer than two strings."""
     if isinstance(request, bytes):
         return (request,)
     return tuple(request) if isinstance(request, list) and len(request) > 1 and all(isinstance(it, bytes) for it in request) else None
 
 
 def seconds_of(moment):
-    """The seconds of a moment that the calendar has, from 1970 on, or None."""
+    """The seconds of a moment since 1970, None if it is earlier, or no calendar has it."""
     try:
         date = datetime.strptime(moment.decode(), "%Y-%m-%d_%H:%M:%S")
         seconds = int(date.replace(tzinfo=timezone.utc).timestamp())
@@ -94,7 +94,7 @@ def seconds_of(moment):
 
 
 def questions_of(program, text, name) -> Iterator[Asked]:
-    """The questions of a case, by texts, and by strings and seconds where that can be."""
+    """The questions of a case, in which the request and the moment are texts, and again strings and seconds where that can be."""
     case, line = read(text), run(program, "check", text)[1]
     if line.startswith(b"refused") and line != TOO_LARGE:
         case[2] = [b"accepted"]
@@ -105,21 +105,21 @@ def questions_of(program, text, name) -> Iterator[Asked]:
     for command, wanted in COMMANDS.items():
         line = run(program, wanted, canonical(case))[1]
         if command == "decide" and line == TOO_LARGE:
-            line = decided(canonical(case))
+            line = decided_by_model(canonical(case))
         yield Asked(name, command, len(case) == 8, *texts, canonical(request), canonical(moment), accepted, line)
         if words or seconds is not None:
             yield Asked(f"{name}, by strings or seconds", command, len(case) == 8, *texts, words or canonical(request),
                         canonical(moment) if seconds is None else seconds, accepted, line)
 
 
-def decided(text):
+def decided_by_model(text):
     """What the model decides of a case that is too large for `check`: a guard decides it."""
     case = model.read_case(text)
     return model.decide(case, case.rows)[1]
 
 
-def otherwise(asked, answers):
-    """What is wrong with the answers to questions, or nothing."""
+def faults_of_answers(asked, answers):
+    """A text with each wrong answer to the questions, empty if all are right."""
     if len(answers) != len(asked):
         return f"{len(answers)} answers to {len(asked)} questions"
     faults = [(each, met) for each, met in zip(asked, answers) if met != each.wanted]
@@ -130,8 +130,8 @@ def otherwise(asked, answers):
 # ---- Python
 
 
-def spelled(reasons):
-    """The text of an explanation, from its lines taken apart."""
+def text_of_reasons(reasons):
+    """The lines of an explanation, from its reasons: entry or None, item or None, and a word."""
     lines = [f"{f'entry {entry} ' if entry else ''}{f'item {item} ' if item else ''}{word}" for entry, item, word in reasons]
     return "\n".join(lines or ["no entries"])
 
@@ -152,7 +152,7 @@ def answered_by_python(spki, asked):
         return f"{refused.line}\n".encode()
     if asked.command == "decide":
         return f"yes entry {answer.entry}\n".encode() if answer else b"no\n"
-    return f"{spelled(answer.reasons()) if asked.command == 'explain' else answer}\n".encode()
+    return f"{text_of_reasons(answer.reasons()) if asked.command == 'explain' else answer}\n".encode()
 
 
 # ---- Rust
@@ -173,7 +173,7 @@ def framed(asked):
 
 
 def strings_in(octets):
-    """The strings that stand one behind the other in a text."""
+    """Yields the strings that a text has in canonical form, one behind the other."""
     at = 0
     while at < len(octets):
         colon = octets.index(b":", at)
@@ -182,7 +182,7 @@ def strings_in(octets):
 
 
 def cargo(folder, words, given=None):
-    """What cargo does in the crate, offline and with the libraries of a folder."""
+    """Runs cargo in the crate, offline and with the libraries of a folder. Returns how it ended."""
     settings = {**os.environ, "SPKI_LIB_DIR": folder, "RUSTDOCFLAGS": "-D warnings", "CARGO_NET_OFFLINE": "true"}
     return subprocess.run(["cargo", *words], cwd=RUST, input=given, capture_output=True, env=settings, timeout=SECONDS)
 
@@ -307,7 +307,7 @@ class InPython(Binding):
         sys.path.append(PYTHON)
         spki = importlib.import_module("spki")
         asked = asked_of(self.program)
-        fault = otherwise(asked, [answered_by_python(spki, each) for each in asked])
+        fault = faults_of_answers(asked, [answered_by_python(spki, each) for each in asked])
         self.assertEqual(fault, "", fault)
 
     @needs.needs("import cryptography")
@@ -442,7 +442,7 @@ class InRust(Binding):
     def test_questions(self):
         asked = asked_of(self.program)
         lines = strings_in(self.does("run", "--quiet", "--example", "asked", given=b"".join(map(framed, asked))))
-        fault = otherwise(asked, [line + b"\n" for line in lines])
+        fault = faults_of_answers(asked, [line + b"\n" for line in lines])
         self.assertEqual(fault, "", fault)
 
     @needs.needs("/usr/share/cargo/registry/serde_json-1.*")

@@ -56,7 +56,7 @@ NO_ROWS = b"(accepted)"
 
 
 def as_library(command, answer):
-    """What the library answers where the program answers so: yes and no are answered by decisions alone."""
+    """The library's answer to a command, by its number, given the program's. Only decisions return GRANTED or NO; other calls return DONE."""
     status, octets = answer
     if status > NO:
         return answer
@@ -86,8 +86,8 @@ def questions_of_tables():
 
 
 def rows_apart(program, answered):
-    """Of each case that the program decides: its rows apart, beside a case without rows and beside the case with its own; and no
-    rows beside the case with its own, which are not to be asked then."""
+    """Three questions for each case that the program decides: its rows apart, beside the case without rows and beside the whole case; and no rows
+    beside the whole case, whose own rows must not count then."""
     cases = {text for (_, command, text, _), (status, _) in answered if COMMANDS[command] == "check" and status in (NO, GRANTED)}
     for text in sorted(cases, key=lambda each: (len(each), each)):
         whole = read(run(program, "canonical", text)[1])
@@ -138,7 +138,7 @@ def worked_rows():
 
 
 def answers_of(words, questions):
-    """The status of `clibrary.c`, what it says, and its answers."""
+    """Runs `clibrary.c` by these words on questions. Returns its status, what it writes to standard error, and its answers."""
     given = b"".join(b"%d %d %d\n%s%s" % (command, len(text), len(rows), text, rows) for (_, command, text, rows), _ in questions)
     done = subprocess.run(words, input=given, capture_output=True, timeout=SECONDS)
     answers, at = [], 0
@@ -150,8 +150,8 @@ def answers_of(words, questions):
     return done.returncode, done.stderr.decode(errors="replace"), answers
 
 
-def otherwise(words, questions):
-    """What is wrong with the answers of `clibrary.c`, or nothing."""
+def faults_of_answers(words, questions):
+    """A text with what is wrong with the answers of `clibrary.c`, empty if nothing is. `words` start it."""
     status, said, answers = answers_of(words, questions)
     if status or len(answers) != len(questions):
         return f"status {status} after {len(answers)} of {len(questions)} answers: {said[-2000:]}"
@@ -186,8 +186,8 @@ def worked_question():
     return [case[at[0]:at[1]].strip(), case[at[2]:at[3]].strip(), case[at[3]:at[4]].strip()[len("(key "):-1]]
 
 
-def beside(shared):
-    """The word for the linker that lets a program find a shared object in its folder."""
+def rpath_to(shared):
+    """The word for the compiler by which a program finds a shared object in its folder."""
     return f"-Wl,-rpath,{os.path.dirname(shared)}"
 
 
@@ -199,7 +199,7 @@ def asked_of(program):
 
 
 def short_of(program):
-    """The short questions, which slow ways are asked."""
+    """The short questions, for ways of asking that are slow."""
     files, _, apart = asked_of(program)
     return [each for each in files + apart if len(each[0][2]) + len(each[0][3]) <= SHORT] + list(worked_rows())[:8]
 
@@ -229,7 +229,7 @@ class OfC(built.OfLibrary):
         shutil.copy(cls.shared, link)
         os.symlink(link, os.path.join(cls.room, soname_of(cls.shared)))
         cls.shared = link
-        cls.linking = {"static": [cls.library], "shared": [cls.shared, beside(cls.shared)]}
+        cls.linking = {"static": [cls.library], "shared": [cls.shared, rpath_to(cls.shared)]}
 
     def compiled(self, source, library, *more):
         """A program in C, compiled with a library."""
@@ -243,7 +243,7 @@ class OfC(built.OfLibrary):
     def answers(self, questions, library, *more, by=(), threads=2, refusals=0):
         """The answers to questions must be those that are wanted."""
         print(f"{len(questions)} questions")
-        fault = otherwise([*self.by, *by, self.compiled("clibrary.c", library, *more), str(threads), str(refusals)], questions)
+        fault = faults_of_answers([*self.by, *by, self.compiled("clibrary.c", library, *more), str(threads), str(refusals)], questions)
         self.assertEqual(fault, "", fault)
 
     def has_its_symbols(self, library, *words):
@@ -282,7 +282,7 @@ class Links(OfC):
         other, to = os.path.join(self.room, "libother.a"), os.path.join(self.room, "linked")
         renamed = [f"--redefine-sym={name}=other_{name}" for name in calls_of_header()]
         subprocess.run(["objcopy", *renamed, self.library, other], check=True)
-        by_name = ["-L", os.path.dirname(self.shared), "-lspki_c", beside(self.shared)]
+        by_name = ["-L", os.path.dirname(self.shared), "-lspki_c", rpath_to(self.shared)]
         for way, flags, more in (("static", [], [self.library]), ("shared", [], by_name), ("two archives", ["-DOTHER"], [self.library, other])):
             with self.subTest(way):
                 made = is_compiled(*words, *WARNINGS, *flags, "-o", to, os.path.join(TESTS, "programs", "linked.c"), "-x", "none", *more)

@@ -62,7 +62,7 @@ class Counted(test_bindings.Binding):
 
     def counted_once(self, asked: list[Asked], answers):
         """The answers must be those that are wanted, with one call for each."""
-        fault = test_bindings.otherwise(asked, answers)
+        fault = test_bindings.faults_of_answers(asked, answers)
         self.assertEqual(fault, "", fault)
         with open(self.counts, encoding="ascii") as file:
             self.assertEqual(file.read().splitlines(), [f"{each.command} {DONE} {len(each.wanted)}" for each in asked])
