@@ -252,11 +252,11 @@ def time_through_python(driver, text):
     with spki.Guard(acl) as guard:
         question = spki.Question(sequence, spki.ProvenKey.assume(asker), text=request, moment=moment)
         for _ in range(ROUNDS):
-            begun = time.perf_choose_counter()
+            begun = time.perf_counter()
             for _ in range(CALLS):
                 if not guard.decide(question, lambda _: True):
                     sys.exit("wrong answer through Python")
-            least = min(least, (time.perf_choose_counter() - begun) / CALLS)
+            least = min(least, (time.perf_counter() - begun) / CALLS)
     return least * 1e6
 
 
