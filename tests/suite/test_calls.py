@@ -39,7 +39,7 @@ def examples() -> list[CallRow]:
 
 
 def rank(row: CallRow) -> tuple[bool, int]:
-    """Which of two rows is the better example."""
+    """How good an example a row is: the greater the value, the better."""
     return row.place.startswith(BY_CERTIFICATE), len(row.answer)
 
 
