@@ -261,9 +261,9 @@ class Binding(built.OfLibrary):
         os.environ["SPKI_LIBRARY"] = cls.shared
         cls.folder = os.path.dirname(cls.library)
 
-    def decides(self, *words):
-        """An example must grant the request to Bob, to whom Alice's certificate gives it, and to nobody else. It must deny it to Bob if a bit
-        of the signature is changed."""
+    def check_decisions(self, *words):
+        """An example, which these words run, must grant the request to Bob, to whom Alice's certificate gives it, and to nobody else. It must deny
+        it to Bob if a bit of the signature is changed."""
         from spki_cert_tool import keys
         for kind in keys.KINDS:
             alice, bob, carol = (keys.FileSigner(keys.new_private(it)) for it in (kind, keys.P256, keys.ED25519))
@@ -274,10 +274,10 @@ class Binding(built.OfLibrary):
             other = alice.sign(canonical([*certificate, [b"propagate"]]))
             for holder, shown, wanted in ((bob, value, "granted\n"), (carol, value, "denied\n"), (bob, other, "denied\n")):
                 signature = [b"signature", keys.hash_of(certificate), issuer, shown]
-                self.answers(words, (access_list, [b"sequence", alice.key, certificate, signature], holder.key), wanted)
+                self.check_output(words, (access_list, [b"sequence", alice.key, certificate, signature], holder.key), wanted)
 
-    def answers(self, words, parts, wanted):
-        """An example must answer what is wanted to a list, a sequence and a key."""
+    def check_output(self, words, parts, wanted):
+        """An example must write the wanted text for a list, a sequence and a key."""
         with tempfile.TemporaryDirectory() as room:
             paths = [os.path.join(room, name) for name in ("acl", "sequence", "key")]
             for path, value in zip(paths, parts):
@@ -312,11 +312,11 @@ class InPython(Binding):
 
     @needs.needs("import cryptography")
     def test_example(self):
-        self.decides(sys.executable, os.path.join(PYTHON, "examples", "decide.py"))
+        self.check_decisions(sys.executable, os.path.join(PYTHON, "examples", "decide.py"))
 
     @needs.needs("import cryptography")
     def test_asynchronous_example(self):
-        self.decides(sys.executable, os.path.join(PYTHON, "examples", "asynchronous.py"))
+        self.check_decisions(sys.executable, os.path.join(PYTHON, "examples", "asynchronous.py"))
 
     @needs.needs("import pip", "import setuptools", "import wheel")
     def test_pip(self):
@@ -361,28 +361,29 @@ class InPython(Binding):
 class InC(Binding):
     """The example in C, with each verifier."""
 
-    def decides_by(self, verifier, library):
+    def check_verifier(self, verifier, library):
+        """The example in C must decide by this verifier, which uses a library."""
         with tempfile.TemporaryDirectory() as room:
             to, sources = os.path.join(room, "decide"), [os.path.join(EXAMPLES, "c", name) for name in ("decide.c", f"{verifier}.c")]
             flags = ["-std=c11", "-Wall", "-Wextra", "-Wpedantic", "-Werror", "-I", CRATE]
             subprocess.run(["cc", *flags, "-o", to, *sources, self.library, library], timeout=SECONDS, check=True)
-            self.decides(to)
+            self.check_decisions(to)
 
     @needs.needs("/usr/include/gcrypt.h")
     def test_example_by_gcrypt(self):
-        self.decides_by("verify_gcrypt", "-lgcrypt")
+        self.check_verifier("verify_gcrypt", "-lgcrypt")
 
     @needs.needs("openssl/evp.h")
     def test_example_by_openssl(self):
-        self.decides_by("verify_openssl", "-lcrypto")
+        self.check_verifier("verify_openssl", "-lcrypto")
 
 
 @needs.needs("g++")
 class InCpp(Binding):
     """The header for C++."""
 
-    def owns(self, flags, *by):
-        """`owned.cpp` must compile with these flags and find nothing wrong."""
+    def check_owners(self, flags, *by):
+        """`owned.cpp` must compile with these flags and find nothing wrong. `by` are the words before it."""
         with tempfile.TemporaryDirectory() as room:
             to, source = os.path.join(room, "owned"), os.path.join(TESTS, "programs", "owned.cpp")
             words = ["-std=c++17", "-Wall", "-Wextra", "-Wpedantic", "-Werror", "-g", "-pthread", *flags, "-I", CRATE]
@@ -390,11 +391,11 @@ class InCpp(Binding):
             self.assertEqual(output_of(*by, to, seconds=SECONDS), (0, ""))
 
     def test_owners(self):
-        self.owns(["-fsanitize=address,undefined"])
+        self.check_owners(["-fsanitize=address,undefined"])
 
     @needs.needs("valgrind")
     def test_owners_under_helgrind(self):
-        self.owns([], *HELGRIND)
+        self.check_owners([], *HELGRIND)
 
     def test_answers_that_are_no_bool(self):
         """A verifier that returns a number is not compiled."""
@@ -410,7 +411,7 @@ class InRust(Binding):
     """The crate in Rust."""
 
     def does(self, *words, given=None):
-        """What cargo writes, which must end well."""
+        """Runs cargo in the crate, which must succeed. Returns its output."""
         done = cargo(self.folder, words, given)
         self.assertEqual(done.returncode, 0, f"cargo {' '.join(words)}: {(done.stdout + done.stderr).decode(errors='replace')[-4000:]}")
         return done.stdout
@@ -467,10 +468,10 @@ class InRust(Binding):
     @needs.needs("openssl", "import cryptography")
     def test_example(self):
         self.does("build", "--quiet", "--example", "decide")
-        self.decides(os.path.join(RUST, "out", "debug", "examples", "decide"))
+        self.check_decisions(os.path.join(RUST, "out", "debug", "examples", "decide"))
 
-    def builds(self, room, **settings):
-        """Whether the part that links the library is built with these settings, and what is said."""
+    def build_sys(self, room, **settings):
+        """Builds the part that links the library, with these settings of the environment. Returns the status, and what cargo writes."""
         whole = {name: value for name, value in os.environ.items() if not name.startswith(("SPKI_", "PKG_CONFIG"))}
         return output_of("cargo", "build", "--quiet", "-p", "spki-sys", cwd=RUST, seconds=SECONDS,
                          env={**whole, "CARGO_TARGET_DIR": room, "CARGO_NET_OFFLINE": "true", **settings})
@@ -482,12 +483,12 @@ class InRust(Binding):
                                     ({"SPKI_LIB_DIR": empty, "SPKI_SHARED": "1"}, f"there is no libspki_c.so in {empty}"),
                                     ({"SPKI_LIB_DIR": "."}, "SPKI_LIB_DIR must be a whole path"),
                                     ({"PKG_CONFIG_LIBDIR": empty}, "libspki_c is not found"), ({"PKG_CONFIG": "/nowhere"}, "/nowhere")):
-                status, said = self.builds(room, **settings)
+                status, said = self.build_sys(room, **settings)
                 self.assertEqual((status != 0, words in said), (True, True), f"{settings}: {said}")
-            self.assertEqual(self.builds(room, SPKI_LIB_DIR=self.folder), (0, ""))
+            self.assertEqual(self.build_sys(room, SPKI_LIB_DIR=self.folder), (0, ""))
             for name in ("libspki_c.a", "libspki_c.so"):
                 os.symlink(os.path.join(self.folder, name), os.path.join(empty, name))
-            self.assertEqual(self.builds(room, SPKI_LIB_DIR=empty, SPKI_SHARED="1"), (0, ""))
+            self.assertEqual(self.build_sys(room, SPKI_LIB_DIR=empty, SPKI_SHARED="1"), (0, ""))
 
     @needs.needs("pkg-config")
     def test_versions_of_pkg_config(self):
@@ -498,14 +499,14 @@ class InRust(Binding):
                 os.mkdir(folder)
                 with open(os.path.join(folder, "spki.pc"), "w", encoding="ascii") as file:
                     file.write(f"Name: spki\nDescription: spki\nVersion: {version}\nLibs: -L{self.folder} -lspki_c\n")
-                status, said = self.builds(room, PKG_CONFIG_PATH=folder)
+                status, said = self.build_sys(room, PKG_CONFIG_PATH=folder)
                 self.assertEqual(status == 0, is_built, f"{version}: {said}")
 
     @needs.needs("pkg-config")
     def test_another_target(self):
         """For another target a library of its system is linked, and none of the host."""
         with tempfile.TemporaryDirectory() as room:
-            self.assertEqual(self.builds(room, SPKI_LIB_DIR=self.folder), (0, ""))
+            self.assertEqual(self.build_sys(room, SPKI_LIB_DIR=self.folder), (0, ""))
             script, = glob.glob(os.path.join(room, "debug", "build", "spki-sys-*", "build-script-build"))
             system = os.path.join(room, "system")
             folder = os.path.join(system, "usr", "lib")

@@ -81,7 +81,7 @@ class InGo(OfGo):
         with tempfile.TemporaryDirectory() as room:
             to = os.path.join(room, "decide")
             self.does(golang.MODULE, "build", "-o", to, "./examples/decide")
-            self.decides(to)
+            self.check_decisions(to)
 
     @needs.needs("pkg-config")
     def test_shared(self) -> None:

@@ -30,7 +30,7 @@ ASKED = (*COMMANDS, "check_accepted", *(f"guard {wish}" for wish in WISHES), "ca
 
 
 def fault_columns(text: str) -> Iterator[str]:
-    """What is in the columns for faults of the tables in a text."""
+    """Yields the cells of the columns of tables in a text whose heading begins with `Fault`."""
     column: int | None = None
     for line in text.splitlines():
         cells = line.split("|") if line.startswith("|") else []
@@ -84,7 +84,7 @@ class Generated(built.OfProgram):
         cls.told.update({number: differential.line_of_ended(cls.seed, number) for number in cls.ended})
         cls.by_program = comparison.by_program
 
-    def agrees_on(self, command: str) -> None:
+    def check_command(self, command: str) -> None:
         """No case of a command may differ."""
         alone = " --program-alone" if built.IS_ALONE else ""
         faults = [f"{self.told.get(number, f'case {number} differs')}\n"
@@ -118,7 +118,7 @@ class GeneratedOnArm(built.OfProgram):
 
 def made_test(command: str) -> Callable[[Generated], None]:
     """The test of the cases of a command."""
-    return lambda self: self.agrees_on(command)
+    return lambda self: self.check_command(command)
 
 
 def rows_that_came(self: Generated) -> None:
