@@ -65,6 +65,7 @@ def behind_a_large_tag(more, tag):
 def large_tags():
     """Texts of at most 1 MiB in which the intersection of an entry's and a certificate's tag has the most nodes, or the longest strings."""
     def made(one, other):
+        """A case in which these tags of an entry and a certificate are intersected."""
         first, second = keys_of(1)
         return case([entry(first, one)], [(certificate(first, second, other), first)], asks=key("other"))
 

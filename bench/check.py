@@ -21,10 +21,12 @@ LIMIT_MEMORY = 128
 
 
 def key(name):
+    """A key, whose name is its only part."""
     return group(string("public-key"), group(string("test"), string(name)))
 
 
 def case(entries, request):
+    """A case without certificates, in which the key `a` asks."""
     return group(
         string("case"), group(string("acl"), *entries), group(string("accepted")), group(string("sequence")),
         group(string("key"), key("a")), group(string("request"), request), group(string("at"), string("2024-01-01_00:00:00")))
@@ -63,6 +65,7 @@ def many_certificates(size):
     pair = cert + group(string("signature"), group(string("hash"), string("sha256"), string("d" * 32)), key("a"), string("sig"))
 
     def whole(items):
+        """A case with these items in its sequence."""
         return group(
             string("case"), group(string("acl"), entry("a", STAR)), group(string("accepted")), group(string("sequence"), *items),
             group(string("key"), key("a")), group(string("request"), string("ftp")), group(string("at"), string("2024-01-01_00:00:00")))

@@ -32,6 +32,7 @@ def prefix(octets):
 
 
 def intersection(a, b):
+    """The text that asks for the intersection of two tags."""
     return group(string("intersect"), a, b)
 
 

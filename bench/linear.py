@@ -63,14 +63,17 @@ def repeated(entries, cert, certificates, before=()):
 # Each shape makes a case of so many entries and certificates. The third number is the most members of a set or list.
 
 def chain(entries, certificates, members):
+    """A chain by keys."""
     return by_keys(certificates, asks=OTHER)
 
 
 def chain_of_hashes(entries, certificates, members):
+    """A chain in which hashes name the keys."""
     return by_hashes(certificates, OTHER)
 
 
 def chain_of_names(entries, certificates, members):
+    """A chain of definitions of names."""
     return through_names(certificates, asks=OTHER)
 
 
@@ -88,10 +91,12 @@ def rows_of_one_digest(entries, certificates, members):
 
 
 def wide_lists(entries, certificates, members):
+    """A chain by keys, all for a list of `members` strings."""
     return by_keys(certificates, group(string("ftp"), *[string("x")] * (members - 1)), asks=OTHER)
 
 
 def wide_sets(entries, certificates, members):
+    """A chain by keys, all for a set of `members` strings."""
     return by_keys(certificates, group(string("*"), string("set"), *[string(f"{place:03}") for place in range(members)]), asks=OTHER)
 
 
@@ -101,6 +106,7 @@ def list_of_members(entries, certificates, members):
 
 
 def entries_and_chain(entries, certificates, members):
+    """Equal entries for the first key of a chain."""
     return by_keys(certificates, entries=entries, asks=OTHER)
 
 
@@ -122,6 +128,7 @@ def entries_with_own_tags(entries, certificates, members):
 
 
 def entries_and_names(entries, certificates, members):
+    """Equal entries for the first name of a chain of definitions."""
     return through_names(certificates, entries=entries, asks=OTHER)
 
 

@@ -185,6 +185,7 @@ def fitted(recipe: Recipe, listed: int, asked: int, certificates: int) -> Recipe
     """The recipe with its growing numbers as great as can be: the list has at most `listed` octets, the question `asked`. None if the smallest
     are larger."""
     def asks(number: int) -> bool:
+        """Whether the question is read and small enough with this as its growing number."""
         made = recipe.with_links(number)
         return made.is_read(certificates) and sum(map(len, made.parts()[1:])) <= asked
 
@@ -194,6 +195,7 @@ def fitted(recipe: Recipe, listed: int, asked: int, certificates: int) -> Recipe
         return None
 
     def lists(number: int) -> bool:
+        """The same of the list."""
         larger = made.with_list(number)
         return larger.is_read(certificates) and len(larger.list_text()) <= listed
 

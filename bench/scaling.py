@@ -106,6 +106,7 @@ def after_loss(chosen, count, kept, daemons):
     lost = daemons // 3
 
     def asks(is_whole):
+        """Whether a request by chance finds its key kept. `is_whole`: no daemon is lost."""
         key = drawn(count, SKEW, chosen.random())
         place = hash((key, 1)) % daemons
         if not is_whole and place < lost:

@@ -223,7 +223,8 @@ def through_rust(driver):
 
 
 def by_instructions(driver):
-    """All parts that compare instructions. Nothing, but a line that says so, if neither perf nor valgrind is there."""
+    """Yields (name of a limit, measured value) of all parts that compare instructions. Yields nothing, and prints why, if neither perf nor
+    valgrind is there."""
     if not can_count():
         print("valgrind is not there (Debian: valgrind): what is compared by instructions is left out")
         return

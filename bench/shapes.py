@@ -28,6 +28,7 @@ def certificate(issuer, subject, tag=STAR):
 
 
 def definition(issuer, subject):
+    """A certificate that defines a name, `issuer`, as a subject."""
     return group(string("cert"), group(string("issuer"), issuer), group(string("subject"), subject))
 
 

@@ -55,6 +55,7 @@ SERVER = {"fsync": "on", "shared_buffers": "256MB", "max_wal_size": "4GB", "chec
 
 
 def key(number):
+    """A key by its number."""
     return b"(10:public-key(4:test40:k%039d))" % number
 
 

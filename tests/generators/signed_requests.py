@@ -60,11 +60,13 @@ class Key:
 
 
 def ed25519(private: Ed25519PrivateKey) -> Key:
+    """The key of the table for a private key of Ed25519."""
     octets = private.public_key().public_bytes(Encoding.Raw, PublicFormat.Raw)
     return Key(b"(10:public-key(3:ecc(5:curve7:Ed25519)(5:flags5:eddsa)(1:q%s)))" % string(octets), "ed25519", private.sign)
 
 
 def ecdsa(private: ec.EllipticCurvePrivateKey, bits: int, digest: SHA256 | SHA384) -> Key:
+    """The same for a private key of a curve of so many bits, which signs by a digest."""
     def sign(message: bytes) -> bytes:
         return b"".join(it.to_bytes(bits // 8, "big") for it in decode_dss_signature(private.sign(message, ec.ECDSA(digest))))
     octets = private.public_key().public_bytes(Encoding.X962, PublicFormat.UncompressedPoint)
@@ -115,10 +117,12 @@ class Request:
 
 
 def in_braces(octets: bytes) -> str:
+    """The transport form of a text in canonical form."""
     return "{%s}" % in_base64(octets)
 
 
 def hash_of(key: bytes) -> str:
+    """The SHA-256 of a key's text, in hexadecimal digits, as `keyid` has it."""
     return hashlib.sha256(key).hexdigest()
 
 

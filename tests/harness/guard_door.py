@@ -150,6 +150,7 @@ class GuardDoor:
         if status != DONE:
             return (status, line), None
         odd = question.oddity
+        # (a guard that is null has no entries)
         if odd == "no guard" and self.entries(None):
             return (status, b"the entries of no guard"), None
         status, line = self.asked(question, handle, asked, ROOM)
@@ -206,6 +207,7 @@ class GuardDoor:
             if self.signature(asked, place, byref(signature)) != DONE:
                 return []
             found.append(signed_at(signature))
+            # (of a value that is one string its octets are listed too)
             octets = ctypes.string_at(signature.octets, signature.octets_length) if signature.octets else None
             if octets != octets_of_value(found[-1][2]):
                 return []

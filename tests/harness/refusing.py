@@ -108,6 +108,7 @@ class Program:
 
     @staticmethod
     def limit(what, most):
+        """Limits a resource of this process, and has a full file be an error and no signal."""
         signal.signal(signal.SIGXFSZ, signal.SIG_IGN)
         resource.setrlimit(what, (most, most))
 

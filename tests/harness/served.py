@@ -87,12 +87,14 @@ class Site:
     # ---- the programs
 
     def start_daemon(self) -> None:
+        """Starts the daemon, and waits until it listens."""
         with open(self.at("log/authd.log"), "ab") as log, open(self.at("log/authd-events.log"), "ab") as events:
             self.daemon = subprocess.Popen([self.program, "-config", self.at("etc/authd.json")], stdout=log, stderr=events, cwd=self.room)
         self.write("run/authd.pid", str(self.daemon.pid))
         waits_for("the daemon listens", self.daemon_listens)
 
     def daemon_listens(self) -> bool:
+        """Whether the daemon listens. Raises AssertionError if it has ended."""
         with socket.socket(socket.AF_UNIX) as client, contextlib.suppress(OSError):
             client.connect(self.at("run/socket"))
             return True
@@ -106,6 +108,7 @@ class Site:
         return ["nginx", "-p", self.room, "-c", "etc/loopback.conf", "-e", "log/error.log", "-g", as_user]
 
     def start_server(self) -> None:
+        """Starts the web server, and waits until it listens."""
         with open(self.at("log/server.log"), "ab") as log:
             self.server = subprocess.Popen(self.command(), env=self.settings, cwd=self.room, stdout=log, stderr=log)
         waits_for("the web server listens", self.server_listens)
@@ -121,6 +124,7 @@ class Site:
         self.start_server()
 
     def server_listens(self) -> bool:
+        """Whether the web server listens. Raises AssertionError if it has ended."""
         with socket.socket() as client, contextlib.suppress(OSError):
             client.connect(("127.0.0.1", self.port))
             return True
@@ -156,6 +160,7 @@ class Site:
 
     @contextlib.contextmanager
     def connected(self, who: str | None) -> Iterator[ssl.SSLSocket]:
+        """A context with a connection of a client, by TLS."""
         with socket.create_connection(("127.0.0.1", self.port), SECONDS) as plain:
             with self.context(who).wrap_socket(plain, server_hostname="localhost") as client:
                 yield client

@@ -237,7 +237,7 @@ def read_name(value: Value) -> Subject:
 
 
 def read_subject(value: Value) -> Subject:
-    """A principal, a name or a relative name."""
+    """Reads a subject: a principal, a name or a relative name. Those that RFC 2693 has besides are faults of their own."""
     head = head_of(value)
     if head == b"k-of-n":
         raise StructureFault("Threshold")
@@ -273,7 +273,7 @@ def why_no_date(value: Value) -> str:
 
 
 def read_tag(value: Value) -> Tag:
-    """A tag within a structure."""
+    """Reads a tag within a structure. Its fault becomes a StructureFault `Tag FAULT`."""
     try:
         return tags.read(value)
     except TagFault as fault:

@@ -19,10 +19,12 @@ def digest(text, alg="sha256"):
 
 
 def key(letter):
+    """A key, as it is written."""
     return f"(public-key (test {letter}))"
 
 
 def cert(issuer, subject, fields="(propagate) (tag (*))"):
+    """A certificate, as it is written."""
     return f"(cert (issuer {issuer}) (subject {subject}) {fields})"
 
 
@@ -41,6 +43,7 @@ def case(entries, rows="", items="", asks=key("d"), request="(ftp)", at=NOW, pol
 
 
 def entry(letter, fields="(propagate) (tag (*))"):
+    """An entry for the key of a letter."""
     return f"(entry {key(letter)} {fields})"
 
 

@@ -74,6 +74,7 @@ def lists_in_lists():
 def deep_parts():
     """Requests and tags as deep as may be, and deeper by one list."""
     def nested(depth):
+        """A list of so many lists in one another."""
         return "(f " * depth + "f" + ")" * depth
 
     for depth, answer in ((62, YES), (63, refused("form TooDeep"))):
@@ -126,6 +127,7 @@ def work():
     the first certificate, its 4 tags and its 99,936 octets. Then nothing is left of the tags. The second certificate has 336 nodes, so that the
     product of all is over 1,000,000."""
     def chain_of(more, *tags):
+        """The rows and the items of the first certificate, with so many octets more, and of one for each tag."""
         first = cert(key("a"), key("b"), f"(propagate) (tag (* set r {'x' * 49_967} {'y' * (49_968 + more)}))")
         shown = [(first, "a")] + [(cert(key("b"), key("b"), f"(propagate) (tag {tag})"), "b") for tag in tags]
         return "".join(row(it, key(by)) for it, by in shown), "".join(signed(it, key(by)) for it, by in shown)
