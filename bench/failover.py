@@ -114,7 +114,7 @@ class Site:
         execute(self.primary, "SELECT pg_reload_conf()")
         hosts = ",".join(each.host for each in (self.primary, *self.replicas))
         stack.enter_context(store.heartbeat(f"host={hosts} user=postgres dbname=postgres target_session_attrs=read-write",
-                                        *(self.nodes[3].words if is_cut else [])))
+                                            *(self.nodes[3].words if is_cut else [])))
         # (the state that `init` made may be stale before the first beat)
         databases.waits_for("the first beat", lambda: self.store.rows("SELECT number FROM {heartbeat}") > [(0,)])
         people = {name: Person() for name in (STAYS, GOES, NEVER)}

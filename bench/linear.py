@@ -57,7 +57,7 @@ def row(octets, signer, value=string("sig")):
 def repeated(entries, cert, certificates, before=()):
     """A case with one certificate of the owner so many times, behind others."""
     return case_of(entries, [row(octets, OWNER) for octets in (*before, cert)],
-                 [with_signature(octets, OWNER) for octets in before] + [with_signature(cert, OWNER)] * certificates)
+                   [with_signature(octets, OWNER) for octets in before] + [with_signature(cert, OWNER)] * certificates)
 
 
 # Each shape makes a case of so many entries and certificates. The third number is the most members of a set or list.

@@ -152,7 +152,7 @@ def main():
     print_row("measured", "changes a second of one primary, each a transaction", f"{ADDS}")
     before, hits = after_loss(chosen, 10 ** 5, 10 ** 5 // 60, 12)
     print_row("simulated", "hits before and after a third of the daemons is lost",
-         f"{before:.3f}; " + ", ".join(f"{each:.3f}" for each in hits[:3]) + f" .. {hits[-1]:.3f}")
+              f"{before:.3f}; " + ", ".join(f"{each:.3f}" for each in hits[:3]) + f" .. {hits[-1]:.3f}")
     left = daemons - daemons // 3
     print_row("simulated", "share in use of the daemons that remain", f"{min(1.0, BUSY * daemons / left):.2f}")
     print_row("simulated", "misses a second that the replicas that remain can answer", f"{(replicas - replicas // 3) * CORES / ROWS:,.0f}")

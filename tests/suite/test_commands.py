@@ -177,7 +177,7 @@ class OnMachines(built.OfLibrary):
             put_built(clone)
             before = put_key(room) if "~/.ssh" in script else ""
             return machines.output_on_machine(packages, clone, machine.by_root + by_root,
-                                            f"echo {machine.page}\n{machine.before}{before}echo '{END}' 0\n{script}")
+                                              f"echo {machine.page}\n{machine.before}{before}echo '{END}' 0\n{script}")
 
     def check_page(self, machine: Machine) -> None:
         """The commands of a page must write what the page says, or where it says nothing end with 0."""

@@ -88,7 +88,7 @@ class Failing(test_store.OfServed):
         subprocess.run(["chown", "postgres:postgres", key, certificate], check=True)
         os.chmod(key, 0o600)
         execute(server, f"ALTER SYSTEM SET ssl_cert_file = '{certificate}'", f"ALTER SYSTEM SET ssl_key_file = '{key}'", "ALTER SYSTEM SET ssl = on",
-             "SELECT pg_reload_conf()")
+                "SELECT pg_reload_conf()")
         return certificate
 
 
@@ -310,7 +310,7 @@ class Daemons(Failing):
         self.start_beat(primary.address)
         it, alice, bob = self.start_daemon("full", primary), self.people["alice"], self.people["bob"]
         execute(primary, f"CREATE TABLESPACE small LOCATION '{room}'", f"ALTER TABLE {self.schema}.entries SET TABLESPACE small",
-             f"ALTER TABLE {self.schema}.changes SET TABLESPACE small", f"ALTER INDEX {self.schema}.changes_pkey SET TABLESPACE small")
+                f"ALTER TABLE {self.schema}.changes SET TABLESPACE small", f"ALTER INDEX {self.schema}.changes_pkey SET TABLESPACE small")
         self.addCleanup(execute, primary, f"DROP SCHEMA {self.schema} CASCADE", "DROP TABLESPACE small")
         number = self.add_entry(alice)
         it.wait_for_status(200, alice)
