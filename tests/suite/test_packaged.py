@@ -195,7 +195,8 @@ class Packages(built.OfLibrary):
         with tempfile.TemporaryDirectory() as room:
             top, folder = copied_sources(room), os.path.join(room, "made")
             status, said = make_packages(top, folder, self.program, self.library, SOURCE_DATE_EPOCH=epoch, DEBFULLNAME=name, DEBEMAIL=address,
-                                         TZ="Asia/Tokyo", LC_ALL="C.UTF-8", HOME=room, GOCACHE=os.path.join(room, "go") if built.IS_LONG else GO_CACHE)
+                                         TZ="Asia/Tokyo", LC_ALL="C.UTF-8", HOME=room,
+                                         GOCACHE=os.path.join(room, "go") if built.IS_LONG else GO_CACHE)
             self.assertEqual(status, 0, said)
             self.assertEqual(sorted(os.listdir(folder)), sorted(os.listdir(self.folder)))
             for made in sorted(os.listdir(folder)):
