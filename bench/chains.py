@@ -17,8 +17,8 @@ LIMIT_SECONDS = 1.0
 MOST_OCTETS = 1024 * 1024
 
 
-def grown():
-    """The times of long chains, the ratios for four times the certificates, and the peak of the longest."""
+def largest_growth():
+    """Prints the times of long chains. Returns the largest ratio for four times the certificates. Ends the script if the peak is too high."""
     worst = 0.0
     print(f"{'chain':<16}" + "".join(f"{length:>9} certs" for length in LENGTHS) + "   ratios      peak")
     for make in (by_keys, by_hashes, through_names):
@@ -65,6 +65,7 @@ def behind_a_large_tag(more, tag):
 def large_tags():
     """Texts of at most 1 MiB in which the intersection of an entry's and a certificate's tag has the most nodes, or the longest strings."""
     def made(one, other):
+        """A case in which these tags of an entry and a certificate are intersected."""
         first, second = keys_of(1)
         return case([entry(first, one)], [(certificate(first, second, other), first)], asks=key("other"))
 
@@ -86,7 +87,7 @@ def large_tags():
 
 
 def beside_openssl():
-    """A decision by three certificates, and the SHA-256 of the same octets by `openssl`, each a process of its own."""
+    """The seconds of a decision by three certificates, and those of the SHA-256 of the same octets by `openssl`, each a process."""
     text = by_keys(3)
     decided = min(run(text, b"yes entry 1\n") for _ in range(50))
     words = ["openssl", "dgst", "-sha256"]
@@ -95,7 +96,7 @@ def beside_openssl():
 
 
 def main():
-    worst = grown()
+    worst = largest_growth()
     print(f"largest ratio for 4 times the certificates: {worst:.2f} (at most {LIMIT_RATIO})")
     slowest = most = 0.0
     for what, text, wanted in widest():

@@ -21,10 +21,12 @@ LIMIT_MEMORY = 128
 
 
 def key(name):
+    """A key, whose name is its only part."""
     return group(string("public-key"), group(string("test"), string(name)))
 
 
 def case(entries, request):
+    """A case without certificates, in which the key `a` asks."""
     return group(
         string("case"), group(string("acl"), *entries), group(string("accepted")), group(string("sequence")),
         group(string("key"), key("a")), group(string("request"), request), group(string("at"), string("2024-01-01_00:00:00")))
@@ -58,11 +60,12 @@ def many_structures(size):
 
 
 def many_certificates(size):
-    """A sequence of certificates with their signatures, of which the first has another digest."""
+    """A sequence of one certificate many times, whose signature has another digest."""
     cert = group(string("cert"), group(string("issuer"), key("a")), group(string("subject"), key("b")), group(string("tag"), STAR))
     pair = cert + group(string("signature"), group(string("hash"), string("sha256"), string("d" * 32)), key("a"), string("sig"))
 
     def whole(items):
+        """A case with these items in its sequence."""
         return group(
             string("case"), group(string("acl"), entry("a", STAR)), group(string("accepted")), group(string("sequence"), *items),
             group(string("key"), key("a")), group(string("request"), string("ftp")), group(string("at"), string("2024-01-01_00:00:00")))
@@ -95,7 +98,7 @@ def no_value(size):
 
 
 def run(text, wanted, timeout=None):
-    """The processor time of a decision, whose answer begins as wanted."""
+    """The processor time of a decision in seconds. Ends the script if the answer does not begin as wanted."""
     done, took = processor_seconds([PROGRAM, "check"], input=text, stdout=subprocess.PIPE, timeout=timeout)
     if not done.stdout.startswith(wanted):
         sys.exit(f"wrong answer: {done.stdout!r}, wanted {wanted!r}")

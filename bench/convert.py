@@ -15,7 +15,7 @@ import subprocess
 import sys
 import tempfile
 
-from counting import counted, counter
+from counting import counted, choose_counter
 from memory import peak, processor_seconds
 
 sys.path.append(os.path.join(os.path.dirname(os.path.abspath(__file__)), "..", "tests"))
@@ -57,7 +57,8 @@ def deep_lists(size):
     return filled(size, b"(a " * 63 + b"b" + b")" * 63 + b" ")
 
 
-def wide_lists(size):
+def short_lists(size):
+    """Lists of two strings."""
     return filled(size, b"(a b)")
 
 
@@ -90,7 +91,7 @@ def braces(size):
     return braced(filled(3 * (size - 4) // 4, b"3:abc1:d"))
 
 
-SHAPES = (short_tokens, tokens, quoted_strings, one_string, deep_lists, wide_lists, hints, binary_strings, one_binary_string,
+SHAPES = (short_tokens, tokens, quoted_strings, one_string, deep_lists, short_lists, hints, binary_strings, one_binary_string,
           base64_strings, hexadecimal_strings, braces)
 
 
@@ -104,6 +105,7 @@ class Text:
         self.file.flush()
 
     def converted(self, command):
+        """What a command writes of the text."""
         with open(self.file.name, "rb") as reader:
             return subprocess.run(command, stdin=reader, stdout=subprocess.PIPE, check=True).stdout
 
@@ -114,15 +116,17 @@ class Text:
 
 
 def ours(form):
+    """The command of `spki` that converts to a form."""
     return [PROGRAM, form]
 
 
 def theirs(form):
+    """The command of `sexp-conv` that converts to a form."""
     return [PEER, "-s", form]
 
 
 def measured(form, texts):
-    """The times of `spki` on each text, that of `sexp-conv` on the last one, and the memory of `spki` there."""
+    """The seconds of `spki` on each text, those of `sexp-conv` on the last and largest, and the MiB of `spki` on that."""
     times, other = [], float("inf")
     for text in texts:
         times.append(min(text.seconds(ours(form)) for _ in range(RUNS)))
@@ -132,17 +136,18 @@ def measured(form, texts):
     return times, other, peak(PROGRAM, form, texts[-1].octets)
 
 
-def beside(form, text, took, other):
-    """How much of the time of `sexp-conv` `spki` takes, or of its instructions where the time is over the limit and they are fewer."""
+def ratio_beside_peer(form, text, took, other):
+    """The ratio of the seconds of `spki` to those of `sexp-conv`. If it is over its limit, the ratio of their instructions, if that is less."""
     ratio = took / other
     if ratio <= LIMIT_PEER:
         return ratio
-    count = counter()
+    count = choose_counter()
     few, many = (counted(count, [shutil.which(command[0]), *command[1:]], text.octets) for command in (ours(form), theirs(form)))
     return min(ratio, few / many)
 
 
-def target(name, worst, limit):
+def print_target(name, worst, limit):
+    """Prints the worst value beside its limit. Returns whether it is within the limit."""
     held = worst <= limit
     print(f"{name}: {worst:.2f} (at most {limit}): {'pass' if held else 'miss'}")
     return held
@@ -162,7 +167,7 @@ def main():
         for form in FORMS:
             times, other, memory = measured(form, texts)
             ratios = [b / a for a, b in zip(times, times[1:])]
-            ratio = beside(form, texts[-1], times[-1], other)
+            ratio = ratio_beside_peer(form, texts[-1], times[-1], other)
             slowest = max(slowest, ratio)
             steepest = max([steepest] + ratios)
             largest = max(largest, memory)
@@ -170,9 +175,9 @@ def main():
                   + "   " + " ".join(f"{r:5.2f}" for r in ratios)
                   + f"   {other * 1000:>9.1f} ms {ratio:>11.2f}   {memory:>9.1f} MiB")
     held = [
-        target("slowest beside sexp-conv", slowest, LIMIT_PEER),
-        target("steepest for 4 times the octets", steepest, LIMIT_RATIO),
-        target("largest peak in MiB", largest, LIMIT_MEMORY),
+        print_target("slowest beside sexp-conv", slowest, LIMIT_PEER),
+        print_target("steepest for 4 times the octets", steepest, LIMIT_RATIO),
+        print_target("largest peak in MiB", largest, LIMIT_MEMORY),
     ]
     if not all(held):
         sys.exit(1)

@@ -1,17 +1,22 @@
-"""How many instructions a run of a program takes, or a call that it repeats."""
+"""How many instructions a run of a program takes, or a call that it repeats.
+
+A counter is a function of a command and an open text, which runs the command on it and returns a number."""
 import os
 import re
+import shutil
 import subprocess
 import tempfile
 
 
 def counted_by_perf(command, text):
+    """A counter of instructions by perf. None if perf cannot count them here."""
     done = subprocess.run(["perf", "stat", "-x", ",", "-e", "instructions:u"] + command, stdin=text, capture_output=True)
     found = re.match(rb"(\d+),", done.stderr.splitlines()[-1]) if done.stderr else None
     return int(found.group(1)) if found else None
 
 
 def counted_by_valgrind(command, text, *flags, settings=None):
+    """A counter of instructions by valgrind, with flags of valgrind and settings added to the environment."""
     with tempfile.NamedTemporaryFile() as out:
         words = ["valgrind", "--tool=callgrind", f"--callgrind-out-file={out.name}", *flags]
         done = subprocess.run(words + command, stdin=text, capture_output=True, env={**os.environ, **(settings or {})})
@@ -19,24 +24,24 @@ def counted_by_valgrind(command, text, *flags, settings=None):
 
 
 def counted_inside(function):
-    """What counts the instructions inside a function: valgrind."""
+    """Returns a counter of the instructions inside a function of the program, by valgrind."""
     return lambda command, text: counted_by_valgrind(command, text, f"--toggle-collect={function}")
 
 
 def counted_with_cache(blocks):
-    """What counts the instructions of a command for which the C library keeps so many freed blocks of each size: valgrind."""
+    """Returns a counter of instructions, by valgrind, in runs in which the C library keeps so many freed blocks of each size."""
     settings = {"GLIBC_TUNABLES": f"glibc.malloc.tcache_count={blocks}"}
     return lambda command, text: counted_by_valgrind(command, text, settings=settings)
 
 
 def counted_allocations(command, text):
-    """The blocks of memory that a command takes: valgrind."""
+    """A counter of the blocks of memory that a command allocates, by valgrind."""
     done = subprocess.run(["valgrind", *command], stdin=text, capture_output=True)
     return int(re.search(rb"total heap usage: ([\d,]+) allocs", done.stderr).group(1).replace(b",", b""))
 
 
 def counted(count, words, text):
-    """The instructions of a command on a text, by what counts them."""
+    """What a counter counts of a command (`words`) on a text, given as octets."""
     with tempfile.NamedTemporaryFile() as file:
         file.write(text)
         file.flush()
@@ -44,8 +49,8 @@ def counted(count, words, text):
             return count(words, opened)
 
 
-def counter():
-    """What counts the instructions of a command on an open text here: `perf`, or valgrind where that is not there."""
+def choose_counter():
+    """The counter of instructions that works here: by perf, else by valgrind, which may be missing too (`can_count`)."""
     try:
         if counted_by_perf(["true"], subprocess.DEVNULL) is not None:
             return counted_by_perf
@@ -54,8 +59,13 @@ def counter():
     return counted_by_valgrind
 
 
+def can_count():
+    """Whether perf or valgrind can count instructions here."""
+    return choose_counter() is not counted_by_valgrind or shutil.which("valgrind") is not None
+
+
 def of_one_call(count, words, calls=100):
-    """The instructions of one call by a program whose last word is the number of calls: what further calls add, divided by their number.
+    """What a counter counts of one call, by a program whose last word is the number of calls: what further calls add, divided by their number.
     What the program does besides is the same for each number of calls."""
     subprocess.run([*words, "1"], stdout=subprocess.DEVNULL, check=True)
     few, many = (counted(count, [*words, str(number)], b"") for number in (1, 1 + calls))

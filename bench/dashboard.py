@@ -29,7 +29,7 @@ COLOURS = "#1b6ca8", "#c0392b", "#7f8c8d", "#d68910"
 
 
 def metrics(site):
-    """The values of the metrics, by name and labels."""
+    """The values of the metrics now, by name and labels."""
     said = subprocess.run([site.program, "-metrics", "-config", site.path("config.json")], stdout=subprocess.PIPE, text=True, check=True).stdout
     return {(name, labels): float(value) for name, labels, value in VALUE.findall(said)}
 
@@ -47,7 +47,7 @@ def changes(site, seconds):
 
 
 def sampled(site, seconds):
-    """The metrics of each second of a run."""
+    """Runs the load and the changes for so many seconds. Returns the metrics at each second."""
     threads = [threading.Thread(target=site.load, args=(site.nginx[2], seconds, CONNECTIONS, DELAY)),
                threading.Thread(target=changes, args=(site, seconds))]
     for each in threads:
@@ -62,13 +62,13 @@ def sampled(site, seconds):
 
 
 def rates(samples, name, labels):
-    """By how much a counter grew in each second."""
+    """By how much a metric grew in each second: the sum of all with this name whose labels contain a text."""
     values = [sum(value for key, value in sample.items() if key[0] == name and labels in key[1]) for sample in samples]
     return [after - before for before, after in zip(values, values[1:])]
 
 
 def quantile(samples, share):
-    """The milliseconds below which a share of the answers of each second is."""
+    """For each second the bound, in milliseconds, below which a share (0.99) of its answers was."""
     bounds = sorted({float(labels[4:-1]) for name, labels in samples[0] if name == "seconds_bucket" and "Inf" not in labels})
     grown = [rates(samples, "seconds_bucket", f'le="{bound:g}"') for bound in bounds]
     counts = rates(samples, "seconds_count", "")
@@ -77,7 +77,7 @@ def quantile(samples, share):
 
 
 def panels(samples):
-    """The title of each panel, and its lines."""
+    """The title of each panel, and its lines, each a name and the values of the seconds."""
     yield "Answers a second", [(answer, rates(samples, "decisions_total", f'answer="{answer}"')) for answer in ("yes", "no", "failed")]
     yield "Bound of 99 of 100 answers, ms", [("p99", quantile(samples, 0.99))]
     yield "Signatures a second", [(how, rates(samples, "signatures_total", f'how="{how}"')) for how in ("known", "verified", "spared")]
@@ -86,7 +86,7 @@ def panels(samples):
 
 
 def drawn(place, title, lines):
-    """A panel in SVG."""
+    """The elements of a panel in SVG. Its place is 0 to 3, by rows of two."""
     left, top = LEFT + place % 2 * (WIDTH + 80), TOP_OF_PANEL + place // 2 * ROW
     most = max(max(values) for _, values in lines) or 1
     yield f'<text x="{left}" y="{top - 8}" font-weight="bold">{escape(title)}</text>'

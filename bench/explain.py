@@ -12,7 +12,7 @@ import sys
 
 from chains import MOST_OCTETS, by_hashes, by_keys, case, certificate, entry, keys_of, through_names, widest
 from check import LIMIT_MEMORY, PROGRAM, group, key, string
-from counting import counted, counter
+from counting import counted, choose_counter
 from memory import used
 from linear import LIMIT_SUM, MEMBERS, SHAPES, SIZES
 
@@ -22,7 +22,7 @@ COPIES = 999
 
 
 def explained(count):
-    """The largest ratio of the instructions of `explain` to those of `check` on one entry, and the most memory."""
+    """The largest ratio of the instructions of `explain`, by the counter `count`, to those of `check` on one entry, and the most MiB."""
     texts = [("a chain by keys", by_keys(1500, asks=key("other"))), ("a chain by hashes", by_hashes(1500)),
              ("a chain through names", through_names(1500))]
     _, *of_one_entry = widest()
@@ -37,7 +37,7 @@ def explained(count):
 
 
 def folded(count):
-    """The largest ratio of the instructions of `explain` on many entries to as many times those on one."""
+    """The largest ratio of the instructions of `explain` on many entries, by the counter `count`, to as many times those on one."""
     worst = 0.0
     for shape in (shape for shape in SHAPES if shape.is_product):
         entries, certificates = shape.fitting(SIZES[0])
@@ -54,7 +54,8 @@ def largest(entries):
     return case([entry(keys[0], tag)] * entries, [(certificate(keys[0], keys[1], tag), keys[0])], asks=keys[1])
 
 
-def reduced():
+def print_reductions():
+    """Prints what `reduce` takes and writes for some of the largest entries, and how many fit into a text."""
     one = len(largest(2)) - len(largest(1))
     fit = (MOST_OCTETS - len(largest(0))) // one
     for entries in (1, 2, 4):
@@ -65,8 +66,8 @@ def reduced():
     print(f"{fit} such entries fit into {MOST_OCTETS} octets: {fit * (COPIES * COPIES * 2 + 70)} octets to be written")
 
 
-def of_long_keys():
-    """The most memory of `reduce` of entries whose certificate is for a key of half the text, which has one string or very many."""
+def most_of_long_keys():
+    """The most MiB of `reduce` of entries whose certificate is for a key of half the text, which has one string or very many."""
     most = 0.0
     issuer, other = keys_of(1)
     for parts in ([string(b"\x01" * (MOST_OCTETS // 2 - 100))], [string("")] * 250_000):
@@ -80,13 +81,13 @@ def of_long_keys():
 
 
 def main():
-    count = counter()
+    count = choose_counter()
     worst, most = explained(count)
     print(f"largest ratio of explain to check: {worst:.2f} (at most {LIMIT_RATIO}); most memory {most:.1f} MiB")
     together = folded(count)
     print(f"largest ratio of many entries to as many of one: {together:.2f} (at most {LIMIT_SUM})")
-    reduced()
-    of_keys = of_long_keys()
+    print_reductions()
+    of_keys = most_of_long_keys()
     print(f"most memory where a long key stands in each line: {of_keys:.1f} MiB (at most {LIMIT_OF_KEYS})")
     if worst > LIMIT_RATIO or most > LIMIT_MEMORY or together > LIMIT_SUM or of_keys > LIMIT_OF_KEYS:
         sys.exit(1)

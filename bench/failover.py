@@ -56,7 +56,7 @@ class Person:
         self.request = REQUEST.format(urllib.parse.quote(self_signed(private))).encode()
 
     def status(self, socket):
-        """The status of the answer of a daemon."""
+        """The HTTP status of a daemon's answer to the request."""
         with connected(socket) as connection:
             connection.sendall(self.request)
             return int(connection.makefile("rb").readline().split()[1])
@@ -77,7 +77,7 @@ class Asker(threading.Thread):
             self.met.append((begun, time.monotonic(), name, status))
 
     def end(self):
-        """All that was met."""
+        """Stops asking. Returns all that was noted."""
         self.ends.set()
         self.join()
         return self.met
@@ -87,14 +87,15 @@ class Asker(threading.Thread):
         return next((status for _, _, name, status in reversed(self.met) if name == STAYS), 0) == 200
 
 
-def span_of(met, failed):
-    """When the first 503 was received, and the first answer to a request after the last 503, in seconds since the failure. None if there is none."""
+def span_of_503(met, failed):
+    """When the first 503 was received, and the first answer to a request after the last 503, in seconds since the failure. None if there is no
+    503."""
     refused = [place for place, each in enumerate(met) if each[3] == 503]
     return (met[refused[0]][1] - failed, met[refused[-1] + 1][1] - failed) if refused else None
 
 
 def is_wrong(each, removed, stale):
-    """Whether an answer is wrong."""
+    """Whether an answer, as an Asker notes it, is wrong. `removed` is when the entry was removed, `stale` is `stale_seconds`."""
     begun, _, name, status = each
     if name == GOES and status == 200:
         return begun > removed + stale
@@ -107,21 +108,21 @@ class Site:
     def __init__(self, stack, room, program, stale, is_cut):
         self.nodes, self.stale = nodes_of(stack) if is_cut else [None] * 4, stale
         self.primary = stack.enter_context(databases.Server(at=self.nodes[0], fsync="on"))
-        self.store = store.opened(self.primary)
-        does(self.primary, "ALTER SYSTEM SET synchronous_standby_names = 'ANY 1 (*)'")
+        self.store = store.new_store(self.primary)
+        execute(self.primary, "ALTER SYSTEM SET synchronous_standby_names = 'ANY 1 (*)'")
         self.replicas = [stack.enter_context(self.primary.replica(each)) for each in self.nodes[1:3]]
-        does(self.primary, "SELECT pg_reload_conf()")
+        execute(self.primary, "SELECT pg_reload_conf()")
         hosts = ",".join(each.host for each in (self.primary, *self.replicas))
-        stack.enter_context(store.beats(f"host={hosts} user=postgres dbname=postgres target_session_attrs=read-write",
-                                        *(self.nodes[3].words if is_cut else [])))
+        stack.enter_context(store.heartbeat(f"host={hosts} user=postgres dbname=postgres target_session_attrs=read-write",
+                                            *(self.nodes[3].words if is_cut else [])))
         # (the state that `init` made may be stale before the first beat)
         databases.waits_for("the first beat", lambda: self.store.rows("SELECT number FROM {heartbeat}") > [(0,)])
         people = {name: Person() for name in (STAYS, GOES, NEVER)}
         _, self.number = (self.store.add(people[name].entry) for name in (STAYS, GOES))
         self.askers = []
         for place, each in enumerate(self.replicas):
-            process, socket = store.started(program, each, room, place, stale_seconds=stale)
-            stack.enter_context(databases.ended(process))
+            process, socket = store.start_daemon(program, each, room, place, stale_seconds=stale)
+            stack.enter_context(databases.killed_at_end(process))
             self.askers.append(Asker(socket, people))
             databases.waits_for("the daemon has the entries", lambda: people[GOES].status(self.askers[-1].socket) == 200)
 
@@ -133,7 +134,7 @@ class Site:
         for each in store.processes_of(self.primary.process.pid):
             os.kill(each, signal.SIGKILL)
 
-    def fails(self, wait):
+    def fail_over(self, wait):
         """Removes an entry, has the primary fail, and promotes a replica after some seconds. Returns when the entry was removed, the primary failed,
         and the promotion began and ended."""
         self.store.remove(self.number)
@@ -146,15 +147,15 @@ class Site:
             self.askers.reverse()
         begun = time.monotonic()
         self.replicas[0].promote()
-        does(self.replicas[1], f"ALTER SYSTEM SET primary_conninfo = '{self.replicas[1].source(self.replicas[0])}'", "SELECT pg_reload_conf()")
+        execute(self.replicas[1], f"ALTER SYSTEM SET primary_conninfo = '{self.replicas[1].source(self.replicas[0])}'", "SELECT pg_reload_conf()")
         return removed, failed, begun, time.monotonic()
 
     def measured(self, wait):
-        """Prints what a failover takes, and returns how many answers were wrong and promises broken."""
+        """Measures a failover whose promotion begins after `wait` seconds, and prints it. Returns the sum of wrong answers and broken promises."""
         for each in self.askers:
             each.start()
         time.sleep(BEFORE + random.random())
-        removed, failed, begun, ended = self.fails(wait)
+        removed, failed, begun, ended = self.fail_over(wait)
         # (where all was over before the store was stale, nothing else may make it stale later)
         time.sleep(AFTER + max(0.0, failed + self.stale - ended))
         databases.waits_for("the daemons answer again", lambda: all(each.grants() for each in self.askers))
@@ -162,7 +163,7 @@ class Site:
         met = [each.end() for each in self.askers]
         wrong = sum(is_wrong(each, removed, self.stale) for some in met for each in some)
         granted = max(end for some in met for _, end, name, status in some if name == GOES and status == 200)
-        spans = [span_of(some, failed) for some in met]
+        spans = [span_of_503(some, failed) for some in met]
         counts_as = max(ended - failed, LEAVES if self.nodes[0] else 0.0)
         broken = sum(is_broken(span, self.stale, counts_as) for span in spans)
         told = [f"503 from {span[0]:.1f} to {span[1]:.1f}, {span[1] - span[0]:.1f} s, {span[1] + failed - ended:.1f} after it" if span else "no 503"
@@ -180,17 +181,18 @@ def nodes_of(stack):
 
 
 def is_broken(span, stale, ended):
-    """Whether 503 at a daemon lasted longer than is promised of a promotion that ended so many seconds after the failure."""
+    """Whether the span of 503 at a daemon is longer than is promised, where the promotion ended so many seconds after the failure."""
     lasted = span[1] - span[0] if span else 0.0
     return ended <= stale - MARGIN and lasted > 0 or ended <= 2 * stale - MARGIN and lasted > stale
 
 
 def waits_of(stale):
-    """When promotions begin that just keep the promises, at once, and when it is too late for no 503. They take up to half a second."""
+    """The seconds after the failure at which promotions begin: at once, as late as keeps each of the two promises, and between. A promotion takes
+    up to half a second."""
     return [0.0, max(0.0, stale - MARGIN - 0.5), stale, 2 * stale - MARGIN - 0.5]
 
 
-def does(server, *statements):
+def execute(server, *statements):
     """Runs statements, each in a transaction of its own. Returns a row of the last, if it has any."""
     import psycopg
     with psycopg.connect(server.address, autocommit=True) as connection:
@@ -200,8 +202,8 @@ def does(server, *statements):
 
 
 def received(replica):
-    """How much of the log a replica has received."""
-    return does(replica, "SELECT pg_wal_lsn_diff(pg_last_wal_receive_lsn(), '0/0')::bigint")[0]
+    """How many octets of the log of PostgreSQL a replica has received."""
+    return execute(replica, "SELECT pg_wal_lsn_diff(pg_last_wal_receive_lsn(), '0/0')::bigint")[0]
 
 
 def main():

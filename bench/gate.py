@@ -25,23 +25,25 @@ FIXED = ["rt", "selftest"]
 
 
 def words_of(process):
+    """The command line of a process, by its number."""
     with open(f"/proc/{process}/cmdline", "rb") as it:
         return it.read().decode(errors="replace").split("\0")
 
 
 def fields_of(process):
+    """The fields of /proc/PID/stat behind the name: [1] is the parent, [11] and [12] the ticks, [19] the begin."""
     with open(f"/proc/{process}/stat") as it:
         return it.read().rpartition(")")[2].split()
 
 
 def ticks_of(process):
-    """The processor time of a process itself, and when it began, which distinguishes it from an earlier one with its number."""
+    """The processor time of a process itself, in ticks, and when it began, which distinguishes it from an earlier one with its number."""
     fields = fields_of(process)
     return int(fields[11]) + int(fields[12]), int(fields[19])
 
 
 def is_ours(process):
-    """Whether a process is this one, or was started by one that is."""
+    """Whether a process is this one, or was started by it, also through others."""
     while process > 1:
         if process == os.getpid():
             return True
@@ -68,6 +70,7 @@ class Sampled:
         self.seen = {}
 
     def look(self):
+        """Notes the processor time of each check that runs now."""
         for process in filter(str.isdigit, os.listdir("/proc")):
             try:
                 part = part_of(process, words_of(process)) if is_ours(int(process)) else None
@@ -78,14 +81,15 @@ class Sampled:
                 self.seen[process, begun] = part, ticks
 
     def minutes(self):
+        """The processor minutes by crate and part."""
         totals = defaultdict(float)
         for part, ticks in self.seen.values():
             totals[part] += ticks / TICKS / 60
         return totals
 
 
-def processor_minutes(command):
-    """The status of a command, and the processor minutes that it takes with all that it starts."""
+def run_timed(command):
+    """Runs a command. Returns its status, and the processor minutes that it takes with all that it starts."""
     before = os.times()
     status = subprocess.run(command).returncode
     after = os.times()
@@ -93,7 +97,8 @@ def processor_minutes(command):
 
 
 def table(totals, whole, clock, fixed):
-    """The rows of the crates, and those of what is left, of all, and of all as a multiple of the fixed check."""
+    """The lines of the table. `totals` are the minutes by crate and part, `whole` those of the command with all that it started, `clock` those on
+    the clock, and `fixed` those of the fixed check."""
     yield f"{'processor minutes':<24}" + "".join(f"{part:>9}" for part in PARTS) + f"{'all':>9}"
     for crate in sorted({crate for crate, _ in totals}):
         row = [totals.get((crate, part), 0.0) for part in PARTS]
@@ -109,7 +114,7 @@ def table(totals, whole, clock, fixed):
 
 def main():
     command = sys.argv[1:] or [os.path.join(ROOT, ".ci", "run")]
-    status, fixed = processor_minutes(FIXED)
+    status, fixed = run_timed(FIXED)
     if status:
         sys.exit(f"{' '.join(FIXED)} fails, so there is nothing to compare with")
     sampled, ended, begun = Sampled(), threading.Event(), time.monotonic()
@@ -120,7 +125,7 @@ def main():
 
     watching = threading.Thread(target=watch)
     watching.start()
-    status, whole = processor_minutes(command)
+    status, whole = run_timed(command)
     ended.set()
     watching.join()
     print(*table(sampled.minutes(), whole, (time.monotonic() - begun) / 60, fixed), sep="\n")

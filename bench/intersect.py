@@ -9,7 +9,7 @@ Usage: bench/intersect.py [PROGRAM]
 import os
 import sys
 
-from counting import counted, counter
+from counting import counted, choose_counter
 from memory import peak
 
 sys.path.append(os.path.join(os.path.dirname(os.path.abspath(__file__)), "..", "tests"))
@@ -32,6 +32,7 @@ def prefix(octets):
 
 
 def intersection(a, b):
+    """The text that asks for the intersection of two tags."""
     return group(string("intersect"), a, b)
 
 
@@ -53,29 +54,30 @@ def other_strings(n):
 
 
 def prefixes(n):
-    """Prefixes, of which each may meet each: all pairs are tried."""
+    """Prefixes: each may have something in common with each, so all pairs are tried."""
     return set_of([prefix(f"n{i:04}") for i in range(n)]), set_of([prefix(f"n{i:04}") for i in range(n)][::-1])
 
 
-def alike(member):
-    """The same member in each place: each meets each, and all are kept."""
+def equal_members(member):
+    """Returns what makes two sets of n equal members: the intersection of each with each is kept."""
     return lambda n: (set_of([member] * n), set_of([member] * n))
 
 
 WIDEST = {
-    "strings": alike(string("a")),
-    "prefixes": alike(prefix("")),
-    "ranges": alike(group(*[string(word) for word in "* range alpha ge a l z".split()])),
-    "lists": alike(group(string("f"), string("a"))),
+    "strings": equal_members(string("a")),
+    "prefixes": equal_members(prefix("")),
+    "ranges": equal_members(group(*[string(word) for word in "* range alpha ge a l z".split()])),
+    "lists": equal_members(group(string("f"), string("a"))),
 }
 
 
 def instructions(count, a, b):
+    """The instructions, by a counter, of the intersection of two tags."""
     return counted(count, [PROGRAM, "intersect"], intersection(a, b))
 
 
 def main():
-    count = counter()
+    count = choose_counter()
     start = instructions(count, string("a"), string("b"))
     missed = False
     print(f"{'two sets of':<16}" + "".join(f"{n:>12}" for n in MEMBERS) + f"   times for {MEMBERS[-1] / MEMBERS[0]:.0f} times the members")
@@ -91,7 +93,7 @@ def main():
         memory = peak(PROGRAM, "intersect", intersection(*make(999 if name != "lists" else 332)))
         missed = missed or memory > MOST_MEMORY
         print(f"most members of {name:<10} {memory:>7.1f} MiB   {'pass' if memory <= MOST_MEMORY else 'miss'}")
-    memory = peak(PROGRAM, "intersect", intersection(*alike(string("a" * 1000))(500)))
+    memory = peak(PROGRAM, "intersect", intersection(*equal_members(string("a" * 1000))(500)))
     missed = missed or memory > MOST_LONG
     print(f"members of 1,000 octets    {memory:>7.1f} MiB   {'pass' if memory <= MOST_LONG else 'miss'}")
     sys.exit(1 if missed else 0)

@@ -20,7 +20,7 @@ from dataclasses import dataclass
 from typing import Callable
 
 from check import PROGRAM, STAR, group, key, run, string
-from counting import counted, counter
+from counting import counted, choose_counter
 from shapes import a_set, by_hashes, by_keys, certificate, definition, digest, entry, name, parts_of, through_names
 
 SIZES = [64 * 1024, 256 * 1024, 1024 * 1024]
@@ -37,60 +37,66 @@ RANGE = group(*map(string, ("*", "range", "alpha", "ge", "a", "le", "b")))
 SET_OF_TWO = group(*map(string, ("*", "set", "a", "b")))
 
 
-def shown(octets, signer, value=string("sig")):
+def with_signature(octets, signer, value=string("sig")):
     """A certificate's octets with its signature behind them."""
     return octets + group(string("signature"), digest(octets), signer, value)
 
 
-def asked(entries, rows, items, asks=OTHER):
-    """A case of these parts. The key that asks is none of theirs, so that every entry is tried."""
+def case_of(entries, rows, items, asks=OTHER):
+    """A case of these parts. By default a key asks that nothing is granted to, so that every entry is tried."""
     return group(
         string("case"), group(string("acl"), *entries), group(string("accepted"), *rows), group(string("sequence"), *items),
         group(string("key"), asks), group(string("request"), string("ftp")), group(string("at"), string("2024-01-01_00:00:00")))
 
 
 def row(octets, signer, value=string("sig")):
+    """The row that accepts a signature of a certificate."""
     return group(string("by"), signer, digest(octets), value)
 
 
 def repeated(entries, cert, certificates, before=()):
-    """A case of one certificate of the owner many times, with others before it."""
-    return asked(entries, [row(octets, OWNER) for octets in (*before, cert)],
-                 [shown(octets, OWNER) for octets in before] + [shown(cert, OWNER)] * certificates)
+    """A case with one certificate of the owner so many times, behind others."""
+    return case_of(entries, [row(octets, OWNER) for octets in (*before, cert)],
+                   [with_signature(octets, OWNER) for octets in before] + [with_signature(cert, OWNER)] * certificates)
 
 
 # Each shape makes a case of so many entries and certificates. The third number is the most members of a set or list.
 
 def chain(entries, certificates, members):
+    """A chain by keys."""
     return by_keys(certificates, asks=OTHER)
 
 
 def chain_of_hashes(entries, certificates, members):
+    """A chain in which hashes name the keys."""
     return by_hashes(certificates, OTHER)
 
 
 def chain_of_names(entries, certificates, members):
+    """A chain of definitions of names."""
     return through_names(certificates, asks=OTHER)
 
 
 def many_rows(entries, certificates, members):
     """Certificates of one key, each with a row."""
     certs = [certificate(OWNER, OWNER, group(string("*"), string("set"), string("ftp"), string(f"x{place:05}"))) for place in range(certificates)]
-    return asked([entry(OWNER)], [row(cert, OWNER) for cert in certs], [shown(cert, OWNER) for cert in certs])
+    return case_of([entry(OWNER)], [row(cert, OWNER) for cert in certs], [with_signature(cert, OWNER) for cert in certs])
 
 
 def rows_of_one_digest(entries, certificates, members):
     """One certificate many times, each time with another signature, and a row for each of these signatures."""
     cert = certificate(OWNER, OWNER)
     values = [string(f"v{place:05}") for place in range(certificates)]
-    return asked([entry(OWNER)], [row(cert, OWNER, value) for value in values], [shown(cert, OWNER, value) for value in values])
+    return case_of([entry(OWNER)], [row(cert, OWNER, value) for value in values], [with_signature(cert, OWNER, value) for value in values])
 
 
 def wide_lists(entries, certificates, members):
+    """A chain by keys, all for a list of `members` strings."""
     return by_keys(certificates, group(string("ftp"), *[string("x")] * (members - 1)), asks=OTHER)
 
 
 def wide_sets(entries, certificates, members):
+    """A chain by keys, all for a set of `members` strings."""
     return by_keys(certificates, group(string("*"), string("set"), *[string(f"{place:03}") for place in range(members)]), asks=OTHER)
 
 
@@ -100,6 +106,7 @@ def list_of_members(entries, certificates, members):
 
 
 def entries_and_chain(entries, certificates, members):
+    """Equal entries for the first key of a chain."""
     return by_keys(certificates, entries=entries, asks=OTHER)
 
 
@@ -121,6 +128,7 @@ def entries_with_own_tags(entries, certificates, members):
 
 
 def entries_and_names(entries, certificates, members):
+    """Equal entries for the first name of a chain of definitions."""
     return through_names(certificates, entries=entries, asks=OTHER)
 
 
@@ -133,14 +141,14 @@ def entries_and_two_words(entries, certificates, members):
 
 def long_key(entries, octets, members):
     """Entries for a hash, each of which is compared with a long key."""
-    return asked([entry(digest(OWNER))] * entries, [], [], key("k" * octets))
+    return case_of([entry(digest(OWNER))] * entries, [], [], key("k" * octets))
 
 
 def long_issuer(entries, certificates, members):
     """Entries for the hash of a long key, and one certificate many times, from this hash to itself."""
     long = key("k" * (148 * certificates))
     cert = certificate(digest(long), digest(long))
-    return asked([entry(digest(long))] * entries, [row(cert, long)], [long] + [shown(cert, digest(long))] * certificates)
+    return case_of([entry(digest(long))] * entries, [row(cert, long)], [long] + [with_signature(cert, digest(long))] * certificates)
 
 
 def long_name(names, certificates, members):
@@ -173,7 +181,7 @@ def between(place):
 def after_large(large, tags):
     """An entry and a certificate for a large tag, and certificates for these tags."""
     certs = [certificate(OWNER, OWNER, tag) for tag in (large, *tags)]
-    return asked([entry(OWNER, large)], [row(cert, OWNER) for cert in certs], [shown(cert, OWNER) for cert in certs])
+    return case_of([entry(OWNER, large)], [row(cert, OWNER) for cert in certs], [with_signature(cert, OWNER) for cert in certs])
 
 
 def narrowed_ranges(entries, certificates, members):
@@ -199,7 +207,8 @@ def strangers(entries, certificates, members):
 
 @dataclass(frozen=True)
 class Shape:
-    """A kind of text, of which the list takes this part, and whether it is one of many entries and many certificates."""
+    """A kind of text: `what` it is, with the two counts, and what makes it. `listed` is the part of its octets that the list takes.
+    `is_product`: it has many entries and many certificates."""
 
     what: str
     make: Callable
@@ -212,29 +221,29 @@ class Shape:
 
     def entries(self, octets, members):
         """How many entries have at most so many octets in the list."""
-        return most(lambda count: lengths_in_case(self.make(count, 2, members))[0], octets)
+        return largest_count(lambda count: lengths_in_case(self.make(count, 2, members))[0], octets)
 
     def fitting(self, size):
         """The counts of entries and certificates in the largest text of at most so many octets."""
         entries = self.entries(int(size * self.listed), MEMBERS)
         others = lengths_in_case(self.make(1, 2, MEMBERS))[1]
         listed = len(self.make(entries, 2, MEMBERS)) - others
-        return entries, most(lambda count: lengths_in_case(self.make(1, count, MEMBERS))[1], size - listed)
+        return entries, largest_count(lambda count: lengths_in_case(self.make(1, count, MEMBERS))[1], size - listed)
 
     def text(self, size):
-        """What the largest text of at most so many octets is, and the text."""
+        """What the largest text of at most so many octets is, in words, and the text."""
         counts = self.fitting(size)
         return self.what.format(*counts), self.make(*counts, MEMBERS)
 
 
-def most(octets_of, octets):
-    """The greatest count for which the octets are at most so many, if they grow by the same for each; 1 if they do not grow."""
+def largest_count(octets_of, octets):
+    """The largest count for which `octets_of(count)` is at most `octets`, if it grows by the same for each; 1 if it does not grow."""
     few, many = octets_of(2), octets_of(12)
     return max(1, 2 + (octets - 16 - few) * 10 // (many - few)) if many > few else 1
 
 
 def lengths_in_case(text):
-    """The octets of a case's list, and of all else."""
+    """How many octets a case's list has, and how many all else."""
     listed = len(parts_of(text)[0])
     return listed, len(text) - listed
 
@@ -277,7 +286,7 @@ def seconds_of(text):
 
 
 def timed(shape, sizes=SIZES):
-    """The times of a shape for these lengths, each of which is printed."""
+    """Prints and yields the seconds of a shape for each of these lengths. They are infinite if a run was ended."""
     for size in sizes:
         what, text = shape.text(size)
         took = seconds_of(text)
@@ -311,7 +320,7 @@ def faults_of(shape, count):
 
 def main():
     print(f"{'octets':>9}  {'time':>10}  text")
-    count = counter()
+    count = choose_counter()
     over = [fault for shape in SHAPES for fault in faults_of(shape, count)]
     text = large_tag_and_set(1, BEHIND_LARGE, MEMBERS)
     print(f"{len(text):>9,}  {seconds_of(text):>8.3f} s  {LARGE_TAG_AND_SET.what.format(0, BEHIND_LARGE)}", flush=True)

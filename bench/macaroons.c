@@ -24,6 +24,7 @@ static char text[65536], macaroon[4096];
 static size_t length;
 static struct held held;
 
+/* The ways to grant, each of which returns whether it says yes. This one decides from the text of the case. */
 static int decides(void)
 {
     unsigned char line[64];
@@ -31,16 +32,19 @@ static int decides(void)
     return spki_answer(SPKI_CHECK, text, length, line, sizeof line, &needed).status == SPKI_YES;
 }
 
+/* Decides the question that is open already. */
 static int grants(void)
 {
     return decided(&held) == SPKI_YES;
 }
 
-static int opens(void)
+/* Opens the question, and decides it. */
+static int opens_and_grants(void)
 {
     return list_signed(&held) == SPKI_DONE && grants();
 }
 
+/* Makes the macaroon with three caveats. */
 static void mint(void)
 {
     enum macaroon_returncode fault;
@@ -54,6 +58,7 @@ static void mint(void)
     macaroon_destroy(made);
 }
 
+/* Reads the macaroon, and verifies it. */
 static int verifies(void)
 {
     enum macaroon_returncode fault;
@@ -78,7 +83,7 @@ static double time_of(int (*call)(void))
     return ((to.tv_sec - from.tv_sec) * 1e6 + (to.tv_nsec - from.tv_nsec) / 1e3) / CALLS;
 }
 
-static int (*const ways[WAYS])(void) = {decides, grants, verifies, opens};
+static int (*const ways[WAYS])(void) = {decides, grants, verifies, opens_and_grants};
 
 /* Prints the least time of each way, or returns 1 if one does not say yes. */
 static int print_times(void)

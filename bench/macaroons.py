@@ -21,12 +21,13 @@ sys.path.append(os.path.join(os.path.dirname(os.path.abspath(__file__)), "..", "
 from shared import BENCH, LIBRARY, TOP  # noqa: E402
 
 FLAGS = ["-O2", "-Wall", "-Wextra", "-std=c11"]
-# Three of the ways to grant that macaroons.c numbers.
-GUARD, MACAROON, OPENED = "1", "2", "3"
+# Three of the ways to grant that macaroons.c numbers: a question that is open already is decided, a macaroon is verified, a question is opened
+# and decided.
+DECIDE_ONLY, MACAROON, OPEN_AND_DECIDE = "1", "2", "3"
 
 
 def written_parts(text):
-    """The parts of a case as question.h reads them."""
+    """The parts of a case, as the octets of a file that question.h reads."""
     return b"".join(b"%d\n%s" % (len(part), part) for part in parts_of(text))
 
 
@@ -36,7 +37,7 @@ def is_there():
 
 
 def built(folder, library=LIBRARY):
-    """The words that start the program of macaroons.c in a folder, or None without libmacaroons."""
+    """Builds macaroons.c in a folder. Returns the words that start it, or None if libmacaroons is not installed."""
     if not is_there():
         return None
     program, case, parts = (os.path.join(folder, name) for name in ("macaroons", "case", "parts"))
@@ -50,7 +51,8 @@ def built(folder, library=LIBRARY):
 
 
 def measured(words):
-    """The microseconds of a decision from a case's text, of one through a guard, of a verification, and of a question opened and decided."""
+    """Four times in µs: a decision from a case's text, one of a question that is open already, a macaroon's verification, and a question opened
+    and decided. `words` are those of `built`."""
     return tuple(map(float, subprocess.run(words, stdout=subprocess.PIPE, check=True, text=True).stdout.split()))
 
 

@@ -19,7 +19,7 @@ print(used.ru_utime + used.ru_stime, used.ru_maxrss)
 
 
 def processor_seconds(words, **settings):
-    """How one run of a program ended, and its processor time."""
+    """Runs a program by `subprocess.run`. Returns how it ended, and its processor time in seconds."""
     before = resource.getrusage(resource.RUSAGE_CHILDREN)
     done = subprocess.run(words, **settings)
     after = resource.getrusage(resource.RUSAGE_CHILDREN)

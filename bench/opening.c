@@ -7,7 +7,7 @@
 #include "taken.h"
 #include <time.h>
 
-/* The ms of the processor. */
+/* The ms of the processor that this process has used. */
 static double used(void)
 {
     struct timespec time;

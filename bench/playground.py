@@ -37,13 +37,14 @@ class Timed(InChromium):
     engine = "library" if os.path.exists(f"{LIBRARY[:-2]}.so") else "program"
 
     def to_the_answer(self, question):
-        """The median of the seconds from a keystroke to the answer."""
+        """The median of the seconds from a keystroke to the answer, for the parts of a question by their names."""
         for name in ("acl", "sequence"):
             self.put(name, question[name])
         time.sleep(2)
         return statistics.median(self.browser.execute_async_script(KEYSTROKE) for _ in range(RUNS))
 
     def to_the_first_paint(self):
+        """The median of the seconds from a reload to the first paint."""
         took = []
         for _ in range(RUNS):
             self.browser.refresh()

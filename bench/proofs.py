@@ -21,7 +21,7 @@ PART = re.compile(r"Rattle-\w+-proofs\.(?:(?P<function>.*)\.)?(?P<part>[^.]+)")
 
 
 def parts_in(folder):
-    """The parts of proofs that a check has written, in order: the function, its part, and the seconds that this took."""
+    """Yields the parts of proofs that a check has written to a folder, in order: the function, its part, and the seconds that this took."""
     files = sorted((os.stat(os.path.join(at, name)).st_mtime, name) for at, _, names in os.walk(folder) for name in names)
     for (before, _), (time, name) in zip(files, files[1:]):
         part = PART.fullmatch(name.removesuffix(".oantt").removesuffix(".decls"))
@@ -35,7 +35,7 @@ def main():
     name, rows = sys.argv[1], int(sys.argv[2]) if len(sys.argv) > 2 else 20
     crate = toolchain.crates(name)[name]
     with tempfile.TemporaryDirectory() as room:
-        ran = toolchain.inside().checked(crate, {}, toolchain.ONE, room)
+        ran = toolchain.rt_module().checked(crate, {}, toolchain.ONE, room)
         if ran.returncode:
             sys.exit(ran.stdout)
         parts = list(parts_in(room))

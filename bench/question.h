@@ -12,6 +12,7 @@ enum { PARTS = 5 };
 
 static const struct spki_limits highest = SPKI_HIGHEST_LIMITS;
 
+/* What a program holds of a file: the list, the question, both opened, and a buffer for answers. */
 struct held {
     struct spki_text list;
     struct spki_question question;
@@ -21,6 +22,7 @@ struct held {
     size_t room;
 };
 
+/* Reads the next part of a file. Ends the program if it cannot. */
 static struct spki_text read_text(FILE *file)
 {
     size_t length;
@@ -32,6 +34,7 @@ static struct spki_text read_text(FILE *file)
     return (struct spki_text){octets, length};
 }
 
+/* Opens a guard of a list under the strict policy. Ends the program if the list is refused. */
 static spki_guard *open_guard(struct spki_text list, const struct spki_limits *limits)
 {
     spki_guard *guard;
@@ -57,6 +60,7 @@ static inline enum spki_status list_signed(struct held *held)
 /* A call that answers an opened question. */
 typedef enum spki_status wish(const spki_asked *, void *, size_t, size_t *);
 
+/* The status of a call that answers the opened question. */
 static inline enum spki_status answered(struct held *held, wish *call)
 {
     size_t needed;
@@ -68,12 +72,13 @@ static inline enum spki_status decision_of(const spki_asked *asked, void *buffer
     return spki_asked_decide(asked, buffer, length, needed).status;
 }
 
+/* Decides the opened question. */
 static inline enum spki_status decided(struct held *held)
 {
     return answered(held, decision_of);
 }
 
-/* The guard and the question of a file. */
+/* Reads a file, and opens its guard. The question is not opened yet: see `list_signed`. */
 static struct held held_in(const char *path, const struct spki_limits *limits)
 {
     struct held held = {.room = 64 << 20, .question.size = sizeof held.question};

@@ -47,7 +47,7 @@ class Tag:
 
     @property
     def nodes(self) -> int:
-        """At most as many as it is written with."""
+        """The number of nodes of the written tag, or a greater one."""
         own = self.members + self.depth * (1 if self.kind == "set" else 2) if self.kind in ("list", "set") else 1
         return own + 2 * self.lists + (1 if self.lists else 0)
 
@@ -57,7 +57,7 @@ class Tag:
         return group(string("*"), string("set"), alone, *[group(string("l"))] * self.lists) if self.lists else alone
 
     def alone(self) -> bytes:
-        """The same without lists beside it."""
+        """The octets of the tag without the lists beside it."""
         if self.kind == "star":
             return STAR
         if self.kind in LEAVES:
@@ -81,8 +81,8 @@ class Entries:
 
 @dataclass(frozen=True)
 class Link:
-    """A certificate, so often: a right, or while the subject before it has names the definition of the first one. Its subject has so many
-    names, and it has a comment of so many lists."""
+    """A certificate `repeats` times: the definition of a name if the subject before it has names, else a right for the tag. Its subject has so
+    many names, and it has a comment of so many lists."""
 
     tag: Tag = Tag()
     repeats: int = 1
@@ -92,7 +92,7 @@ class Link:
 
 @dataclass(frozen=True)
 class Recipe:
-    """A list and a question. `grown` is the certificate of which a number grows."""
+    """A list and a question. `grown` is the place of the certificate of which a number grows, and `grows` the field that has this number."""
 
     entries: Entries = Entries()
     links: tuple[Link, ...] = ()
@@ -147,14 +147,14 @@ class Recipe:
     # ---- how a text grows
 
     def with_list(self, number: int) -> "Recipe":
-        """The same where the number of the entries that grows is this one."""
+        """The recipe with this as the growing number of its entries, which `entries.grows` names."""
         its, what = self.entries, self.entries.grows
         if what in ("count", "names"):
             return replace(self, entries=replace(its, **{what: number}))
         return replace(self, entries=replace(its, tag=replace(its.tag, **{what: number})))
 
     def with_links(self, number: int) -> "Recipe":
-        """The same of the certificates."""
+        """The recipe with this as the growing number of its certificates, or the recipe itself if none grows."""
         if not self.links or not self.grows:
             return self
         at, what = self.grown % len(self.links), self.grows
@@ -171,7 +171,7 @@ class Recipe:
 
 
 def greatest(fits: Callable[[int], bool], most: int = 1 << 20) -> int:
-    """The greatest number that fits, if each that is less does; 0 if none does."""
+    """The greatest number up to `most` for which `fits` is true. It must be true for each lower number from 1 on. 0 if it is true for none."""
     low, high = 0, 1
     while high <= most and fits(high):
         low, high = high, 2 * high
@@ -182,8 +182,10 @@ def greatest(fits: Callable[[int], bool], most: int = 1 << 20) -> int:
 
 
 def fitted(recipe: Recipe, listed: int, asked: int, certificates: int) -> Recipe | None:
-    """The largest list and question of a recipe that have at most so many octets. None if the smallest have more."""
+    """The recipe with its growing numbers as great as can be: the list has at most `listed` octets, the question `asked`. None if the smallest
+    are larger."""
     def asks(number: int) -> bool:
+        """Whether the question is read and small enough with this as its growing number."""
         made = recipe.with_links(number)
         return made.is_read(certificates) and sum(map(len, made.parts()[1:])) <= asked
 
@@ -193,6 +195,7 @@ def fitted(recipe: Recipe, listed: int, asked: int, certificates: int) -> Recipe
         return None
 
     def lists(number: int) -> bool:
+        """The same of the list."""
         larger = made.with_list(number)
         return larger.is_read(certificates) and len(larger.list_text()) <= listed
 
@@ -226,7 +229,7 @@ FORMS = ("token", "canonical", "quoted", "escaped", "hexadecimal", "base64", "hi
 
 
 def formed(form: Form, octets: int) -> Form | None:
-    """The largest text of a form that has at most so many octets, by its lists."""
+    """The form with as many lists as make at most so many octets. None if one list makes more."""
     lists = greatest(lambda number: len(replace(form, lists=number).text()) <= octets)
     return replace(form, lists=lists) if lists else None
 
@@ -235,7 +238,7 @@ def formed(form: Form, octets: int) -> Form | None:
 
 
 def near(chance: random.Random, number: int, most: int) -> int:
-    """A number near another one, or any."""
+    """A number from 1 to `most`, mostly near another one."""
     if chance.random() < 0.3:
         return min(most, int(2 ** chance.uniform(0, most.bit_length())))
     return max(1, min(most, int(number * 2 ** chance.uniform(-1.5, 1.5)) + chance.choice((-1, 0, 1))))

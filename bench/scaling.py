@@ -31,14 +31,14 @@ SEED = 1
 
 
 def drawn(count, skew, chance):
-    """The rank of a key by Zipf's law, from 1: the inverse of the integral of its density."""
+    """The rank of a key by Zipf's law, from 1, for a `chance` from 0 to 1: the inverse of the integral of its density."""
     if skew == 1:
         return int(math.exp(chance * math.log(count)))
     return int(((count ** (1 - skew) - 1) * chance + 1) ** (1 / (1 - skew)))
 
 
 def bands(count, skew):
-    """Ranks in bands of about a twentieth of a decade: the chance of one key of each, and how many they are."""
+    """Yields bands of ranks, each about a twentieth of a decade: the chance that a request is for one key of the band, and how many keys it has."""
     total = math.log(count) if skew == 1 else (count ** (1 - skew) - 1) / (1 - skew)
     begin = 1.0
     while begin < count:
@@ -63,12 +63,13 @@ def hits_of(count, skew, kept):
 
 
 class Kept:
-    """A cache of so many keys, and how many requests found theirs."""
+    """A cache of at most so many keys."""
 
     def __init__(self, most):
         self.most, self.keys = most, OrderedDict()
 
-    def asked(self, key):
+    def has(self, key):
+        """Whether the cache has a key. It has it afterwards, and drops the one that was asked for longest ago if it is full."""
         is_there = key in self.keys
         self.keys[key] = None
         self.keys.move_to_end(key)
@@ -81,7 +82,7 @@ def simulated_hits(chosen, count, kept, requests):
     """The share of the second half of the requests that a cache answers."""
     cache, found = Kept(kept), 0
     for turn in range(requests):
-        is_there = cache.asked(drawn(count, SKEW, chosen.random()))
+        is_there = cache.has(drawn(count, SKEW, chosen.random()))
         found += is_there and turn >= requests // 2
     return found / (requests - requests // 2)
 
@@ -93,23 +94,24 @@ def machines(rate, hits):
     return math.ceil(daemon / (CORES * BUSY)), max(LEAST, math.ceil(misses * ROWS / (CORES * BUSY))), misses
 
 
-def lasts(chosen, daemons, replicas):
-    """When the last daemon counts a removal, in seconds after its commit."""
+def last_poll(chosen, daemons, replicas):
+    """The seconds after the commit of a removal at which the last daemon has read it, by chance."""
     delays = [DELAY * math.exp(chosen.gauss(0, DELAY_SPREAD)) for _ in range(replicas)]
     return max(delays[place % replicas] + chosen.random() * POLL + ROWS for place in range(daemons))
 
 
 def after_loss(chosen, count, kept, daemons):
-    """The hits before a third of the daemons is lost, and by tenths of the requests after it. Keys have daemons of their own."""
+    """The share of hits before a third of the daemons is lost, and those of ten parts of the requests after it. Each key has its daemon."""
     caches = [Kept(kept) for _ in range(daemons)]
     lost = daemons // 3
 
     def asks(is_whole):
+        """Whether a request by chance finds its key kept. `is_whole`: no daemon is lost."""
         key = drawn(count, SKEW, chosen.random())
         place = hash((key, 1)) % daemons
         if not is_whole and place < lost:
             place = lost + hash((key, 2)) % (daemons - lost)
-        return caches[place].asked(key)
+        return caches[place].has(key)
 
     for _ in range(1_000_000):
         asks(True)
@@ -117,41 +119,43 @@ def after_loss(chosen, count, kept, daemons):
     return before, [sum(asks(False) for _ in range(50_000)) / 50_000 for _ in range(10)]
 
 
-def told(how, what, value):
+def print_row(how, what, value):
+    """Prints a number: how it is known, what it is, and its value."""
     print(f"{how:<9} {what:<66} {value}")
 
 
 def main():
     chosen = random.Random(SEED)
-    told("measured", "daemon, HTTP and log of a request; decision kept, decision read", f"{HTTP * 1e6:.0f}, {HIT * 1e6:.0f}, {MISS * 1e6:.0f} µs")
-    told("measured", "PostgreSQL, processor time of the rows of a decision", f"{ROWS * 1e6:.0f} µs")
-    told("measured", "octets of an entry in all tables", f"{OCTETS}")
-    told("assumed", "octets of a kept key", f"{KEPT}")
-    told("assumed", "entries, decisions a second, Zipf's exponent", f"{ENTRIES:,}, {RATE:,}, {SKEW}")
-    told("assumed", "cores of a machine, share in use, cache of a daemon, least replicas", f"{CORES}, {BUSY}, {CACHE >> 30} GiB, {LEAST}")
-    told("assumed", "median delay of a replica, its log-normal spread", f"{DELAY * 1e3:.0f} ms, {DELAY_SPREAD}")
+    print_row("measured", "daemon, HTTP and log of a request; decision kept, decision read",
+              f"{HTTP * 1e6:.0f}, {HIT * 1e6:.0f}, {MISS * 1e6:.0f} µs")
+    print_row("measured", "PostgreSQL, processor time of the rows of a decision", f"{ROWS * 1e6:.0f} µs")
+    print_row("measured", "octets of an entry in all tables", f"{OCTETS}")
+    print_row("assumed", "octets of a kept key", f"{KEPT}")
+    print_row("assumed", "entries, decisions a second, Zipf's exponent", f"{ENTRIES:,}, {RATE:,}, {SKEW}")
+    print_row("assumed", "cores of a machine, share in use, cache of a daemon, least replicas", f"{CORES}, {BUSY}, {CACHE >> 30} GiB, {LEAST}")
+    print_row("assumed", "median delay of a replica, its log-normal spread", f"{DELAY * 1e3:.0f} ms, {DELAY_SPREAD}")
     approximate, simulated = hits_of(10 ** 6, SKEW, 10 ** 4), simulated_hits(chosen, 10 ** 6, 10 ** 4, 2_000_000)
-    told("simulated", "hits of 10,000 of 1,000,000 keys: Che, request by request", f"{approximate:.3f}, {simulated:.3f}")
+    print_row("simulated", "hits of 10,000 of 1,000,000 keys: Che, request by request", f"{approximate:.3f}, {simulated:.3f}")
     alone = hits_of(ENTRIES, SKEW, CACHE // KEPT)
     daemons, replicas, misses = machines(RATE, alone)
-    told("simulated", "each daemon sees all keys: hits, misses a second", f"{alone:.3f}, {misses:,.0f}")
-    told("simulated", "  daemons, replicas", f"{daemons}, {replicas}")
+    print_row("simulated", "each daemon sees all keys: hits, misses a second", f"{alone:.3f}, {misses:,.0f}")
+    print_row("simulated", "  daemons, replicas", f"{daemons}, {replicas}")
     whole = hits_of(ENTRIES, SKEW, daemons * CACHE // KEPT)
     daemons, replicas, misses = machines(RATE, whole)
-    told("simulated", "each key has its daemon: hits, misses a second", f"{whole:.3f}, {misses:,.0f}")
-    told("simulated", "  daemons, replicas", f"{daemons}, {replicas}")
-    told("simulated", "octets of the store", f"{ENTRIES * OCTETS / 1e9:,.0f} GB")
-    times = sorted(lasts(chosen, daemons, replicas) for _ in range(300))
-    told("simulated", "a removal counts everywhere: median, 99th percentile", f"{times[150] * 1e3:.0f}, {times[296] * 1e3:.0f} ms")
+    print_row("simulated", "each key has its daemon: hits, misses a second", f"{whole:.3f}, {misses:,.0f}")
+    print_row("simulated", "  daemons, replicas", f"{daemons}, {replicas}")
+    print_row("simulated", "octets of the store", f"{ENTRIES * OCTETS / 1e9:,.0f} GB")
+    times = sorted(last_poll(chosen, daemons, replicas) for _ in range(300))
+    print_row("simulated", "a removal counts everywhere: median, 99th percentile", f"{times[150] * 1e3:.0f}, {times[296] * 1e3:.0f} ms")
     changes = 2 * ENTRIES / (DAYS * 86_400)
-    told("assumed", f"changes a second where an entry stays {DAYS} days", f"{changes:.0f}")
-    told("measured", "changes a second of one primary, each a transaction", f"{ADDS}")
+    print_row("assumed", f"changes a second where an entry stays {DAYS} days", f"{changes:.0f}")
+    print_row("measured", "changes a second of one primary, each a transaction", f"{ADDS}")
     before, hits = after_loss(chosen, 10 ** 5, 10 ** 5 // 60, 12)
-    told("simulated", "hits before and after a third of the daemons is lost",
-         f"{before:.3f}; " + ", ".join(f"{each:.3f}" for each in hits[:3]) + f" .. {hits[-1]:.3f}")
+    print_row("simulated", "hits before and after a third of the daemons is lost",
+              f"{before:.3f}; " + ", ".join(f"{each:.3f}" for each in hits[:3]) + f" .. {hits[-1]:.3f}")
     left = daemons - daemons // 3
-    told("simulated", "share in use of the daemons that remain", f"{min(1.0, BUSY * daemons / left):.2f}")
-    told("simulated", "misses a second that the replicas that remain can answer", f"{(replicas - replicas // 3) * CORES / ROWS:,.0f}")
+    print_row("simulated", "share in use of the daemons that remain", f"{min(1.0, BUSY * daemons / left):.2f}")
+    print_row("simulated", "misses a second that the replicas that remain can answer", f"{(replicas - replicas // 3) * CORES / ROWS:,.0f}")
 
 
 if __name__ == "__main__":

@@ -23,7 +23,7 @@
 
 enum { ROUNDS = 40, CALLS = 50, MOST_THREADS = 64, TURNS = 5 };
 
-/* The µs of a clock. */
+/* What a clock shows, in µs. */
 static double time_by(clockid_t clock)
 {
     struct timespec time;
@@ -31,17 +31,20 @@ static double time_by(clockid_t clock)
     return time.tv_sec * 1e6 + time.tv_nsec / 1e3;
 }
 
+/* The time that passes, in µs. */
 static double now(void)
 {
     return time_by(CLOCK_MONOTONIC);
 }
 
+/* Keeps the least of some times. 0 is none yet. */
 static void keep_least(double *least, double took)
 {
     if (*least == 0 || took < *least)
         *least = took;
 }
 
+/* The µs of a call, of many in a row. Ends the program if one has another status. */
 static double time_of(enum spki_status (*call)(struct held *), struct held *held, enum spki_status wanted)
 {
     double begun = now();
@@ -51,6 +54,7 @@ static double time_of(enum spki_status (*call)(struct held *), struct held *held
     return (now() - begun) / CALLS;
 }
 
+/* The way `decide`. */
 static void decide_file(const char *path)
 {
     struct held held = held_in(path, &highest);
@@ -73,7 +77,7 @@ static struct spki_text whole_file(const char *path)
     return text;
 }
 
-/* A line of /proc/self/status, in KiB. */
+/* The number on a line of /proc/self/status, in KiB. */
 static long memory(const char *name)
 {
     char line[256];
@@ -87,7 +91,7 @@ static long memory(const char *name)
     return found;
 }
 
-/* Gives back what is free, so that it counts when it is taken again, and lets the kernel count the most memory anew. */
+/* Gives free memory back to the system, so that it counts when it is taken again, and has the kernel count the most memory anew. */
 static void forget_peak(void)
 {
     malloc_trim(0);
@@ -119,6 +123,7 @@ static wish *wish_of(const char *word)
     exit(2);
 }
 
+/* The way `widest`. */
 static void ask_widest(const char *word, const char *path)
 {
     struct spki_limits limits = SPKI_USUAL_LIMITS;
@@ -150,6 +155,7 @@ static long waits(void)
     return used.ru_nvcsw;
 }
 
+/* What a thread does until it is stopped: opens and decides its question, and counts. */
 static void *decide_on(void *which)
 {
     size_t thread = (size_t)which;
@@ -162,7 +168,7 @@ static void *decide_on(void *which)
     return NULL;
 }
 
-/* Counts, without memory or anything that threads share. */
+/* The same, but only counts: it uses nothing that threads share. */
 static void *count_on(void *which)
 {
     long count = 0;
@@ -172,11 +178,12 @@ static void *count_on(void *which)
     return NULL;
 }
 
-/* What threads do in a second, and how often they wait for each 1,000 of it. */
+/* How often threads do their work in a second, and how often they wait for each 1,000 times. */
 struct rate {
     double by_time, waits;
 };
 
+/* Has so many threads work for half a second. */
 static struct rate rate_of(void *(*work)(void *), size_t threads)
 {
     pthread_t ids[MOST_THREADS];
@@ -202,6 +209,7 @@ static void keep_fastest(struct rate *fastest, struct rate met)
         *fastest = met;
 }
 
+/* The way `threads`. */
 static void ask_by_threads(size_t threads, const char *path)
 {
     void *(*const works[])(void *) = {decide_on, count_on};
@@ -216,6 +224,7 @@ static void ask_by_threads(size_t threads, const char *path)
     printf("%.0f %.0f %.2f %.3f\n", one[0].by_time, many[0].by_time, many[1].by_time / one[1].by_time, many[0].waits);
 }
 
+/* The way `ask`. */
 static void ask(const char *path, long calls)
 {
     struct held held = held_in(path, &highest);
@@ -224,6 +233,7 @@ static void ask(const char *path, long calls)
             exit(4);
 }
 
+/* The way `reopen`. */
 static void reopen(const char *path, long calls)
 {
     struct spki_text list = whole_file(path);
@@ -231,6 +241,7 @@ static void reopen(const char *path, long calls)
         spki_guard_close(open_guard(list, &highest));
 }
 
+/* The way `answer`. */
 static void answer(const char *path, long calls)
 {
     struct spki_text text = whole_file(path);

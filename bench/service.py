@@ -29,10 +29,10 @@ import time
 
 from chains import MOST_OCTETS, large_tags
 from check import group, key, string
-from counting import counted_allocations, counted_by_valgrind, counted_inside, counted_with_cache, counter, of_one_call
-from macaroons import GUARD, MACAROON, OPENED, built, measured, written_parts
+from counting import can_count, choose_counter, counted_allocations, counted_by_valgrind, counted_inside, counted_with_cache, of_one_call
+from macaroons import DECIDE_ONLY, MACAROON, OPEN_AND_DECIDE, built, measured, written_parts
 from shapes import by_keys, case, certificate, definition, digest, entry, keys_of, name, parts_of
-from linear import (LARGE_TAG, LARGE_TAG_AND_RANGE, LARGE_TAG_AND_SET, SHAPES, Shape, large_tag, long_issuer, most,
+from linear import (LARGE_TAG, LARGE_TAG_AND_RANGE, LARGE_TAG_AND_SET, SHAPES, Shape, large_tag, largest_count, long_issuer,
                     narrowed_ranges, ranges_and_sets_of_two, wide_sets)
 
 sys.path.append(os.path.join(os.path.dirname(os.path.abspath(__file__)), "..", "tests"))
@@ -77,30 +77,30 @@ class Driver:
             sys.exit(f"bench/service.c does not compile with {library}: build it by crates/spki_c/archive.py")
 
     def file(self, name, octets):
-        """The path of a file with these octets."""
+        """Writes a file with these octets, and returns its path."""
         path = os.path.join(self.room, name)
         with open(path, "wb") as file:
             file.write(octets)
         return path
 
     def question(self, name, text):
-        """The path of a file with the parts of a case."""
+        """Writes a file with the parts of a case, as question.h reads it, and returns its path."""
         return self.file(name, written_parts(text))
 
     def instructions(self, way, path, calls=100):
-        """The instructions of one call."""
-        return of_one_call(counter(), [self.program, way, path], calls)
+        """The instructions of one call by a way of service.c (`ask`, `reopen` or `answer`) on a file."""
+        return of_one_call(choose_counter(), [self.program, way, path], calls)
 
-    def counts_memory(self):
-        """The program of opening.c."""
+    def built_opening(self):
+        """Builds opening.c, which counts memory, and returns the path of the program."""
         program = os.path.join(self.room, "opening")
         words = ["cc", *FLAGS, "-Wl,--wrap=malloc,--wrap=realloc,--wrap=free", "-I", os.path.join(TOP, "crates", "spki_c"), "-o", program]
         subprocess.run([*words, os.path.join(BENCH, "opening.c"), self.library], check=True)
         return program
 
     def run(self, *words):
-        """The numbers that the driver prints. Large blocks of memory lie apart, so that the pages in use do not depend on the gaps that
-        earlier blocks left."""
+        """Runs service.c with these words, and returns the numbers that it prints. Large blocks of memory lie apart, so that the pages in use
+        do not depend on the gaps that earlier blocks left."""
         done = subprocess.run([self.program, *map(str, words)], stdout=subprocess.PIPE, text=True, timeout=SECONDS, env={**os.environ, **APART})
         if done.returncode:
             sys.exit(f"service {' '.join(map(str, words))}: status {done.returncode}")
@@ -108,40 +108,43 @@ class Driver:
 
 
 def by_key(owner):
+    """The subject of an entry for a key itself. `digest` is the same for its hash."""
     return owner
 
 
-def without(entries, subject_of):
-    """The last entry is that of the key that asks."""
-    return case([*others(entries - 1, subject_of), entry(subject_of(key("k00000")))], [], asks=key("k00000"))
+def case_without_certificates(entries, subject_of):
+    """A case of so many entries, of which the last is that of the key that asks. `subject_of` makes the subject for a key."""
+    return case([*other_entries(entries - 1, subject_of), entry(subject_of(key("k00000")))], [], asks=key("k00000"))
 
 
-def with_three(entries, subject_of=by_key):
-    """The last entry is that of the first issuer."""
+def case_with_three(entries, subject_of=by_key):
+    """A case of so many entries and three certificates. The last entry is that of the first issuer."""
     keys = keys_of(3)
     links = [(certificate(issuer, subject), issuer) for issuer, subject in zip(keys, keys[1:])]
-    return case([*others(entries - 1, subject_of), entry(subject_of(keys[0]))], links, asks=keys[-1])
+    return case([*other_entries(entries - 1, subject_of), entry(subject_of(keys[0]))], links, asks=keys[-1])
 
 
-def others(count, subject_of=by_key):
-    """Entries of keys that ask for nothing."""
+def other_entries(count, subject_of=by_key):
+    """So many entries of keys that do not ask."""
     return [entry(subject_of(key(f"other{place:06}"))) for place in range(count)]
 
+
+# Each of the parts below yields pairs: the name of a limit in MOST or LEAST, and the measured value.
 
 def many_entries(driver):
     """The ratios of decisions with 10,000 entries to those with one."""
     for subjects, subject_of in (("keys", by_key), ("hashes", digest)):
-        for what, make in (("no certificate", without), ("three certificates", with_three)):
+        for what, make in (("no certificate", case_without_certificates), ("three certificates", case_with_three)):
             few, many = (driver.instructions("ask", driver.question("entries", make(count, subject_of))) for count in (1, ENTRIES))
             print(f"{what}: 1 entry {few:,.0f} instructions, {ENTRIES:,} {subjects} {many:,.0f}", flush=True)
             yield f"10,000 {subjects}, {what}", many / few
 
 
-def opened(driver):
+def opening_a_list(driver):
     """The ratio of opening a list of 1 MiB to a decision of a case of it. The decision denies entries of other keys by their subjects, and
     makes no index."""
     empty = len(case([], [], asks=key("a")))
-    text = case(others((MOST_OCTETS - empty) // len(others(1)[0])), [], asks=key("a"))
+    text = case(other_entries((MOST_OCTETS - empty) // len(other_entries(1)[0])), [], asks=key("a"))
     opening = driver.instructions("reopen", driver.file("list", parts_of(text)[0]), 2)
     checking = driver.instructions("answer", driver.file("case", text), 2)
     print(f"opening a list of {len(parts_of(text)[0]):,} octets {opening:,.0f} instructions, SPKI_CHECK on a case of it {checking:,.0f}", flush=True)
@@ -154,23 +157,25 @@ def from_text(driver):
 
 
 def beside_macaroons(driver):
-    """The ratio of a decision by three certificates to the verification of a macaroon, where libmacaroons is there."""
+    """The ratios of a decision by three certificates to the verification of a macaroon: of a question that is open already, and with the opening.
+    Nothing if libmacaroons is not there."""
     words = built(driver.room, driver.library)
     if words is None:
         print("libmacaroons is not there (Debian: libmacaroons-dev): the decision beside a macaroon is left out")
         return
-    _, decision, verification, opened = measured(words)
-    print(f"three certificates through a guard {decision:.1f} µs, with the question opened {opened:.1f} µs, "
+    _, decide_only, verification, open_and_decide = measured(words)
+    print(f"three certificates through a guard {decide_only:.1f} µs, with the question opened {open_and_decide:.1f} µs, "
           f"a macaroon with three caveats {verification:.1f} µs")
-    decision, opened, verification = (of_one_call(counter(), [*words, way]) for way in (GUARD, OPENED, MACAROON))
-    print(f"in instructions {decision:,.0f}, {opened:,.0f} and {verification:,.0f}", flush=True)
-    yield "three caveats, opened before", decision / verification
-    yield "three caveats", opened / verification
+    decide_only, open_and_decide, verification = (
+        of_one_call(choose_counter(), [*words, way]) for way in (DECIDE_ONLY, OPEN_AND_DECIDE, MACAROON))
+    print(f"in instructions {decide_only:,.0f}, {open_and_decide:,.0f} and {verification:,.0f}", flush=True)
+    yield "three caveats, opened before", decide_only / verification
+    yield "three caveats", open_and_decide / verification
 
 
 def beside_digests(driver):
-    """The ratio of all that a question by three certificates takes to the digests."""
-    path = driver.question("three", with_three(1))
+    """The ratio of a question by three certificates, opened, listed and decided, to the digests in it. Nothing without valgrind."""
+    path = driver.question("three", case_with_three(1))
     if shutil.which("valgrind") is None:
         print("valgrind is not there (Debian: valgrind): the digests are left out")
         return
@@ -180,7 +185,7 @@ def beside_digests(driver):
 
 
 def built_in_rust(driver):
-    """The program of service.rs."""
+    """Builds service.rs, and returns the path of the program."""
     crate = os.path.join(driver.room, "rust")
     os.makedirs(crate)
     with open(os.path.join(crate, "Cargo.toml"), "w", encoding="utf-8") as file:
@@ -207,7 +212,7 @@ def through_rust(driver):
     if shutil.which("cargo") is None or shutil.which("valgrind") is None:
         print("cargo or valgrind is not there (Debian: cargo, valgrind): the decision through Rust is left out")
         return
-    path = driver.question("three", with_three(1))
+    path = driver.question("three", case_with_three(1))
     ways = [[driver.program, "ask", path], [built_in_rust(driver), path]]
     calls, rust = (sum(of_one_call(counted_with_cache(kept), words) for kept in CACHES) / len(CACHES) for words in ways)
     few, many = (of_one_call(counted_allocations, words) for words in ways)
@@ -218,16 +223,18 @@ def through_rust(driver):
 
 
 def by_instructions(driver):
-    """What is compared by instructions, where they can be counted."""
-    if counter() is counted_by_valgrind and shutil.which("valgrind") is None:
+    """Yields (name of a limit, measured value) of all parts that compare instructions. Yields nothing, and prints why, if neither perf nor
+    valgrind is there."""
+    if not can_count():
         print("valgrind is not there (Debian: valgrind): what is compared by instructions is left out")
         return
-    for part in (many_entries, opened, from_text, beside_macaroons, beside_digests, through_rust):
+    for part in (many_entries, opening_a_list, from_text, beside_macaroons, beside_digests, through_rust):
         yield from part(driver)
 
 
 def turns(is_kept_now):
-    """The numbers of the turns that a time is taken in: some, and more with pauses until its limit is kept."""
+    """Yields the numbers of the turns in which the caller takes a time: TURNS, and then more after pauses, until `is_kept_now` returns true or
+    there were MOST_TURNS."""
     for turn in range(MOST_TURNS):
         if turn >= TURNS:
             if is_kept_now():
@@ -255,8 +262,8 @@ def time_through_python(driver, text):
 
 
 def through_python(driver):
-    """What a decision through Python takes more than the two calls in C."""
-    what, text = "Python, µs more", with_three(1)
+    """The µs that a decision through Python takes more than the two calls in C."""
+    what, text = "Python, µs more", case_with_three(1)
     path, calls, python = driver.question("three", text), [], []
     for _ in turns(lambda: min(python) - min(calls) <= MOST[what]):
         calls.append(sum(driver.run("decide", path)))
@@ -270,10 +277,11 @@ def question_of(text):
     return sum(map(len, parts_of(text)[1:]))
 
 
-def widest_of(shape, at_most=MOST_OCTETS):
-    """The case of a shape whose list has at most 1 MiB, and whose question at most 64 KiB and so many certificates; and what it is."""
+def widest_of(shape, most_certificates=MOST_OCTETS):
+    """What the widest case of a shape is, in words, and the case: its list has at most 1 MiB, its question at most 64 KiB and so many
+    certificates."""
     entries = shape.entries(MOST_OCTETS, QUESTION_MEMBERS)
-    certificates = min(at_most, most(lambda count: question_of(shape.make(1, count, QUESTION_MEMBERS)), QUESTION_OCTETS))
+    certificates = min(most_certificates, largest_count(lambda count: question_of(shape.make(1, count, QUESTION_MEMBERS)), QUESTION_OCTETS))
     return f"{shape.name}, {entries:,} and {certificates:,}", shape.make(entries, certificates, QUESTION_MEMBERS)
 
 
@@ -286,8 +294,8 @@ def ten_large_sets(entries, certificates, members):
 
 
 def one_answer(driver, wish, path, enough):
-    """The status, the milliseconds, those of them that list the signatures, and the MiB of an answer to the question of a file: the
-    turn that takes the least time."""
+    """The quickest of some runs that answer the question of a file: its status, the milliseconds, those of them that list the signatures, and
+    the MiB. More runs are made until one takes at most `enough` milliseconds."""
     runs = []
     for _ in turns(lambda: min(took for _, took, *_ in runs) <= enough):
         runs.append(driver.run("widest", wish, path))
@@ -295,7 +303,7 @@ def one_answer(driver, wish, path, enough):
 
 
 def one_question(driver, what, text):
-    """The milliseconds and the MiB of the decision, the explanation and the reduction of one question."""
+    """The milliseconds and the MiB of the decision, the explanation and the reduction of one question, by these three words."""
     path = driver.question("wide", text)
     listed, asked = len(parts_of(text)[0]), question_of(text)
     print(f"{what}: list of {listed:,} octets, question of {asked:,}")
@@ -365,6 +373,7 @@ def equal_strings(entries, *prefixes):
 
 
 def wide_shapes():
+    """The shapes of linear.py, and more with large tags."""
     ranges = [Shape("", make) for make in (narrowed_ranges, ranges_and_sets_of_two, ten_large_sets)]
     return (*SHAPES, LARGE_TAG, LARGE_TAG_AND_RANGE, LARGE_TAG_AND_SET, *ranges)
 
@@ -399,12 +408,12 @@ def widest(driver):
 
 
 def in_transport_form(count):
-    """A question that is decoded first."""
+    """The parts of a question whose sequence is in transport form, so that it is decoded first."""
     return chained(count, lambda octets: braced(octets))
 
 
 def chained(count, form=bytes):
-    """A question that shows a chain of certificates, and its sequence in a form."""
+    """The parts of a question that shows a chain of certificates. `form` makes the sequence's text of its canonical form."""
     acl, sequence, asker, request, moment = parts_of(by_keys(count))
     return acl, form(sequence), asker, request, moment
 
@@ -454,7 +463,7 @@ def two_long_keys(count):
 
 
 def of_shape(make):
-    """Questions of a shape with one entry."""
+    """Returns what makes the parts of a question of so many certificates, by a shape of linear.py with one entry."""
     return lambda count: parts_of(make(1, count, QUESTION_MEMBERS))
 
 
@@ -467,8 +476,8 @@ WIDE = {"{:,} certificates in a chain": chained, "the same of {:,} in transport 
 
 
 def opening(driver, program, what, make):
-    """The memory that is kept of a question of 1 MiB, and taken while it is opened, beside its octets, and the time."""
-    count = most(lambda count: sum(map(len, make(count)[1:])), MOST_OCTETS)
+    """Opens a question of 1 MiB. Returns how often its octets the memory that is kept is, and the most that is taken meanwhile, and the ms."""
+    count = largest_count(lambda count: sum(map(len, make(count)[1:])), MOST_OCTETS)
     path = driver.file("opened", b"".join(b"%d\n%s" % (len(part), part) for part in make(count)))
     octets, taken, kept, took = map(float, subprocess.run([program, path], stdout=subprocess.PIPE, check=True).stdout.split())
     print(f"{what.format(count)}: question of {octets:,.0f} octets, {taken:,.0f} octets of memory at most, {kept:,.0f} kept, {took:.1f} ms",
@@ -478,7 +487,7 @@ def opening(driver, program, what, make):
 
 def opening_of_widest(driver):
     """The most memory that is kept of a question of 1 MiB, and taken while it is opened, beside its octets, and the most time."""
-    program = driver.counts_memory()
+    program = driver.built_opening()
     held, met, times = zip(*[opening(driver, program, what, make) for what, make in WIDE.items()])
     sets = opening(driver, program, "{:,} certificates for sets of 1,000 empty strings", empty_strings)
     yield "memory kept of a question by its octets", max(*held, sets[0])
@@ -492,7 +501,7 @@ def threads(driver):
     since other programs that run in one of them make the threads wait for a processor."""
     met = []
     for _ in range(TURNS):
-        one, many, counting, waits = driver.run("threads", THREADS, driver.question("three", with_three(1)))
+        one, many, counting, waits = driver.run("threads", THREADS, driver.question("three", case_with_three(1)))
         print(f"one thread {one:,.0f} decisions a second, {THREADS} threads {many:,.0f}; "
               f"{THREADS} threads count {counting:.2f} times as far as one")
         met.append((CORES * many / one / counting, waits))
@@ -501,8 +510,8 @@ def threads(driver):
     yield "waits of 1,000 decisions", waits
 
 
-def is_kept(what, met):
-    """Whether a limit is kept."""
+def print_and_check(what, met):
+    """Prints a measured value beside its limit. Returns whether the limit is kept."""
     least, most = LEAST.get(what, 0), MOST.get(what, float("inf"))
     kept = least <= met <= most
     limit = f"at least {least:,.2f}" if what in LEAST else f"at most {most:,.2f}"
@@ -516,7 +525,7 @@ def main():
         driver = Driver(room, library)
         parts = (by_instructions, through_python, opening_of_widest, by_default, widest, threads)
         met = [each for part in parts for each in part(driver)]
-    if not all([is_kept(*each) for each in met]):
+    if not all([print_and_check(*each) for each in met]):
         sys.exit(1)
 
 

@@ -9,6 +9,7 @@ NOW = string("2024-01-01_00:00:00")
 
 
 def digest(octets):
+    """The hash, as it is written, of octets."""
     return group(string("hash"), string("sha256"), string(hashlib.sha256(octets).digest()))
 
 
@@ -27,11 +28,12 @@ def certificate(issuer, subject, tag=STAR):
 
 
 def definition(issuer, subject):
+    """A certificate that defines a name, `issuer`, as a subject."""
     return group(string("cert"), group(string("issuer"), issuer), group(string("subject"), subject))
 
 
 def case(entries, links, keys=(), asks=None):
-    """A case of certificates, each with the key that signs it."""
+    """A case of certificates. `links` has each with the key that signs it, `keys` are shown before them, and `asks` is the key that asks."""
     rows = [group(string("by"), signer, digest(octets), string("sig")) for octets, signer in links]
     items = [octets + group(string("signature"), digest(octets), signer, string("sig")) for octets, signer in links]
     return group(
@@ -40,6 +42,7 @@ def case(entries, links, keys=(), asks=None):
 
 
 def keys_of(length):
+    """The keys of a chain of so many certificates, which are one more."""
     return [key(f"k{place:05}") for place in range(length + 1)]
 
 
@@ -67,11 +70,12 @@ def through_names(length, entries=1, asks=None):
 
 
 def a_set(member, members=999):
+    """The tag of a set with so many equal members."""
     return group(string("*"), string("set"), *[member] * members)
 
 
 def parts_of(text):
-    """The list, the sequence, the key, the request and the moment of a case."""
+    """The list, the sequence, the key, the request and the moment of a case, each in canonical form."""
     # (some lists here are longer than a text may be)
     _, acl, _, sequence, asker, request, moment, *_ = Parser(text, True).value(0, "a value").value
     return [canonical(it) for it in (acl, sequence, asker[1], request[1], moment[1])]

@@ -9,7 +9,7 @@ PERIOD = 10_000
 
 
 class Share:
-    """A group with a share of a processor. It ends with its context, when its processes have ended."""
+    """A group with a share of a processor: `cores` is 0.25 for a quarter. Its processes must have ended when its context ends."""
 
     def __init__(self, cores):
         self.path, self.cores = os.path.join(TOP, f"spki-{os.getpid()}-{secrets.token_hex(3)}"), cores
@@ -33,6 +33,7 @@ class Share:
         return os.rmdir(self.path)
 
     def write(self, name, value):
+        """Writes a setting of the group."""
         with open(os.path.join(self.path, name), "w", encoding="ascii") as file:
             file.write(str(value))
 
@@ -42,7 +43,7 @@ class Share:
 
 
 def fault():
-    """Why no shares can be made here, or None."""
+    """Why no shares can be made here, None if they can."""
     try:
         with Share(0.5):
             return None

@@ -13,7 +13,7 @@
 enum { RUNS = 5 };
 static const double ENOUGH = 300;
 
-/* The ms of the processor. */
+/* The ms of the processor that this process has used. */
 static double used(void)
 {
     struct timespec time;
@@ -21,7 +21,7 @@ static double used(void)
     return time.tv_sec * 1e3 + time.tv_nsec / 1e6;
 }
 
-/* Opens the question, and marks its signatures. */
+/* Opens the question, and marks each of its signatures, or with `every` 2 every second one. */
 static enum spki_status ask(struct held *held, size_t every)
 {
     size_t needed;
@@ -32,14 +32,15 @@ static enum spki_status ask(struct held *held, size_t every)
     return status;
 }
 
+/* Whether two words are equal. */
 static bool is(const char *word, const char *other)
 {
     return !strcmp(word, other);
 }
 
-/* One call. A question is opened before each, and a decision's time is that of the opening too, which finds out what the request would be
- * granted by. What was opened is closed after the time is taken. */
-static enum spki_status called(struct held *held, const char *call, const struct spki_limits *limits, size_t every, double *took)
+/* Does one call, and takes its time in ms. The question is opened before an explanation or a reduction. A decision's time has the opening in
+ * it, which finds out what the request would be granted by. What was opened is closed after the time is taken. */
+static enum spki_status time_call(struct held *held, const char *call, const struct spki_limits *limits, size_t every, double *took)
 {
     size_t needed;
     spki_guard *guard = NULL;
@@ -77,7 +78,7 @@ int main(int count, char **words)
     enum spki_status status = SPKI_DONE;
     double least = 0, all = 0, took;
     for (int run = 0; run < RUNS && all < ENOUGH; run++) {
-        status = called(&held, words[1], limits, is(words[3], "half") ? 2 : 1, &took);
+        status = time_call(&held, words[1], limits, is(words[3], "half") ? 2 : 1, &took);
         least = run && least < took ? least : took;
         all += took;
     }

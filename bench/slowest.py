@@ -41,7 +41,8 @@ MANY = 1 << 30
 
 
 class Call(NamedTuple):
-    """A call, and the most that it takes. A guard's call has a word of slowest.c and limits, and a command has no limits."""
+    """A call, and the most seconds and MiB that it may take. A guard's call has a word and limits of slowest.c; a command has no limits. `listed`
+    and `asked` are the most octets of the list and the question, `marks` which signatures are valid. `is_by_entry`: entries add seconds."""
 
     what: str
     word: str
@@ -83,7 +84,7 @@ FORMED = ("canonical", "advanced", "transport")
 
 
 def rows() -> list[str]:
-    """The rows of the table."""
+    """The rows of the table in docs/PERFORMANCE.md."""
     limits = dict.fromkeys(call.limit for call in CALLS)
     return [f"| {', '.join(call.what for call in CALLS if call.limit == limit)} | {limit} |" for limit in limits]
 
@@ -137,8 +138,8 @@ NAMED = [
     Named("entries, a certificate for a long name, in 128 KiB", COMMANDS, Recipe(links=(Link(),), grows="names"), 64 * KIB, 64 * KIB)]
 
 
-class Met(NamedTuple):
-    """What a call took: its status, seconds and MiB, and the octets that a command wrote."""
+class Cost(NamedTuple):
+    """What a call took: its status (-1 if it was ended), seconds and MiB, and the octets that a command wrote."""
 
     status: int
     seconds: float
@@ -147,7 +148,7 @@ class Met(NamedTuple):
 
 
 class TooSlow(Exception):
-    """A run was ended."""
+    """A run was ended, since it took too long."""
 
 
 class Measure:
@@ -158,7 +159,7 @@ class Measure:
 
     @cached_property
     def driver(self) -> str:
-        """The program of slowest.c."""
+        """Builds slowest.c once, and returns the path of the program."""
         made, folder = os.path.join(self.room, "slowest"), os.path.join(TOP, "crates", "spki_c")
         subprocess.run(["cc", *FLAGS, "-I", folder, "-o", made, os.path.join(BENCH, "slowest.c"), self.library], check=True)
         return made
@@ -169,28 +170,28 @@ class Measure:
             file.write(octets)
 
     def run(self, words: list[str], seconds: float, **more: Any) -> subprocess.CompletedProcess[bytes]:
-        """Runs a program, for so many seconds of the processor."""
+        """Runs a program. Raises TooSlow if it takes more than so many seconds of the processor."""
         limit = int(seconds) + 1
         done = subprocess.run(["prlimit", f"--cpu={limit}", *words], **more)
         if done.returncode in (-signal.SIGXCPU, -signal.SIGKILL):
             raise TooSlow
         return done
 
-    def guard(self, call: Call, recipe: Recipe, seconds: float) -> Met:
+    def guard(self, call: Call, recipe: Recipe, seconds: float) -> Cost:
         """What a guard's call takes."""
         self.write(b"".join(b"%d\n%s" % (len(part), part) for part in recipe.parts()))
         done = self.run([self.driver, call.word, call.limits, call.marks, self.file], seconds, stdout=subprocess.PIPE)
         status, milliseconds, octets = done.stdout.split()
-        return Met(int(status), float(milliseconds) / 1000, int(octets) / MIB)
+        return Cost(int(status), float(milliseconds) / 1000, int(octets) / MIB)
 
-    def command(self, word: str, text: bytes, seconds: float) -> Met:
+    def command(self, word: str, text: bytes, seconds: float) -> Cost:
         """What a command takes. Its memory is measured apart."""
         self.write(text)
         before = resource.getrusage(resource.RUSAGE_CHILDREN)
         with open(self.file, "rb") as given:
             done = self.run([self.program, word], seconds, stdin=given, stdout=subprocess.DEVNULL)
         after = resource.getrusage(resource.RUSAGE_CHILDREN)
-        return Met(done.returncode, after.ru_utime + after.ru_stime - before.ru_utime - before.ru_stime, 0.0)
+        return Cost(done.returncode, after.ru_utime + after.ru_stime - before.ru_utime - before.ru_stime, 0.0)
 
     def written(self, word: str) -> int:
         """How many octets a command writes of the text in the file."""
@@ -198,8 +199,8 @@ class Measure:
             counting = subprocess.run(["wc", "-c"], stdin=writing.stdout, stdout=subprocess.PIPE)
         return int(counting.stdout)
 
-    def met(self, call: Call, recipe: Any, seconds: float = MOST_SECONDS, is_whole: bool = False) -> Met:
-        """What a call takes on the text of a recipe: infinite time if the run was ended."""
+    def cost_of(self, call: Call, recipe: Any, seconds: float = MOST_SECONDS, is_whole: bool = False) -> Cost:
+        """What a call takes on the text of a recipe: infinite time if the run was ended. `is_whole`: also the memory and output of a command."""
         try:
             if call.limits:
                 return self.guard(call, recipe, seconds)
@@ -209,7 +210,7 @@ class Measure:
                 return took
             return took._replace(mebibytes=used(self.program, call.word, text)[1], written=self.written(call.word))
         except TooSlow:
-            return Met(-1, float("inf"), 0.0)
+            return Cost(-1, float("inf"), 0.0)
 
 
 def size_of(call: Call, recipe: Any) -> int:
@@ -220,7 +221,8 @@ def size_of(call: Call, recipe: Any) -> int:
 
 
 def sized(call: Call, recipe: Any, listed: int, asked: int) -> Any:
-    """The largest text of a recipe for a call with at most so many octets, or None."""
+    """The recipe with the largest text that a call may have, with at most so many octets of the list and the question. None if none is small
+    enough."""
     listed, asked = min(listed, call.listed), min(asked, call.asked)
     if call.word in FORMED:
         return formed(recipe, listed)
@@ -229,7 +231,7 @@ def sized(call: Call, recipe: Any, listed: int, asked: int) -> Any:
 
 
 def searched(measure: Measure, call: Call, first: Any, chance: random.Random, steps: int) -> Iterator[tuple[float, Any]]:
-    """The recipes of a search from a first one that each took more time for their octets than the one before."""
+    """Searches from a first recipe. Yields each that took more time for an octet than those before: the seconds for an octet, and the recipe."""
     change: Any = changed_form if call.word in FORMED else changed
     at, most = first, 0.0
     for step in range(steps + 1):
@@ -240,14 +242,15 @@ def searched(measure: Measure, call: Call, first: Any, chance: random.Random, st
         if made is None:
             continue
         # (a short text takes what does not depend on its octets)
-        by_octet = measure.met(call, made).seconds / max(size_of(call, made), SEARCHED_QUESTION)
+        by_octet = measure.cost_of(call, made).seconds / max(size_of(call, made), SEARCHED_QUESTION)
         if by_octet > most:
             at, most = tried, by_octet
             yield by_octet, tried
 
 
 def recipes_of(measure: Measure, call: Call, steps: int, seed: int) -> Iterator[tuple[str, Any]]:
-    """The texts on which a call is measured in full: the named ones, and the slowest that are found."""
+    """The recipes on which a call is measured in full, each with its name: the named ones, and the slowest that are found. A recipe is None where
+    no text of it is small enough."""
     named = [each for each in NAMED if call.what.startswith(each.words)]
     for each in named:
         yield each.what, sized(call, each.recipe, each.listed, each.asked)
@@ -259,38 +262,38 @@ def recipes_of(measure: Measure, call: Call, steps: int, seed: int) -> Iterator[
         yield "found", sized(call, recipe, MIB, MIB)
 
 
-def bound(call: Call, recipe: Any, written: int = 0) -> float:
-    """The most seconds of a call on a text, of which so many octets are written."""
+def most_seconds(call: Call, recipe: Any, written: int = 0) -> float:
+    """The most seconds that a call may take on a text, if it writes so many octets."""
     return call.seconds + (SECONDS_AN_ENTRY * recipe.entries.count if call.is_by_entry else 0) + SECONDS_AN_OCTET * written
 
 
-def in_full(measure: Measure, call: Call, recipe: Any) -> Met:
-    """The least that a call takes on a text: it is measured again while it is over its limit."""
-    most = 3 * bound(call, recipe) + MOST_SECONDS
-    least = measure.met(call, recipe, most, True)
+def least_cost(measure: Measure, call: Call, recipe: Any) -> Cost:
+    """The least that a call takes on a text, with memory and output. It is measured again while its time is over the limit, but not over twice."""
+    most = 3 * most_seconds(call, recipe) + MOST_SECONDS
+    least = measure.cost_of(call, recipe, most, True)
     for _ in range(TURNS):
-        limit = bound(call, recipe, least.written)
+        limit = most_seconds(call, recipe, least.written)
         if limit < least.seconds < 2 * limit:
             time.sleep(PAUSE)
-            least = min(least, measure.met(call, recipe, most, True), key=lambda it: it.seconds)
+            least = min(least, measure.cost_of(call, recipe, most, True), key=lambda it: it.seconds)
     return least
 
 
 def faults_of(measure: Measure, call: Call, steps: int, seed: int) -> Iterator[str]:
-    """Measures a call, and says which texts take more than it may."""
+    """Measures a call. Yields a line for each text that takes more than it may."""
     print(f"{call.what}: at most {call.seconds:g} s, {call.mebibytes:g} MiB", flush=True)
     for what, recipe in recipes_of(measure, call, steps, seed):
         if recipe is None:
             continue
-        met = in_full(measure, call, recipe)
-        limit = bound(call, recipe, met.written)
-        is_over = met.seconds > limit or met.mebibytes > call.mebibytes
-        print(f"    {size_of(call, recipe):>9,} octets {met.seconds:>9.4f} s {met.mebibytes:>7.1f} MiB  status {met.status}  {what}"
+        cost = least_cost(measure, call, recipe)
+        limit = most_seconds(call, recipe, cost.written)
+        is_over = cost.seconds > limit or cost.mebibytes > call.mebibytes
+        print(f"    {size_of(call, recipe):>9,} octets {cost.seconds:>9.4f} s {cost.mebibytes:>7.1f} MiB  status {cost.status}  {what}"
               f"{': OVER' if is_over else ''}", flush=True)
         if what == "found" or is_over:
             print(f"              {recipe}", flush=True)
         if is_over:
-            yield f"{call.what}: {what}: {met.seconds:.3f} s (at most {limit:g}), {met.mebibytes:.1f} MiB (at most {call.mebibytes:g})"
+            yield f"{call.what}: {what}: {cost.seconds:.3f} s (at most {limit:g}), {cost.mebibytes:.1f} MiB (at most {call.mebibytes:g})"
 
 
 def main() -> None:
@@ -301,11 +304,11 @@ def main() -> None:
     asked.add_argument("--program", default=PROGRAM)
     asked.add_argument("--library", default=LIBRARY)
     asked.add_argument("calls", nargs="*", metavar="CALL", help="how the names of the calls begin that are measured")
-    of = asked.parse_args()
+    given = asked.parse_args()
     with tempfile.TemporaryDirectory() as room:
-        measure = Measure(room, of.program, of.library)
-        chosen = [call for call in CALLS if call.what.startswith(tuple(of.calls or [""]))]
-        over = [fault for call in chosen for fault in faults_of(measure, call, 0 if of.named else of.steps, of.seed)]
+        measure = Measure(room, given.program, given.library)
+        chosen = [call for call in CALLS if call.what.startswith(tuple(given.calls or [""]))]
+        over = [fault for call in chosen for fault in faults_of(measure, call, 0 if given.named else given.steps, given.seed)]
     print("over the limits:", *over or ["none"], sep="\n")
     if over:
         sys.exit(1)

@@ -55,6 +55,7 @@ SERVER = {"fsync": "on", "shared_buffers": "256MB", "max_wal_size": "4GB", "chec
 
 
 def key(number):
+    """A key by its number."""
     return b"(10:public-key(4:test40:k%039d))" % number
 
 
@@ -68,7 +69,8 @@ def entries(count):
             yield b"(5:entry%s(9:propagate)(3:tag(5:files4:read(1:*6:prefix5:/web/))))" % key(place - place // 20)
 
 
-def asked():
+def arguments():
+    """What the command line asks for."""
     words = argparse.ArgumentParser(description=__doc__, formatter_class=argparse.RawDescriptionHelpFormatter)
     words.add_argument("--entries", type=int, nargs="+", default=[1_000, 1_000_000])
     words.add_argument("--share", type=float, default=0.0, help="measure daemons that have so much of a processor each")
@@ -77,8 +79,8 @@ def asked():
     return words.parse_args()
 
 
-def forget(server):
-    """Starts the server again, and has the system forget its files."""
+def restart_cold(server):
+    """Starts the server again, with none of its files in the memory of the system."""
     server.kill()
     for folder, _, files in os.walk(server.data):
         for name in files:
@@ -89,7 +91,7 @@ def forget(server):
 
 
 def figures(server, what, count, library, **more):
-    """What the test of the daemon prints, by the names of its lines."""
+    """Runs a test of the daemon on a store of so many entries. Returns the lines that it prints, by their names. Ends the script if it fails."""
     test = "TestStoreServed" if what == "served" else "TestStoreFigures"
     done = golang.go(golang.DAEMON, ["test", *DRIVER, "-count=1", "-run", test, "-v", "."], library, None, SPKI_STORE_HOST=server.folder,
                      SPKI_STORE_SCHEMA=SCHEMA, SPKI_STORE_KEYS=str(count - count // 20), SPKI_STORE_WHAT=what, **more)
@@ -100,25 +102,25 @@ def figures(server, what, count, library, **more):
 
 
 def resident(process):
-    """The memory of a process in MiB: what it shares with others counts in part."""
+    """The memory of a process in MiB. Memory that n processes share counts by its nth part."""
     with open(f"/proc/{process}/smaps_rollup", encoding="ascii") as file:
         return int(re.search(r"^Pss: +(\d+)", file.read(), re.M).group(1)) / 1024
 
 
 def processes_of(parent):
-    """A process, and those that it has started."""
+    """The numbers of a process and of those that it has started."""
     words = ["ps", "-o", "pid=", "--ppid", str(parent)]
     return [parent, *map(int, subprocess.run(words, stdout=subprocess.PIPE, text=True, check=False).stdout.split())]
 
 
-def beats(address, *before):
-    """The program that increases the heartbeat."""
+def heartbeat(address, *before):
+    """A context in which `spki-store beat` runs. `before` are words before the command."""
     words = [*before, os.path.join(TOP, "apps", "spki-store", "spki-store"), "--database", address, "--schema", SCHEMA, "beat"]
-    return databases.ended(subprocess.Popen(words, stderr=subprocess.DEVNULL))
+    return databases.killed_at_end(subprocess.Popen(words, stderr=subprocess.DEVNULL))
 
 
-def started(program, server, room, number, **more):
-    """A daemon with the store. Returns its process and its socket."""
+def start_daemon(program, server, room, number, **more):
+    """Starts a daemon with the store of a server, and waits until it listens. Returns its process and the path of its socket."""
     rules = [{"prefix": "/", "methods": {"GET": "read"}, "request": ["files", "{method}", "{path}"]}]
     path, config = os.path.join(room, f"daemon-{number}"), os.path.join(room, f"config-{number}")
     with open(config, "w", encoding="utf-8") as file:
@@ -130,13 +132,14 @@ def started(program, server, room, number, **more):
 
 
 def asked_by_people(server, library, count, program, number, rate, share=0.0):
-    """What some daemons answer, and the memory in MiB of one and of PostgreSQL. Each has a share of a processor, if one is given."""
-    with keeps(server), contextlib.ExitStack() as running:
+    """The line about what so many daemons answer, and the MiB of one and of PostgreSQL. `rate` is that of the questions to each, 0 for as many
+    as they answer, and `share` that of a processor that each has, 0 for no limit."""
+    with added_entries_removed(server), contextlib.ExitStack() as running:
         made, room = [], running.enter_context(tempfile.TemporaryDirectory())
         for each in range(number):
             group = running.enter_context(shares.Share(share)) if share else None
-            made.append(started(program, server, room, each))
-            running.enter_context(databases.ended(made[-1][0]))
+            made.append(start_daemon(program, server, room, each))
+            running.enter_context(databases.killed_at_end(made[-1][0]))
             if group:
                 group.take(made[-1][0].pid)
         found = figures(server, "served", count, library, SPKI_STORE_SOCKETS=",".join(path for _, path in made),
@@ -146,8 +149,8 @@ def asked_by_people(server, library, count, program, number, rate, share=0.0):
 
 
 @contextlib.contextmanager
-def keeps(server):
-    """Removes the entries that are added meanwhile."""
+def added_entries_removed(server):
+    """A context that removes the entries that are added within it."""
     from spki_store_tool.tables import Store
     with contextlib.closing(Store(server.address, SCHEMA)) as store:
         (last,), = store.rows("SELECT max(number) FROM {entries}")
@@ -155,9 +158,9 @@ def keeps(server):
         store.rows("DELETE FROM {entries} WHERE number > %s", last)
 
 
-def served(server, library, count):
+def print_served(server, library, count):
     """Prints what decisions over HTTP take."""
-    with tempfile.TemporaryDirectory() as room, beats(server.address):
+    with tempfile.TemporaryDirectory() as room, heartbeat(server.address):
         program = golang.build_daemon(library, os.path.join(room, "spki-authd"), *DRIVER)
         for number in DAEMONS:
             for rate in RATES:
@@ -166,10 +169,10 @@ def served(server, library, count):
                       f"{database:.0f} MiB", flush=True)
 
 
-def shared(server, library, count, share, times):
-    """Prints what daemons answer of which each has a share of a processor. Returns what is not as it must be."""
+def faults_of_shares(server, library, count, share, times):
+    """Prints what daemons answer of which each has a share of a processor. Returns a line for each limit that is passed."""
     wrong = []
-    with tempfile.TemporaryDirectory() as room, beats(server.address):
+    with tempfile.TemporaryDirectory() as room, heartbeat(server.address):
         program = golang.build_daemon(library, os.path.join(room, "spki-authd"), *DRIVER)
         for _ in range(times):
             rates = []
@@ -191,16 +194,16 @@ def shared(server, library, count, share, times):
     return wrong
 
 
-def opened(server):
-    """A new store at a server."""
+def new_store(server):
+    """Makes a store at a server."""
     from spki_store_tool.tables import Store
     made = Store(server.address, SCHEMA)
     made.make()
     return made
 
 
-def filled(store, count, room):
-    """Imports the entries, and prints what that took."""
+def fill(store, count, room):
+    """Imports so many entries, and prints what that took. The file is in a folder."""
     path = os.path.join(room, "list")
     with open(path, "wb") as file:
         file.write(b"(3:acl")
@@ -216,8 +219,8 @@ def filled(store, count, room):
     print(f"{count:>10,} entries: import {took:.1f} s, {count / took:.0f} a second; {octets / count:.0f} octets an entry in all tables", flush=True)
 
 
-def adds(store):
-    """Entries a second that are added one after the other."""
+def adds_a_second(store):
+    """How many entries a second can be added one after the other."""
     begun, text = time.monotonic(), next(entries(1)).replace(b"k0", b"a0")
     for _ in range(500):
         store.add(text)
@@ -226,51 +229,51 @@ def adds(store):
 
 @contextlib.contextmanager
 def stored(count):
-    """A server, and a store there with so many entries."""
+    """A context with a server, and a store there with so many entries."""
     with databases.Server(**SERVER) as server, tempfile.TemporaryDirectory() as room:
-        with contextlib.closing(opened(server)) as store:
-            filled(store, count, room)
+        with contextlib.closing(new_store(server)) as store:
+            fill(store, count, room)
             yield server, store
 
 
 def measured(count, library):
-    """The figures of a store with so many entries."""
+    """Prints the figures of a store with so many entries. Returns the medians in µs by their names."""
     with stored(count) as (server, store):
         found = figures(server, "single", count, library) | figures(server, "load", count, library)
-        print(f"{count:>10,} entries: {adds(store):.0f} adds a second", flush=True)
+        print(f"{count:>10,} entries: {adds_a_second(store):.0f} adds a second", flush=True)
         store.close()
-        served(server, library, count)
-        forget(server)
+        print_served(server, library, count)
+        restart_cold(server)
         found |= figures(server, "cold", count, library)
         for name, text in found.items():
             print(f"{count:>10,} entries: {name} {text}", flush=True)
         return {name: float(text.split()[1]) for name, text in found.items()}
 
 
-def grown(counts, library):
-    """Measures stores of these numbers of entries. Returns by how much the last is slower than the first, where that is too much."""
+def faults_of_growth(counts, library):
+    """Measures stores of these numbers of entries. Returns a line for each median that grows too much from the first to the last."""
     found = [measured(count, library) for count in counts]
     return [f"{name} grows by {found[-1][name] / found[0][name]:.2f}" for name, most in (("miss", MOST_GROWTH), ("cold", MOST_COLD))
             if found[-1][name] > most * found[0][name]]
 
 
-def scaled(counts, library, share, times):
-    """Measures daemons with shares of a processor, by stores of these numbers of entries. Returns what is not as it must be."""
+def faults_of_scaling(counts, library, share, times):
+    """Measures daemons with shares of a processor, with stores of these numbers of entries. Returns a line for each limit that is passed."""
     if why := shares.fault():
         print(f"skipped: here no daemon can have a share of a processor: {why}")
         return []
     wrong = []
     for count in counts:
         with stored(count) as (server, _):
-            wrong += shared(server, library, count, share, times)
+            wrong += faults_of_shares(server, library, count, share, times)
     return wrong
 
 
 def main():
-    given = asked()
+    given = arguments()
     library = os.path.abspath(given.library)
     os.environ["SPKI_LIBRARY"] = library.removesuffix(".a") + ".so"
-    wrong = scaled(given.entries, library, given.share, given.times) if given.share else grown(given.entries, library)
+    wrong = faults_of_scaling(given.entries, library, given.share, given.times) if given.share else faults_of_growth(given.entries, library)
     print("".join(f"{line}\n" for line in wrong), end="")
     return 1 if wrong else 0
 

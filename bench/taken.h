@@ -5,13 +5,14 @@
 #include <malloc.h>
 #include <stddef.h>
 
+/* The octets that are taken now, and the most at once. */
 static size_t taken, most;
 
 void *__real_malloc(size_t size);
 void *__real_realloc(void *block, size_t size);
 void __real_free(void *block);
 
-/* Counts a block, which may be null. */
+/* Adds a block, which may be null, to what is taken. Returns it. */
 static void *counted(void *block)
 {
     taken += malloc_usable_size(block);
@@ -25,7 +26,7 @@ void *__wrap_malloc(size_t size)
     return counted(__real_malloc(size));
 }
 
-/* While a block is copied, both are there. */
+/* Counts the old block until the new one is there: while it is copied, both are taken. */
 void *__wrap_realloc(void *block, size_t size)
 {
     size_t before = malloc_usable_size(block);
@@ -43,6 +44,7 @@ void __wrap_free(void *block)
     __real_free(block);
 }
 
+/* Sets what is taken, and the most of it, to 0. */
 static inline void begin_counting(void)
 {
     taken = most = 0;

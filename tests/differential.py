@@ -56,11 +56,11 @@ SMALL_BUFFER_EVERY = 5
 WHOLE_COVERAGE = 20_000
 SHOWN = 5
 
-# ---- who is asked
+# ---- the model, the library and the program
 
 
 def model_answer(asked: Question) -> Answer:
-    """What the model answers."""
+    """What the model answers to a text. It differs from the library's answer as `of_library` says."""
     if asked.command == "check_accepted":
         return check_accepted(asked.text, asked.rows)
     return answer(asked.command, asked.text)
@@ -81,7 +81,7 @@ class Library:
                                 ctypes.POINTER(ctypes.c_size_t)]
 
     def ask(self, asked: Question, room: int) -> tuple[int, int, bytes]:
-        """The status, the length of the answer, and a buffer of this room after the call, which had zeros before it."""
+        """The status, the length of the answer, and the octets of a buffer of `room` octets and one more, which were zeros before the call."""
         buffer, needed = ctypes.create_string_buffer(room + 1), ctypes.c_size_t()
         text = (asked.text, len(asked.text))
         if asked.command == "check_accepted":
@@ -90,7 +90,7 @@ class Library:
             status = self.by_command(COMMANDS.index(asked.command), *text, buffer, room, needed)
         return status, needed.value, buffer.raw
 
-    def call(self, asked: Call) -> str | None:
+    def fault_of_call(self, asked: Call) -> str | None:
         """What is wrong with the answer to a call with texts that are empty, null or too long, None if nothing is."""
         wanted = call(asked.number, asked.texts, asked.buffer)
         octets, needed = ctypes.create_string_buffer(ROOM + 1), ctypes.c_size_t()
@@ -104,7 +104,7 @@ class Library:
         met = status, octets.raw.rstrip(b"\0")
         return None if met == wanted else f"the library answers {shown(met)}, the model {shown(wanted)}"
 
-    def finds(self, asked: StringQuestion) -> str | None:
+    def fault_of_string(self, asked: StringQuestion) -> str | None:
         """What is wrong with the string that is found inside a value, None if nothing is."""
         wanted = string_at(asked.text, asked.path)
         text, path = ctypes.create_string_buffer(asked.text, len(asked.text) + 1), (ctypes.c_size_t * len(asked.path))(*asked.path)
@@ -119,8 +119,8 @@ class Library:
             return None
         return f"the library finds {shown((status, found))}, inside the text: {is_inside}, the model {shown(wanted)}"
 
-    def answers(self, asked: Question, wanted: Answer) -> str | None:
-        """What is wrong with the answer, None if nothing is."""
+    def fault_of_answer(self, asked: Question, wanted: Answer) -> str | None:
+        """What is wrong with the answer to a text, None if nothing is. `wanted` is what the model answers."""
         wanted = of_library(asked.command, wanted)
         met_status, needed, buffer = self.ask(asked, len(wanted[1]) + 8)
         if met_status == TOO_SMALL:
@@ -129,7 +129,7 @@ class Library:
             return f"the library answers {shown((met_status, buffer[:needed]))}"
         return "the library writes behind its answer" if buffer[needed:].strip(b"\0") else None
 
-    def keeps_back(self, asked: Question, wanted: Answer) -> str | None:
+    def fault_with_small_buffer(self, asked: Question, wanted: Answer) -> str | None:
         """What is wrong where the buffer has one octet less than the answer, None if nothing is."""
         length = len(wanted[1])
         if not length or self.ask(asked, length - 1) == (too_small(), length, length * b"\0"):
@@ -137,7 +137,7 @@ class Library:
         return "the library writes to a buffer that is too small, or tells another length or status"
 
 
-def program_answers(program: str, asked: Question, wanted: Answer) -> str | None:
+def fault_of_program(program: str, asked: Question, wanted: Answer) -> str | None:
     """What is wrong with the program's answer, None if nothing is."""
     done = subprocess.run([program, asked.command], input=asked.text, stdout=subprocess.PIPE, stderr=subprocess.DEVNULL, timeout=SECONDS)
     return None if (done.returncode, done.stdout) == wanted else f"the program answers {shown((done.returncode, done.stdout))}"
@@ -158,46 +158,46 @@ class Comparison:
     by_program: int = 0
     """How many cases the program has answered."""
 
-    def wrong(self, asked: Asked, number: int) -> str | None:
-        """What is wrong with the answers to a question, None if nothing is. The number says who is asked beside the library."""
+    def fault(self, asked: Asked, number: int) -> str | None:
+        """What is wrong with the answers to a question, None if nothing is. By the number the program or a small buffer is tried too."""
         if isinstance(asked, Question):
-            return self.wrong_of_text(asked, number)
+            return self.fault_of_text(asked, number)
         if self.library is None:
             return None
         if isinstance(asked, Call):
-            return self.library.call(asked)
-        return self.library.finds(asked) if isinstance(asked, StringQuestion) else self.wrong_of_guard(self.library, asked, number)
+            return self.library.fault_of_call(asked)
+        return self.library.fault_of_string(asked) if isinstance(asked, StringQuestion) else self.fault_of_guard(self.library, asked, number)
 
-    def wrong_of_guard(self, library: Library, asked: GuardQuestion, number: int) -> str | None:
-        """What is wrong with the answer of a guard."""
+    def fault_of_guard(self, library: Library, asked: GuardQuestion, number: int) -> str | None:
+        """What is wrong with the answer of a guard, None if nothing is."""
         try:
             wanted = model_guard_answer(asked)
         except ModelDisagrees as why:
             return f"the model disagrees with itself: {why}"
         except Exception as why:
             return f"the model fails: {why!r}"
-        found = library.guards.answers(asked, wanted)
+        found = library.guards.fault_of_answer(asked, wanted)
         if not found and number % SMALL_BUFFER_EVERY == 0 and asked.oddity not in MISUSES.counts:
-            found = library.guards.keeps_back(asked)
+            found = library.guards.fault_with_small_buffer(asked)
         return found and f"{found}, the model {shown(wanted[0])}"
 
-    def wrong_of_text(self, asked: Question, number: int) -> str | None:
-        """What is wrong with the answers to a text."""
+    def fault_of_text(self, asked: Question, number: int) -> str | None:
+        """What is wrong with the answers to a text, None if nothing is."""
         try:
             wanted = model_answer(asked)
             rng = random.Random(number)
-            laws.hold(asked.command, asked.text, wanted, lambda near: [tags.request_near(it, rng) for it in near])
+            laws.check_laws(asked.command, asked.text, wanted, lambda near: [tags.request_near(it, rng) for it in near])
         except ModelDisagrees as why:
             return f"the model disagrees with itself: {why}"
         except Exception as why:
             # an error of the model is shown with its case, and does not end the run
             return f"the model fails: {why!r}"
-        found = self.library.answers(asked, wanted) if self.library else None
+        found = self.library.fault_of_answer(asked, wanted) if self.library else None
         if not found and self.library and number % SMALL_BUFFER_EVERY == 0:
-            found = self.library.keeps_back(asked, wanted)
+            found = self.library.fault_with_small_buffer(asked, wanted)
         if not found and (not self.library or number % PROGRAM_EVERY == 0) and asked.command != "check_accepted":
             self.by_program += 1
-            found = program_answers(self.program, asked, wanted)
+            found = fault_of_program(self.program, asked, wanted)
         return found and f"{found}, the model {shown(wanted)}"
 
 
@@ -205,21 +205,22 @@ class Comparison:
 
 
 def work(comparison: Comparison, numbers: range, at: MutableSequence[int], job: int, results: Connection) -> None:
-    """Compares the cases of these numbers. Sends the numbers of those that differ, the counts of the rows, and how many the program answered."""
-    coverage.forget()
+    """Compares the cases of these numbers, and keeps the present one in `at[job]`. Sends the numbers of those that differ, the counts of the rows,
+    and how many the program answered."""
+    coverage.reset_counts()
     differ = []
     for number in numbers:
         at[job] = number
         # a call that does not end ends the process
         signal.alarm(SECONDS)
-        if comparison.wrong(question(comparison.seed, number), number):
+        if comparison.fault(question(comparison.seed, number), number):
             differ.append(number)
     signal.alarm(0)
     results.send((differ, coverage.counts(), comparison.by_program))
 
 
 def compare(comparison: Comparison, first: int, cases: int, jobs: int) -> tuple[list[int], list[int], Counter]:
-    """The numbers of the cases that differ, of those that ended their process, and the counts of the rows. Counts what the program answered."""
+    """The numbers of the cases that differ, the numbers of those that ended their process, and the counts of the rows."""
     at = multiprocessing.Array("q", jobs)
     workers = []
     for job in range(jobs):
@@ -246,19 +247,19 @@ def compare(comparison: Comparison, first: int, cases: int, jobs: int) -> tuple[
     return sorted(differ), ended, rows
 
 
-def told(comparison: Comparison, number: int) -> str:
-    """What is said of a case that differs, after it was made smaller."""
-    least = smaller(question(comparison.seed, number), lambda it: comparison.wrong(it, number) is not None)
-    return f"case {number}: {least!r:.4000}\n    {comparison.wrong(least, number)}"
+def lines_of_case(comparison: Comparison, number: int) -> str:
+    """The lines about a case that differs, which is made smaller."""
+    least = smaller(question(comparison.seed, number), lambda it: comparison.fault(it, number) is not None)
+    return f"case {number}: {least!r:.4000}\n    {comparison.fault(least, number)}"
 
 
-def told_of_ended(seed: str, number: int) -> str:
-    """What is said of a case that ends the process that asks."""
+def line_of_ended(seed: str, number: int) -> str:
+    """The line about a case that ended its process."""
     return f"case {number} ends the process that asks, or takes over {SECONDS} seconds: {question(seed, number)!r:.2000}"
 
 
 def tables(rows: Counter) -> list[str]:
-    """The tables with the count of each row."""
+    """A line for each table of the document: its rows with their counts."""
     titles: dict[str, list[str]] = {}
     for (title, name), count in rows.items():
         titles.setdefault(title, []).append(f"{name} {count}")
@@ -272,7 +273,7 @@ def shared_object(archive: str, folder: str) -> str:
     return path
 
 
-def compared(program: str, archive: str | None, folder: str, seed: str) -> Comparison:
+def comparison_of(program: str, archive: str | None, folder: str, seed: str) -> Comparison:
     """What is compared: a program and a library, or a program alone."""
     library = Library(ctypes.CDLL(shared_object(os.path.abspath(archive), folder))) if archive else None
     return Comparison(library, os.path.abspath(program), seed)
@@ -291,14 +292,14 @@ def arguments() -> argparse.Namespace:
     return asked.parse_args()
 
 
-def never_came(rows: Counter) -> list[str]:
+def unreached(rows: Counter) -> list[str]:
     """The rows of the model that no case has reached."""
     return [f"{title}: {name}" for (title, name), count in rows.items() if not count]
 
 
 def faults_of_run(cases: int, rows: Counter, by_program: int) -> list[str]:
     """What is wrong with the run as a whole, at most one text for each test."""
-    never, is_whole = never_came(rows), cases >= WHOLE_COVERAGE
+    never, is_whole = unreached(rows), cases >= WHOLE_COVERAGE
     tests = [(f"never came: {'; '.join(never)}", is_whole and never),
              (f"the program answered {by_program} cases, less than a tenth", is_whole and by_program < PROGRAM_SHARE * cases)]
     return [what for what, is_found in tests if is_found]
@@ -312,11 +313,11 @@ def main() -> int:
             sys.exit(f"{name} is not there: tests/run builds it")
     print(f"{asked.cases} cases from {asked.first} on, seed {asked.seed}", flush=True)
     with tempfile.TemporaryDirectory() as folder:
-        comparison = compared(asked.program, archive, folder, asked.seed)
+        comparison = comparison_of(asked.program, archive, folder, asked.seed)
         differ, ended, rows = compare(comparison, asked.first, asked.cases, min(asked.jobs, asked.cases))
         print(*tables(rows), sep="\n")
-        print("".join(f"{told(comparison, number)}\n" for number in differ[:SHOWN]), end="")
-    print("".join(f"{told_of_ended(asked.seed, number)}\n" for number in ended), end="")
+        print("".join(f"{lines_of_case(comparison, number)}\n" for number in differ[:SHOWN]), end="")
+    print("".join(f"{line_of_ended(asked.seed, number)}\n" for number in ended), end="")
     faults = faults_of_run(asked.cases, rows, comparison.by_program)
     print(*faults, sep="\n", end="\n" if faults else "")
     print(f"{asked.cases} cases, seed {asked.seed}: {len(differ)} differ, {len(ended)} do not end, the program answered "

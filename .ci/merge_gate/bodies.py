@@ -24,7 +24,7 @@ def path_of(file: str, lines: list[str], at: int, name: str) -> str:
 
 
 def function_around(file: str, lines: list[str], number: int) -> str | None:
-    """The path of the function that a line is in."""
+    """The path of the function that the line of a number, from 0 on, is in. None if it is in none. A function ends with a `}` below its head."""
     for at in range(number, -1, -1):
         head = HEAD.match(lines[at])
         if head:
@@ -34,13 +34,16 @@ def function_around(file: str, lines: list[str], number: int) -> str | None:
 
 
 def functions_changed(file: str, old: str, new: str) -> set[str | None]:
-    """The functions in which two texts of a file differ; None among them for a line outside of functions. An edit replaces parts of lines."""
+    """The functions in which two texts of a file differ; None among them for a line outside of functions. An edit replaces parts of lines, so both
+    texts have equally many."""
     lines = old.split("\n")
-    return {function_around(file, lines, number) for number, (one, other) in enumerate(zip(lines, new.split("\n"))) if one != other}
+    pairs = zip(lines, new.split("\n"), strict=True)
+    return {function_around(file, lines, number) for number, (one, other) in enumerate(pairs) if one != other}
 
 
 def functions_of(folder: str, texts: dict[str, str]) -> list[str]:
-    """The functions that an edit changes, which makes these texts of files of a crate in a folder. None if it changes something else too."""
+    """The paths of the functions that an edit changes. `texts` are the files of the crate in a folder that it changes, as they are after it. Empty
+    if it changes something else too."""
     changed: set[str | None] = set()
     for file, text in texts.items():
         with open(os.path.join(folder, file), encoding="utf-8") as old:
@@ -49,8 +52,8 @@ def functions_of(folder: str, texts: dict[str, str]) -> list[str]:
 
 
 def refuses(crate: str, path: str, said: str) -> bool:
-    """Whether a check that says this finds a function's own contract unproved, and not just that of what it calls, nor only because a proof file
-    names what is gone. A contract rests on those of other functions, and not on their bodies, so each function's line is its own verdict."""
+    """Whether what a check said means that a function's own contract is unproved: not only that of what it calls, and not only because a proof
+    file names what is gone. A contract rests on those of other functions, and not on their bodies, so each function's line is its own verdict."""
     name = path.rpartition("::")[2]
     verdicts = re.findall(rf"^fn {crate}::(?:\S+::)?{name}: (.*)$", said, re.MULTILINE)
     errors = re.findall(rf"^(?:\./)?proofs/(?:[\w+]+/)*{name}/\S*: error.*$", said, re.MULTILINE)

@@ -23,19 +23,19 @@ TRIED, REFUSED = re.compile(r"^rt: must-fail (\w+/[\w.-]+)\.edit: (.*)", re.MULT
 def try_alone(names: list[str], beside: str | None, counts: Counts) -> None:
     """Tries wrong bodies, given as CRATE/NAME, by checks of the functions alone that they change, over the libraries that `rt ci` has left. If it
     runs still, and writes its lines to the file `beside`: once it has proved these libraries, and where other processes leave a processor idle."""
-    asked: dict[str, list[str]] = defaultdict(list)
+    by_crate: dict[str, list[str]] = defaultdict(list)
     for crate, _, body in (name.partition("/") for name in names):
-        asked[crate].append(body)
-    crates = toolchain.crates(*asked)
+        by_crate[crate].append(body)
+    crates = toolchain.crates(*by_crate)
 
     def verdicts(name: str) -> list[tuple[bool, str]]:
-        """What comes of the wrong bodies of a crate."""
+        """Whether each wrong body of a crate is refused, and the line about it. Waits until the crates below are proved."""
         below = crates[name].below()
         lacking = wait_until_proved({it.name for it in below}, beside) if beside else {it.name for it in below if not os.path.isdir(it.rlib)}
         if lacking:
             return [(False, f"{name}: no wrong body was tried, since rt ci has not left the libraries {', '.join(sorted(lacking))}")]
         with tempfile.TemporaryDirectory(prefix="trials-") as over:
-            return [tried(crates[name], body, over) for body in asked[name]]
+            return [tried(crates[name], body, over) for body in by_crate[name]]
 
     os.nice(19 if beside else 0)
     with concurrent.futures.ThreadPoolExecutor(2) as pool:
@@ -57,7 +57,7 @@ def try_all(names: Iterable[str], counts: Counts) -> None:
     have proved, and tries again only what changed."""
     with tempfile.TemporaryDirectory(prefix="deep-") as folder, Parts(plan.DEEP_MINUTES) as parts:
         copy_to(folder)
-        said, status = parts.shown(parts.begin("rt", "must-fail", *names, folder=folder))
+        said, status = parts.wait_and_print(parts.begin("rt", "must-fail", *names, folder=folder))
     found = TRIED.findall(said)
     for name, verdict in found:
         is_refused = verdict.startswith(REFUSED) and not any(words in verdict for words in toolchain.SAYS_LITTLE)
@@ -77,7 +77,7 @@ def run_all(counts: Counts) -> None:
             counts.left_out.append(f"{' '.join(words)} (there is no {needs})")
             continue
         with Parts(plan.DEEP_MINUTES) as parts:
-            said, status = parts.shown(parts.begin(*words))
+            said, status = parts.wait_and_print(parts.begin(*words))
         counts.add_log(said, status, has_counts=words[0] == "tests/run")
         seed = next(iter(SEED.findall(said)), seed)
     used = os.times()
@@ -87,7 +87,7 @@ def run_all(counts: Counts) -> None:
 
 
 def main(about: str) -> int:
-    """Runs what the command line asks for. Returns the exit status."""
+    """Runs what the command line asks for. `about` is the text of its help. Returns the exit status."""
     asked = argparse.ArgumentParser(description=about)
     asked.add_argument("names", nargs="*", metavar="NAME", help="a crate whose wrong bodies are tried, or with --alone CRATE/WRONG-BODY")
     asked.add_argument("--alone", action="store_true", help="try these by the functions that they change, over what `rt ci` left")

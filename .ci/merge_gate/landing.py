@@ -10,7 +10,7 @@ from merge_gate.run import Parts
 from merge_gate.toolchain import TOP
 
 
-def forget() -> None:
+def remove_kept_libraries() -> None:
     """Removes what `rt ci` would give back over what it makes: the library for C would be built over old libraries."""
     for path in [*glob.glob(os.path.join(TOP, "crates", "*", "out", "rlib")), os.path.join(TOP, "crates", "spki_c", "out", "incremental")]:
         shutil.rmtree(path, ignore_errors=True)
@@ -22,19 +22,19 @@ def land(parts: Parts, counts: Counts) -> None:
     trying = parts.begin(".ci/deep", "--alone", "--beside", proving.log, *(f"{crate}/{name}" for crate in plan.TRIED for name in plan.TRIED[crate]))
     testing = parts.begin("tests/run", "--beside", proving.log, "--cases", str(plan.CASES))
     for part, minutes in ((parts.begin("tests/run", "--pages"), plan.PAGES), (proving, plan.PROOFS)):
-        counts.add_log(*parts.shown(part, minutes))
+        counts.add_log(*parts.wait_and_print(part, minutes))
         if counts.failed:
             print("nothing after this was run, since it failed")
             return
-    counts.add_log(*parts.shown(testing, plan.TESTS))
-    counts.add_log(*parts.shown(parts.begin("tests/run", "--gate"), plan.TESTS))
-    counts.add_log(*parts.shown(trying, plan.TRIALS))
+    counts.add_log(*parts.wait_and_print(testing, plan.TESTS))
+    counts.add_log(*parts.wait_and_print(parts.begin("tests/run", "--gate"), plan.TESTS))
+    counts.add_log(*parts.wait_and_print(trying, plan.TRIALS))
 
 
 def main() -> int:
     """Runs the gate. Returns its exit status."""
     counts = Counts()
-    forget()
+    remove_kept_libraries()
     with Parts(plan.MINUTES) as parts:
         land(parts, counts)
     return counts.end()

@@ -14,7 +14,7 @@ class Counts:
     """What passed, what failed, and what was left out because a tool is missing."""
 
     def __init__(self) -> None:
-        """Nothing yet."""
+        """All counts are 0."""
         self.passed = self.failed = 0
         self.left_out: list[str] = []
 
@@ -25,8 +25,8 @@ class Counts:
         self.failed += not is_passed
 
     def add_log(self, said: str, status: int, has_counts: bool = True) -> None:
-        """Counts what a command said that ended with this status, by its last line 'N passed, M failed'. One that has no such line failed; or, if
-        it is none that counts, its status alone says whether it passed."""
+        """Counts the output `said` of a command that ended with this status, by its last line 'N passed, M failed'. A command without this line
+        has failed. But if it never writes one (`has_counts` is false), its status says whether it passed."""
         found = last_counts(said)
         passed, failed = (int(found[1]), int(found[2])) if found else (int(not has_counts and status == 0), int(has_counts))
         self.passed += passed

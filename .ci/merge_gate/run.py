@@ -21,8 +21,8 @@ SECONDS_BETWEEN, SECONDS_TO_END, SECONDS_BETWEEN_LINES = 0.5, 20, 300
 LAST_LETTERS = 2000
 
 
-def said_in(log: str) -> str:
-    """All that a command has said so far, by its log."""
+def text_of_log(log: str) -> str:
+    """All that a command has written so far, by the path of its log."""
     with open(log, encoding="utf-8", errors="replace") as file:
         return file.read()
 
@@ -67,11 +67,11 @@ class Part:
             with contextlib.suppress(OSError):
                 os.killpg(group, signal.SIGKILL)
         self.process.wait()
-        print(f"ended: {self}. Its last lines:\n{said_in(self.log)[-LAST_LETTERS:]}", flush=True)
+        print(f"ended: {self}. Its last lines:\n{text_of_log(self.log)[-LAST_LETTERS:]}", flush=True)
 
 
 class Parts(contextlib.ExitStack):
-    """Commands that run side by side, together for so many minutes at most. Those that run behind the block are ended."""
+    """Commands that run side by side, together for so many minutes at most. Those that still run when the context ends are ended."""
 
     def __init__(self, minutes: float) -> None:
         """None yet. Where this process is asked to end, they are ended too."""
@@ -82,15 +82,15 @@ class Parts(contextlib.ExitStack):
         self.logs = self.enter_context(tempfile.TemporaryDirectory(prefix="gate-"))
 
     def begin(self, *words: str, folder: str = TOP) -> Part:
-        """Begins a command in a folder, or at the top."""
+        """Begins a command in a folder, by default at the top. It runs on when this returns."""
         part = Part(words, os.path.join(self.logs, str(len(self.begun))), folder)
         self.callback(part.end)
         self.begun.append(part)
         return part
 
-    def shown(self, part: Part, minutes: float = math.inf) -> tuple[str, int]:
-        """Prints what a command says until it has ended, and each five minutes what still runs. One that takes more than so many minutes from
-        now is ended, and has failed. Returns all that it said, and its exit status."""
+    def wait_and_print(self, part: Part, minutes: float = math.inf) -> tuple[str, int]:
+        """Waits until a command has ended, and prints what it writes, and each five minutes what still runs. One that takes more than so many
+        minutes from now is ended, and has failed. Returns its whole output and its exit status."""
         spoken = time.monotonic()
         until = min(spoken + 60 * minutes, self.until)
         with open(part.log, encoding="utf-8", errors="replace") as file:
@@ -103,14 +103,14 @@ class Parts(contextlib.ExitStack):
             late = f"{part}: failed, since it may not take so long\n" * (part.process.poll() is None)
             part.end()
             print(file.read(), late, sep="", end="", flush=True)
-        return said_in(part.log) + late, part.process.returncode
+        return text_of_log(part.log) + late, part.process.returncode
 
 
 def wait_until_proved(crates: set[str], log: str) -> set[str]:
     """Waits until the log of `rt ci` says that each of these crates is proved, or that `rt ci` has ended. Returns those that are not proved."""
     until = time.monotonic() + 60 * plan.MINUTES
     while True:
-        said = said_in(log)
+        said = text_of_log(log)
         left = crates - set(PROVED.findall(said))
         if not left or last_counts(said) or time.monotonic() > until:
             return left

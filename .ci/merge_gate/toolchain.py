@@ -26,8 +26,8 @@ ONE = ["--jobs", "1"]
 
 
 @functools.lru_cache(maxsize=None)
-def inside() -> Any:
-    """The toolchain's `rt`, as a module. Python writes nothing beside it."""
+def rt_module() -> Any:
+    """The toolchain's `rt`, loaded as a module. Python writes nothing beside it."""
     sys.dont_write_bytecode = True
     path = os.path.realpath(shutil.which("rt") or sys.exit("rt is not in the path"))
     loader = importlib.machinery.SourceFileLoader("rt", path)
@@ -41,7 +41,7 @@ def inside() -> Any:
 
 def crates(*names: str) -> dict[str, Any]:
     """The crates with these names, or all, the lowest first. Ends the process if one is missing."""
-    every = {it.name: it for it in sorted(inside().rtlib.crates_below(TOP), key=lambda it: len(it.below()))}
+    every = {it.name: it for it in sorted(rt_module().rtlib.crates_below(TOP), key=lambda it: len(it.below()))}
     missing = sorted(set(names) - every.keys())
     if missing:
         sys.exit(f"there is no crate {', '.join(missing)}")
@@ -49,20 +49,20 @@ def crates(*names: str) -> dict[str, Any]:
 
 
 def applied(path: str, folder: str) -> tuple[dict[str, str], str]:
-    """The texts that an edit makes of files of the crate in a folder, or why it cannot be applied."""
-    texts, why = inside().read_edit(path, folder)
+    """The files of the crate in a folder that an edit changes, with their texts after it, and "". Or no files, and why it cannot be applied."""
+    texts, why = rt_module().read_edit(path, folder)
     return texts or {}, why or ""
 
 
 def check_of(crate: Any, texts: dict[str, str], only: list[str], over: str) -> str:
-    """What a check of these functions alone says of a crate with other texts. Empty if it does not judge them: it did not end, or a text could
-    not be read. It begins with what the folder `over` has, and keeps there what it proves."""
-    ran = inside().checked(crate, texts, [*ONE, *(f"--only={path}" for path in only)], over)
-    is_read = not any(inside().unread(line, texts) for line in ran.stdout.split("\n"))
+    """What a check of the functions `only` says of a crate with other texts. Empty if it does not judge them: it did not end, or a text could
+    not be read. The check begins with what the folder `over` has, and keeps there what it proves."""
+    ran = rt_module().checked(crate, texts, [*ONE, *(f"--only={path}" for path in only)], over)
+    is_read = not any(rt_module().unread(line, texts) for line in ran.stdout.split("\n"))
     return ran.stdout if is_read and ran.returncode in (0, 1) else ""
 
 
 def verdict_on(crate: Any, path: str) -> tuple[bool, str]:
     """Whether a crate's contract refuses an edit, and what is said of it. The whole crate is checked."""
-    verdict, said = inside().must_fail(crate, path, ONE)
-    return verdict == inside().REFUSED and not any(words in said for words in SAYS_LITTLE), said
+    verdict, said = rt_module().must_fail(crate, path, ONE)
+    return verdict == rt_module().REFUSED and not any(words in said for words in SAYS_LITTLE), said

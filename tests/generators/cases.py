@@ -46,7 +46,7 @@ class Builder:
         self.rows: list[Value] = []
 
     def wrong(self, chance: float = FAULTY) -> bool:
-        """Whether something goes wrong here."""
+        """Whether something goes wrong here, or anything else that has this chance."""
         return self.rng.random() < chance
 
     # ---- parts
@@ -88,7 +88,7 @@ class Builder:
         return (word("tag"), tags.tag_for(self.request, self.rng) if not self.wrong() else tags.tag(self.rng))
 
     def fields(self, *needed: Value, propagate: bool, ignored: tuple[str, ...]) -> list[Value]:
-        """Fields in some order."""
+        """Fields in some order: the needed ones, a validity, `(propagate)` if asked, and ignored ones of these heads by chance."""
         fields = [*needed, *self.window()]
         if propagate:
             fields.append((word("propagate"),))
@@ -105,10 +105,11 @@ class Builder:
         return Subject(self.rng.choice(self.keys), names)
 
     def certificate(self, subject: Subject, is_last: bool) -> Subject:
-        """Adds the certificate that goes on from a subject; gives the subject that follows."""
+        """Adds the certificate that continues the chain from a subject. Returns the subject that follows."""
         issuer = subject.key if not self.wrong() else self.rng.choice(self.keys)
         principal = self.principal(issuer)
         self.hashed += [issuer] if principal != issuer else []
+        # (a name must be defined, else an authorization goes on; by chance it is the other way)
         defines = bool(subject.names) != self.wrong()
         given = self.next_subject(0.15 if defines else 0.35)
         ignored = ("display", "issuer-info", "subject-info", "comment")
@@ -144,7 +145,7 @@ class Builder:
             self.rows.append((word("by"), key, (word("hash"), word("sha256"), Atom(hashlib.sha256(octets).digest())), shown))
 
     def chain(self, subject: Subject, length: int) -> Subject:
-        """Adds certificates from a subject on; gives the subject that the chain ends with."""
+        """Adds certificates from a subject on. Returns the subject that the chain ends with."""
         for left in range(length, 0, -1):
             subject = self.certificate(subject, left == 1)
         # what names are left is mostly defined
@@ -153,7 +154,7 @@ class Builder:
         return subject
 
     def key_items(self) -> list[Value]:
-        """The sequence with the keys that are needed for hashes, before or behind."""
+        """The items of the sequence, with the keys that issuers' hashes name before or behind them."""
         items = list(self.items)
         for key in self.hashed:
             if not self.wrong():
@@ -191,8 +192,8 @@ class Builder:
                 (word("key"), asker), (word("request"), request), (word("at"), Atom(self.moment)), *policy)
 
 
-def apart(case: Value, rng: random.Random) -> tuple[Value, Value]:
-    """A case and its rows apart: the case has other rows, or the same."""
+def with_rows_apart(case: Value, rng: random.Random) -> tuple[Value, Value]:
+    """A case and all its rows, which are a value of their own. The case keeps all, all but one, or the first."""
     assert isinstance(case, tuple)
     rows = case[2]
     assert isinstance(rows, tuple)

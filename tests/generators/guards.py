@@ -6,9 +6,10 @@ from model.guard import ALLOWED, FIRST_SECOND, HIGHEST, LAST_SECOND, MISUSES, OP
 from model.values import Atom, Value, canonical
 
 from .cases import Builder
-from .nearly import changed, texts
+from .nearly import maybe_changed, maybe_wrong_text
 
 ODDITIES = [*MISUSES.counts, *ALLOWED.counts]
+NO_POLICY, OCTETS_ABOVE, NODES_ABOVE, WORK_ABOVE, *_ = OPENED
 SECONDS = (0, -1, 1_704_067_199, 1_704_067_200, 1_718_440_200, 951_782_400, -2_203_891_200, -62_167_219_200,
            FIRST_SECOND + 31_622_400, LAST_SECOND, LAST_SECOND + 1, -2**63, 2**63 - 1)
 STRINGS = (b"", b"ftp", b"x) (at ", b"1:a", b"\x00\xff", b"(", b"a.o read")
@@ -50,7 +51,7 @@ def guard_question(rng: random.Random) -> GuardQuestion:
 
 
 def limits_for(wish: str, rng: random.Random) -> Limits:
-    """Limits, by chance some that are low. One of 0 would be the usual one."""
+    """Limits, some of them low by chance. None is 0, which stands for the usual limit."""
     # with so few nodes the case of one decision in ten is too large, which the guard decides
     few, chance = (8, 0.4) if wish == "decide" else (60, 0.15)
     return Limits(rng.randrange(1, 1200) if rng.random() < 0.05 else USUAL.octets, rng.randrange(1, 3) if rng.random() < 0.1 else USUAL.certificates,
@@ -58,23 +59,23 @@ def limits_for(wish: str, rng: random.Random) -> Limits:
                   rng.randrange(1, 1_500) if rng.random() < 0.15 else USUAL.work, rng.randrange(1, 120) if rng.random() < 0.1 else USUAL.answer)
 
 
-def odd(question: GuardQuestion, rng: random.Random, oddity: str) -> GuardQuestion:
-    """A question whose calls have an oddity."""
-    policy = rng.choice((2, 3, 255, 2**31, 2**32 - 1)) if oddity == OPENED[0] else question.policy
-    octets = rng.choice((HIGHEST.octets + 1, 2**63, 2**64 - 1)) if oddity == OPENED[1] else USUAL.octets
-    nodes = rng.choice((HIGHEST.nodes + 1, 2**63, 2**64 - 1)) if oddity == OPENED[2] else USUAL.nodes
-    work = rng.choice((HIGHEST.work + 1, 2**63, 2**64 - 1)) if oddity == OPENED[3] else USUAL.work
+def with_oddity(question: GuardQuestion, rng: random.Random, oddity: str) -> GuardQuestion:
+    """A question whose calls have an oddity, a row of MISUSES or ALLOWED. A policy or limit that is misuse is put in."""
+    policy = rng.choice((2, 3, 255, 2**31, 2**32 - 1)) if oddity == NO_POLICY else question.policy
+    octets = rng.choice((HIGHEST.octets + 1, 2**63, 2**64 - 1)) if oddity == OCTETS_ABOVE else USUAL.octets
+    nodes = rng.choice((HIGHEST.nodes + 1, 2**63, 2**64 - 1)) if oddity == NODES_ABOVE else USUAL.nodes
+    work = rng.choice((HIGHEST.work + 1, 2**63, 2**64 - 1)) if oddity == WORK_ABOVE else USUAL.work
     return replace(question, policy=policy, limits=Limits(octets, nodes=nodes, work=work), oddity=oddity)
 
 
 def part_text(value: Value, rng: random.Random) -> bytes:
-    """A text of a part, by chance of nearly the same value, and by chance with another value behind it."""
-    text = texts(changed(value, rng, 0.03), rng, 0.03)
+    """A text of a part. By chance its value is changed, or a second value follows."""
+    text = maybe_wrong_text(maybe_changed(value, rng, 0.03), rng, 0.03)
     return text + canonical(value) if rng.random() < 0.01 else text
 
 
 def strings_of(request: Value, rng: random.Random) -> tuple[bytes, ...] | None:
-    """The strings of a request that consists of strings, by chance others, or none where the request goes as a text."""
+    """The strings of a request, or by chance others. None if the request goes as a text, as one must that has lists inside."""
     if rng.random() < 0.06:
         return tuple(rng.choice(STRINGS) for _ in range(rng.randrange(4)))
     members = request if isinstance(request, tuple) else (request,)

@@ -13,7 +13,7 @@ WORDS = [it.encode() for it in (
 
 
 def values_of(text: str) -> list[Value]:
-    """The members of a list whose members are written side by side."""
+    """The values that a text in advanced form has side by side."""
     members = advanced.read(b"(" + text.encode() + b")")
     assert isinstance(members, tuple)
     return list(members)
@@ -107,7 +107,7 @@ Path = tuple[int, ...]
 
 
 def places(value: Value, path: Path = ()) -> list[Path]:
-    """The places of the parts of a value: the numbers of the members to go down by."""
+    """The paths to all parts of a value: the numbers of the members on the way down, and () for the whole."""
     found = [path]
     if isinstance(value, tuple):
         for number, member in enumerate(value):
@@ -116,7 +116,7 @@ def places(value: Value, path: Path = ()) -> list[Path]:
 
 
 def some_place(value: Value, rng: random.Random) -> Path:
-    """A place by going down from the whole, so that small parts are found as often as large ones."""
+    """A path by going down from the whole. So a part is found as often in a small list as in a large one."""
     path: Path = ()
     while isinstance(value, tuple) and value and rng.random() < 0.85:
         number = rng.randrange(len(value))
@@ -133,7 +133,7 @@ def part(value: Value, path: Path) -> Value:
 
 
 def replaced(value: Value, path: Path, parts: tuple[Value, ...]) -> Value:
-    """The value with the part at a place replaced by these, which stand in its place side by side."""
+    """The value with the part at a path replaced by these parts, side by side. The whole is replaced by one of them, or by their list."""
     if not path:
         return parts[0] if len(parts) == 1 else tuple(parts)
     assert isinstance(value, tuple)
@@ -142,8 +142,8 @@ def replaced(value: Value, path: Path, parts: tuple[Value, ...]) -> Value:
     return (*value[:number], *inside, *value[number + 1:])
 
 
-def nearly(value: Value, rng: random.Random) -> Value:
-    """A value in which one structure is replaced by a form that it may nearly have."""
+def with_near_form(value: Value, rng: random.Random) -> Value:
+    """A value in which one structure is replaced by a form of NEARLY for its head, or if it has none a part by one of LISTS."""
     heads = [(path, head) for path in places(value) if (head := head_of(part(value, path))) in NEARLY]
     if not heads:
         return replaced(value, some_place(value, rng), (rng.choice(LISTS),))
@@ -153,8 +153,8 @@ def nearly(value: Value, rng: random.Random) -> Value:
     return replaced(value, path, (rng.choice(NEARLY[head]),))
 
 
-def with_first(value: Value, rng: random.Random) -> Value | None:
-    """A value in which a list has a member with a fault behind its head; None if it has no such list."""
+def with_faulty_first(value: Value, rng: random.Random) -> Value | None:
+    """A value in which a list has a faulty member of FIRST behind its head. None if the value has no list with such a head."""
     found = [(path, member) for path in places(value) for member in FIRST.get(head_of(part(value, path)) or b"", ())]
     if not found:
         return None
@@ -169,10 +169,10 @@ def with_first(value: Value, rng: random.Random) -> Value | None:
 def mutated(value: Value, rng: random.Random) -> Value:
     """A value that differs from the given one at one place."""
     kind = rng.random()
-    if kind < 0.15 and (made := with_first(value, rng)):
+    if kind < 0.15 and (made := with_faulty_first(value, rng)):
         return made
     if kind < 0.57:
-        return nearly(value, rng)
+        return with_near_form(value, rng)
     everywhere = places(value)
     path = rng.choice(everywhere) if rng.random() < 0.5 else some_place(value, rng)
     old = part(value, path)
@@ -249,14 +249,14 @@ def with_snippet(text: bytes, rng: random.Random) -> bytes:
     return text[:at] + rng.choice(SNIPPETS) + rng.choice((b" ", b"")) + text[at:]
 
 
-def begun_otherwise(text: bytes, rng: random.Random) -> bytes:
+def with_other_start(text: bytes, rng: random.Random) -> bytes:
     """A text with something before it, or without its first octet."""
     return rng.choice((text[1:], bytes([rng.choice(OCTETS)]) + text, rng.choice(SNIPPETS) + text))
 
 
 TEXT_MUTATIONS: tuple[Callable[[bytes, random.Random], bytes], ...] = (
     changed_octets, changed_octets, changed_length, with_snippet, with_snippet, cut, continued,
-    begun_otherwise)
+    with_other_start)
 
 
 def mutated_text(text: bytes, rng: random.Random) -> bytes:

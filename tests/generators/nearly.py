@@ -7,16 +7,16 @@ from . import spellings
 from .mutations import mutated, mutated_text
 
 
-def changed(whole: Value, rng: random.Random, chance: float) -> Value:
-    """A value, or by chance one that differs at one place or at two."""
+def maybe_changed(whole: Value, rng: random.Random, chance: float) -> Value:
+    """The value, or by chance one that differs from it at one place or at more. `chance` is that of a first change."""
     while rng.random() < chance:
         whole = mutated(whole, rng)
         chance /= 2
     return whole
 
 
-def texts(whole: Value, rng: random.Random, wrong: float = 0.35) -> bytes:
-    """A text of a value, or by chance one that is nearly one."""
+def maybe_wrong_text(whole: Value, rng: random.Random, wrong: float = 0.35) -> bytes:
+    """A text of a value, with mistakes by chance. `wrong` is the chance of a first mistake."""
     if rng.random() < wrong / 4:
         # a transport form whose octets are nearly a canonical form
         return spellings.in_braces(mutated_text(canonical(whole), rng), rng)

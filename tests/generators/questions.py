@@ -7,10 +7,10 @@ from model.values import Atom, Value, canonical
 
 from . import rare, spellings, tags
 from .asked import Call, Question, StringQuestion
-from .cases import KEYS, Builder, apart
-from .guards import ODDITIES, GuardQuestion, guard_question, odd
+from .cases import KEYS, Builder, with_rows_apart
+from .guards import ODDITIES, GuardQuestion, guard_question, with_oddity
 from .mutations import LISTS, mutated_text, places
-from .nearly import changed, texts
+from .nearly import maybe_changed, maybe_wrong_text
 from .seldom import MAKERS, OF_CASES, ROOM
 
 CONVERSIONS = COMMANDS[:3]
@@ -25,7 +25,7 @@ Asked = Union[Question, GuardQuestion, Call, StringQuestion]
 
 
 def question(seed: str, number: int) -> Asked:
-    """The question of a number."""
+    """The question of a number. Of each EVERY numbers the first are those of MAKERS, and the last those of long texts."""
     rng = random.Random(f"{seed}/{number}")
     at = number % rare.EVERY
     if at < len(MAKERS):
@@ -38,18 +38,18 @@ def question(seed: str, number: int) -> Asked:
     if kind < 0.018:
         return call(rng)
     if kind < 0.023:
-        return odd(guard_question(rng), rng, rng.choice(ODDITIES))
+        return with_oddity(guard_question(rng), rng, rng.choice(ODDITIES))
     if kind < 0.033:
         return string_question(rng)
     if kind < 0.3:
-        return Question(rng.choice(CONVERSIONS), texts(value(rng), rng))
+        return Question(rng.choice(CONVERSIONS), maybe_wrong_text(value(rng), rng))
     if kind < 0.5:
-        return Question("intersect", texts(changed((Atom(b"intersect"), *tags.pair(rng)), rng, 0.35), rng))
+        return Question("intersect", maybe_wrong_text(maybe_changed((Atom(b"intersect"), *tags.pair(rng)), rng, 0.35), rng))
     return guard_question(rng) if kind < 0.65 else case_question(rng)
 
 
 def long_question(rng: random.Random, at: int) -> Question:
-    """A text at the limit of octets, for each command and for rows."""
+    """A text at the limit of octets, for a command or as rows. The place `at` says which text and which command."""
     commands = (*COMMANDS, "rows")
     text = rare.LONG[at // len(commands)](rng)
     command = commands[at % len(commands)]
@@ -92,15 +92,15 @@ def string_question(rng: random.Random) -> StringQuestion:
 
 
 def case_question(rng: random.Random) -> Question:
-    """A case, nearly one, or a case and rows apart."""
+    """A command on a case, or on a case and rows apart. By chance either is changed."""
     command = rng.choice(OF_CASES)
-    case = changed(Builder(rng).case(), rng, 0.35)
+    case = maybe_changed(Builder(rng).case(), rng, 0.35)
     if command != "check_accepted":
-        return Question(command, texts(case, rng, 0.05))
+        return Question(command, maybe_wrong_text(case, rng, 0.05))
     if not isinstance(case, tuple) or len(case) < 3 or not isinstance(case[2], tuple):
-        return Question(command, texts(case, rng, 0.05), b"(accepted)")
-    case, rows = apart(case, rng)
-    return Question(command, texts(case, rng, 0.05), texts(changed(rows, rng, 0.2), rng, 0.1))
+        return Question(command, maybe_wrong_text(case, rng, 0.05), b"(accepted)")
+    case, rows = with_rows_apart(case, rng)
+    return Question(command, maybe_wrong_text(case, rng, 0.05), maybe_wrong_text(maybe_changed(rows, rng, 0.2), rng, 0.1))
 
 
 def value(rng: random.Random, depth: int = 3) -> Value:

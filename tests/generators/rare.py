@@ -19,7 +19,7 @@ def too_long_in_braces(rng: random.Random) -> bytes:
     return b"{" + LONGEST * b"A" + rng.choice((b"}", b""))
 
 
-def grows(rng: random.Random) -> bytes:
+def text_that_grows(rng: random.Random) -> bytes:
     """A text within the limit whose canonical form has one octet too many, or just as many as are read."""
     return b"(" + 131_071 * b"[a]b" + (7 if rng.randrange(8) else 6) * b"b" + b")"
 
@@ -30,19 +30,19 @@ def many_strings(kind: bytes, count: int) -> Value:
     return (*head, *(count - (2 if kind == b"list" else 1)) * (Atom(b"x"),))
 
 
-def product(rng: random.Random) -> tuple[Value, Value]:
+def pair_near_limit(rng: random.Random) -> tuple[Value, Value]:
     """Two tags whose nodes have a product of a million, or one that is a little less or more."""
     one, other = rng.choice(((1000, 1000), (999, 1001), (977, 1024), (1001, 1000)))
     return many_strings(b"list", one), many_strings(b"list", other)
 
 
 def large_tags(rng: random.Random) -> bytes:
-    """An intersection of them."""
-    return canonical((Atom(b"intersect"), *product(rng)))
+    """The text of an intersection of two tags at the limit of the product."""
+    return canonical((Atom(b"intersect"), *pair_near_limit(rng)))
 
 
 def too_many_nodes(rng: random.Random) -> bytes:
-    """An intersection of a tag of 1,024 or 1,025 nodes."""
+    """The text of an intersection with a tag of 1,024 nodes, as many as are read, or 1,025."""
     return canonical((Atom(b"intersect"), many_strings(rng.choice((b"list", b"set")), 1024 + rng.randrange(2)), Atom(b"a")))
 
 
@@ -55,7 +55,7 @@ class LargeTags(Builder):
         self.lengths = (1, 1, 2)
 
     def wrong(self, chance: float = 0.0) -> bool:
-        """Only what is often otherwise is so here."""
+        """Whether something goes wrong here. What seldom does never does, so that the tags are intersected."""
         return chance >= 0.1 and super().wrong(chance)
 
     def tag(self) -> Value:
@@ -82,7 +82,7 @@ class GrowingTags(LargeTags):
 
 
 def large_case(rng: random.Random) -> bytes:
-    """Such a case."""
+    """The text of a case with large tags."""
     return canonical(rng.choice((LargeTags, GrowingTags))(rng).case())
 
 
@@ -93,7 +93,7 @@ def deep(rng: random.Random) -> bytes:
 
 
 def deep_tags(rng: random.Random) -> bytes:
-    """An intersection of tags that are deep, whose answer may have more than 64 lists inside one another."""
+    """The text of an intersection of deep tags, whose answer may have more than 64 lists inside one another."""
     lists: Value = Atom(b"a")
     for _ in range(rng.choice((rng.randrange(1, 64), 60, 62))):
         lists = (Atom(b"f"), lists)
@@ -108,4 +108,4 @@ def deep_tags(rng: random.Random) -> bytes:
     return canonical((Atom(b"intersect"), *both))
 
 
-LONG: tuple[Callable[[random.Random], bytes], ...] = (too_long, too_long_in_braces, grows)
+LONG: tuple[Callable[[random.Random], bytes], ...] = (too_long, too_long_in_braces, text_that_grows)

@@ -12,11 +12,12 @@ from model.values import DEEPEST, LONGEST, Atom, Value, canonical, head_of
 
 from . import spellings
 from .asked import Call, Question, StringQuestion
-from .guards import ODDITIES, GuardQuestion, odd
+from .guards import ODDITIES, GuardQuestion, with_oddity
 from .mutations import FIRST, NEARLY, SNIPPETS, part, places, replaced
 from .rare import many_strings
 
 Made = Question | GuardQuestion | Call | StringQuestion
+# makes the question of one number
 Maker = Callable[[random.Random], Made]
 OF_CASES = ("check", "explain", "reduce", "check_accepted")
 KEY, OTHER = (advanced.read(b"(public-key (test %s))" % name) for name in (b"a", b"b"))
@@ -50,7 +51,7 @@ CALLS = [replace(it, texts=2 * it.texts) if it.number is None else it for it in 
 
 
 def everything_nearly() -> Iterator[Value]:
-    """The case with each structure replaced by each form that it may nearly have, and with each member in front that has a fault."""
+    """Variants of EVERYTHING, each with one change: a form of NEARLY in the place of a structure, or a faulty member of FIRST behind a head."""
     for path in places(EVERYTHING):
         structure = part(EVERYTHING, path)
         members = structure if isinstance(structure, tuple) else ()
@@ -61,8 +62,8 @@ def everything_nearly() -> Iterator[Value]:
     yield replaced(EVERYTHING, (1,), ((Atom(b"acl"),),))
 
 
-def joined(first: Value, second: Value, request: Value) -> Value:
-    """A case in which the tags of an entry and of a certificate are intersected."""
+def case_of_two_tags(first: Value, second: Value, request: Value) -> Value:
+    """A case in which the tag of an entry, `first`, and that of a certificate are intersected."""
     certificate = (Atom(b"cert"), (Atom(b"issuer"), KEY), (Atom(b"subject"), OTHER), (Atom(b"tag"), second))
     digest = (Atom(b"hash"), Atom(b"sha256"), Atom(hashlib.sha256(canonical(certificate)).digest()))
     entry = (Atom(b"entry"), KEY, (Atom(b"propagate"),), (Atom(b"tag"), first))
@@ -71,13 +72,13 @@ def joined(first: Value, second: Value, request: Value) -> Value:
             (Atom(b"key"), OTHER), (Atom(b"request"), request), (Atom(b"at"), Atom(b"2024-01-01_00:00:00")))
 
 
-def joined_lists(first: int, second: int) -> Value:
-    """A case in which the tags have so many nodes."""
-    return joined(many_strings(b"list", first), many_strings(b"list", second), many_strings(b"list", max(first, second)))
+def case_of_two_lists(first: int, second: int) -> Value:
+    """A case in which two tags with so many nodes are intersected."""
+    return case_of_two_tags(many_strings(b"list", first), many_strings(b"list", second), many_strings(b"list", max(first, second)))
 
 
-def deep_again() -> Value:
-    """Two tags whose intersection has more lists inside one another than are read."""
+def too_deep_intersection() -> Value:
+    """`(intersect A B)` of two tags whose intersection is deeper than a text that is read may be."""
     lists: Value = Atom(b"a")
     sets: Value = (Atom(b"*"), Atom(b"prefix"), Atom(b"a"))
     for _ in range(60):
@@ -88,7 +89,7 @@ def deep_again() -> Value:
 
 
 def guard_question(case: Value, wish: str) -> GuardQuestion:
-    """The question of a case."""
+    """The question to a guard that has the parts of a case."""
     assert isinstance(case, tuple)
     acl, rows, sequence = map(canonical, case[1:4])
     key, request, moment = (canonical(it[1]) for it in case[4:7] if isinstance(it, tuple))
@@ -98,66 +99,67 @@ def guard_question(case: Value, wish: str) -> GuardQuestion:
 # ---- makers
 
 
-def given(asked: Made) -> Maker:
-    """The same question each time."""
-    return lambda rng: asked
+def always(question: Made) -> Maker:
+    """A maker of the same question each time."""
+    return lambda rng: question
 
 
-def spelled(command: str, value: Value) -> Maker:
-    """A command and some text of a value."""
+def to_command(command: str, value: Value) -> Maker:
+    """A maker of a command and some text of a value."""
     return lambda rng: Question(command, spellings.text_of(value, rng), NO_ROWS if command == "check_accepted" else b"")
 
 
-def commanded(text: bytes, is_braced: bool = False) -> Maker:
-    """Some command and a text, or the transport form of one."""
+def to_some_command(text: bytes, is_braced: bool = False) -> Maker:
+    """A maker of some command and a text. `is_braced`: the text is in transport form."""
     return lambda rng: Question(rng.choice(COMMANDS), spellings.in_braces(text, rng) if is_braced else text)
 
 
 def beside_rows(case: Value, rows: bytes, is_braced: bool = False) -> Maker:
-    """A case and a text of rows, or the transport form of one."""
+    """A maker of a case and a text of rows. `is_braced`: that text is in transport form."""
     return lambda rng: Question("check_accepted", spellings.text_of(case, rng), spellings.in_braces(rows, rng) if is_braced else rows)
 
 
-def oddly(question: GuardQuestion, oddity: str) -> Maker:
-    """A question to a guard whose calls have an oddity."""
-    return lambda rng: odd(question, rng, oddity)
+def to_guard_oddly(question: GuardQuestion, oddity: str) -> Maker:
+    """A maker of a question to a guard whose calls have an oddity."""
+    return lambda rng: with_oddity(question, rng, oddity)
 
 
-def of_texts() -> Iterator[Maker]:
-    """Texts with each snippet, in each form."""
+def makers_of_texts() -> Iterator[Maker]:
+    """Makers of texts with each snippet, in each form."""
     for snippet in (*SNIPPETS, (DEEPEST + 1) * b"(", DEEPEST * b"("):
-        yield commanded(snippet)
-        yield commanded(b"(a " + snippet + b")")
-        yield commanded(snippet, is_braced=True)
+        yield to_some_command(snippet)
+        yield to_some_command(b"(a " + snippet + b")")
+        yield to_some_command(snippet, is_braced=True)
 
 
-def of_cases() -> Iterator[Maker]:
-    """Cases that are nearly read, rows that are, and tags that are too large."""
+def makers_of_cases() -> Iterator[Maker]:
+    """Makers of cases that are not quite right, of such rows, and of tags that are too large."""
     for number, value in enumerate(everything_nearly()):
-        yield spelled(OF_CASES[number % len(OF_CASES)], value)
+        yield to_command(OF_CASES[number % len(OF_CASES)], value)
     for text in ROWS:
         yield beside_rows(EVERYTHING, text)
-        yield beside_rows(joined_lists(2, 2), text, is_braced=True)
+        yield beside_rows(case_of_two_lists(2, 2), text, is_braced=True)
     for sizes in ((1000, 1000), (1000, 1001), (1001, 1001)):
-        yield spelled("intersect", (Atom(b"intersect"), *(many_strings(b"list", size) for size in sizes)))
-        yield from (spelled(command, joined_lists(*sizes)) for command in OF_CASES[:3])
-    yield from (spelled("intersect", it) for it in (*PAIRS, deep_again()))
+        yield to_command("intersect", (Atom(b"intersect"), *(many_strings(b"list", size) for size in sizes)))
+        yield from (to_command(command, case_of_two_lists(*sizes)) for command in OF_CASES[:3])
+    yield from (to_command("intersect", it) for it in (*PAIRS, too_deep_intersection()))
 
 
-def of_guards() -> Iterator[Maker]:
-    """Questions to guards: tags that are too large for one, parts that are none, and calls with an oddity."""
+def makers_of_guards() -> Iterator[Maker]:
+    """Makers of questions to guards: with tags that are too large, with parts that are wrong, and with an oddity in the calls."""
     for wish in WISHES:
-        question = guard_question(joined_lists(4, 4), wish)
-        yield from (given(replace(question, limits=Limits(nodes=nodes))) for nodes in (15, 16))
+        question = guard_question(case_of_two_lists(4, 4), wish)
+        yield from (always(replace(question, limits=Limits(nodes=nodes))) for nodes in (15, 16))
         # 4 nodes, each times 15 for 4 nodes, 3 tags and 3 octets
-        yield from (given(replace(question, limits=Limits(work=work))) for work in (263, 264))
-        yield from (given(replace(question, limits=Limits(answer=answer))) for answer in (1, 12, 15, 16, 17, 1000))
-        yield given(guard_question(joined_lists(1000, 1001), wish))
-        yield from (given(replace(question, acl=acl)) for acl in (b"acl", b'(acl (version "1"))', b"(acl (version [0:]1:0))"))
-        yield from (given(replace(question, sequence=sequence)) for sequence in (b"sequence", b"(sequences)", b"(sequence x)"))
-        yield from (given(replace(question, strings=strings)) for strings in ((), (b"x",), (b"f", b"x")))
-        yield from (given(replace(question, seconds=seconds)) for seconds in (-1, 0, LAST_SECOND + 1))
-        yield from (oddly(question, oddity) for oddity in ODDITIES)
+        yield from (always(replace(question, limits=Limits(work=work))) for work in (263, 264))
+        yield from (always(replace(question, limits=Limits(answer=answer))) for answer in (1, 12, 15, 16, 17, 1000))
+        yield always(guard_question(case_of_two_lists(1000, 1001), wish))
+        yield from (always(replace(question, acl=acl)) for acl in (b"acl", b'(acl (version "1"))', b"(acl (version [0:]1:0))"))
+        yield from (always(replace(question, sequence=sequence)) for sequence in (b"sequence", b"(sequences)", b"(sequence x)"))
+        yield from (always(replace(question, strings=strings)) for strings in ((), (b"x",), (b"f", b"x")))
+        yield from (always(replace(question, seconds=seconds)) for seconds in (-1, 0, LAST_SECOND + 1))
+        yield from (to_guard_oddly(question, oddity) for oddity in ODDITIES)
 
 
-MAKERS: list[Maker] = [*of_texts(), *of_cases(), *of_guards(), *map(given, CALLS), *(given(StringQuestion(*it)) for it in STRINGS)]
+MAKERS: list[Maker] = [*makers_of_texts(), *makers_of_cases(), *makers_of_guards(), *map(always, CALLS),
+                       *(always(StringQuestion(*it)) for it in STRINGS)]

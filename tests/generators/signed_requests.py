@@ -42,6 +42,7 @@ Fields = list[tuple[str, str]]
 
 
 def string(octets: bytes) -> bytes:
+    """A string in canonical form."""
     return b"%d:%s" % (len(octets), octets)
 
 
@@ -59,11 +60,13 @@ class Key:
 
 
 def ed25519(private: Ed25519PrivateKey) -> Key:
+    """The key of the table for a private key of Ed25519."""
     octets = private.public_key().public_bytes(Encoding.Raw, PublicFormat.Raw)
     return Key(b"(10:public-key(3:ecc(5:curve7:Ed25519)(5:flags5:eddsa)(1:q%s)))" % string(octets), "ed25519", private.sign)
 
 
 def ecdsa(private: ec.EllipticCurvePrivateKey, bits: int, digest: SHA256 | SHA384) -> Key:
+    """The same for a private key of a curve of so many bits, which signs by a digest."""
     def sign(message: bytes) -> bytes:
         return b"".join(it.to_bytes(bits // 8, "big") for it in decode_dss_signature(private.sign(message, ec.ECDSA(digest))))
     octets = private.public_key().public_bytes(Encoding.X962, PublicFormat.UncompressedPoint)
@@ -76,13 +79,14 @@ def rsa2048(private: rsa.RSAPrivateKey) -> Key:
     return Key(text, "rsa-v1_5-sha256", lambda message: private.sign(message, padding.PKCS1v15(), SHA256()))
 
 
-def loaded() -> Ed25519PrivateKey:
+def test_key() -> Ed25519PrivateKey:
+    """The key of the RFC's appendix B."""
     private = load_der_private_key(TEST_KEY, None)
     assert isinstance(private, Ed25519PrivateKey)
     return private
 
 
-ALICE, MALLORY = ed25519(loaded()), ed25519(Ed25519PrivateKey.generate())
+ALICE, MALLORY = ed25519(test_key()), ed25519(Ed25519PrivateKey.generate())
 CURVE, MODULUS = ecdsa(ec.generate_private_key(ec.SECP256R1()), 256, SHA256()), rsa2048(rsa.generate_private_key(65537, 2048))
 OTHER = ec.generate_private_key(ec.SECP384R1())
 LONGER, BY_SHORT_DIGEST = ecdsa(OTHER, 384, SHA384()), ecdsa(OTHER, 384, SHA256())
@@ -113,20 +117,23 @@ class Request:
 
 
 def in_braces(octets: bytes) -> str:
+    """The transport form of a text in canonical form."""
     return "{%s}" % in_base64(octets)
 
 
 def hash_of(key: bytes) -> str:
+    """The SHA-256 of a key's text, in hexadecimal digits, as `keyid` has it."""
     return hashlib.sha256(key).hexdigest()
 
 
 def lines_of(request: Request) -> Fields:
-    """The fields of a request, with the key."""
+    """The fields of a request, with that of the key, without those of the signature."""
     keys = request.keys if request.keys is not None else (in_braces(request.key.text),)
     return [*request.fields, *(("X-Spki-Public-Key", key) for key in keys)]
 
 
 def parameters_of(request: Request) -> str:
+    """The value of Signature-Input without its label: the components and their parameters."""
     if request.parameters is not None:
         return request.parameters
     names = " ".join(f'"{name}"' for name in request.components)
@@ -137,6 +144,7 @@ def parameters_of(request: Request) -> str:
 
 
 def value_of(request: Request, name: str) -> str:
+    """The value of a component: a derived one, or the values of a field, as the signature base has it."""
     path, mark, query = request.target.partition("?")
     derived = {"@method": request.method, "@authority": request.authority.lower(), "@path": path, "@query": "?" + query, "@status": "200",
                "@target-uri": f"https://{request.authority}{path}{mark}{query}", "@scheme": "https", "@request-target": request.target}
@@ -144,7 +152,7 @@ def value_of(request: Request, name: str) -> str:
 
 
 def signed(request: Request) -> Fields:
-    """The two fields of a signature."""
+    """The fields Signature-Input and Signature, by which a request is signed."""
     parameters = parameters_of(request)
     names = [it.split('"')[1] for it in parameters[1:].partition(")")[0].split(" ") if it]
     lines = [f'"{name}": {value_of(request, name)}' for name in names] + [f'"@signature-params": {parameters}']
@@ -152,6 +160,7 @@ def signed(request: Request) -> Fields:
 
 
 def escaped(text: str) -> str:
+    """A text as the lines of the table have it."""
     made = text.replace("\\", "\\\\").replace("\t", "\\t").replace("\n", "\\n").replace("\r", "\\r")
     return "".join(it if " " <= it <= "~" else f"\\x{ord(it):02x}" for it in made)
 
@@ -160,7 +169,8 @@ LINES: list[str] = []
 
 
 def row(name: str, gives: str, sent: Request, signature: Optional[Fields] = None, again: Optional[int] = None) -> None:
-    """Writes a row: what is sent, and the fields of the signature, which is by default that of what is sent."""
+    """Adds a row to LINES. What is sent has these fields of a signature, or by default those of its own. `gives` is the verdict that a
+    verifier must return. `again`: the same came so many seconds before."""
     both = signed(sent) if signature is None else signature
     LINES.extend([f"row {name}", f"on {escaped(f'{sent.method}|{sent.target}|{sent.authority}|{sent.now}')}"])
     LINES.extend(f"field {escaped(f'{known}: {value}')}" for known, value in [*lines_of(sent), *both])
@@ -170,6 +180,7 @@ def row(name: str, gives: str, sent: Request, signature: Optional[Fields] = None
 
 
 def digest(body: str, algorithm: str = "sha-256") -> tuple[str, str]:
+    """The field Content-Digest of a body."""
     made = hashlib.new(algorithm.replace("-", ""), body.encode()).digest()
     return "Content-Digest", f"{algorithm}=:{in_base64(made)}:"
 
@@ -322,6 +333,7 @@ def changed_inputs() -> None:
     bare = text.removeprefix("spki=")
 
     def sent(name: str, gives: str, changed: str, signature: str = octets) -> None:
+        """Adds a row in which GET has these values of the two fields."""
         row(name, gives, GET, [("Signature-Input", changed), ("Signature", signature)])
 
     row("no signature", "absent", GET, [])
@@ -442,13 +454,13 @@ def changed_keys() -> None:
         "a hash for a key": b"(4:hash6:sha25632:%s)" % hashlib.sha256(ALICE.text).digest(), "a key of another algorithm":
         b"(10:public-key(3:dsa(1:p1:\5)))", "a key of P-521": LONGER.text.replace(b"P-384", b"P-521"), "a key with text behind it":
         ALICE.text + b"(1:a)", "a key and a comment": ALICE.text[:-1] + b"(7:comment1:a))", "a length with a zero in front":
-        ALICE.text.replace(b"32:", b"032:"), "a key of 4,098 characters": modulus_of(3028),
+        ALICE.text.replace(b"32:", b"032:"), "a key of 4,098 characters": rsa_key_of(3028),
     }.items():
         row(name, "bad-key", Request(keys=(in_braces(shown),), keyid=hash_of(shown)))
     small = b"(10:public-key(3:ecc(5:curve7:Ed25519)(5:flags5:eddsa)(1:q32:%s)))" % bytes(32)
     row("a point of small order", "invalid-signature", Request(keys=(in_braces(small),)), [
         ("Signature-Input", text.replace(hash_of(ALICE.text), hash_of(small))), ("Signature", f"spki=:{in_base64(bytes(64))}:")])
-    longest = modulus_of(3027)
+    longest = rsa_key_of(3027)
     assert len(in_braces(longest)) == 4094
     row("a key of 4,094 characters", "invalid-signature", Request(keys=(in_braces(longest),), keyid=hash_of(longest), algorithm="rsa-v1_5-sha256"))
     row("another key", "invalid-signature", Request(keys=(mallory,), keyid=hash_of(MALLORY.text)))
@@ -460,7 +472,7 @@ def changed_keys() -> None:
     row("another key of another algorithm", "other-key", Request(keyid=hash_of(MALLORY.text), algorithm="ecdsa-p256-sha256"))
 
 
-def modulus_of(octets: int) -> bytes:
+def rsa_key_of(octets: int) -> bytes:
     """A key of RSA whose modulus has so many octets."""
     return b"(10:public-key(3:rsa(1:n%s)(1:e3:\1\0\1)))" % string(b"\x7f" * octets)
 
@@ -471,6 +483,7 @@ def changed_signatures() -> None:
     made = base64.b64decode(octets.removeprefix("spki=:").removesuffix(":"))
 
     def sent(name: str, gives: str, value: str, request: Request = GET, input_: str = text) -> None:
+        """Adds a row in which a request has this value of Signature, behind its label."""
         row(name, gives, request, [("Signature-Input", input_), ("Signature", f"spki={value}")])
 
     sent("an octet changed", "invalid-signature", f":{in_base64(bytes([made[0] ^ 1]) + made[1:])}:")

@@ -1,4 +1,4 @@
-"""Makes a case smaller for as long as it still shows what it shows."""
+"""Makes a question smaller for as long as it still shows a difference."""
 import time
 from collections.abc import Callable, Iterator
 from dataclasses import replace
@@ -18,7 +18,7 @@ LARGE = 20_000
 
 
 def smaller(question: Asked, shows: Callable[[Asked], bool], seconds: float = 20) -> Asked:
-    """A question that still shows it, and of which nothing can be left out, as far as the time goes."""
+    """A smaller question for which `shows` is still true. Its candidates are tried until none is left for which it is, or the time is over."""
     ends = time.monotonic() + seconds
     goes_on = True
     while goes_on and time.monotonic() < ends:
@@ -33,11 +33,11 @@ def smaller(question: Asked, shows: Callable[[Asked], bool], seconds: float = 20
 
 
 def candidates(question: Asked) -> Iterator[Asked]:
-    """Smaller questions of the same command."""
+    """Questions of the same command in which one thing is smaller."""
     if isinstance(question, Call):
         return
     if isinstance(question, StringQuestion):
-        yield from (replace(question, path=path) for path in shorter(question.path))
+        yield from (replace(question, path=path) for path in without_one(question.path))
     if isinstance(question, GuardQuestion):
         yield from smaller_parts(question)
     names = {Question: ("text", "rows"), StringQuestion: ("text",), GuardQuestion: ("acl", "sequence", "key", "request", "moment", "rows")}
@@ -47,9 +47,9 @@ def candidates(question: Asked) -> Iterator[Asked]:
 
 
 def smaller_parts(question: GuardQuestion) -> Iterator[GuardQuestion]:
-    """Questions to a guard with fewer or shorter strings, fewer seconds, and the highest limits."""
+    """Questions to a guard with fewer or without_one strings, fewer seconds, or the usual limits."""
     if question.strings is not None:
-        yield from (replace(question, strings=strings) for strings in shorter(question.strings))
+        yield from (replace(question, strings=strings) for strings in without_one(question.strings))
         for number, string in enumerate(question.strings):
             for text in smaller_texts(string):
                 yield replace(question, strings=(*question.strings[:number], text, *question.strings[number + 1:]))
@@ -59,8 +59,8 @@ def smaller_parts(question: GuardQuestion) -> Iterator[GuardQuestion]:
         yield replace(question, limits=USUAL)
 
 
-def shorter(members: tuple[Any, ...]) -> Iterator[tuple[Any, ...]]:
-    """The members without one of them."""
+def without_one(members: tuple[Any, ...]) -> Iterator[tuple[Any, ...]]:
+    """The members without the first, without the second, and so on."""
     yield from (members[:at] + members[at + 1:] for at in range(len(members)))
 
 
@@ -72,7 +72,7 @@ def smaller_texts(text: bytes) -> Iterator[bytes]:
         value = None
     if value is not None:
         yield from (it for it in (printed(value), canonical(value)) if len(it) < len(text))
-        for smaller_value in values(value):
+        for smaller_value in smaller_values(value):
             yield from (it for it in (printed(smaller_value), canonical(smaller_value)) if len(it) < len(text))
     piece = len(text)
     while piece:
@@ -81,7 +81,7 @@ def smaller_texts(text: bytes) -> Iterator[bytes]:
         piece //= 2
 
 
-def values(value: Value) -> Iterator[Value]:
+def smaller_values(value: Value) -> Iterator[Value]:
     """Values without a part, or with a part in place of the list that it is in."""
     for path in places(value):
         if path:

@@ -26,21 +26,21 @@ def text_of(value: Value, rng: random.Random) -> bytes:
 
 
 def spaces(rng: random.Random, chance: float = 0.1) -> bytes:
-    """Some whitespace, or mostly none."""
+    """Whitespace by this chance, else nothing."""
     return rng.choice(SPACES) if rng.random() < chance else b""
 
 
 def in_braces(octets: bytes, rng: random.Random) -> bytes:
     """Octets in the transport form, with whitespace and less padding by chance."""
-    return spaces(rng) + b"{" + scattered(shorter(base64.b64encode(octets), rng), rng) + b"}" + spaces(rng)
+    return spaces(rng) + b"{" + with_whitespace(with_less_padding(base64.b64encode(octets), rng), rng) + b"}" + spaces(rng)
 
 
-def shorter(body: bytes, rng: random.Random) -> bytes:
-    """Base64 without some of its padding."""
+def with_less_padding(body: bytes, rng: random.Random) -> bytes:
+    """Base64, by chance without some or all of its padding."""
     return body[:-1] if body.endswith(b"=") and rng.random() < 0.3 else body.rstrip(b"=") if rng.random() < 0.2 else body
 
 
-def scattered(body: bytes, rng: random.Random) -> bytes:
+def with_whitespace(body: bytes, rng: random.Random) -> bytes:
     """A body with whitespace inside by chance."""
     for _ in range(rng.choice((0, 0, 0, 1, 2))):
         at = rng.randrange(len(body) + 1)
@@ -70,7 +70,7 @@ def advanced(value: Value, rng: random.Random, wild: float) -> bytes:
 
 
 def string(octets: bytes, rng: random.Random, wild: float) -> bytes:
-    """A string in one of its ways."""
+    """A string in one of the ways of advanced form. `wild` is the chance that it is not written as it would be printed."""
     if rng.random() >= wild:
         if TOKEN.fullmatch(octets):
             return octets
@@ -80,9 +80,9 @@ def string(octets: bytes, rng: random.Random, wild: float) -> bytes:
     if way == 0 and TOKEN.fullmatch(octets):
         return octets
     if way == 1:
-        return length + b"#" + scattered(mixed_case(octets.hex().encode(), rng), rng) + b"#"
+        return length + b"#" + with_whitespace(mixed_case(octets.hex().encode(), rng), rng) + b"#"
     if way == 2:
-        return length + b"|" + scattered(shorter(base64.b64encode(octets), rng), rng) + b"|"
+        return length + b"|" + with_whitespace(with_less_padding(base64.b64encode(octets), rng), rng) + b"|"
     if way == 3:
         return length + quoted(octets, rng)
     return b"%d:%s" % (len(octets), octets)

@@ -18,28 +18,28 @@ def request(rng: random.Random, depth: int = 2) -> Value:
     return (head, *(request(rng, depth - 1) for _ in range(rng.randrange(4))))
 
 
-def tag_for(asked: Value, rng: random.Random, depth: int = 3) -> Value:
-    """A tag as it is written that contains a request, or nearly."""
+def tag_for(allowed: Value, rng: random.Random, depth: int = 3) -> Value:
+    """A written tag that contains the request `allowed`, or nearly. `depth` bounds the lists inside one another."""
     kind = rng.random()
     if kind < 0.06 or depth == 0:
-        return STAR if rng.random() < 0.5 else asked
+        return STAR if rng.random() < 0.5 else allowed
     if kind < 0.1:
         return tag(rng, depth - 1)
     if kind < 0.3:
-        members = [tag_for(asked, rng, depth - 1)] + [tag(rng, depth - 1) for _ in range(rng.randrange(3))]
+        members = [tag_for(allowed, rng, depth - 1)] + [tag(rng, depth - 1) for _ in range(rng.randrange(3))]
         rng.shuffle(members)
         return (*NOTHING, *members)
-    if isinstance(asked, tuple):
-        length = rng.randrange(1, len(asked) + 1)
-        members = [tag_for(member, rng, depth - 1) for member in asked[1:length]]
+    if isinstance(allowed, tuple):
+        length = rng.randrange(1, len(allowed) + 1)
+        members = [tag_for(member, rng, depth - 1) for member in allowed[1:length]]
         if rng.random() < 0.05:
             members.append(tag(rng, 0))
-        return (asked[0], *members)
+        return (allowed[0], *members)
     if kind < 0.5:
-        return asked
+        return allowed
     if kind < 0.65:
-        return (Atom(b"*"), Atom(b"prefix"), Atom(near(asked.body[:rng.randrange(len(asked.body) + 1)], rng)))
-    return range_for(asked.body, rng)
+        return (Atom(b"*"), Atom(b"prefix"), Atom(near(allowed.body[:rng.randrange(len(allowed.body) + 1)], rng)))
+    return range_for(allowed.body, rng)
 
 
 def near(body: bytes, rng: random.Random) -> bytes:
@@ -65,7 +65,7 @@ def range_for(body: bytes, rng: random.Random) -> Value:
 
 
 def tag(rng: random.Random, depth: int = 2) -> Value:
-    """Any tag as it is written."""
+    """Any written tag."""
     kind = rng.random()
     if kind < 0.05:
         return STAR
@@ -81,7 +81,7 @@ def tag(rng: random.Random, depth: int = 2) -> Value:
 def pair(rng: random.Random) -> tuple[Value, Value]:
     """Two tags, which mostly have a request in common."""
     if rng.random() < 0.05:
-        return strings_for(body := rng.choice(STRINGS), rng), strings_for(body, rng)
+        return strings_tag_for(body := rng.choice(STRINGS), rng), strings_tag_for(body, rng)
     if rng.random() < 0.12:
         return two_sets(rng)
     asked = request(rng)
@@ -89,7 +89,7 @@ def pair(rng: random.Random) -> tuple[Value, Value]:
     if rng.random() < 0.08:
         return first, first
     if rng.random() < 0.2:
-        asked = another(asked, rng)
+        asked = changed_request(asked, rng)
     return first, tag_for(asked, rng) if rng.random() < 0.85 else tag(rng)
 
 
@@ -105,21 +105,21 @@ def two_sets(rng: random.Random) -> tuple[Value, Value]:
     return sets[0], sets[1]
 
 
-def strings_for(body: bytes, rng: random.Random) -> Value:
+def strings_tag_for(body: bytes, rng: random.Random) -> Value:
     """A range or a prefix that contains a string, or nearly."""
     if rng.random() < 0.7:
         return range_for(body, rng)
     return (Atom(b"*"), Atom(b"prefix"), Atom(rng.choice((near(body, rng), rng.choice(STRINGS)))))
 
 
-def another(asked: Value, rng: random.Random) -> Value:
+def changed_request(old: Value, rng: random.Random) -> Value:
     """A request that differs from the given one in one string."""
-    if isinstance(asked, Atom):
+    if isinstance(old, Atom):
         return Atom(rng.choice(STRINGS))
-    at = rng.randrange(len(asked))
+    at = rng.randrange(len(old))
     if at == 0:
-        return (Atom(near(asked[0].body, rng) + b"x"), *asked[1:]) if isinstance(asked[0], Atom) else asked
-    return (*asked[:at], another(asked[at], rng), *asked[at + 1:])
+        return (Atom(near(old[0].body, rng) + b"x"), *old[1:]) if isinstance(old[0], Atom) else old
+    return (*old[:at], changed_request(old[at], rng), *old[at + 1:])
 
 
 def request_near(tag: Tag, rng: random.Random) -> Value:

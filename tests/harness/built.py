@@ -22,8 +22,8 @@ IS_LONG, IS_ALONE, IS_ANEW = (bool(os.environ.get(f"SPKI_TEST_{word}")) for word
 CASES = int(os.environ.get("SPKI_TEST_CASES", "2000"))
 
 
-def there(path: str) -> str:
-    """A built file, by its whole path. It must be there."""
+def existing(path: str) -> str:
+    """The whole path of a built file. Raises FileNotFoundError if it is not there."""
     if not os.path.exists(path):
         raise FileNotFoundError(f"{path} is not there: tests/run builds it")
     return os.path.abspath(path)
@@ -31,22 +31,22 @@ def there(path: str) -> str:
 
 def program() -> str:
     """The program that is tested."""
-    return there(os.environ.get("SPKI_TEST_PROGRAM", PROGRAM))
+    return existing(os.environ.get("SPKI_TEST_PROGRAM", PROGRAM))
 
 
 def library() -> str:
     """The static library that is tested."""
-    return there(os.environ.get("SPKI_TEST_LIBRARY", LIBRARY))
+    return existing(os.environ.get("SPKI_TEST_LIBRARY", LIBRARY))
 
 
 def shared() -> str:
     """The shared library that is tested."""
-    return there(library().removesuffix(".a") + ".so")
+    return existing(library().removesuffix(".a") + ".so")
 
 
 def arm() -> str:
     """The static library for ARM that is tested. The shared one lies beside it."""
-    return there(os.path.join(os.path.dirname(library()), ARM, "libspki_c.a"))
+    return existing(os.path.join(os.path.dirname(library()), ARM, "libspki_c.a"))
 
 
 class OfProgram(unittest.TestCase):

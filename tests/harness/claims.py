@@ -44,12 +44,12 @@ class Sources:
             for name, body in DEFINITION.findall(text_of(path)):
                 self.cited.setdefault(name, set()).update(WORD.findall(body), [])
 
-    def called(self, name: str) -> list[str] | None:
-        """The contracts of the functions of a name. None if there is no such function and no such type."""
+    def contracts_of(self, name: str) -> list[str] | None:
+        """The contracts of the functions with a name, [] for a type. None if there is no such function and no such type."""
         return self.contracts.get(name, self.contracts.get(name.split("::")[-1]))
 
     def leads_to(self, contracts: list[str], wanted: str) -> bool:
-        """Whether a definition is cited by one of these contracts, or by what it cites."""
+        """Whether one of these contracts cites a definition, or cites one that leads to it."""
         left, seen = set(WORD.findall(" ".join(contracts))), set[str]()
         while left - seen and wanted not in left:
             seen |= left
@@ -57,10 +57,11 @@ class Sources:
         return wanted in left
 
     def faults_of(self, cell: str, default: list[str]) -> Iterator[str]:
-        """What a cell names that is not where it says. `default` are the contracts of its section."""
+        """A line for each name of a cell that is not where the cell says. `default` are the contracts of the crates of its section. Behind the word
+        `calls` or `readers` a phrase is about all of these."""
         contracts, is_closed, is_inside, is_of_all = default, True, False, False
         for mark, word, name in re.findall(r"([();])|\b(calls?|readers)\b|`([\w:-]+)`", cell):
-            called = None if is_of_all else self.called(name)
+            called = None if is_of_all else self.contracts_of(name)
             if mark:
                 is_inside = mark == "(" or is_inside and mark == ";"
                 contracts, is_of_all = (default, False) if mark == ";" and not is_inside else (contracts, is_of_all)
@@ -78,15 +79,16 @@ class Sources:
 
 
 def unclaimed(page: str, header: str, source: str) -> Iterator[str]:
-    """The calls of a header for C whose export has no row on a page. The source of the header's calls says which exports there are."""
+    """A line for each function `spki_c_..` that has no row on a page, and for each call of a header for C that the page does not explain. The
+    source of the calls shows which functions they use."""
     section = next(rows for head, rows in SECTION.findall(text_of(page)) if head == "`spki_c`")
     introduction, _, rows = section.partition("\n|")
     exports = set(re.findall(r"^\w[\w *]*\b(spki_c_\w+)\(", text_of(source), re.MULTILINE))
     yield from (f"no row has {name}" for name in sorted(exports) if f"`{name}`" not in rows)
-    told = re.findall(r"`(\w+)`", introduction)
+    explained = re.findall(r"`(\w+)`", introduction)
     for name in re.findall(r"^\w[\w *]*\b(spki_\w+)\(", text_of(header), re.MULTILINE):
-        is_told = any(name == part or part[0] == "_" and name.endswith(part) for part in told)
-        if name.replace("spki_", "spki_c_", 1) not in exports and not is_told:
+        is_explained = any(name == part or part[0] == "_" and name.endswith(part) for part in explained)
+        if name.replace("spki_", "spki_c_", 1) not in exports and not is_explained:
             yield f"nothing says what {name} calls"
 
 
@@ -96,7 +98,7 @@ def has_clause(contracts: list[str], name: str) -> bool:
 
 
 def faults(page: str, sources: Sources) -> Iterator[str]:
-    """What the rows of a page cite that is not there."""
+    """A line for each name that the rows of a page cite wrongly."""
     for head, rows in SECTION.findall(text_of(page)):
         crates = re.findall(r"`(\w+)`", head) or list(sources.of_crate)
         default = [contract for crate in crates for contract in sources.of_crate.get(crate, [])]

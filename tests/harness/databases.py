@@ -33,12 +33,12 @@ def program(name: str) -> str:
 
 
 def mount(folder: str, mib: int) -> None:
-    """Makes a folder a disk of its own, which is in memory."""
+    """Makes a folder a file system of its own, of so many MiB in memory."""
     subprocess.run(["mount", "-t", "tmpfs", "-o", f"size={mib}m", "tmpfs", folder], check=True)
 
 
 def unmount(folder: str) -> None:
-    """Takes the disk away, when nothing uses it any more."""
+    """Waits until no process uses the file system of a folder, and unmounts it."""
     waits_for(f"nothing uses {folder}", lambda: subprocess.run(["umount", folder], stderr=subprocess.DEVNULL, check=False).returncode == 0)
 
 
@@ -66,7 +66,7 @@ class Server:
 
     def __enter__(self) -> Server:
         if not os.path.exists(self.data):
-            self.runs("initdb", "-D", self.data, "-U", "postgres", "-A", "trust", "-E", "UTF8", "--locale=C", "--no-sync")
+            self.run("initdb", "-D", self.data, "-U", "postgres", "-A", "trust", "-E", "UTF8", "--locale=C", "--no-sync")
             with open(os.path.join(self.data, "pg_hba.conf"), "a", encoding="utf-8") as file:
                 file.write(f"host all,replication all {networks.ALL} trust\n")
         self.start()
@@ -80,21 +80,21 @@ class Server:
 
     @property
     def words(self) -> list[str]:
-        """What begins each command of the server."""
+        """The words before each command of the server: they enter its node, and change the user from root."""
         return [*(self.at.words if self.at else []), *(OWNER if os.geteuid() == 0 else [])]
 
     @property
     def host(self) -> str:
-        """Where other servers reach it."""
+        """The host, of libpq, by which other servers reach it."""
         return self.at.address if self.at else self.folder
 
     @property
     def address(self) -> str:
-        """The settings of libpq."""
+        """The settings of libpq by which a client here reaches it."""
         return f"host={self.folder} user=postgres dbname=postgres"
 
-    def runs(self, name: str, *words: str) -> str:
-        """What a program of the server writes."""
+    def run(self, name: str, *words: str) -> str:
+        """Runs a program of PostgreSQL, and returns what it writes. Raises CalledProcessError if it fails."""
         return subprocess.run([*self.words, program(name), *words], cwd=self.folder, check=True, stdout=subprocess.PIPE, stderr=subprocess.STDOUT,
                               text=True, timeout=SECONDS).stdout
 
@@ -121,21 +121,21 @@ class Server:
     def replica(self, at: networks.Node | None = None, mib: int = 0, **settings: str) -> Server:
         """A replica of this server, which is not started yet."""
         made = Server(at, mib, **{**self.settings, **settings})
-        made.runs("pg_basebackup", "-d", made.source(self), "-D", made.data, "-R", "-X", "stream", "-c", "fast", "--no-sync")
+        made.run("pg_basebackup", "-d", made.source(self), "-D", made.data, "-R", "-X", "stream", "-c", "fast", "--no-sync")
         return made
 
     def source(self, primary: Server) -> str:
-        """By what settings a replica of a primary follows it. The primary knows it by the name of its folder."""
+        """The settings of libpq by which this replica follows its primary, which knows it by the name of its folder."""
         return f"host={primary.host} user=postgres application_name={os.path.basename(self.folder)}"
 
     def promote(self) -> None:
-        """Makes a replica a server that is written to."""
-        self.runs("pg_ctl", "promote", "-D", self.data, "-w")
+        """Makes this replica a primary, and waits until it is."""
+        self.run("pg_ctl", "promote", "-D", self.data, "-w")
 
 
 @contextlib.contextmanager
-def ended(process: subprocess.Popen[Any]) -> Iterator[subprocess.Popen[Any]]:
-    """Kills a process at the end."""
+def killed_at_end(process: subprocess.Popen[Any]) -> Iterator[subprocess.Popen[Any]]:
+    """A context that kills a process when it ends."""
     try:
         yield process
     finally:

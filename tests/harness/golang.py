@@ -21,7 +21,7 @@ def settings(library: str) -> dict[str, str]:
 
 
 def go(folder: str, words: list[str], library: str, given: bytes | None = None, **more: str) -> subprocess.CompletedProcess[bytes]:
-    """What a command of Go does in a folder."""
+    """Runs a command of Go in a folder, with a library, some input and more of the environment. Returns how it ended, also if it failed."""
     return subprocess.run(["go", *words], cwd=folder, input=given, stdout=subprocess.PIPE, stderr=subprocess.PIPE, timeout=SECONDS,
                           env={**settings(library), **more})
 

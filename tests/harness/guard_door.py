@@ -58,12 +58,12 @@ def text_of(octets: bytes) -> Text:
 
 
 def rows_of(question: GuardQuestion) -> list[cases.Row]:
-    """What the verifier accepts."""
+    """The signatures that the verifier accepts."""
     return cases.read_rows(forms.read(question.rows))
 
 
 def model_answer(question: GuardQuestion) -> tuple[Answer, list[Signed]]:
-    """What the model answers."""
+    """What the model answers to a question, and the signatures that it lists."""
     wish = question.command.removeprefix("guard ")
     return answer(wish, question.acl, parts_of(question), rows_of(question), question.policy, question.limits, question.oddity)
 
@@ -104,13 +104,13 @@ class GuardDoor:
             call.argtypes = [c_void_p, c_void_p, c_size_t, needed]
 
     def decide(self, asked: Any, line: Any, room: int, needed: Any) -> int:
-        """Decides, as the other calls answer."""
+        """Decides, with the arguments and the status of the calls that explain and reduce. Keeps the last second in `until`."""
         said = self.decision(asked, line, room, needed)
         self.until = said.until
         return int(said.status)
 
-    def answers(self, question: GuardQuestion, wanted: tuple[Answer, list[Signed]]) -> str | None:
-        """What is wrong with the answer or with what the verifier is asked of, None if nothing is."""
+    def fault_of_answer(self, question: GuardQuestion, wanted: tuple[Answer, list[Signed]]) -> str | None:
+        """What is wrong with the answer or the listed signatures, None if nothing is. `wanted` is what `model_answer` returns."""
         handle, asked = c_void_p(), c_void_p()
         self.truths = ()
         try:
@@ -133,29 +133,30 @@ class GuardDoor:
         """Whether a decision is a yes, and whether the model says that it can be one."""
         return met[0] == GRANTED, guard.is_possible(question.acl, parts_of(question), question.policy, question.limits)
 
-    def keeps_back(self, question: GuardQuestion) -> str | None:
-        """What is wrong where there is too little room by one, None if nothing is."""
+    def fault_with_small_buffer(self, question: GuardQuestion) -> str | None:
+        """What is wrong where the buffer has one octet less than the answer, None if nothing is."""
         handle, asked = c_void_p(), c_void_p()
         try:
-            is_right = self.is_kept_back(question, handle, asked)
+            is_right = self.refuses_small_buffers(question, handle, asked)
         finally:
             self.close_asked(asked)
             self.close(handle)
         return None if is_right else "a call for guards writes where there is too little room, or tells another length or status"
 
     def answered(self, question: GuardQuestion, handle: c_void_p, asked: c_void_p) -> tuple[Answer, list[Signed] | None]:
-        """The answer, and the signatures that are listed where the question is read. The guard and the question are opened in the handles,
-        and the guard is closed before the question is answered."""
+        """The answer, and the signatures that are listed, or None if the question is not read. Opens the guard and the question in the handles,
+        and closes the guard before the question is answered. Where a call is misuse, it returns the status of that call."""
         status, line = self.opened(question, handle, ROOM)
         if status != DONE:
             return (status, line), None
         odd = question.oddity
+        # (a guard that is null has no entries)
         if odd == "no guard" and self.entries(None):
             return (status, b"the entries of no guard"), None
         status, line = self.asked(question, handle, asked, ROOM)
         if status != DONE:
             return (status, line), None
-        if odd == guard.ANSWERED[2]:
+        if odd == "a guard in place of an opened question":
             return self.answer(question, handle), None
         self.close(handle)
         handle.value = None
@@ -173,7 +174,7 @@ class GuardDoor:
         return said, listed
 
     def mark_all(self, question: GuardQuestion, asked: c_void_p, listed: list[Signed]) -> None:
-        """Marks the signatures that a row accepts. A mark past them has no effect."""
+        """Marks the signatures that a row accepts, and a place past them, which must have no effect."""
         for place, is_valid in enumerate([*valid_of(question, listed), True]):
             if is_valid:
                 self.mark(asked, place)
@@ -199,20 +200,21 @@ class GuardDoor:
         return status, line.raw[:needed.value]
 
     def listed(self, asked: c_void_p) -> list[Signed]:
-        """The signatures of an opened question. Where a value is one string, its octets are the end of it."""
+        """The signatures of an opened question, or an empty list if the library lists them wrongly."""
         found = []
         for place in range(self.count(asked)):
             signature = Listed()
             if self.signature(asked, place, byref(signature)) != DONE:
                 return []
             found.append(signed_at(signature))
+            # (of a value that is one string its octets are listed too)
             octets = ctypes.string_at(signature.octets, signature.octets_length) if signature.octets else None
             if octets != octets_of_value(found[-1][2]):
                 return []
         return [] if self.signature(asked, len(found), byref(Listed())) == DONE else found
 
     def answer(self, question: GuardQuestion, asked: c_void_p | None) -> Answer:
-        """What a call answers to a question by its marks."""
+        """What a call answers to an opened question by its marks. It asks for the length first, and then with a buffer of that length."""
         call, odd, needed = self.by_wish[question.command.removeprefix("guard ")], question.oddity, c_size_t()
         if odd == "a buffer that is null with a length":
             return call(asked, None, 1, byref(needed)), b""
@@ -222,21 +224,21 @@ class GuardDoor:
             status = call(asked, octets, needed.value, None if odd == "needed" else byref(needed))
         return status, octets.raw[:needed.value]
 
-    def is_kept_back(self, question: GuardQuestion, handle: c_void_p, asked: c_void_p) -> bool:
-        """Whether each call for a question says that there is too little room where one octet does not fit."""
+    def refuses_small_buffers(self, question: GuardQuestion, handle: c_void_p, asked: c_void_p) -> bool:
+        """Whether the calls for a question return TOO_SMALL and write nothing, where the buffer is one octet too small."""
         status, line = self.opened(question, handle, ROOM)
         if status != DONE:
             status, said = self.opened(question, c_void_p(), len(line) - 1)
-            return (status, said) == (guard.kept_back("the line of a refused list"), len(line) * b"\0")
+            return (status, said) == (guard.status_too_small("the line of a refused list"), len(line) * b"\0")
         status, line = self.asked(question, handle, asked, ROOM)
         if status != DONE:
             status, said = self.asked(question, handle, c_void_p(), len(line) - 1)
-            return (status, said) == (guard.kept_back("the line of a refused question"), len(line) * b"\0")
+            return (status, said) == (guard.status_too_small("the line of a refused question"), len(line) * b"\0")
         self.mark_all(question, asked, self.listed(asked))
         _, said = self.answer(question, asked)
         octets, needed = ctypes.create_string_buffer(len(said)), c_size_t()
         status = self.by_wish[question.command.removeprefix("guard ")](asked, octets, len(said) - 1, byref(needed))
-        return (status, needed.value, octets.raw) == (guard.kept_back("an answer"), len(said), len(said) * b"\0")
+        return (status, needed.value, octets.raw) == (guard.status_too_small("an answer"), len(said), len(said) * b"\0")
 
 
 def octets_of_value(value: bytes) -> bytes | None:
@@ -252,7 +254,7 @@ def signed_at(listed: Listed) -> Signed:
 
 
 def asked_of(question: GuardQuestion) -> Asked:
-    """A question as C has it."""
+    """A question as `struct spki_question`, with what its oddity changes."""
     request, moment = b"" if question.strings is not None else question.request, b"" if question.seconds is not None else question.moment
     asked = Asked(ctypes.sizeof(Asked), *map(text_of, (question.sequence, question.key, request)), moment=text_of(moment))
     if question.strings is not None:
@@ -280,6 +282,6 @@ def asked_of(question: GuardQuestion) -> Asked:
 
 
 def valid_of(question: GuardQuestion, listed: list[Signed]) -> list[bool]:
-    """Of each signature whether a row accepts it."""
+    """For each listed signature, whether a row of the question accepts it."""
     rows = {(row.key.octets, row.digest, row.value) for row in rows_of(question)}
     return [(key, hashlib.sha256(message).digest(), value) in rows for key, message, value in listed]

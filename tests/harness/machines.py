@@ -20,7 +20,7 @@ OTHERS, BY_WORD = ("python3-venv",), {"Python": "python3", "Go 1.": "golang-go",
 
 
 def packages_of(page: str) -> list[str]:
-    """The packages of Debian that the text of a page names: in Markdown in backticks."""
+    """The packages of Debian that the text of a page names: in backticks, or as words if it has no backticks."""
     words = re.findall(r"`([^`\n]+)`", page) or re.split(r"[^\w.+-]+", page.replace("\\-", "-"))
     known = {*(need.package for need in needs.NEEDS), *OTHERS}
     return sorted(known & set(words) | {package for word, package in BY_WORD.items() if word in page})
@@ -32,8 +32,9 @@ def release() -> str:
         return re.findall(r"^VERSION_CODENAME=(\w+)$", lines.read(), re.MULTILINE)[0]
 
 
-def said_on_machine(packages: list[str], clone: str, by_root: str, script: str) -> str:
-    """What a script writes that a user runs in an empty folder, after a script that root runs in the folder of the clone."""
+def output_on_machine(packages: list[str], clone: str, by_root: str, script: str) -> str:
+    """Makes a machine and runs two scripts there: root the first in the clone, then a user the second in an empty folder. Returns all that they
+    write. Raises CalledProcessError if the machine is not made or the first fails."""
     with tempfile.TemporaryDirectory() as room:
         for name, text in (("by-root", by_root), ("script", script)):
             with open(os.path.join(room, name), "w", encoding="utf-8") as file:

@@ -21,17 +21,17 @@ class Need:
 
     @property
     def is_there(self) -> bool:
-        """Whether this machine has it. It is looked for once: a test may add folders of modules to the path later."""
+        """Whether this machine had it when the tests started: a test may add folders of modules to the path later."""
         return THERE[self.name]
 
     def is_found(self) -> bool:
-        """Looks for it."""
+        """Looks for it on this machine now, by its kind of name."""
         if self.name.endswith(".h"):
             return has_header(self.name)
         if self.name == "unshare":
-            return may_hide()
+            return can_hide_proc()
         if self.name == "ip":
-            return may_cut()
+            return can_make_networks()
         if self.name.startswith("import "):
             return importlib.util.find_spec(self.name.removeprefix("import ")) is not None
         return bool(glob.glob(self.name) if "/" in self.name else shutil.which(self.name))
@@ -121,13 +121,13 @@ APART = ["unshare", *["--map-root-user"] * bool(os.getuid()), "--mount", "--pid"
 HIDES = "mount -t proc -o subset=pid proc /proc && ! [ -e /proc/sys ]"
 
 
-def may_hide() -> bool:
-    """Whether unshare is there and may make a /proc that hides what is no process."""
+def can_hide_proc() -> bool:
+    """Whether unshare is there and may make a /proc that has nothing but processes."""
     return bool(shutil.which("unshare")) and not subprocess.run([*APART, "sh", "-c", HIDES], stderr=subprocess.DEVNULL).returncode
 
 
-def may_cut() -> bool:
-    """Whether ip is there, and may make networks and disks: only root may."""
+def can_make_networks() -> bool:
+    """Whether ip is there, and this process may make networks and disks: only root may."""
     return bool(shutil.which("ip")) and not os.getuid() and not subprocess.run(["unshare", "--net", "--mount", "true"], check=False).returncode
 
 
@@ -152,14 +152,14 @@ def needs(*names: str) -> Callable[[Any], Any]:
 
 
 def required(*names: str) -> None:
-    """Skips a module whose tests need all of these where one is not there."""
+    """Skips the module that calls this, by raising SkipTest, where one of these is not there."""
     gone = [need.reason for need in map(BY_NAME.__getitem__, names) if not need.is_there]
     if gone:
         raise unittest.SkipTest(", ".join(gone))
 
 
 def is_honest(reason: str) -> bool:
-    """Whether a test was skipped for what the list says and this machine does not have."""
+    """Whether each part of the reason of a skipped test is that of a need which this machine lacks."""
     gone = {need.reason for need in NEEDS if not need.is_there}
     return all(part in gone for part in reason.split(", "))
 

@@ -31,7 +31,7 @@ class Node:
             ip("-n", self.name, "link", "set", device, "up")
 
     def cut(self) -> None:
-        """Pulls the cable: what is sent is lost, and no end of a connection is told."""
+        """Pulls the cable: packets are lost, and neither end of a connection notices."""
         ip("-n", self.network.name, "link", "set", self.port, "down")
 
     def mend(self) -> None:

@@ -105,7 +105,7 @@ def is_command(line: str) -> bool:
 
 
 def after_prompts(block: str) -> Iterator[str]:
-    """The commands after `$ `, each with its further lines, which begin with `> `."""
+    """The commands after `$ ` in a block. A command of several lines has `> ` before the further ones."""
     for part in re.split(r"^\$ ", block, flags=re.MULTILINE)[1:]:
         first, *rest = part.splitlines()
         yield "\n".join([first, *(line[2:] for line in itertools.takewhile(lambda line: line.startswith("> "), rest))])
@@ -140,7 +140,7 @@ def commands_of(page: str) -> Iterator[Command]:
 
 
 def help_of(*words: str) -> str:
-    """The help of `spki-cert` or of one of its commands, on lines as long as it likes."""
+    """The help of `spki-cert`, or of one of its commands, without line breaks in sentences."""
     settings = {"PATH": os.environ["PATH"], "COLUMNS": "500", "LANG": "C.UTF-8"}
     return subprocess.run([sys.executable, SPKI_CERT, *words, "--help"], env=settings, stdout=subprocess.PIPE, text=True, check=True).stdout
 
@@ -160,17 +160,17 @@ def all_commands() -> list[Command]:
 # ---- what is known of each
 
 
-def is_about(row: tuple[str, str, str], command: Command) -> bool:
+def covers(row: tuple[str, str, str], command: Command) -> bool:
     """Whether a row of `NOT_RUN` names a command."""
     page, pattern, _ = row
     return fnmatch(command.page, page) and re.fullmatch(pattern, command.line) is not None
 
 
-def is_known(command: Command) -> bool:
+def is_covered(command: Command) -> bool:
     """Whether a test runs a command, or the list of those that are not run has it."""
-    return any((command.page, command.kind) == (run.page, run.kind) for run in RUN) or any(is_about(row, command) for row in NOT_RUN)
+    return any((command.page, command.kind) == (run.page, run.kind) for run in RUN) or any(covers(row, command) for row in NOT_RUN)
 
 
-def unknown(commands: Iterable[Command]) -> list[str]:
-    """What is to be said of each command that no row is about."""
-    return [f"{command.page}, {command.kind}: {command.line}" for command in commands if not is_known(command)]
+def uncovered(commands: Iterable[Command]) -> list[str]:
+    """A line about each command that neither RUN nor NOT_RUN covers."""
+    return [f"{command.page}, {command.kind}: {command.line}" for command in commands if not is_covered(command)]

@@ -16,8 +16,8 @@ NAMES = ("memory", "read", "write")
 
 @dataclass
 class Ended:
-    """How a run ended, how many requests for memory, reads and writes were asked and refused, and how many of those for memory
-    came before the first read."""
+    """How a run ended: its status and outputs, how many requests of each kind of NAMES it made, how many of all were refused, and how many
+    of those for memory came before the first read."""
 
     status: int
     out: bytes
@@ -42,8 +42,8 @@ def compiled(folder):
     return library
 
 
-def source(text):
-    """A descriptor from which a text is read."""
+def descriptor_of(text):
+    """A descriptor from which a text is read: a pipe if the text fits into one, else a file."""
     if len(text) <= PIPE:
         reader, writer = os.pipe()
         os.write(writer, text)
@@ -55,8 +55,8 @@ def source(text):
         return os.open(file.name, os.O_RDONLY)
 
 
-def finished(child):
-    """What a run wrote, which is ended if it does not end by itself."""
+def outputs_of(child):
+    """Waits for a run, which is killed after SECONDS, and returns its two outputs."""
     try:
         return child.communicate(timeout=SECONDS)
     except subprocess.TimeoutExpired:
@@ -64,8 +64,8 @@ def finished(child):
         return child.communicate()
 
 
-def drained(reader):
-    """What is read of a descriptor to the end."""
+def read_to_end(reader):
+    """Reads a descriptor to its end and closes it."""
     pieces = []
     while piece := os.read(reader, 1 << 20):
         pieces.append(piece)
@@ -78,81 +78,82 @@ class Program:
         self.path, self.library = path, library
 
     def run(self, command, text, before=(), **plan):
-        """A run in which what the plan names is refused. `before` is a program that starts it, with its words."""
+        """A run under refuse.c. The plan has its settings, as `memory=3`. `before` is a program that starts the run, with its words."""
         environment = {"LD_PRELOAD": self.library, "REFUSE_IN": self.path, "PATH": os.environ["PATH"]}
         environment |= {f"REFUSE_{name.upper()}": str(value) for name, value in plan.items()}
         ends = [os.pipe() for _ in range(3)]
-        places = [(source(text), 0)] + [(writer, place) for place, (_, writer) in enumerate(ends, 1)]
+        places = [(descriptor_of(text), 0)] + [(writer, place) for place, (_, writer) in enumerate(ends, 1)]
         words = [*before, self.path, command]
         child = os.posix_spawnp(words[0], words, environment, file_actions=[(os.POSIX_SPAWN_DUP2, *place) for place in places])
         for end, _ in places:
             os.close(end)
-        out, err, report = (drained(reader) for reader, _ in ends)
+        out, err, report = (read_to_end(reader) for reader, _ in ends)
         *counts, before_reads = [int(word) for word in report.split()[:7]] or [0] * 7
         status = os.waitstatus_to_exitcode(os.waitpid(child, 0)[1])
         return Ended(status, out, err, dict(zip(NAMES, counts[::2])), sum(counts[1::2]), before_reads)
 
     def started(self, command, reader, writer, **how):
-        """The program, started on ends of its own, of which the reader is closed here."""
+        """Starts the program on descriptors, and closes the one that it reads."""
         child = subprocess.Popen([self.path, command], stdin=reader, stdout=writer, stderr=subprocess.PIPE, **how)
         os.close(reader)
         return child
 
     def limited(self, command, text, what, most):
-        """A run under a limit of the system, and what it wrote into a file."""
+        """A run whose resource `what` the system limits to `most`. It writes into a file."""
         with tempfile.TemporaryFile() as out:
-            child = self.started(command, source(text), out, preexec_fn=lambda: self.limit(what, most))
-            err = finished(child)[1]
+            child = self.started(command, descriptor_of(text), out, preexec_fn=lambda: self.limit(what, most))
+            err = outputs_of(child)[1]
             out.seek(0)
             return Ended(child.returncode, out.read(), err, {}, 0)
 
     @staticmethod
     def limit(what, most):
+        """Limits a resource of this process, and has a full file be an error and no signal."""
         signal.signal(signal.SIGXFSZ, signal.SIG_IGN)
         resource.setrlimit(what, (most, most))
 
     def redirected(self, command, words):
-        """A run by the shell, with redirections."""
+        """A run by the shell, with redirections: the words that follow the command."""
         shell = ["sh", "-c", f'exec "$0" "$1" {words}', self.path, command]
         child = subprocess.Popen(shell, stdin=subprocess.DEVNULL, stdout=subprocess.PIPE, stderr=subprocess.PIPE)
-        out, err = finished(child)
+        out, err = outputs_of(child)
         return Ended(child.returncode, out, err, {}, 0)
 
     def reader_gone(self, command, text, taken, dies):
-        """A run of whose output `taken` octets are read; the signal of a closed pipe ends it, if it takes no care (`dies`)."""
+        """A run whose output is closed after `taken` octets. `dies`: the signal of a closed pipe ends it, as it ends a program by default."""
         reader, writer = os.pipe()
         if taken == 0:
             os.close(reader)
-        child = self.started(command, source(text), writer, restore_signals=dies)
+        child = self.started(command, descriptor_of(text), writer, restore_signals=dies)
         os.close(writer)
         out = b""
         if taken:
             while len(out) < taken:
                 out += os.read(reader, taken - len(out))
             os.close(reader)
-        err = finished(child)[1]
+        err = outputs_of(child)[1]
         return Ended(child.returncode, out, err, {}, 0)
 
     def in_packets(self, command, text):
-        """A run that reads one octet at each ask, from a pipe into which each is written by itself."""
+        """A run that gets one octet at each read, from a pipe in which each octet is a packet."""
         reader, writer = os.pipe2(os.O_DIRECT | os.O_CLOEXEC)
         child = self.started(command, reader, subprocess.PIPE)
         for place in range(len(text)):
             os.write(writer, text[place:place + 1])
         os.close(writer)
-        out, err = finished(child)
+        out, err = outputs_of(child)
         return Ended(child.returncode, out, err, {}, 0)
 
     def without_waiting(self, command, text):
-        """A run whose reader has nothing yet, where there is no text, or whose writer has no room left, and cannot wait for it."""
+        """A run on a pipe that does not block: it writes to one that gets full, or if the text is empty reads from one that has nothing yet."""
         reader, writer = os.pipe()
         os.set_blocking(writer if text else reader, False)
         if text:
-            child = self.started(command, source(text), writer)
+            child = self.started(command, descriptor_of(text), writer)
             os.close(writer)
-            err = finished(child)[1]
-            return Ended(child.returncode, drained(reader), err, {}, 0)
+            err = outputs_of(child)[1]
+            return Ended(child.returncode, read_to_end(reader), err, {}, 0)
         child = self.started(command, reader, subprocess.PIPE)
-        out, err = finished(child)
+        out, err = outputs_of(child)
         os.close(writer)
         return Ended(child.returncode, out, err, {}, 0)

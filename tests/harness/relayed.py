@@ -24,12 +24,12 @@ SIMPLE: Any = c_int.__mro__[1]
 
 
 def numbers(*of: int) -> bytes:
-    """Numbers of 64 bits."""
+    """The octets of numbers of 64 bits."""
     return struct.pack(f"<{len(of)}Q", *(number % 2**64 for number in of))
 
 
 class Request:
-    """What one call is given: blocks of memory with addresses in them, and arguments."""
+    """What one call is given: blocks of memory, links (block, place, block to point to) and arguments (is a block, its number or a value)."""
 
     def __init__(self) -> None:
         self.blocks: list[bytes] = []
@@ -83,8 +83,8 @@ class Request:
         if at:
             self.links.append((block, place, self.block(string_at(at, text.length if text.length <= MOST_OCTETS else 1))))
 
-    def written_down(self, call: int) -> bytes:
-        """The request as `relay.c` reads it."""
+    def octets_for(self, call: int) -> bytes:
+        """The request as `relay.c` reads it, with the number of the call."""
         blocks = b"".join(numbers(len(octets)) + octets for octets in self.blocks)
         links = b"".join(numbers(*link) for link in self.links)
         given = b"".join(numbers(*argument) for argument in [*self.arguments, *[(False, 0)] * (ARGUMENTS - len(self.arguments))])
@@ -111,20 +111,20 @@ class Call:
         request = Request()
         for value, kind in zip(given, self.argtypes, strict=True):
             request.give(value, kind)
-        returned, blocks = self.relayed.does(self.number, request)
+        returned, blocks = self.relayed.relay(self.number, request)
         for block, value in request.written:
             ctypes.memmove(addressof(value), blocks[block][1], sizeof(value))
             if isinstance(value, Listed):
                 self.relayed.fetch(value)
             elif isinstance(value, c_void_p):
-                value.value = here(value.value, request, blocks)
+                value.value = address_here(value.value, request, blocks)
         # (a truth value is one octet of what is returned)
         returned = returned & 0xff if self.restype is c_bool else returned
         return None if self.restype is None else self.restype(returned).value
 
 
-def here(address: int | None, request: Request, blocks: list[tuple[int, bytes]]) -> int | None:
-    """An address inside a block as that in this process, or another one as it is."""
+def address_here(address: int | None, request: Request, blocks: list[tuple[int, bytes]]) -> int | None:
+    """An address of the other machine as one of this process, if it is in a block that was lent. Else itself."""
     for block, value in request.written:
         at, octets = blocks[block]
         if address is not None and at <= address <= at + len(octets) and isinstance(value, Array):
@@ -133,7 +133,7 @@ def here(address: int | None, request: Request, blocks: list[tuple[int, bytes]])
 
 
 class Relayed:
-    """What stands for the loaded library. Each process of this machine has one of the other machine."""
+    """What is used as the loaded library. Each process of this machine starts a process of the other machine."""
 
     def __init__(self, words: list[str]) -> None:
         self.words, self.owner = words, 0
@@ -147,15 +147,15 @@ class Relayed:
         return call
 
     def pipes(self) -> tuple[BinaryIO, BinaryIO]:
-        """What the other machine reads and writes. It is started at the first call."""
+        """The pipe to the other machine, and the one from it. It is started at the first call of each process."""
         if self.process is None or self.owner != os.getpid():
             self.process, self.owner = subprocess.Popen(self.words, stdin=subprocess.PIPE, stdout=subprocess.PIPE), os.getpid()
         return cast(BinaryIO, self.process.stdin), cast(BinaryIO, self.process.stdout)
 
-    def does(self, call: int, request: Request) -> tuple[int, list[tuple[int, bytes]]]:
-        """What a call returns, and the address and the octets of each block behind it."""
+    def relay(self, call: int, request: Request) -> tuple[int, list[tuple[int, bytes]]]:
+        """Has the other machine do a call. Returns what it returns, and for each block its address and its octets after the call."""
         given, taken = self.pipes()
-        given.write(request.written_down(call))
+        given.write(request.octets_for(call))
         given.flush()
 
         def number() -> int:
@@ -165,20 +165,20 @@ class Relayed:
         return returned, [(number(), exactly(taken, len(octets))) for octets in request.blocks]
 
     def fetch(self, listed: Listed) -> None:
-        """Copies the texts of a signature, and sets its addresses to those of the copies."""
+        """Copies the texts of a signature from the other machine, and sets its addresses to those of the copies."""
         copies = []
         for name in ("key", "message", "value", "octets"):
             at, length, request = getattr(listed, name), getattr(listed, f"{name}_length"), Request()
             if at:
                 request.block(bytes(length))
                 request.arguments = [(False, at), (False, length)]
-                copies.append(ctypes.create_string_buffer(self.does(0, request)[1][0][1], length + 1))
+                copies.append(ctypes.create_string_buffer(self.relay(0, request)[1][0][1], length + 1))
                 setattr(listed, name, c_size_t(addressof(copies[-1])).value)
         # (a copy lasts as long as what points to it)
         listed.copies = copies
 
     def close(self) -> None:
-        """Ends the other machine."""
+        """Ends the process of the other machine, if this process has started it."""
         if self.process is not None and self.owner == os.getpid():
             given, taken = self.pipes()
             given.close()
@@ -188,7 +188,7 @@ class Relayed:
 
 
 def exactly(pipe: BinaryIO, length: int) -> bytes:
-    """So many octets of a pipe."""
+    """So many octets of a pipe. Raises EOFError if it ends before."""
     octets = pipe.read(length)
     if len(octets) != length:
         raise EOFError("the process that does the calls has ended")

@@ -44,7 +44,7 @@ def module_of(test: unittest.TestCase) -> str:
 
 
 def short_name(test: unittest.TestCase | str) -> str:
-    """How a test is named to `tests/run`: a row by its place, another by module, class and method."""
+    """The name of a test for `tests/run`: a row of a table by its place, as `tables/tags:12`, another by module, class and method."""
     module, _, rest = (test if isinstance(test, str) else test.id()).removeprefix("suite.").partition(".")
     own, _, method = rest.partition(".")
     bare = method.removeprefix("test_")
@@ -52,7 +52,7 @@ def short_name(test: unittest.TestCase | str) -> str:
 
 
 def goes_by(test: unittest.TestCase, name: str) -> bool:
-    """Whether a name asks for a test: its own, that of its table, class or module, or the path of the module."""
+    """Whether a name of the command line means a test: by its own name, that of its table, class or module, or the path of its module."""
     name = name.removeprefix(f"{os.path.relpath(SUITE)}{os.sep}").removesuffix(".py").removeprefix("suite.").removeprefix("test_")
     bare, own = module_of(test).removeprefix("test_"), type(test).__qualname__
     names = (short_name(test), test.id().removeprefix("suite.test_"), bare, f"{bare}.{own}", own)
@@ -63,7 +63,7 @@ def goes_by(test: unittest.TestCase, name: str) -> bool:
 
 
 class Result(unittest.TestResult):
-    """Gathers what comes of tests. A part of a test that fails counts as the test, once."""
+    """Gathers the results of tests. A test that fails, or of which parts fail, counts once."""
 
     def __init__(self, outcome: Outcome, is_fast: bool) -> None:
         super().__init__()
@@ -101,8 +101,8 @@ class Result(unittest.TestResult):
 
 
 @contextlib.contextmanager
-def heard() -> Iterator[io.StringIO]:
-    """What is written to the two outputs of this process, and by programs that it starts."""
+def outputs_caught() -> Iterator[io.StringIO]:
+    """A context that catches what this process and those that it starts write to the two outputs. The text has it when the context ends."""
     said, kept = io.StringIO(), [os.dup(1), os.dup(2)]
     with tempfile.TemporaryFile() as file:
         sys.stdout.flush()
@@ -122,9 +122,9 @@ def heard() -> Iterator[io.StringIO]:
 
 
 def run_part(name: str, tests: list[unittest.TestCase], is_fast: bool) -> Outcome:
-    """Runs some tests of one class."""
+    """Runs some tests of one class. `is_fast`: it begins none after the first that fails."""
     outcome, begun = Outcome(name), time.monotonic()
-    with heard() as said:
+    with outputs_caught() as said:
         unittest.TestSuite(tests).run(Result(outcome, is_fast))
     outcome.seconds, outcome.said = time.monotonic() - begun, said.getvalue()
     return outcome
@@ -143,7 +143,7 @@ def flattened(suite: unittest.TestSuite | unittest.TestCase) -> Iterator[unittes
 
 
 def found(words: list[str], modules: Sequence[str] = ()) -> list[unittest.TestCase]:
-    """All tests of tests/, or those of some modules; and of these only those whose names have one of some words."""
+    """The tests of these modules, or of all if none is given. If there are words, only the tests whose names have one of them."""
     loader = unittest.TestLoader()
     if words:
         loader.testNamePatterns = [word if "*" in word else f"*{word}*" for word in words]
@@ -158,7 +158,7 @@ def is_whole_module(test: unittest.TestCase) -> bool:
 
 
 def parts_of(tests: Iterable[unittest.TestCase]) -> list[tuple[str, list[unittest.TestCase]]]:
-    """The tests by classes, those that take longest first."""
+    """The tests in parts (name of the class, tests), those that take longest first. A class of APART has several parts."""
     by_class: dict[str, list[unittest.TestCase]] = {}
     for test in tests:
         name = test.id().rpartition(".")[2] if is_whole_module(test) else f"{module_of(test)}.{type(test).__qualname__}"
@@ -171,7 +171,7 @@ def parts_of(tests: Iterable[unittest.TestCase]) -> list[tuple[str, list[unittes
     return sorted(parts, key=lambda part: order.get(part[0].split(".")[0], len(order)))
 
 
-def tell(outcome: Outcome, command: str) -> None:
+def print_faults(outcome: Outcome, command: str) -> None:
     """Prints all about what failed in a part, and the notes of its tests."""
     for name, text in outcome.failed.items():
         print(f"\nFAILED {name}\n{text[:FAULT_LENGTH]}alone  {command} '{name}'\n", flush=True)
@@ -180,7 +180,7 @@ def tell(outcome: Outcome, command: str) -> None:
     print("".join(f"{line}\n" for line in outcome.said.splitlines() if line.startswith(NOTE)), end="", flush=True)
 
 
-def told_in_short(name: str, outcomes: list[Outcome]) -> str:
+def line_of_class(name: str, outcomes: list[Outcome]) -> str:
     """A line with the outcome of a class."""
     counts = [(sum(it.passed for it in outcomes), "passed"), (sum(len(it.failed) for it in outcomes), "failed"),
               (sum(len(it.skipped) for it in outcomes), "skipped")]
@@ -198,10 +198,10 @@ class Report:
     def add(self, outcome: Outcome) -> None:
         """Adds the outcome of a part."""
         self.outcomes.append(outcome)
-        tell(outcome, self.command)
+        print_faults(outcome, self.command)
         self.left[outcome.name] -= 1
         if not self.left[outcome.name]:
-            print(told_in_short(outcome.name, [it for it in self.outcomes if it.name == outcome.name]), flush=True)
+            print(line_of_class(outcome.name, [it for it in self.outcomes if it.name == outcome.name]), flush=True)
 
 
 def outcome_of(future: Future, name: str) -> Outcome:
@@ -211,7 +211,7 @@ def outcome_of(future: Future, name: str) -> Outcome:
 
 
 def as_they_end(started: dict[Future, str]) -> Iterator[Future]:
-    """The parts that were begun. After each five minutes in which none ends it prints which run."""
+    """Yields each part that was begun when it has ended. After each five minutes in which none ends it prints which run."""
     left = set(started)
     while left:
         ended, left = wait(left, SECONDS_BETWEEN_LINES, FIRST_COMPLETED)
@@ -221,7 +221,7 @@ def as_they_end(started: dict[Future, str]) -> Iterator[Future]:
 
 
 def run_all(tests: list[unittest.TestCase], jobs: int, is_fast: bool, command: str) -> list[Outcome]:
-    """Runs tests in so many processes. After the first that fails no more are begun, if that is asked."""
+    """Runs tests in `jobs` processes, and prints their outcomes. `is_fast`: it begins none after the first that fails. `command` repeats the run."""
     parts = parts_of(tests)
     report = Report(parts, command)
     for name, part in parts:

@@ -27,7 +27,7 @@ def path_of_commands() -> str:
 
 
 def daemon_built(folder: str) -> str:
-    """The daemon, built over the library that is tested. It is kept, and linked again only if something has changed."""
+    """Builds the daemon with the library that is tested, and returns the path of a copy in a folder. Go builds only what has changed."""
     kept, program = os.path.join(TESTS, "out", "spki-authd"), os.path.join(folder, "spki-authd")
     os.makedirs(os.path.dirname(kept), exist_ok=True)
     with open(f"{kept}.lock", "w", encoding="ascii") as lock:
@@ -58,9 +58,10 @@ class Site:
         self.start_server()
 
     def prepare(self) -> None:
-        """What is written before the programs start."""
+        """Writes what another web server needs, before the programs start. nginx needs nothing more."""
 
     def at(self, name: str) -> str:
+        """The path of a file of the site."""
         return os.path.join(self.room, name)
 
     def text(self, name: str) -> str:
@@ -86,12 +87,14 @@ class Site:
     # ---- the programs
 
     def start_daemon(self) -> None:
+        """Starts the daemon, and waits until it listens."""
         with open(self.at("log/authd.log"), "ab") as log, open(self.at("log/authd-events.log"), "ab") as events:
             self.daemon = subprocess.Popen([self.program, "-config", self.at("etc/authd.json")], stdout=log, stderr=events, cwd=self.room)
         self.write("run/authd.pid", str(self.daemon.pid))
         waits_for("the daemon listens", self.daemon_listens)
 
     def daemon_listens(self) -> bool:
+        """Whether the daemon listens. Raises AssertionError if it has ended."""
         with socket.socket(socket.AF_UNIX) as client, contextlib.suppress(OSError):
             client.connect(self.at("run/socket"))
             return True
@@ -105,6 +108,7 @@ class Site:
         return ["nginx", "-p", self.room, "-c", "etc/loopback.conf", "-e", "log/error.log", "-g", as_user]
 
     def start_server(self) -> None:
+        """Starts the web server, and waits until it listens."""
         with open(self.at("log/server.log"), "ab") as log:
             self.server = subprocess.Popen(self.command(), env=self.settings, cwd=self.room, stdout=log, stderr=log)
         waits_for("the web server listens", self.server_listens)
@@ -120,6 +124,7 @@ class Site:
         self.start_server()
 
     def server_listens(self) -> bool:
+        """Whether the web server listens. Raises AssertionError if it has ended."""
         with socket.socket() as client, contextlib.suppress(OSError):
             client.connect(("127.0.0.1", self.port))
             return True
@@ -145,7 +150,7 @@ class Site:
     # ---- asking
 
     def context(self, who: str | None) -> ssl.SSLContext:
-        """The side of TLS of a client, by the names of its certificate and key, as `ann`, or `ann.crt ann`; of None it has none."""
+        """The TLS settings of a client. `who` names its certificate and key, as `ann`, or `ann.crt ann`. None: it has no certificate."""
         if who not in self.contexts:
             self.contexts[who] = context = ssl.create_default_context(cafile=self.at("ca/ca.crt"))
             if who is not None:
@@ -155,6 +160,7 @@ class Site:
 
     @contextlib.contextmanager
     def connected(self, who: str | None) -> Iterator[ssl.SSLSocket]:
+        """A context with a connection of a client, by TLS."""
         with socket.create_connection(("127.0.0.1", self.port), SECONDS) as plain:
             with self.context(who).wrap_socket(plain, server_hostname="localhost") as client:
                 yield client
@@ -167,7 +173,7 @@ class Site:
         return said
 
     def answer_at_once(self, who: str | None, request: bytes) -> bytes:
-        """The same, also where the rate is exceeded."""
+        """The same, but returns an answer 429 too."""
         said = b""
         with contextlib.suppress(OSError), self.connected(who) as client:
             client.sendall(request)
@@ -176,7 +182,7 @@ class Site:
         return said
 
     def status(self, who: str | None, method: str, path: str, *lines: str, body: str = "") -> int:
-        """The status of a plain request, with more lines in its header."""
+        """The status of the answer to a request, with these lines added to its header."""
         header = [f"{method} {path} HTTP/1.1", "Host: localhost", "Connection: close", *lines]
         header += [f"Content-Length: {len(body)}"] if body else []
         return int(self.answer(who, "\r\n".join([*header, "", body]).encode("latin-1")).split(b" ", 2)[1])

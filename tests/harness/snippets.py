@@ -135,7 +135,7 @@ replace conguraki/spki => {module}
 
 
 def built(language, source, room, library):
-    """The words by which a program is run, or None if it cannot be made; in a folder of its own."""
+    """Builds a program in a folder of its own below `room`. Returns the words that run it, or None if the compiler fails."""
     folder = os.path.join(room, language)
     os.makedirs(os.path.join(folder, "src"), exist_ok=True)
     names = {"C": "snippet.c", "Rust": os.path.join("src", "main.rs"), "Python": "snippet.py", "Go": "snippet.go"}
@@ -160,8 +160,8 @@ def built(language, source, room, library):
     return [made] if subprocess.run(words, cwd=folder, env=settings, timeout=SECONDS).returncode == 0 else None
 
 
-def otherwise(language, snippet, room, program, library):
-    """What a snippet does otherwise than to grant the request of delegation.sexp to its key, and to no other; or None."""
+def fault_of_snippet(language, snippet, room, program, library):
+    """What is wrong with a snippet, None if nothing is. It must grant the request of delegation.sexp to its key, and deny it to another."""
     words = built(language, PROGRAMS[language].replace("SNIPPET", textwrap.indent(snippet, "    ").rstrip("\n")), room, library)
     if words is None:
         return f"the snippet in {language} is not compiled"

@@ -34,7 +34,7 @@ __all__ = ["ARM", "BENCH", "COMMANDS", "EXAMPLES", "LIBRARY", "ON_ARM", "PROGRAM
 
 
 def given_program(place=1):
-    """The program that the command line gives at a place, or the built one. It must be there."""
+    """The program that is the argument of this script at a place, or the built one. Ends the script if it is not there."""
     program = os.path.abspath(sys.argv[place] if len(sys.argv) > place else PROGRAM)
     if not os.access(program, os.X_OK):
         sys.exit(f"{program} is not there: build it by rt run in crates/spki")
@@ -42,13 +42,13 @@ def given_program(place=1):
 
 
 def run(program, command, text, seconds=SECONDS):
-    """The exit status of a command on a text, and what it writes."""
+    """The exit status of a command of the program on a text, and its standard output."""
     done = subprocess.run([program, command], input=text, stdout=subprocess.PIPE, stderr=subprocess.DEVNULL, timeout=seconds)
     return done.returncode, done.stdout
 
 
 def output_of(*words, text=None, seconds=SECONDS, **settings):
-    """The status of a program, and all that it writes."""
+    """The exit status of a command, and all that it writes to both outputs. `settings` are those of `subprocess.run`."""
     done = subprocess.run(words, input=text, stdout=subprocess.PIPE, stderr=subprocess.STDOUT, timeout=seconds, text=True, **settings)
     return done.returncode, done.stdout
 
@@ -80,7 +80,7 @@ def braced(octets):
 
 
 def waits_for(what: str, is_so: Callable[[], bool]) -> None:
-    """Waits until something is so, which is a fault if it takes very long."""
+    """Waits until `is_so` returns true. Raises AssertionError, which says `what`, after SECONDS_TO_WAIT."""
     end = time.monotonic() + SECONDS_TO_WAIT
     while not is_so():
         if time.monotonic() > end:
@@ -89,7 +89,7 @@ def waits_for(what: str, is_so: Callable[[], bool]) -> None:
 
 
 def room_for(test: Any) -> str:
-    """A new folder for a test, or for a class of tests, which is removed behind it."""
+    """A new folder for a test, or for a class of tests, which is removed after it."""
     room, is_class = tempfile.TemporaryDirectory(), isinstance(test, type)
     (test.addClassCleanup if is_class else test.addCleanup)(room.cleanup)
     return room.name
@@ -101,7 +101,7 @@ def tables_here():
 
 
 def loaded(path):
-    """A script, also one without a suffix, as a module by another name than its own."""
+    """Loads a script, also one without a suffix, as a module. Its name there differs from its own, so that its main does not run."""
     sys.dont_write_bytecode = True
     name = f"loaded {os.path.basename(path)}"
     loader = importlib.machinery.SourceFileLoader(name, path)

@@ -12,7 +12,7 @@ MOST_ROWS, EXPORTED = 25, "spki_c_"
 
 
 def bodies_of(paths: Iterable[str]) -> dict[str, list[str]]:
-    """The functions of these files, from their names to their ends, by name and by the type or module and the name."""
+    """The texts of the functions of these files, each by its name and by its path: its type or module, and its name."""
     found: dict[str, list[str]] = {}
     for path in paths:
         lines = text_of(path).split("\n")
@@ -31,7 +31,8 @@ def is_called(name: str, body: str) -> bool:
 
 
 def faults(page: str, bodies: dict[str, list[str]]) -> Iterator[str]:
-    """What the tables of a page have that the sources do not: a function, a call in it, or a way from the first row's function to a row's."""
+    """A line for each fault of the tables of calls on a page: a function or a call that the sources lack, a row that no row before leads to, or a
+    table of another form."""
     tables = TABLE.findall(text_of(page))
     if not tables:
         yield f"{page} has no table of calls"

@@ -38,7 +38,7 @@ class Behind(served.Site):
     on_port: list[tuple[str, str, str]] = []
 
     def prepare(self) -> None:
-        """Writes what the server reads."""
+        """Writes the files that the server reads: those of its example, for this site."""
         self.kept: dict[str, str] = {}
         self.write(f"files{SORRY}", SORRY_TEXT)
         self.write("etc/authd.json", self.text("etc/authd.json").replace('"server": "nginx"', f'"server": "{self.name}"'))
@@ -47,7 +47,7 @@ class Behind(served.Site):
                 self.write(f"etc/{name}", self.replaced(file.read()))
 
     def replaced(self, text: str) -> str:
-        """The text of an example with the names of this site."""
+        """The text of a file of the example, with the folders, names and ports of this site."""
         for name, here in (("/etc/spki-files", "etc"), ("/run/spki-authd", "run"), ("/run/spki-files", "run/files"), ("/srv/files", "files"),
                            ("/etc/haproxy", "etc"), ("/etc/apache2", "etc"), ("/var/lock/apache2", "tmp"), ("/var/log/nginx", "log")):
             text = text.replace(name, self.at(here))
@@ -57,20 +57,20 @@ class Behind(served.Site):
         """The name of the site, as its configuration has it."""
         return "localhost"
 
-    def becomes(self, more: More) -> None:
-        """Starts the server again, with the lines of another site."""
-        self.replaces([(name, place, place + lines) for name, place, lines in more])
+    def restart_with(self, more: More) -> None:
+        """Starts the server again, with these lines put into the example's files, and without those of before."""
+        self.restart_replacing([(name, place, place + lines) for name, place, lines in more])
 
-    def asks_port(self, port: int) -> None:
+    def restart_asking_port(self, port: int) -> None:
         """Starts the server again, so that it asks the daemon on a port with TLS."""
-        self.replaces([(name, place, lines.replace("{port}", str(port))) for name, place, lines in self.on_port])
+        self.restart_replacing([(name, place, lines.replace("{port}", str(port))) for name, place, lines in self.on_port])
 
-    def replaces(self, all_of_them: list[tuple[str, str, str]]) -> None:
-        """Starts the server again, with other texts in the place of some."""
+    def restart_replacing(self, changes: list[tuple[str, str, str]]) -> None:
+        """Starts the server again, with its files as they were but for these changes: a file, a text of it, and the text in its place."""
         for name, text in self.kept.items():
             self.write(f"etc/{name}", text)
-        self.kept = {name: self.text(f"etc/{name}") for name, _, _ in all_of_them}
-        for name, place, lines in all_of_them:
+        self.kept = {name: self.text(f"etc/{name}") for name, _, _ in changes}
+        for name, place, lines in changes:
             text, place = self.text(f"etc/{name}"), place.replace("{room}", self.room)
             if place not in text:
                 raise AssertionError(f"{name} has no {place!r}")
@@ -225,7 +225,8 @@ class OfFiles(http.server.BaseHTTPRequestHandler):
 
     protocol_version = "HTTP/1.1"
 
-    def answers(self, status: int, octets: bytes = b"") -> None:
+    def answer(self, status: int, octets: bytes = b"") -> None:
+        """Sends an answer, with fields by which a cache may keep it."""
         self.send_response(status)
         for line in (f"Content-Length: {len(octets)}", "Cache-Control: max-age=60", "Last-Modified: Thu, 01 Jan 2026 00:00:00 GMT"):
             self.send_header(*line.split(": "))
@@ -236,27 +237,27 @@ class OfFiles(http.server.BaseHTTPRequestHandler):
     def do_GET(self) -> None:
         try:
             with open(self.file(), "rb") as file:
-                self.answers(200, file.read())
+                self.answer(200, file.read())
         except OSError:
-            self.answers(404)
+            self.answer(404)
 
     def do_PUT(self) -> None:
         os.makedirs(os.path.dirname(self.file()), exist_ok=True)
         with open(self.file(), "wb") as file:
             file.write(self.rfile.read(int(self.headers.get("Content-Length", "0"))))
-        self.answers(201)
+        self.answer(201)
 
     def do_DELETE(self) -> None:
         os.remove(self.file())
-        self.answers(204)
+        self.answer(204)
 
     do_HEAD, do_POST, do_PATCH, do_OPTIONS, do_MOVE, do_COPY = do_GET, do_PUT, do_PUT, do_GET, do_DELETE, do_PUT
 
     def file(self) -> str:
+        """The path of the file that is asked for, or of one that is not there if a link leads to it."""
         server = self.server
         assert isinstance(server, FileServer)
         path = os.path.join(server.folder, unquote(self.path.partition("?")[0]).lstrip("/"))
-        # (a link leads to no file)
         return path if os.path.realpath(path) == path else os.path.join(server.folder, "none")
 
     def address_string(self) -> str:

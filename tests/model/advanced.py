@@ -2,7 +2,7 @@
 import re
 
 from .coverage import Rows
-from .octets import from_base64, skip
+from .octets import from_base64, past_whitespace
 from .values import DEEPEST, LONGEST, WHITESPACE, Atom, FormFault, Value, octet_at, written_length
 
 TOKEN = re.compile(rb"[A-Za-z\-./_:*+=][A-Za-z0-9\-./_:*+=]*")
@@ -28,34 +28,34 @@ CLOSING = Rows("advanced form, Bad at the closing mark", ["an odd number of digi
 
 
 def bad(place: str, at: int) -> FormFault:
-    """The fault of an octet that cannot stand in its place."""
-    PLACES.used(place)
+    """The fault `Bad` to raise for the octet at an offset. Counts a row of PLACES."""
+    PLACES.count_use(place)
     return FormFault("Bad", at)
 
 
 def bad_closing(why: str, at: int) -> FormFault:
-    """The fault of a string that its closing mark shows."""
-    CLOSING.used(why)
+    """The fault `Bad` to raise for a string that is wrong as a whole, at its closing mark. Counts a row of CLOSING."""
+    CLOSING.count_use(why)
     return FormFault("Bad", at)
 
 
 def read(text: bytes) -> Value:
-    """The value of a text in advanced form, or the first fault from the left."""
+    """The value of a text in advanced form. Raises FormFault with the first fault from the left."""
     try:
         if len(text) > LONGEST:
             raise FormFault("TooLong")
-        value, end = value_at(text, skip(text, 0), 0)
-        behind = skip(text, end)
+        value, end = value_at(text, past_whitespace(text, 0), 0)
+        behind = past_whitespace(text, end)
         if behind < len(text):
             raise FormFault("Trailing", behind)
     except FormFault as fault:
-        FAULTS.used(fault.kind)
+        FAULTS.count_use(fault.kind)
         raise
     return value
 
 
 def value_at(text: bytes, at: int, open_lists: int) -> tuple[Value, int]:
-    """The value that begins at an offset, which is past whitespace, and the offset behind it."""
+    """The value that begins at an offset, which is past whitespace, and the offset behind it. `open_lists` counts the lists around it."""
     octet = octet_at(text, at)
     if octet == ord("("):
         if open_lists == DEEPEST:
@@ -70,39 +70,39 @@ def value_at(text: bytes, at: int, open_lists: int) -> tuple[Value, int]:
 def members_at(text: bytes, at: int, open_lists: int) -> tuple[Value, int]:
     """The list whose members begin at an offset, and the offset behind its `)`."""
     members: list[Value] = []
-    at = skip(text, at)
+    at = past_whitespace(text, at)
     while octet_at(text, at) != ord(")"):
         member, at = value_at(text, at, open_lists)
         members.append(member)
-        at = skip(text, at)
+        at = past_whitespace(text, at)
     return tuple(members), at + 1
 
 
 def hinted_at(text: bytes, at: int) -> tuple[Value, int]:
     """The string whose display hint begins behind the `[` before an offset, and the offset behind the string."""
-    begins = skip(text, at)
+    begins = past_whitespace(text, at)
     hint, ends = string_at(text, begins, "behind [")
-    bracket = skip(text, ends)
+    bracket = past_whitespace(text, ends)
     if octet_at(text, bracket) != ord("]"):
         raise bad("behind a hint's string", bracket)
-    body_begins = skip(text, bracket + 1)
+    body_begins = past_whitespace(text, bracket + 1)
     body, end = string_at(text, body_begins, "behind ]")
     spaced = (begins, bracket, body_begins) != (at, ends, bracket + 1)
-    HINTS.used("with whitespace" if spaced else "without whitespace")
+    HINTS.count_use("with whitespace" if spaced else "without whitespace")
     return Atom(body, hint), end
 
 
 def string_at(text: bytes, at: int, place: str) -> tuple[bytes, int]:
-    """The octets of the string that begins at an offset, and the offset behind it. `place` says what is expected there."""
+    """The octets of the string that begins at an offset, and the offset behind it. `place` is the row of PLACES if none begins there."""
     octet = octet_at(text, at)
     token = TOKEN.match(text, at)
     if token:
-        WAYS.used("token")
+        WAYS.count_use("token")
         return token[0], token.end()
     if octet in MARKS:
         way, body_at = MARKS[octet]
         body, closing = body_at(text, at + 1)
-        WAYS.used(way)
+        WAYS.count_use(way)
         return body, closing + 1
     length = LENGTH.match(text, at)
     if not length:
@@ -111,12 +111,12 @@ def string_at(text: bytes, at: int, place: str) -> tuple[bytes, int]:
 
 
 def string_of_length(text: bytes, at: int, digits: bytes) -> tuple[bytes, int]:
-    """The string behind the digits of its length, which end at an offset, and the offset behind it."""
+    """The octets of a string with a length, and the offset behind it. The digits of the length end at offset `at`."""
     length, octet = written_length(digits), octet_at(text, at)
     if octet == ord(":"):
         if at + 1 + length > len(text):
             raise FormFault("Short")
-        WAYS.used("verbatim")
+        WAYS.count_use("verbatim")
         return text[at + 1:at + 1 + length], at + 1 + length
     if octet not in MARKS:
         raise bad("behind a length 0" if digits == b"0" else "behind a length", at)
@@ -124,18 +124,18 @@ def string_of_length(text: bytes, at: int, digits: bytes) -> tuple[bytes, int]:
     body, closing = body_at(text, at + 1)
     if len(body) != length:
         raise bad_closing("another length", closing)
-    WAYS.used(way + " with a length")
+    WAYS.count_use(way + " with a length")
     return body, closing + 1
 
 
 def quoted_at(text: bytes, at: int) -> tuple[bytes, int]:
-    """What stands in quotes from an offset on, and the offset of the closing quote."""
+    """The octets of a quoted string, and the offset of its closing quote. `at` is behind the opening quote."""
     pieces: list[bytes] = []
     while True:
         raw = RAW.match(text, at)
         assert raw
         if raw[0]:
-            ESCAPES.used("a raw octet")
+            ESCAPES.count_use("a raw octet")
         pieces.append(raw[0])
         at = raw.end()
         if octet_at(text, at) == ord('"'):
@@ -145,13 +145,13 @@ def quoted_at(text: bytes, at: int) -> tuple[bytes, int]:
 
 
 def escape_at(text: bytes, at: int) -> tuple[bytes, int]:
-    """What an escape means whose backslash stands before an offset, and the offset behind it."""
+    """The octets that an escape means, and the offset behind it. `at` is behind the backslash."""
     octet = octet_at(text, at)
     if octet in LETTERS:
-        ESCAPES.used("a letter")
+        ESCAPES.count_use("a letter")
         return bytes([LETTERS[octet]]), at + 1
     if octet in THEMSELVES:
-        ESCAPES.used("the octet behind the backslash")
+        ESCAPES.count_use("the octet behind the backslash")
         return bytes([octet]), at + 1
     if octet in b"01234567":
         if octet in b"4567":
@@ -159,18 +159,18 @@ def escape_at(text: bytes, at: int) -> tuple[bytes, int]:
         for place in (at + 1, at + 2):
             if octet_at(text, place) not in b"01234567":
                 raise bad("behind an octal escape's first digit", place)
-        ESCAPES.used("octal")
+        ESCAPES.count_use("octal")
         return bytes([int(text[at:at + 3], 8)]), at + 3
     if octet == ord("x"):
         for place in (at + 1, at + 2):
             if octet_at(text, place) not in b"0123456789abcdefABCDEF":
                 raise bad("behind \\x", place)
-        ESCAPES.used("hexadecimal")
+        ESCAPES.count_use("hexadecimal")
         return bytes([int(text[at + 1:at + 3], 16)]), at + 3
     line_end = LINE_END.match(text, at)
     if not line_end:
         raise bad("behind a backslash", at)
-    ESCAPES.used({b"\r\n": "CR LF", b"\n\r": "LF CR", b"\r": "CR", b"\n": "LF"}[line_end[0]])
+    ESCAPES.count_use({b"\r\n": "CR LF", b"\n\r": "LF CR", b"\r": "CR", b"\n": "LF"}[line_end[0]])
     return b"", line_end.end()
 
 

@@ -1,6 +1,6 @@
 """The lines and exit statuses of the commands, and of decisions by rows apart (sections "The program", "The library for C programs").
 
-An answer is what the program writes, and the status that it exits with.
+An answer is a pair: the exit status, and what the program writes. `X.count_use(row)` counts a row of a table of the document.
 """
 from collections.abc import Callable
 from contextlib import AbstractContextManager
@@ -51,64 +51,64 @@ class Refused(Exception):
 
 
 def answer(command: str, text: bytes) -> Answer:
-    """What the program writes for a command and a text, and its status."""
+    """The status and what the program writes, for a command and a text."""
     try:
         status, said = answer_of_text(command, text)
     except Refused as why:
         status, said = refused(why)
-    STATUSES.used(f"{command}: {status}")
+    STATUSES.count_use(f"{command}: {status}")
     return status, said
 
 
 def check_accepted(text: bytes, rows_text: bytes) -> Answer:
-    """What the library answers to a case by rows that are a text of their own."""
+    """What `spki_check_accepted` answers to a case whose accepted signatures, the rows, are a text of their own."""
     try:
         case = read_case(text)
-        with of_a_case():
+        with case_limits():
             status, said = check(case, read_rows(rows_text))
     except Refused as why:
         status, said = refused(why)
-    STATUSES.used(f"check_accepted: {status}")
+    STATUSES.count_use(f"check_accepted: {status}")
     return status, said
 
 
 def refused(why: Refused) -> Answer:
-    """The line of a refusal."""
+    """The status and the line of a refusal."""
     return REFUSED, b"refused %s\n" % str(why).encode()
 
 
 def refusal(row: str, said: object) -> Refused:
-    """A refusal of the table."""
-    REFUSALS.used(row)
+    """The Refused to raise, with the words that follow `refused`. Counts a row of REFUSALS."""
+    REFUSALS.count_use(row)
     return Refused(said)
 
 
 def too_large(command: str, why: TooLarge) -> Refused:
-    """The refusal of tags that are too large."""
+    """The Refused to raise where a tag is too large. Its row in REFUSALS says whether a guard's lower limit is the cause."""
     by = "" if not why.is_of_guard else ", by a guard's work" if why.is_work else ", by a guard's product"
     return refusal(f"TooLarge: {command}{by}", "TooLarge")
 
 
 def answer_of_text(command: str, text: bytes) -> Answer:
-    """The answer to a text that is not refused."""
+    """The answer to a text. Raises Refused."""
     if command in ("canonical", "advanced", "transport"):
         value = read_text(text, within_limit=False)
-        LINES.used(command)
+        LINES.count_use(command)
         return YES, canonical(value) if command == "canonical" else (printed if command == "advanced" else transport)(value) + b"\n"
     if command == "intersect":
         return YES, intersect(read_text(text))
     case = read_case(text)
-    with of_a_case():
+    with case_limits():
         return {"check": check, "explain": explain, "reduce": reduce}[command](case, case.rows)
 
 
-def of_a_case() -> AbstractContextManager[None]:
-    """Within this the work of a case has its limit."""
+def case_limits() -> AbstractContextManager[None]:
+    """A context in which intersections have the limits of a case: the product of nodes, and the work if a chain is not small."""
     return limited(MOST_PRODUCT, MOST_WORK, MOST_PRODUCT)
 
 
 def read_text(text: bytes, within_limit: bool = True) -> Value:
-    """The value of a text."""
+    """The value of a text. `within_limit`: its canonical form must not be too long either. Raises Refused."""
     try:
         return forms.read_within_limit(text) if within_limit else forms.read(text)
     except FormFault as fault:
@@ -125,7 +125,7 @@ def read_case(text: bytes) -> Case:
 
 
 def read_rows(text: bytes) -> list[Row]:
-    """The rows of a text of their own."""
+    """The accepted signatures of a text `(accepted row ..)`. Raises Refused."""
     try:
         value = forms.read_within_limit(text)
     except FormFault as fault:
@@ -139,7 +139,7 @@ def read_rows(text: bytes) -> list[Row]:
 
 
 def intersect(value: Value) -> bytes:
-    """The intersection of the two tags of `(intersect A B)`, as it is printed."""
+    """The printed line with the intersection of the two tags of `(intersect A B)`. Raises Refused."""
     if not isinstance(value, tuple) or head_of(value) != b"intersect" or len(value) != 3:
         raise refusal("intersect Shape", "intersect Shape")
     both = []
@@ -152,7 +152,7 @@ def intersect(value: Value) -> bytes:
         left = intersection(*both)
     except TooLarge as why:
         raise too_large("intersect", why) from None
-    LINES.used("intersect")
+    LINES.count_use("intersect")
     return printed(tags.written(left)) + b"\n"
 
 
@@ -160,27 +160,27 @@ def intersect(value: Value) -> bytes:
 
 
 def check(case: Case, rows: list[Row]) -> Answer:
-    """The first entry that is granted, or no."""
+    """The answer of `check`: the first entry that grants the request, or no. Raises Refused if tags are too large."""
     try:
-        steps = evidence.shown(case.items, rows, case.strict)
+        steps = evidence.proved_tuples(case.items, rows, case.strict)
     except evidence.Stopped:
-        LINES.used("no: evidence")
+        LINES.count_use("no: evidence")
         return NO, b"no\n"
     for number, entry in enumerate(case.entries, 1):
         _, is_granted = folded("check", case, entry, steps)
         if is_granted:
-            LINES.used("yes entry")
+            LINES.count_use("yes entry")
             return YES, b"yes entry %d\n" % number
-    LINES.used("no: no entry grants")
+    LINES.count_use("no: no entry grants")
     return NO, b"no\n"
 
 
 def decide(case: Case, rows: list[Row]) -> Answer:
-    """The first entry that is granted, or no, as a guard decides: no tags are intersected, so none are too large for one another."""
+    """The same as a guard decides it: no tags are intersected, so TooLarge is never raised."""
     try:
-        steps = [step for _, step in evidence.shown(case.items, rows, case.strict)]
+        steps = [step for _, step in evidence.proved_tuples(case.items, rows, case.strict)]
     except evidence.Stopped:
-        LINES.used("no: evidence")
+        LINES.count_use("no: evidence")
         return NO, b"no\n"
     for number, entry in enumerate(case.entries, 1):
         own = reduction.of_entry(entry)
@@ -189,19 +189,19 @@ def decide(case: Case, rows: list[Row]) -> Answer:
         if len(steps) <= SHORT_CHAIN:
             try_brackets(own, steps, case, is_granted)
         if is_granted:
-            LINES.used("yes entry")
+            LINES.count_use("yes entry")
             return YES, b"yes entry %d\n" % number
-    LINES.used("no: no entry grants")
+    LINES.count_use("no: no entry grants")
     return NO, b"no\n"
 
 
 def folded(command: str, case: Case, entry: Entry, steps: Steps) -> tuple[Authorization | reduction.Stopped, bool]:
-    """What an entry becomes with all certificates, or where it stops; and whether it grants the request, which a short chain must do exactly
-    if some bracketing does."""
+    """The authorization that an entry becomes with all certificates, or the Stopped that says where the chain stops; and whether the request
+    is granted. In a chain of up to SHORT_CHAIN certificates every bracketing is tried too. Raises Refused if tags are too large."""
     result: Authorization | reduction.Stopped
     try:
         result = reduction.fold(entry, steps, case.strict)
-        is_granted = lack(result, case) is None
+        is_granted = why_not_granted(result, case) is None
     except reduction.Stopped as stopped:
         result, is_granted = stopped, False
     except TooLarge as why:
@@ -212,66 +212,66 @@ def folded(command: str, case: Case, entry: Entry, steps: Steps) -> tuple[Author
 
 
 def try_brackets(entry: Authorization, steps: list[evidence.Tuple], case: Case, is_granted: bool) -> None:
-    """Compares the left fold with the trees of every bracketing."""
+    """Raises ModelDisagrees unless some bracketing of the tuples grants the request exactly if the left fold does."""
     some_tree = derivations.grants([entry, *steps], case.key, case.request, case.moment, case.strict)
-    BRACKETS.used(f"{len(steps)} certificates")
+    BRACKETS.count_use(f"{len(steps)} certificates")
     if some_tree:
-        BRACKETS.used("one grants")
+        BRACKETS.count_use("one grants")
     if some_tree != is_granted:
         raise ModelDisagrees(f"the left fold grants: {is_granted}, some bracketing grants: {some_tree}")
 
 
-def lack(so_far: Authorization, case: Case) -> str | None:
-    """The first thing that is lacking of an authorization where all certificates joined, None if it grants the request."""
-    if so_far.subject.names:
+def why_not_granted(authorization: Authorization, case: Case) -> str | None:
+    """The row of LINES for the first reason why the result of a whole chain does not grant the request, None if it grants it."""
+    if authorization.subject.names:
         return "NotTheKey: names left"
-    if not names(so_far.subject.principal, case.key, case.strict):
+    if not names(authorization.subject.principal, case.key, case.strict):
         return "NotTheKey: another key"
-    if not contains(so_far.tag, case.request):
+    if not contains(authorization.tag, case.request):
         return "TagLacks"
-    return None if so_far.window.holds(case.moment) else "WindowLacks"
+    return None if authorization.window.holds(case.moment) else "WindowLacks"
 
 
 def explain(case: Case, rows: list[Row]) -> Answer:
-    """A line for each entry: why it grants the request, or why it does not."""
+    """The answer of `explain`, a line for each entry: that it grants the request, or why it does not. YES if some entry grants it."""
 
-    def reason(so_far: Authorization) -> bytes:
-        lacking = lack(so_far, case) or "grants"
-        LINES.used(lacking)
+    def reason(authorization: Authorization) -> bytes:
+        lacking = why_not_granted(authorization, case) or "grants"
+        LINES.count_use(lacking)
         return lacking.split(":")[0].encode()
 
-    return of_entries("explain", case, rows, reason, lambda said: said == b"grants")
+    return entry_lines("explain", case, rows, reason, lambda said: said == b"grants")
 
 
 def reduce(case: Case, rows: list[Row]) -> Answer:
-    """A line for each entry: the authorization that it becomes, or why it becomes none."""
+    """The answer of `reduce`, a line for each entry: the authorization that it becomes, or where its chain stops. YES if one is not stopped."""
 
-    def five(so_far: Authorization) -> bytes:
-        LINES.used("entry N FIVE")
-        return printed(written_five(so_far))
+    def five(authorization: Authorization) -> bytes:
+        LINES.count_use("entry N FIVE")
+        return printed(five_value(authorization))
 
-    return of_entries("reduce", case, rows, five, lambda said: True)
+    return entry_lines("reduce", case, rows, five, lambda said: True)
 
 
-def of_entries(command: str, case: Case, rows: list[Row], said_of: Callable[[Authorization], bytes],
-               is_good: Callable[[bytes], bool]) -> Answer:
-    """The lines of all entries. The status is that one of the entries that all certificates joined is good."""
+def entry_lines(command: str, case: Case, rows: list[Row], text_of: Callable[[Authorization], bytes],
+                is_good: Callable[[bytes], bool]) -> Answer:
+    """The line of each entry: `text_of` its authorization, or where its chain stops. YES if `is_good` is true of one such text, else NO."""
     try:
-        steps = evidence.shown(case.items, rows, case.strict)
+        steps = evidence.proved_tuples(case.items, rows, case.strict)
     except evidence.Stopped as stopped:
-        LINES.used("item J STOP")
+        LINES.count_use("item J STOP")
         return NO, b"item %d %s\n" % (stopped.item, stopped.stop.encode())
     if not case.entries:
-        LINES.used("no entries")
+        LINES.count_use("no entries")
         return NO, b"no entries\n"
     lines, status = [], NO
     for number, entry in enumerate(case.entries, 1):
         result, _ = folded(command, case, entry, steps)
         if isinstance(result, reduction.Stopped):
-            LINES.used("entry N item J CAUSE")
+            LINES.count_use("entry N item J CAUSE")
             said = b"item %d %s" % (result.item, result.cause.encode())
         else:
-            said = said_of(result)
+            said = text_of(result)
             status = YES if is_good(said) else status
         lines.append(b"entry %d %s\n" % (number, said))
     return status, b"".join(lines)
@@ -280,44 +280,44 @@ def of_entries(command: str, case: Case, rows: list[Row], said_of: Callable[[Aut
 # ---- the written authorization
 
 
-def written_five(so_far: Authorization) -> Value:
-    """`(five (issuer K)? (subject S) (propagate)? (tag T) (valid ..)?)`. The issuer is the keeper of the list, so it is left out."""
-    members: list[Value] = [Atom(b"five"), (Atom(b"subject"), written_subject(so_far.subject))]
-    if so_far.propagate:
-        FIVES.used("(propagate)")
+def five_value(authorization: Authorization) -> Value:
+    """The S-expression `(five (subject S) (propagate)? (tag T) (valid ..)?)`. It has no issuer, which is always the list's keeper."""
+    members: list[Value] = [Atom(b"five"), (Atom(b"subject"), subject_value(authorization.subject))]
+    if authorization.propagate:
+        FIVES.count_use("(propagate)")
         members.append((Atom(b"propagate"),))
-    members.append((Atom(b"tag"), tags.written(so_far.tag)))
-    return (*members, *written_window(so_far.window))
+    members.append((Atom(b"tag"), tags.written(authorization.tag)))
+    return (*members, *window_fields(authorization.window))
 
 
-def written_subject(subject: Subject) -> Value:
-    """A principal, or `(name principal n n ..)`."""
+def subject_value(subject: Subject) -> Value:
+    """The S-expression of a subject: its principal, or `(name principal n n ..)`."""
     assert subject.principal is not None
-    principal = written_principal(subject.principal)
+    principal = principal_value(subject.principal)
     if not subject.names:
-        FIVES.used("a principal")
+        FIVES.count_use("a principal")
         return principal
-    FIVES.used("a name")
+    FIVES.count_use("a name")
     return (Atom(b"name"), principal, *map(Atom, subject.names))
 
 
-def written_principal(principal: Principal) -> Value:
-    """A key as it was read, or a hash without `(uri ..)`."""
+def principal_value(principal: Principal) -> Value:
+    """The S-expression of a principal: a key as it was read, or a hash without `(uri ..)`."""
     if isinstance(principal, Key):
         return principal.value
-    FIVES.used("a hash")
+    FIVES.count_use("a hash")
     return (Atom(b"hash"), Atom(principal.algorithm), Atom(principal.digest))
 
 
-def written_window(window: Window) -> tuple[Value, ...]:
-    """`(valid ..)` in a list of its own, or nothing if there is no limit."""
+def window_fields(window: Window) -> tuple[Value, ...]:
+    """A tuple with the S-expression `(valid ..)`, or an empty one if there is no limit."""
     limits: list[Value] = []
     if window.not_before:
         limits.append((Atom(b"not-before"), Atom(window.not_before)))
     if window.not_after:
         limits.append((Atom(b"not-after"), Atom(window.not_after)))
     if not limits:
-        FIVES.used("no valid")
+        FIVES.count_use("no valid")
         return ()
-    FIVES.used("valid with both" if len(limits) == 2 else "valid with not-before" if window.not_before else "valid with not-after")
+    FIVES.count_use("valid with both" if len(limits) == 2 else "valid with not-before" if window.not_before else "valid with not-after")
     return ((Atom(b"valid"), *limits),)

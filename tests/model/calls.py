@@ -18,46 +18,47 @@ CALLS = Rows("call for C programs, pointers and lengths", [
 STRINGS = Rows("string inside a value", [
     "found", "found, with a hint", "none: a list", "none: no such member", "none: a path into a string",
     *(f"refused: {kind}" for kind in ("TooLong", "TooDeep", "Short", "Bad", "Trailing"))])
+# whether it is null, and the length that the call says
 Pointer = tuple[bool, int]
 
 
 def of_library(command: str, said: Answer) -> Answer:
-    """What the library answers where the program answers so. Yes and no are answered by decisions alone, and yes is not zero."""
+    """The library's answer, given the program's. Only decisions return GRANTED or NO; other calls return DONE for both statuses."""
     status, octets = said
     if status in (YES, NO):
         status = DONE if command not in DECISIONS else GRANTED if status == YES else NO
-    STATUSES.used(NAMES[status])
+    STATUSES.count_use(NAMES[status])
     return status, octets
 
 
 def too_small() -> int:
-    """The status where the buffer is too small."""
-    STATUSES.used(NAMES[TOO_SMALL])
+    """The status where the buffer is too small. Counts it."""
+    STATUSES.count_use(NAMES[TOO_SMALL])
     return TOO_SMALL
 
 
 def misused(row: str) -> Answer:
-    """The answer to a call that is misuse."""
-    CALLS.used(f"status 5: {row}")
+    """The answer to a call that is misuse. Counts a row of CALLS."""
+    CALLS.count_use(f"status 5: {row}")
     return MISUSED, b""
 
 
 def call(number: int | None, texts: tuple[Pointer, ...], buffer: Pointer) -> Answer:
-    """What the library answers to a number, or if there is none to `spki_check_accepted`. The texts are empty, null or too long; of each
-    and of the buffer it is said whether it is null, and its length."""
+    """What `spki_answer` answers to a command's number and a text, or `spki_check_accepted` to two texts if the number is None. The texts
+    are empty, null or too long."""
     if number is not None and number >= len(COMMANDS):
         return misused("no command has this number")
     for is_null, length in texts:
         if length:
             return misused("a length over 2^63 - 1" if length > LONGEST_TEXT else "a null pointer with a length")
         if is_null:
-            CALLS.used("a null pointer without octets")
+            CALLS.count_use("a null pointer without octets")
     is_null, length = buffer
     if length > LONGEST_TEXT or is_null and length:
         return misused("a buffer of a length over 2^63 - 1" if length > LONGEST_TEXT else "a null buffer with a length")
     said = answers.check_accepted(b"", b"") if number is None else answers.answer(COMMANDS[number], b"")
     if len(said[1]) > length:
-        CALLS.used("no buffer")
+        CALLS.count_use("no buffer")
         return too_small(), b""
     return of_library("check", said)
 
@@ -67,15 +68,15 @@ def string_at(text: bytes, path: tuple[int, ...]) -> Answer:
     try:
         value = canonical.read(text)
     except FormFault as fault:
-        STRINGS.used(f"refused: {fault.kind}")
+        STRINGS.count_use(f"refused: {fault.kind}")
         return of_library("spki_string", (REFUSED, b""))
     for number in path:
         if isinstance(value, Atom) or number >= len(value):
-            STRINGS.used("none: a path into a string" if isinstance(value, Atom) else "none: no such member")
+            STRINGS.count_use("none: a path into a string" if isinstance(value, Atom) else "none: no such member")
             return of_library("spki_string", (NONE, b""))
         value = value[number]
     if not isinstance(value, Atom):
-        STRINGS.used("none: a list")
+        STRINGS.count_use("none: a list")
         return of_library("spki_string", (NONE, b""))
-    STRINGS.used("found" if value.hint is None else "found, with a hint")
+    STRINGS.count_use("found" if value.hint is None else "found, with a hint")
     return of_library("spki_string", (DONE, value.body))

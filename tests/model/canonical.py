@@ -12,13 +12,13 @@ FAULTS = Rows("canonical form, fault", ["TooDeep", "Bad", "Short", "Trailing"])
 
 
 def bad(place: str, at: int) -> FormFault:
-    """The fault of an octet that cannot stand in its place."""
-    PLACES.used(place)
+    """The fault `Bad` to raise for the octet at an offset. Counts a row of PLACES."""
+    PLACES.count_use(place)
     return FormFault("Bad", at)
 
 
 def read(text: bytes) -> Value:
-    """The value of a canonical text, or the first fault from the left."""
+    """The value of a canonical text. Raises FormFault with the first fault from the left."""
     if len(text) > LONGEST:
         raise FormFault("TooLong")
     try:
@@ -26,13 +26,13 @@ def read(text: bytes) -> Value:
         if end < len(text):
             raise FormFault("Trailing", end)
     except FormFault as fault:
-        FAULTS.used(fault.kind)
+        FAULTS.count_use(fault.kind)
         raise
     return value
 
 
 def value_at(text: bytes, at: int, open_lists: int) -> tuple[Value, int]:
-    """The value that begins at an offset, and the offset behind it."""
+    """The value that begins at an offset, and the offset behind it. `open_lists` counts the lists around it."""
     octet = octet_at(text, at)
     if octet == ord("("):
         if open_lists == DEEPEST:
@@ -58,7 +58,7 @@ def members_at(text: bytes, at: int, open_lists: int) -> tuple[Value, int]:
 
 
 def string_at(text: bytes, at: int, place: str) -> tuple[bytes, int]:
-    """The octets of the string that begins at an offset, and the offset behind it. `place` says what is expected there."""
+    """The octets of the string that begins at an offset, and the offset behind it. `place` is the row of PLACES if none begins there."""
     octet_at(text, at)
     length = LENGTH.match(text, at)
     if not length:

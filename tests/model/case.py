@@ -30,7 +30,7 @@ class Row:
 
 @dataclass(frozen=True, slots=True)
 class Case:
-    """A case."""
+    """A case: the entries, the accepted signatures, the items of the sequence, and who asks for what, and when."""
 
     entries: list[Entry]
     rows: list[Row]
@@ -57,15 +57,15 @@ def is_policy(value: Value) -> bool:
 
 
 def read(value: Value) -> Case:
-    """The case that a value is, or its first fault."""
+    """The case that a value is. Raises CaseFault with its first fault."""
     if not has_outer_structure(value):
-        REFUSED.used("case Shape")
+        REFUSED.count_use("case Shape")
         raise CaseFault("case Shape")
     assert isinstance(value, tuple)
     acl, accepted, sequence, key, request, at = value[1:7]
     assert isinstance(key, tuple) and isinstance(request, tuple) and isinstance(at, tuple)
     strict = len(value) == 8
-    POLICIES.used("strict" if strict else "none")
+    POLICIES.count_use("strict" if strict else "none")
     return Case(
         part("acl", structures.read_access_list, acl), part("accepted", read_rows, accepted),
         part("sequence", structures.read_sequence, sequence), part("key", read_key, key[1]),
@@ -73,29 +73,29 @@ def read(value: Value) -> Case:
 
 
 def part(name: str, read_part: Callable[[Value], Any], value: Value) -> Any:
-    """What a reader gives of a part. A fault gets the part's name."""
+    """What `read_part` returns for a part. Raises CaseFault, which has the part's name."""
     try:
         return read_part(value)
     except ItemFault as fault:
-        REFUSED.used("acl 0" if name == "acl" and not fault.item else name)
+        REFUSED.count_use("acl 0" if name == "acl" and not fault.item else name)
         raise CaseFault(f"{name} {fault.item} {fault.kind}") from None
     except (StructureFault, TagFault) as fault:
-        REFUSED.used(name)
+        REFUSED.count_use(name)
         raise CaseFault(f"{name} {fault}") from None
 
 
 def read_rows(value: Value) -> list[Row]:
-    """`(accepted row ..)`."""
+    """Reads `(accepted row ..)`."""
     return [structures.numbered(number, read_row, member) for number, member in enumerate(Members(value, b"accepted").left, 1)]
 
 
 def read_row(value: Value) -> Row:
-    """`(by key hash value)`, the hash being by `sha256`."""
+    """Reads `(by key hash value)`. The hash must be by `sha256`."""
     members = Members(value, b"by")
     key = read_key(members.next())
     digest = read_hash(members.next())
     if digest.algorithm != b"sha256":
-        REFUSED.used("accepted: a hash of another algorithm")
+        REFUSED.count_use("accepted: a hash of another algorithm")
         raise StructureFault("HashAlg")
     row = Row(key, digest.digest, canonical(members.next()))
     members.end()

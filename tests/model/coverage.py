@@ -12,7 +12,7 @@ class Rows:
         self.counts = dict.fromkeys(names, 0)
         TABLES.append(self)
 
-    def used(self, name: str) -> None:
+    def count_use(self, name: str) -> None:
         """Counts one use of a row. A name that the table does not list is an error of the model."""
         if name not in self.counts:
             raise KeyError(f"{self.title} has no row {name!r}")
@@ -24,7 +24,7 @@ def counts() -> dict[tuple[str, str], int]:
     return {(table.title, name): count for table in TABLES for name, count in table.counts.items()}
 
 
-def forget() -> None:
-    """Begins the counts again."""
+def reset_counts() -> None:
+    """Sets all counts to 0."""
     for table in TABLES:
         table.counts = dict.fromkeys(table.counts, 0)

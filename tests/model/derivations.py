@@ -16,7 +16,7 @@ from .values import Value
 
 @dataclass(frozen=True, slots=True)
 class Node:
-    """The root of a tree: who issued it, which name it defines if it defines one, its subject, and whether it may be passed on."""
+    """A node of a tree: who issued it (None: the list's keeper), the name that it defines or None, its subject, and whether it delegates."""
 
     issuer: Key | None
     name: bytes | None
@@ -26,21 +26,21 @@ class Node:
 
 def grants(leaves: list[Tuple], key: Key, request: Value, moment: bytes, strict: bool) -> bool:
     """Whether a tree over all leaves grants a request of a key at a moment. The first leaf is the entry's."""
-    return contain(leaves, request, moment) and any(is_for(root, key, strict) for root in roots([leaf_of(leaf) for leaf in leaves], strict))
+    return all_contain(leaves, request, moment) and any(is_for(root, key, strict) for root in roots([node_of(leaf) for leaf in leaves], strict))
 
 
 def grants_from_left(leaves: list[Tuple], key: Key, request: Value, moment: bytes, strict: bool) -> bool:
-    """The same by the tree that joins the leaves from the left. It is enough, and quick where there are many leaves."""
-    if not contain(leaves, request, moment):
+    """The same as `grants` by a single tree, which joins the leaves from the left. It grants if any tree does, and is quick for many leaves."""
+    if not all_contain(leaves, request, moment):
         return False
-    root: Node | None = leaf_of(leaves[0])
+    root: Node | None = node_of(leaves[0])
     for leaf in leaves[1:]:
-        root = next(rules(root, leaf_of(leaf), strict), None) if root else None
+        root = next(rules(root, node_of(leaf), strict), None) if root else None
     return root is not None and is_for(root, key, strict)
 
 
-def contain(leaves: list[Tuple], request: Value, moment: bytes) -> bool:
-    """Whether the request is in every tag and the moment in every window."""
+def all_contain(leaves: list[Tuple], request: Value, moment: bytes) -> bool:
+    """Whether the request is in every tag and the moment in every window. A name's definition has no tag."""
     return all(leaf.window.holds(moment) and (not isinstance(leaf, Authorization) or contains(leaf.tag, request)) for leaf in leaves)
 
 
@@ -49,28 +49,28 @@ def is_for(root: Node, key: Key, strict: bool) -> bool:
     return root.issuer is None and root.name is None and not root.subject.names and names(root.subject.principal, key, strict)
 
 
-def leaf_of(leaf: Tuple) -> Node:
-    """The node of a tuple."""
-    if isinstance(leaf, Authorization):
-        return Node(leaf.issuer, None, leaf.subject, leaf.propagate)
-    return Node(leaf.key, leaf.name, leaf.subject, False)
+def node_of(step: Tuple) -> Node:
+    """The leaf of a tree for a tuple. A name's definition never delegates."""
+    if isinstance(step, Authorization):
+        return Node(step.issuer, None, step.subject, step.propagate)
+    return Node(step.key, step.name, step.subject, False)
 
 
 def roots(leaves: list[Node], strict: bool) -> set[Node]:
-    """The roots of all trees over the leaves in their order."""
+    """The roots of all trees over the leaves in their order. `within[a, b]` has those over the leaves from a up to b."""
     count = len(leaves)
-    of: dict[tuple[int, int], set[Node]] = {(at, at + 1): {leaf} for at, leaf in enumerate(leaves)}
+    within: dict[tuple[int, int], set[Node]] = {(at, at + 1): {leaf} for at, leaf in enumerate(leaves)}
     for length in range(2, count + 1):
         for begin in range(count - length + 1):
             end = begin + length
-            of[begin, end] = {
-                root for middle in range(begin + 1, end) for left in of[begin, middle] for right in of[middle, end]
+            within[begin, end] = {
+                root for middle in range(begin + 1, end) for left in within[begin, middle] for right in within[middle, end]
                 for root in rules(left, right, strict)}
-    return of[0, count]
+    return within[0, count]
 
 
 def rules(left: Node, right: Node, strict: bool) -> Iterator[Node]:
-    """What the RFC's rules make of two nodes: one node, or none."""
+    """Yields the node that the RFC's rules make of two nodes, or nothing if no rule fits."""
     if right.issuer is None or not names(left.subject.principal, right.issuer, strict):
         return
     if right.name is not None:

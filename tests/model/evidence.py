@@ -1,4 +1,4 @@
-"""Which certificates of a sequence stand, and the tuples that they give (section "Evidence and decision")."""
+"""Which certificates of a sequence pass the tests of evidence, and their tuples (section "Evidence and decision")."""
 import hashlib
 from collections.abc import Iterable, Iterator
 from dataclasses import dataclass
@@ -15,11 +15,11 @@ ISSUERS = Rows("evidence, the issuer's key", ["as written", "shown before", "sho
 
 
 class Stopped(Exception):
-    """A certificate that does not stand: the number of its item, and the first test that it does not pass."""
+    """The first certificate that fails a test of evidence: the number of its item, and the first test that it fails."""
 
     def __init__(self, item: int, stop: str) -> None:
         super().__init__(item, stop)
-        STOPS.used(stop)
+        STOPS.count_use(stop)
         self.item = item
         self.stop = stop
 
@@ -52,24 +52,24 @@ def names(principal: Principal | None, key: Key, strict: bool) -> bool:
     """Whether a principal names a key: it is the key, or a hash of it. Under the strict policy a `sha1` hash names no key."""
     if not isinstance(principal, Hash):
         if principal == key:
-            NAMED.used("a key")
+            NAMED.count_use("a key")
         return principal == key
     if not principal.fits(key.octets):
         return False
     refused = strict and principal.algorithm == b"sha1"
-    NAMED.used("sha1 under the strict policy" if refused else principal.algorithm.decode())
+    NAMED.count_use("sha1 under the strict policy" if refused else principal.algorithm.decode())
     return not refused
 
 
-def shown(items: list[Item], rows: Iterable[Row], strict: bool) -> list[tuple[int, Tuple]]:
-    """The tuple of each certificate, with the number of its item. Stopped at the first certificate that does not stand."""
+def proved_tuples(items: list[Item], rows: Iterable[Row], strict: bool) -> list[tuple[int, Tuple]]:
+    """The number of the item and the tuple of each certificate. Raises Stopped at the first certificate that fails a test."""
     accepted = set(rows)
     return [(number, tuple_of(number, certificate, signature, items, accepted, strict))
-            for number, certificate, signature in signed(items)]
+            for number, certificate, signature in signed_certificates(items)]
 
 
-def signed(items: list[Item]) -> Iterator[tuple[int, Certificate, Signature]]:
-    """Each certificate with the number of its item and its signature, which is the next one in the sequence."""
+def signed_certificates(items: list[Item]) -> Iterator[tuple[int, Certificate, Signature]]:
+    """Each certificate: the number of its item, itself, and its signature. `read_sequence` has required a signature behind each."""
     for number, item in enumerate(items, 1):
         if isinstance(item, Certificate):
             yield number, item, next(it for it in items[number:] if isinstance(it, Signature))
@@ -77,7 +77,7 @@ def signed(items: list[Item]) -> Iterator[tuple[int, Certificate, Signature]]:
 
 def tuple_of(number: int, certificate: Certificate, signature: Signature, items: list[Item], accepted: set[Row],
              strict: bool) -> Tuple:
-    """The tuple of a certificate that stands, by the four tests in their order."""
+    """The tuple of a certificate that passes the four tests, in their order. Raises Stopped with the first that it fails."""
     key = issuer_key(certificate.issuer, number, items, strict)
     if key is None:
         raise Stopped(number, "KeyNotShown")
@@ -94,14 +94,14 @@ def tuple_of(number: int, certificate: Certificate, signature: Signature, items:
 
 
 def issuer_key(issuer: Principal, number: int, items: list[Item], strict: bool) -> Key | None:
-    """The key as written, or the first key item of the whole sequence that the hash names."""
+    """The issuer itself if it is a key, else the first key in the whole sequence that the hash names, or None. The number is the certificate's."""
     if isinstance(issuer, Key):
-        ISSUERS.used("as written")
+        ISSUERS.count_use("as written")
         return issuer
     found = [(at, item) for at, item in enumerate(items, 1) if isinstance(item, Key) and names(issuer, item, strict)]
     if not found:
         return None
-    ISSUERS.used("shown before" if found[0][0] < number else "shown behind")
+    ISSUERS.count_use("shown before" if found[0][0] < number else "shown behind")
     if len(found) > 1:
-        ISSUERS.used("the first of several")
+        ISSUERS.count_use("the first of several")
     return found[0][1]

@@ -1,7 +1,7 @@
 """Which form a text is in (section "Which form a text is in")."""
 from . import advanced, transport
 from .coverage import Rows
-from .octets import skip
+from .octets import past_whitespace
 from .values import LONGEST, FormFault, Value, canonical
 
 FORMS = Rows("form of a text that is read", ["transport", "advanced or canonical"])
@@ -10,12 +10,12 @@ LIMIT = Rows("limit of the canonical form", ["TooLong, though the text is not"])
 
 def read(text: bytes) -> Value:
     """The value of a text in any of the three forms, or the first fault."""
-    if text[skip(text, 0):][:1] == b"{":
+    if text[past_whitespace(text, 0):][:1] == b"{":
         value = transport.read(text)
-        FORMS.used("transport")
+        FORMS.count_use("transport")
     else:
         value = advanced.read(text)
-        FORMS.used("advanced or canonical")
+        FORMS.count_use("advanced or canonical")
     return value
 
 
@@ -24,6 +24,6 @@ def read_within_limit(text: bytes) -> Value:
     value = read(text)
     # no canonical form has four times as many octets as another text of the value
     if len(text) > LONGEST // 4 and len(canonical(value)) > LONGEST:
-        LIMIT.used("TooLong, though the text is not")
+        LIMIT.count_use("TooLong, though the text is not")
         raise FormFault("TooLong")
     return value

@@ -18,6 +18,7 @@ from .values import Atom, FormFault, Value, canonical
 WISHES = {"decide": answers.decide, "explain": answers.explain, "reduce": answers.reduce}
 PARTS = ("sequence", "key", "request", "at")
 STRICT, OPEN = POLICIES = (0, 1)
+# the key, the message and the signature value
 Signed = tuple[bytes, bytes, bytes]
 REFUSED = Rows("question to a guard, refused", [
     "list, form", "list", "list, item 0", "question TooLong", "question TooManyCertificates", "question TooManyWords", "at, seconds",
@@ -53,7 +54,7 @@ DATE_OCTETS = 22
 
 @dataclass(frozen=True, slots=True)
 class Limits:
-    """The most octets, certificates and strings of a question, nodes of an intersection, work, and octets of an answer."""
+    """The most octets, certificates and strings (words) of a question, product of nodes of an intersection, work, and octets of an answer."""
 
     octets: int = 65_536
     certificates: int = 16
@@ -90,46 +91,46 @@ class Parts:
 
 
 def open_guard(text: bytes, strict: bool, limits: Limits) -> Guard:
-    """The guard of a list's text."""
+    """The guard of a list's text. Raises Refused."""
     try:
         entries = structures.read_access_list(forms.read_within_limit(text))
     except FormFault as fault:
-        REFUSED.used("list, form")
+        REFUSED.count_use("list, form")
         raise refusal(f"form {fault.kind}", f"form {fault}") from None
     except ItemFault as fault:
-        REFUSED.used("list" if fault.item else "list, item 0")
+        REFUSED.count_use("list" if fault.item else "list, item 0")
         raise Refused(f"acl {fault.item} {fault.kind}") from None
     except StructureFault as fault:
-        REFUSED.used("list, item 0")
+        REFUSED.count_use("list, item 0")
         raise Refused(f"acl 0 {fault}") from None
     if limits != USUAL:
-        GIVEN.used("limits that are lower")
+        GIVEN.count_use("limits that are lower")
     return Guard(entries, strict, limits)
 
 
-def case_of(guard: Guard, asked: Parts, rows: list[Row]) -> Case:
-    """The case that a question asks of a guard. Its parts are read in their order."""
-    if octets_of(asked) > guard.limits.octets:
-        REFUSED.used("question TooLong")
+def case_of(guard: Guard, question: Parts, rows: list[Row]) -> Case:
+    """The case of a question to a guard, with these accepted signatures (rows). Its parts are read in their order. Raises Refused."""
+    if octets_of(question) > guard.limits.octets:
+        REFUSED.count_use("question TooLong")
         raise Refused("question TooLong")
-    items = part("sequence", structures.read_sequence, asked.sequence)
-    key = part("key", structures.read_key, asked.key)
-    if isinstance(asked.request, tuple):
-        request = read("request", tags.read_request, value_of_strings(asked.request))
+    items = part("sequence", structures.read_sequence, question.sequence)
+    key = part("key", structures.read_key, question.key)
+    if isinstance(question.request, tuple):
+        request = read("request", tags.read_request, value_of_strings(question.request))
     else:
-        request = part("request", tags.read_request, asked.request)
-    moment = date_of(asked.moment) if isinstance(asked.moment, int) else part("at", structures.read_date, asked.moment)
+        request = part("request", tags.read_request, question.request)
+    moment = date_of(question.moment) if isinstance(question.moment, int) else part("at", structures.read_date, question.moment)
     check_counts(guard.limits, items, request)
     return Case(guard.entries, rows, items, key, request, moment, guard.strict)
 
 
 def check_counts(limits: Limits, items: list[Any], request: Value) -> None:
-    """Refuses a question that is read and has more certificates or strings than the limits."""
+    """Raises Refused if a question that is read has more certificates or strings than the limits."""
     if sum(isinstance(it, Certificate) for it in items) > limits.certificates:
-        REFUSED.used("question TooManyCertificates")
+        REFUSED.count_use("question TooManyCertificates")
         raise Refused("question TooManyCertificates")
     if strings_in(request) > limits.words:
-        REFUSED.used("question TooManyWords")
+        REFUSED.count_use("question TooManyWords")
         raise Refused("question TooManyWords")
 
 
@@ -139,93 +140,95 @@ def strings_in(value: Value) -> int:
 
 
 def part(name: str, reader: Any, text: bytes) -> Any:
-    """What a reader gives of a part's text."""
+    """What a reader returns for a part's text. Raises Refused with the part's name."""
     try:
         value = forms.read_within_limit(text)
     except FormFault as fault:
-        REFUSED.used(f"{name}, form")
+        REFUSED.count_use(f"{name}, form")
         raise Refused(f"{name} {fault}") from None
     return read(name, reader, value)
 
 
 def read(name: str, reader: Any, value: Value) -> Any:
-    """What a reader gives of a part's value. A fault gets the part's name."""
+    """What a reader returns for a part's value. Raises Refused with the part's name."""
     try:
         return reader(value)
     except ItemFault as fault:
-        REFUSED.used(name)
+        REFUSED.count_use(name)
         raise Refused(f"{name} {fault.item} {fault.kind}") from None
     except (StructureFault, TagFault) as fault:
-        REFUSED.used("sequence, item 0" if name == "sequence" else name)
+        REFUSED.count_use("sequence, item 0" if name == "sequence" else name)
         raise Refused(f"sequence 0 {fault}" if name == "sequence" else f"{name} {fault}") from None
 
 
 def value_of_strings(strings: tuple[bytes, ...]) -> Value:
-    """The string where there is one, else the list of the strings."""
-    GIVEN.used("request by one string" if len(strings) == 1 else "request by strings" if strings else "request by no string")
+    """The request that is given as strings: a single string is the string itself, others are the list of them."""
+    GIVEN.count_use("request by one string" if len(strings) == 1 else "request by strings" if strings else "request by no string")
     return Atom(strings[0]) if len(strings) == 1 else tuple(map(Atom, strings))
 
 
 def date_of(seconds: int) -> bytes:
-    """The date of seconds since 1970-01-01 00:00:00 UTC, to the year 9999."""
+    """Seconds since 1970-01-01 00:00:00 UTC as `YYYY-MM-DD_hh:mm:ss`. Raises Refused, `at BadDate`, before 1970 or after the year 9999."""
     if not FIRST_SECOND <= seconds <= LAST_SECOND:
-        REFUSED.used("at, seconds")
+        REFUSED.count_use("at, seconds")
         raise Refused("at BadDate")
-    GIVEN.used("seconds")
+    GIVEN.count_use("seconds")
     moment = datetime.datetime(1970, 1, 1) + datetime.timedelta(seconds=seconds)
-    return b"%04d-" % moment.year + moment.strftime("%m-%d_%H:%M:%S").encode()
+    return moment.strftime("%Y-%m-%d_%H:%M:%S").encode()
 
 
-def octets_of(asked: Parts) -> int:
+def octets_of(question: Parts) -> int:
     """How many octets the texts of a question have together. Strings count as the canonical form of their value, seconds as a date."""
-    request = asked.request
+    request = question.request
     if isinstance(request, tuple):
         request = canonical(Atom(request[0]) if len(request) == 1 else tuple(map(Atom, request)))
-    moment = DATE_OCTETS if isinstance(asked.moment, int) else len(asked.moment)
-    return len(asked.sequence) + len(asked.key) + len(request) + moment
+    moment = DATE_OCTETS if isinstance(question.moment, int) else len(question.moment)
+    return len(question.sequence) + len(question.key) + len(request) + moment
 
 
 # ---- what is answered
 
 
-def signed(case: Case) -> list[Signed]:
-    """What a verifier is asked of: the key, message and value of each certificate up to the first that fails one of the first three
-    tests of evidence."""
+def signatures_to_verify(case: Case) -> list[Signed]:
+    """What a verifier is asked about: the key, the message and the signature value of each certificate, up to the first certificate that fails
+    one of the first three tests of evidence."""
     found: list[Signed] = []
-    certificates = list(evidence.signed(case.items))
+    certificates = list(evidence.signed_certificates(case.items))
     for number, certificate, signature in certificates:
-        key = key_of_standing(number, certificate, signature, case)
+        key = issuer_key_if_fit(number, certificate, signature, case)
         if key is None:
-            SIGNED.used("up to one that does not stand")
+            SIGNED.count_use("up to one that does not stand")
             return found
         found.append((key.octets, certificate.octets, signature.value))
-    SIGNED.used("of each certificate" if found else "none")
+    SIGNED.count_use("of each certificate" if found else "none")
     return found
 
 
-def key_of_standing(number: int, certificate: Certificate, signature: Signature, case: Case) -> Key | None:
-    """The issuer's key of a certificate that passes the first three tests."""
+def issuer_key_if_fit(number: int, certificate: Certificate, signature: Signature, case: Case) -> Key | None:
+    """The issuer's key of a certificate that passes the first three tests of evidence, None if it fails one. The number is its item's."""
     key = evidence.issuer_key(certificate.issuer, number, case.items, case.strict)
     if key and signature.digest.fits(certificate.octets) and evidence.names(signature.signer, key, case.strict):
         return key
     return None
 
 
-def until(list_text: bytes, asked: Parts, policy: int, limits: Limits, said: Answer) -> int:
-    """The last second at which a yes to the same question holds: the least not-after of its entry and of all certificates."""
+def until(list_text: bytes, question: Parts, policy: int, limits: Limits, said: Answer) -> int:
+    """The last second at which a yes to the same question holds: the least not-after of its entry and of all certificates. NO_END if there is
+    none, NEVER if the answer `said` is not yes."""
     if said[0] != GRANTED:
         return NEVER
     guard = open_guard(list_text, policy == STRICT, limits)
     entry = guard.entries[int(said[1].split()[-1]) - 1]
-    certificates = [it for it in case_of(guard, asked, []).items if isinstance(it, Certificate)]
+    certificates = [it for it in case_of(guard, question, []).items if isinstance(it, Certificate)]
     windows = [entry.window, *(it.window for it in certificates)]
     ends = [it.not_after for it in windows if it.not_after]
-    UNTIL.used("a window" if ends else "nothing")
+    UNTIL.count_use("a window" if ends else "nothing")
     return last_second(min(ends)) if ends else NO_END
 
 
 def last_second(date: bytes) -> int:
-    """The last second since 1970-01-01 00:00:00 UTC that is not after a date, whose day its month may lack, and whose second may be 60."""
+    """The last second since 1970-01-01 00:00:00 UTC that is not after a date. The date may be February 31, or have the second 60. The year may
+    be 0, which `datetime` lacks, so the calendar of a year 400 to 799 is used."""
     year, month, day, hour, minute, second = map(int, re.split(b"[-_:]", date))
     alike = year % CYCLE_YEARS + CYCLE_YEARS
     last = calendar.monthrange(alike, month)[1]
@@ -235,42 +238,42 @@ def last_second(date: bytes) -> int:
     return days * 86_400 + since.seconds
 
 
-def compare(case: Case, decided: Answer) -> None:
-    """The decision is that of `check`, unless check is refused as TooLarge."""
+def compare_with_check(case: Case, decided: Answer) -> None:
+    """Raises ModelDisagrees unless the guard's decision is that of `check`, or check is refused as TooLarge."""
     try:
         checked = answers.check(case, case.rows)
     except Refused:
-        DECIDED.used("no where check is TooLarge" if decided[0] else "yes where check is TooLarge")
+        DECIDED.count_use("no where check is TooLarge" if decided[0] else "yes where check is TooLarge")
         return
-    DECIDED.used("as check")
+    DECIDED.count_use("as check")
     if checked != decided:
         raise answers.ModelDisagrees(f"check: {checked}, a guard: {decided}")
 
 
 def misused(row: str) -> tuple[Answer, list[Signed]]:
-    """The answer to a call that is misuse."""
-    MISUSES.used(row)
+    """The answer to a call that is misuse, and no signatures. Counts a row of MISUSES."""
+    MISUSES.count_use(row)
     return of_library("", (MISUSED, b"")), []
 
 
-def kept_back(row: str) -> int:
-    """The status where there is too little room for an answer."""
-    SMALL.used(row)
+def status_too_small(row: str) -> int:
+    """The status where the buffer is too small. The row of SMALL says for what."""
+    SMALL.count_use(row)
     return too_small()
 
 
 def misuse_of_opening(policy: int, limits: Limits, oddity: str) -> str | None:
-    """What is misuse when a guard is opened, None if nothing is."""
+    """The row of OPENED that says what is misuse when a guard is opened, None if nothing is."""
     if policy not in POLICIES:
         return OPENED[0]
-    above = [row for row, limit in zip(OPENED[1:], ("octets", "nodes", "work")) if getattr(limits, limit) > getattr(HIGHEST, limit)]
+    above = [row for row, limit in zip(OPENED[1:4], ("octets", "nodes", "work"), strict=True) if getattr(limits, limit) > getattr(HIGHEST, limit)]
     return above[0] if above else oddity if oddity in OPENED else None
 
 
-def answer(wish: str, list_text: bytes, asked: Parts, rows: list[Row], policy: int, limits: Limits, oddity: str
+def answer(wish: str, list_text: bytes, question: Parts, rows: list[Row], policy: int, limits: Limits, oddity: str
            ) -> tuple[Answer, list[Signed]]:
-    """What the library answers to a question whose verifier accepts what the rows say, and the signatures that it lists. The oddity is
-    what is misuse in the calls, or which pointer is null that may be, if one is."""
+    """What the library answers to a question, and the signatures that it lists. The verifier accepts the signatures of the rows. The oddity is
+    a row of MISUSES or of ALLOWED: what is misuse in the calls, or which optional pointer is null. It is empty if nothing is odd."""
     if row := misuse_of_opening(policy, limits, oddity):
         return misused(row)
     listed: list[Signed] = []
@@ -278,31 +281,31 @@ def answer(wish: str, list_text: bytes, asked: Parts, rows: list[Row], policy: i
         guard = open_guard(list_text, policy == STRICT, limits)
         if oddity in ASKED:
             return misused(oddity)
-        case = case_of(guard, asked, rows)
-        listed = signed(case)
+        case = case_of(guard, question, rows)
+        listed = signatures_to_verify(case)
         if oddity in (*LISTED, *ANSWERED, *MARKED):
             return misused(oddity)
         with intersection.limited(limits.nodes, None if wish == "decide" else limits.work):
             status, said = WISHES[wish](case, case.rows)
             if wish == "decide":
-                compare(case, (status, said))
+                compare_with_check(case, (status, said))
             elif len(said) > limits.answer:
-                REFUSED.used(f"{wish}, octets of the answer")
+                REFUSED.count_use(f"{wish}, octets of the answer")
                 raise Refused("TooLarge")
     except Refused as why:
         status, said = refused(why)
-    STATUSES.used(f"{wish}: {status}")
+    STATUSES.count_use(f"{wish}: {status}")
     if oddity in ALLOWED.counts:
-        ALLOWED.used(oddity)
+        ALLOWED.count_use(oddity)
     return of_library(f"guard {wish}", (status, said)), listed
 
 
-def is_possible(list_text: bytes, asked: Parts, policy: int, limits: Limits) -> bool:
+def is_possible(list_text: bytes, question: Parts, policy: int, limits: Limits) -> bool:
     """Whether a question that is read would be granted if all its signatures were valid."""
     guard = open_guard(list_text, policy == STRICT, limits)
-    case = case_of(guard, asked, [])
-    rows = [Row(structures.read_key(forms.read(key)), hashlib.sha256(message).digest(), value) for key, message, value in signed(case)]
+    case = case_of(guard, question, [])
+    rows = [Row(structures.read_key(forms.read(key)), hashlib.sha256(message).digest(), value) for key, message, value in signatures_to_verify(case)]
     with intersection.limited(limits.nodes, None):
         is_granted = answers.decide(case, rows)[0] == answers.YES
-    POSSIBLE.used("yes" if is_granted else "no")
+    POSSIBLE.count_use("yes" if is_granted else "no")
     return is_granted

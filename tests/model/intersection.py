@@ -25,12 +25,12 @@ REFUSED = Rows("intersection, refused", ["TooLarge", "the product is 1,000,000"]
 
 most_product = MOST_PRODUCT
 most_work: int | None = None
-# Chains that are small by this limit are not counted as work.
+# The work of a chain with a product of at most this is not counted.
 uncounted = 0
 
 
 class TooLarge(Exception):
-    """The product of the nodes is over the limit, that of every case or the lower one of a guard; or the work is."""
+    """The product of the nodes is over the limit, or the work is. `is_of_guard`: the limit is the lower one of a guard, not that of a case."""
 
     def __init__(self, product: int = 0, is_work: bool = False) -> None:
         super().__init__(product)
@@ -40,8 +40,8 @@ class TooLarge(Exception):
 
 @contextmanager
 def limited(most: int, work: int | None = None, small: int = 0) -> Iterator[None]:
-    """Within this the product of the nodes has another limit than 1,000,000, and the sum of what all steps cost may have one. Chains that are
-    small by a limit are not counted."""
+    """A context in which a product of nodes is at most `most`, and all steps together cost at most `work` (None: no limit). A chain that
+    `is_small` by the product `small` costs nothing."""
     global most_product, most_work, uncounted
     before, most_product, most_work, uncounted = most_product, most, work, small
     try:
@@ -51,8 +51,8 @@ def limited(most: int, work: int | None = None, small: int = 0) -> Iterator[None
 
 
 @contextmanager
-def counted(own: Tag, others: list[Tag | None]) -> Iterator[None]:
-    """Within this the chain of an entry's tag and those of certificates is folded. A definition of a name has no tag."""
+def counting_work(own: Tag, others: list[Tag | None]) -> Iterator[None]:
+    """A context in which an entry's tag and those of certificates (None: a name's definition) are folded. The work counts unless it is small."""
     global most_work
     before = most_work
     if is_small(own, others):
@@ -64,8 +64,8 @@ def counted(own: Tag, others: list[Tag | None]) -> Iterator[None]:
 
 
 def is_small(own: Tag, others: list[Tag | None]) -> bool:
-    """Whether numbers of nodes show that no two tags are too large for each other: their product is small; or there is no set, and the sum times
-    the largest of the certificates is."""
+    """Whether the numbers of nodes show that no two tags are too large for each other. Either the product of all is at most `uncounted`; or no
+    tag has a set, and the sum of all times the largest of the certificates' is."""
     sizes = [1 if it is None else nodes(it) for it in others]
     if nodes(own) * math.prod(sizes) <= uncounted:
         return True
@@ -73,18 +73,18 @@ def is_small(own: Tag, others: list[Tag | None]) -> bool:
 
 
 def intersection(a: Tag, b: Tag) -> Tag:
-    """The tag of the requests that both contain. TooLarge if the product of the nodes is over the limit."""
+    """The tag of the requests that both contain. Raises TooLarge if the product of the nodes is over the limit."""
     product = nodes(a) * nodes(b)
     if product > most_product:
-        REFUSED.used("TooLarge")
+        REFUSED.count_use("TooLarge")
         raise TooLarge(product)
     if product == MOST_PRODUCT:
-        REFUSED.used("the product is 1,000,000")
+        REFUSED.count_use("the product is 1,000,000")
     return together(a, b)
 
 
-def work_on(cost: int) -> None:
-    """Counts what a step costs. TooLarge if the sum of all is over the limit, if there is one."""
+def spend_work(cost: int) -> None:
+    """Takes the cost of a step from the work that is left, if work has a limit. Raises TooLarge if too little is left."""
     global most_work
     if most_work is None:
         return
@@ -96,7 +96,7 @@ def work_on(cost: int) -> None:
 def together(a: Tag, b: Tag) -> Tag:
     """What two tags have in common, by the first rule that fits."""
     if isinstance(a, Star) or isinstance(b, Star):
-        RULES.used("(*) and any")
+        RULES.count_use("(*) and any")
         return b if isinstance(a, Star) else a
     if isinstance(a, AnyOf) or isinstance(b, AnyOf):
         return of_sets(members_of(a), members_of(b))
@@ -114,7 +114,7 @@ def together(a: Tag, b: Tag) -> Tag:
         return of_ranges(a, as_range(b))
     if isinstance(a, Plain) and isinstance(b, Plain):
         return of_lists(a.members, b.members)
-    RULES.used("all else")
+    RULES.count_use("all else")
     return NOTHING
 
 
@@ -124,19 +124,19 @@ def members_of(tag: Tag) -> tuple[Tag, ...]:
 
 
 def of_sets(first: tuple[Tag, ...], second: tuple[Tag, ...]) -> Tag:
-    """What each member of the first leaves with each member of the second, in this order."""
+    """The set of the intersections of each member of the first with each of the second, in this order, without those that are empty."""
     left = [it for it in (together(a, b) for a in first for b in second) if it != NOTHING]
     if not left:
-        RULES.used("a set and any: none is left")
+        RULES.count_use("a set and any: none is left")
         return NOTHING
-    RULES.used("a set and any: one is left" if len(left) == 1 else "a set and any: a set is left")
+    RULES.count_use("a set and any: one is left" if len(left) == 1 else "a set and any: a set is left")
     if min(len(first), len(second), len(left)) > 1:
-        RULES.used("two sets of several members: several are left")
+        RULES.count_use("two sets of several members: several are left")
     return left[0] if len(left) == 1 else AnyOf(tuple(left))
 
 
 def of_string(string: Text, other: Tag) -> Tag:
-    """A string and what is neither a star nor a set."""
+    """The intersection of a string with a tag that is neither a star nor a set."""
     if isinstance(other, Text):
         is_left, rule = string == other, "two strings: equal"
     elif isinstance(other, Prefix):
@@ -144,9 +144,9 @@ def of_string(string: Text, other: Tag) -> Tag:
     elif isinstance(other, Range):
         is_left, rule = in_range(other, string.body), "a string and a range: contained"
     else:
-        RULES.used("all else")
+        RULES.count_use("all else")
         return NOTHING
-    RULES.used(rule if is_left else rule.split(":")[0] + ": (* set)")
+    RULES.count_use(rule if is_left else rule.split(":")[0] + ": (* set)")
     return string if is_left else NOTHING
 
 
@@ -154,7 +154,7 @@ def of_prefixes(a: Prefix, b: Prefix) -> Tag:
     """The longer one, if it starts with the shorter one."""
     shorter, longer = sorted((a, b), key=lambda it: len(it.start))
     starts = longer.start.startswith(shorter.start)
-    RULES.used("two prefixes: the longer" if starts else "two prefixes: (* set)")
+    RULES.count_use("two prefixes: the longer" if starts else "two prefixes: (* set)")
     return longer if starts else NOTHING
 
 
@@ -162,42 +162,42 @@ def as_range(prefix: Prefix) -> Range:
     """The range that a prefix counts as: from itself to below the least string above all that start with it."""
     kept = prefix.start.rstrip(b"\xff")
     if kept != prefix.start:
-        RULES.used("a prefix and a range: octets FF at the end")
-    RULES.used("a prefix and a range" if kept else "a prefix and a range: no upper limit")
+        RULES.count_use("a prefix and a range: octets FF at the end")
+    RULES.count_use("a prefix and a range" if kept else "a prefix and a range: no upper limit")
     above = kept[:-1] + bytes([kept[-1] + 1]) if kept else None
     return Range(b"alpha", Limit(False, prefix.start), None if above is None else Limit(True, above))
 
 
 def of_ranges(a: Range, b: Range) -> Tag:
-    """The greater lower limit and the lesser upper limit."""
+    """The range with the greater lower limit and the lesser upper limit, or NOTHING."""
     orderings = {a.ordering, b.ordering}
     if orderings == {b"time", b"date"}:
-        RULES.used("two ranges: time and date")
+        RULES.count_use("two ranges: time and date")
         return NOTHING
     if len(orderings) == 2:
-        RULES.used("two ranges: alpha and another ordering")
+        RULES.count_use("two ranges: alpha and another ordering")
         orderings.remove(b"alpha")
     low, up = tighter("lower", a.low, b.low), tighter("upper", a.up, b.up)
     if low is not None and up is not None:
         if low.body > up.body:
-            RULES.used("two ranges: the lower string is above")
+            RULES.count_use("two ranges: the lower string is above")
             return NOTHING
         if low.body == up.body and (low.strict or up.strict):
-            RULES.used("two ranges: equal strings, one limit strict")
+            RULES.count_use("two ranges: equal strings, one limit strict")
             return NOTHING
-    RULES.used("two ranges: a range")
+    RULES.count_use("two ranges: a range")
     return Range(orderings.pop(), low, up)
 
 
 def tighter(which: str, a: Limit | None, b: Limit | None) -> Limit | None:
     """The greater of two lower limits, or the lesser of two upper ones. A missing limit gives way, and so does `ge` and `le`."""
     if a is None or b is None:
-        LIMITS.used(f"{which}: {'none' if a is b else 'one is missing'}")
+        LIMITS.count_use(f"{which}: {'none' if a is b else 'one is missing'}")
         return a or b
     if a.body == b.body:
-        LIMITS.used(f"{which}: {'equal strings and words' if a == b else 'equal strings, strict and not'}")
+        LIMITS.count_use(f"{which}: {'equal strings and words' if a == b else 'equal strings, strict and not'}")
         return a if a.strict else b
-    LIMITS.used(f"{which}: another string")
+    LIMITS.count_use(f"{which}: another string")
     a_is_greater = a.body > b.body
     return a if a_is_greater == (which == "lower") else b
 
@@ -208,8 +208,8 @@ def of_lists(a: tuple[Tag, ...], b: tuple[Tag, ...]) -> Tag:
     for first, second in zip(a, b):
         left = together(first, second)
         if left == NOTHING:
-            RULES.used("two lists: (* set)")
+            RULES.count_use("two lists: (* set)")
             return NOTHING
         members.append(left)
-    RULES.used("two lists: of one length" if len(a) == len(b) else "two lists: one is longer")
+    RULES.count_use("two lists: of one length" if len(a) == len(b) else "two lists: one is longer")
     return Plain((*members, *max(a, b, key=len)[len(members):]))

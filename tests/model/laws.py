@@ -16,7 +16,7 @@ TRIED = Rows("law that was tried", [
     "an intersection that is too deep to be read again"])
 
 
-def hold(command: str, text: bytes, answer: Answer, requests: Callable[[tuple[Tag, ...]], Iterable[Value]]) -> None:
+def check_laws(command: str, text: bytes, answer: Answer, requests: Callable[[tuple[Tag, ...]], Iterable[Value]]) -> None:
     """Raises ModelDisagrees if an answer breaks a law. `requests` gives some requests that are near some tags."""
     status, said = answer
     if status or command not in ("canonical", "advanced", "transport", "intersect") or len(said) > LONGEST // 2:
@@ -26,25 +26,25 @@ def hold(command: str, text: bytes, answer: Answer, requests: Callable[[tuple[Ta
         again = forms.read(said)
     except FormFault as fault:
         if command == "intersect" and fault.kind == "TooDeep":
-            TRIED.used("an intersection that is too deep to be read again")
+            TRIED.count_use("an intersection that is too deep to be read again")
             return
         raise ModelDisagrees(f"what is written is no text: {fault}") from None
     if command != "intersect":
         if canonical(again) != canonical(value):
             raise ModelDisagrees("what is written is read as another value")
-        TRIED.used("what is written is read again")
+        TRIED.count_use("what is written is read again")
     else:
         assert isinstance(value, tuple)
-        a, b, both = tags.read(value[1]), tags.read(value[2]), any_tag(again)
+        a, b, both = tags.read(value[1]), tags.read(value[2]), tag_of_any_size(again)
         for request in requests((a, b, both)):
             is_of_both = contains(a, request) and contains(b, request)
-            TRIED.used("a request of both tags" if is_of_both else "a request of one tag or none")
+            TRIED.count_use("a request of both tags" if is_of_both else "a request of one tag or none")
             if contains(both, request) != is_of_both:
                 raise ModelDisagrees(f"{canonical(request)!r}: in both tags: {is_of_both}, in the intersection: {not is_of_both}")
 
 
-def any_tag(value: Value) -> Tag:
-    """A tag that was written, which may have more nodes than one that is read."""
+def tag_of_any_size(value: Value) -> Tag:
+    """The tag that the program has written, read without the limit of nodes."""
     reader = tags.Reader()
     reader.nodes = -10**9
     return reader.tag(value)

@@ -12,7 +12,7 @@ PADDING = Rows("base64, padding", ["none is wanted", "whole", "in part", "left o
 NO_BASE64 = Rows("base64, fault", ["a symbol behind padding", "too much padding", "one symbol too many", "spare bits"])
 
 
-def skip(text: bytes, at: int) -> int:
+def past_whitespace(text: bytes, at: int) -> int:
     """The offset of the first octet past whitespace."""
     found = SPACES.match(text, at)
     assert found
@@ -27,19 +27,20 @@ def from_base64(body: bytes) -> bytes | None:
     """
     found = BODY.fullmatch(body.translate(None, WHITESPACE))
     if not found:
-        NO_BASE64.used("a symbol behind padding")
+        NO_BASE64.count_use("a symbol behind padding")
         return None
     symbols, padding = found.groups()
-    wanted = -len(symbols) % 4
-    if wanted == 3:
-        NO_BASE64.used("one symbol too many")
+    padding_length = -len(symbols) % 4
+    if padding_length == 3:
+        NO_BASE64.count_use("one symbol too many")
         return None
-    if len(padding) > wanted:
-        NO_BASE64.used("too much padding")
+    if len(padding) > padding_length:
+        NO_BASE64.count_use("too much padding")
         return None
-    octets = base64.b64decode(symbols + b"=" * wanted)
+    octets = base64.b64decode(symbols + b"=" * padding_length)
     if base64.b64encode(octets).rstrip(b"=") != symbols:
-        NO_BASE64.used("spare bits")
+        NO_BASE64.count_use("spare bits")
         return None
-    PADDING.used("none is wanted" if not wanted else "whole" if len(padding) == wanted else "in part" if padding else "left out")
+    PADDING.count_use("none is wanted" if not padding_length else "whole" if len(padding) == padding_length else "in part" if padding
+                      else "left out")
     return octets

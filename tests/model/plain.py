@@ -14,10 +14,10 @@ def plain(value: Value) -> Any:
     return [plain(member) for member in value]
 
 
-def valued(it: Any) -> Value:
-    """The value that Python has so."""
+def value_of(it: Any) -> Value:
+    """The value of what Python has: the inverse of `plain`."""
     if isinstance(it, list):
-        return tuple(map(valued, it))
+        return tuple(map(value_of, it))
     return Atom(it[1], it[0]) if isinstance(it, tuple) else Atom(it)
 
 
@@ -28,9 +28,9 @@ def read(text: bytes) -> Any:
 
 def canonical(it: Any) -> bytes:
     """The canonical text of a value."""
-    return values.canonical(valued(it))
+    return values.canonical(value_of(it))
 
 
 def on_one_line(it: Any) -> str:
     """The printed text of a value."""
-    return printed(valued(it)).decode()
+    return printed(value_of(it)).decode()

@@ -13,12 +13,12 @@ WAYS = Rows("printed text, a string", ["token", "quoted", "base64", "with a hint
 def string(octets: bytes) -> bytes:
     """A string, hint or not, as it is printed."""
     if TOKEN.fullmatch(octets):
-        WAYS.used("token")
+        WAYS.count_use("token")
         return octets
     if PRINTABLE.fullmatch(octets):
-        WAYS.used("quoted")
+        WAYS.count_use("quoted")
         return b'"' + octets.replace(b"\\", b"\\\\").replace(b'"', b'\\"') + b'"'
-    WAYS.used("base64")
+    WAYS.count_use("base64")
     return b"|" + base64.b64encode(octets) + b"|"
 
 
@@ -28,5 +28,5 @@ def printed(value: Value) -> bytes:
         return b"(" + b" ".join(map(printed, value)) + b")"
     if value.hint is None:
         return string(value.body)
-    WAYS.used("with a hint")
+    WAYS.count_use("with a hint")
     return b"[" + string(value.hint) + b"]" + string(value.body)

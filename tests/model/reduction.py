@@ -1,7 +1,7 @@
 """What an entry and the certificates become, joined from the left (section "Evidence and decision"; RFC 2693, 6.3 and 6.4)."""
 from .coverage import Rows
 from .evidence import Authorization, Definition, Tuple, names
-from .intersection import counted, intersection, work_on
+from .intersection import counting_work, intersection, spend_work
 from .structures import Entry, Subject, Window
 from .tags import NOTHING, nodes, weight
 
@@ -25,8 +25,8 @@ class Stopped(Exception):
 
 
 def no_join(row: str) -> NoJoin:
-    """A cause of the table."""
-    CAUSES.used(row)
+    """The NoJoin to raise. Counts a row of CAUSES, whose first word is the cause."""
+    CAUSES.count_use(row)
     return NoJoin(row.split(":")[0])
 
 
@@ -36,19 +36,19 @@ def of_entry(entry: Entry) -> Authorization:
 
 
 def fold(entry: Entry, steps: list[tuple[int, Tuple]], strict: bool) -> Authorization:
-    """What the entry becomes with all steps in their order. Stopped at the first that does not join."""
-    so_far = of_entry(entry)
-    with counted(entry.tag, [step.tag if isinstance(step, Authorization) else None for _, step in steps]):
+    """The authorization that the entry becomes with all steps, each an item's number and its tuple. Raises Stopped where one does not join."""
+    authorization = of_entry(entry)
+    with counting_work(entry.tag, [step.tag if isinstance(step, Authorization) else None for _, step in steps]):
         for item, step in steps:
             try:
-                so_far = joined(so_far, step, strict) if isinstance(step, Authorization) else resolved(so_far, step, strict)
+                authorization = joined(authorization, step, strict) if isinstance(step, Authorization) else resolved(authorization, step, strict)
             except NoJoin as cause:
                 raise Stopped(item, str(cause)) from None
-    return so_far
+    return authorization
 
 
 def joined(left: Authorization, right: Authorization, strict: bool) -> Authorization:
-    """An authorization and the one that its subject issued."""
+    """The authorization that follows from one and the next, which the subject of the first must have issued. Raises NoJoin."""
     assert right.issuer is not None
     if left.subject.names:
         raise no_join("NotIssuer: names left")
@@ -56,36 +56,36 @@ def joined(left: Authorization, right: Authorization, strict: bool) -> Authoriza
         raise no_join("NotIssuer: another key")
     if not left.propagate:
         raise no_join("NoDelegation")
-    window = both(left.window, right.window)
+    window = common_window(left.window, right.window)
     if window is None:
         raise no_join("NoValidity: an authorization")
-    work_on(nodes(left.tag) * (15 * nodes(right.tag) + weight(right.tag)) + len(right.subject.names))
+    spend_work(nodes(left.tag) * (15 * nodes(right.tag) + weight(right.tag)) + len(right.subject.names))
     tag = intersection(left.tag, right.tag)
     if tag == NOTHING:
         raise no_join("NoTag")
-    JOINS.used("an authorization")
+    JOINS.count_use("an authorization")
     return Authorization(left.issuer, right.subject, right.propagate, tag, window)
 
 
 def resolved(left: Authorization, name: Definition, strict: bool) -> Authorization:
-    """An authorization whose subject begins with a name, and what the name means."""
+    """The authorization whose subject has its first name replaced by what the name means. Raises NoJoin."""
     if not left.subject.names:
         raise no_join("NotTheName: no name left")
     if not names(left.subject.principal, name.key, strict):
         raise no_join("NotTheName: another key")
     if left.subject.names[0] != name.name:
         raise no_join("NotTheName: another name")
-    window = both(left.window, name.window)
+    window = common_window(left.window, name.window)
     if window is None:
         raise no_join("NoValidity: a name")
-    work_on(1 + len(left.subject.names) + len(name.subject.names))
+    spend_work(1 + len(left.subject.names) + len(name.subject.names))
     rest = left.subject.names[1:]
-    JOINS.used("a name, more left" if rest else "a name, none left")
+    JOINS.count_use("a name, more left" if rest else "a name, none left")
     subject = Subject(name.subject.principal, name.subject.names + rest)
     return Authorization(left.issuer, subject, left.propagate, left.tag, window)
 
 
-def both(a: Window, b: Window) -> Window | None:
+def common_window(a: Window, b: Window) -> Window | None:
     """The moments within both windows, None if there are none."""
     not_before = max((it for it in (a.not_before, b.not_before) if it), default=None)
     not_after = min((it for it in (a.not_after, b.not_after) if it), default=None)

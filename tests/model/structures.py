@@ -40,7 +40,7 @@ class StructureFault(Exception):
 
     def __init__(self, kind: str) -> None:
         super().__init__(kind)
-        FAULTS.used(kind)
+        FAULTS.count_use(kind)
         self.kind = kind
 
 
@@ -54,14 +54,14 @@ class ItemFault(Exception):
 
 
 def shape(row: str) -> StructureFault:
-    """The fault Shape, and where it was found."""
-    SHAPES.used(row)
+    """The fault Shape to raise. Counts the row of SHAPES that says what is wrong."""
+    SHAPES.count_use(row)
     return StructureFault("Shape")
 
 
 def fault_at(kind: str, place: str) -> StructureFault:
-    """Another fault, and where it was found."""
-    PLACES.used(f"{kind}: {place}")
+    """Another fault to raise. Counts a row of PLACES."""
+    PLACES.count_use(f"{kind}: {place}")
     return StructureFault(kind)
 
 
@@ -142,7 +142,7 @@ class Signature:
 
 @dataclass(frozen=True, slots=True)
 class Operation:
-    """`(do hash alg)`, which has no effect."""
+    """Reads `(do hash alg)`, which has no effect."""
 
 
 Item = Union[Key, Operation, Certificate, Signature]
@@ -161,32 +161,32 @@ class Members:
         self.left = value[1:]
 
     def next(self) -> Value:
-        """The next member."""
+        """The next member, which is taken away. Raises Shape if none is left."""
         if not self.left:
             raise shape("a member is missing")
         first, self.left = self.left[0], self.left[1:]
         return first
 
     def end(self) -> None:
-        """Shape if a member is left."""
+        """Raises Shape if a member is left."""
         if self.left:
             raise shape("a member too many")
 
 
 def read_key(value: Value) -> Key:
-    """`(public-key (alg part*))`."""
+    """Reads `(public-key (alg part*))`."""
     members = Members(value, b"public-key")
     if head_of(members.next()) is None:
         raise shape("an algorithm that is no plain string")
     if members.left and head_of(members.left[0]) == b"uri":
         raise StructureFault("KeyUris")
     members.end()
-    FORMS.used("key")
+    FORMS.count_use("key")
     return Key(canonical(value), value)
 
 
 def read_algorithm(value: Value, place: str) -> bytes:
-    """The algorithm of a hash."""
+    """The algorithm of a hash. `place` names the structure in PLACES."""
     if isinstance(value, tuple):
         raise shape("an algorithm is a list")
     if value.hint is not None or value.body not in DIGESTS:
@@ -195,7 +195,7 @@ def read_algorithm(value: Value, place: str) -> bytes:
 
 
 def read_hash(value: Value) -> Hash:
-    """`(hash alg digest (uri x*)?)`."""
+    """Reads `(hash alg digest (uri x*)?)`."""
     members = Members(value, b"hash")
     has_digest = len(members.left) > 1
     algorithm = read_algorithm(members.next(), "a hash" if has_digest else "a hash without a digest")
@@ -208,7 +208,7 @@ def read_hash(value: Value) -> Hash:
     if has_uri:
         members.next()
     members.end()
-    FORMS.used("hash with uri" if has_uri else "hash without uri")
+    FORMS.count_use("hash with uri" if has_uri else "hash without uri")
     return Hash(algorithm, digest.body)
 
 
@@ -222,7 +222,7 @@ def read_principal(value: Value) -> Principal:
 
 
 def read_name(value: Value) -> Subject:
-    """`(name principal n n*)`, or `(name n n*)`, which has no principal."""
+    """Reads `(name principal n n*)`, or `(name n n*)`, which has no principal."""
     members = Members(value, b"name")
     first = members.next()
     if isinstance(first, tuple):
@@ -237,7 +237,7 @@ def read_name(value: Value) -> Subject:
 
 
 def read_subject(value: Value) -> Subject:
-    """A principal, a name or a relative name."""
+    """Reads a subject: a principal, a name or a relative name. Those that RFC 2693 has besides are faults of their own."""
     head = head_of(value)
     if head == b"k-of-n":
         raise StructureFault("Threshold")
@@ -245,24 +245,24 @@ def read_subject(value: Value) -> Subject:
         raise StructureFault("Keyholder")
     if head == b"name":
         subject = read_name(value)
-        FORMS.used("a name as a subject" if subject.principal else "a relative name as a subject")
+        FORMS.count_use("a name as a subject" if subject.principal else "a relative name as a subject")
         return subject
     if head not in (b"public-key", b"hash"):
         raise shape("no subject")
     principal = read_principal(value)
-    FORMS.used("a key as a subject" if isinstance(principal, Key) else "a hash as a subject")
+    FORMS.count_use("a key as a subject" if isinstance(principal, Key) else "a hash as a subject")
     return Subject(principal)
 
 
 def read_date(value: Value) -> bytes:
-    """A date, whose only fault is BadDate."""
+    """The octets of a date `YYYY-MM-DD_hh:mm:ss`. Its only fault is BadDate."""
     if not isinstance(value, Atom) or value.hint is not None or not DATE.fullmatch(value.body):
-        raise fault_at("BadDate", no_date(value))
+        raise fault_at("BadDate", why_no_date(value))
     return value.body
 
 
-def no_date(value: Value) -> str:
-    """Why a value is no date: it is no plain string of this form, or its first number that is not in its range."""
+def why_no_date(value: Value) -> str:
+    """The row of PLACES for a value that is no date: it has another form, or which of its numbers is the first out of its range."""
     if not isinstance(value, Atom) or value.hint is not None:
         return "a hint" if isinstance(value, Atom) else "a list"
     found = re.fullmatch(rb"[0-9]{4}-([0-9]{2})-([0-9]{2})_([0-9]{2}):([0-9]{2}):([0-9]{2})", value.body)
@@ -273,7 +273,7 @@ def no_date(value: Value) -> str:
 
 
 def read_tag(value: Value) -> Tag:
-    """A tag within a structure."""
+    """Reads a tag within a structure. Its fault becomes a StructureFault `Tag FAULT`."""
     try:
         return tags.read(value)
     except TagFault as fault:
@@ -281,7 +281,7 @@ def read_tag(value: Value) -> Tag:
 
 
 def read_version(value: Value, place: str = "a list") -> None:
-    """`(version "0")`."""
+    """Reads `(version "0")`."""
     members = Members(value, b"version")
     number = members.next()
     if isinstance(number, tuple):
@@ -294,7 +294,7 @@ def read_version(value: Value, place: str = "a list") -> None:
 # ---- fields
 
 
-def one_member(read: Callable[[Value], Any]) -> Callable[[Value], Any]:
+def reader_of_one(read: Callable[[Value], Any]) -> Callable[[Value], Any]:
     """The reader of a field that has one member, by the reader of the member."""
 
     def reader(value: Value) -> Any:
@@ -307,19 +307,19 @@ def one_member(read: Callable[[Value], Any]) -> Callable[[Value], Any]:
 
 
 def read_propagate(value: Value) -> bool:
-    """`(propagate)`."""
+    """Reads `(propagate)`."""
     Members(value, b"propagate").end()
-    FORMS.used("propagate")
+    FORMS.count_use("propagate")
     return True
 
 
 def read_ignored(value: Value) -> None:
     """A field that is accepted and not looked at."""
-    FORMS.used("ignored field")
+    FORMS.count_use("ignored field")
 
 
 def read_issuer(value: Value) -> Subject:
-    """What stands in `(issuer ..)`: a principal, or a name of one with one string."""
+    """The member of `(issuer ..)`: a principal, or a principal and one name."""
     if head_of(value) != b"name":
         return Subject(read_principal(value))
     subject = read_name(value)
@@ -331,26 +331,26 @@ def read_issuer(value: Value) -> Subject:
 
 
 def read_valid(value: Value) -> dict[bytes, Any]:
-    """`(valid ..)`, which has the limits as fields."""
+    """Reads `(valid ..)`: its limits by their heads."""
     return read_fields(Members(value, b"valid").left, LIMITS)
 
 
 def read_certificate_version(value: Value) -> None:
     """The version of a certificate."""
     read_version(value, "a certificate")
-    FORMS.used("version of a certificate")
+    FORMS.count_use("version of a certificate")
 
 
 Readers = dict[bytes, Callable[[Value], Any]]
-LIMITS: Readers = {b"not-before": one_member(read_date), b"not-after": one_member(read_date)}
-ENTRY: Readers = {**LIMITS, b"valid": read_valid, b"tag": one_member(read_tag), b"propagate": read_propagate, b"comment": read_ignored}
+LIMITS: Readers = {b"not-before": reader_of_one(read_date), b"not-after": reader_of_one(read_date)}
+ENTRY: Readers = {**LIMITS, b"valid": read_valid, b"tag": reader_of_one(read_tag), b"propagate": read_propagate, b"comment": read_ignored}
 CERTIFICATE: Readers = {
-    **ENTRY, b"issuer": one_member(read_issuer), b"subject": one_member(read_subject), b"version": read_certificate_version,
+    **ENTRY, b"issuer": reader_of_one(read_issuer), b"subject": reader_of_one(read_subject), b"version": read_certificate_version,
     b"display": read_ignored, b"issuer-info": read_ignored, b"subject-info": read_ignored}
 
 
 def read_fields(fields: Iterable[Value], readers: Readers) -> dict[bytes, Any]:
-    """What each field says, by its head. Fields stand in any order, each at most once."""
+    """What the reader of each field returns, by the field's head. Fields may have any order, each at most once."""
     said: dict[bytes, Any] = {}
     for value in fields:
         head = head_of(value)
@@ -364,14 +364,14 @@ def read_fields(fields: Iterable[Value], readers: Readers) -> dict[bytes, Any]:
     return said
 
 
-def needed(said: dict[bytes, Any], *heads: bytes) -> None:
-    """Shape if one of these fields is missing."""
+def require_fields(said: dict[bytes, Any], *heads: bytes) -> None:
+    """Raises Shape if one of these fields is missing."""
     if any(head not in said for head in heads):
         raise shape("a field is missing")
 
 
 def window_of(said: dict[bytes, Any]) -> Window:
-    """The window of the fields. Validity directly and in `(valid ..)` at once is Shape."""
+    """The window of the fields, whose limits are fields themselves or are in `(valid ..)`. Raises Shape if there are both."""
     directly = {head: said[head] for head in LIMITS if head in said}
     if b"valid" not in said:
         limits, form = directly, "limits directly" if directly else "no limit"
@@ -379,10 +379,10 @@ def window_of(said: dict[bytes, Any]) -> Window:
         raise shape("validity both ways")
     else:
         limits, form = said[b"valid"], "limits in valid" if said[b"valid"] else "an empty valid"
-    FORMS.used(form)
+    FORMS.count_use(form)
     window = Window(limits.get(b"not-before"), limits.get(b"not-after"))
     if len(limits) == 2 and limits[b"not-before"] > limits[b"not-after"]:
-        FORMS.used("a window that holds no moment")
+        FORMS.count_use("a window that holds no moment")
     return window
 
 
@@ -390,28 +390,28 @@ def window_of(said: dict[bytes, Any]) -> Window:
 
 
 def read_entry(value: Value) -> Entry:
-    """`(entry subject field*)`."""
+    """Reads `(entry subject field*)`."""
     members = Members(value, b"entry")
     subject = read_subject(members.next())
     if subject.principal is None:
         raise StructureFault("RelativeInEntry")
     said = read_fields(members.left, ENTRY)
-    needed(said, b"tag")
+    require_fields(said, b"tag")
     return Entry(subject, b"propagate" in said, said[b"tag"], window_of(said))
 
 
 def read_access_list(value: Value) -> list[Entry]:
-    """`(acl version? entry*)`."""
+    """Reads `(acl version? entry*)`."""
     entries = Members(value, b"acl").left
     if entries and head_of(entries[0]) == b"version":
         numbered(0, read_version, entries[0])
-        FORMS.used("version of a list")
+        FORMS.count_use("version of a list")
         entries = entries[1:]
     return [numbered(number, read_entry, entry) for number, entry in enumerate(entries, 1)]
 
 
 def numbered(number: int, read: Callable[[Value], Any], value: Value) -> Any:
-    """What a reader gives of an item. A fault gets the item's number."""
+    """What a reader returns for an item. Raises ItemFault with the item's number."""
     try:
         return read(value)
     except StructureFault as fault:
@@ -419,27 +419,27 @@ def numbered(number: int, read: Callable[[Value], Any], value: Value) -> Any:
 
 
 def read_certificate(value: Value) -> Certificate:
-    """`(cert field*)`."""
+    """Reads `(cert field*)`."""
     said = read_fields(Members(value, b"cert").left, CERTIFICATE)
-    needed(said, b"issuer", b"subject")
+    require_fields(said, b"issuer", b"subject")
     issuer, subject = said[b"issuer"], said[b"subject"]
     if issuer.names:
         if b"tag" in said or b"propagate" in said:
             raise shape("tag or propagate beside a name")
     else:
-        needed(said, b"tag")
+        require_fields(said, b"tag")
     window = window_of(said)
     if subject.principal is None:
         subject = Subject(issuer.principal, subject.names)
-    FORMS.used("certificate of a name" if issuer.names else "certificate of an authorization")
+    FORMS.count_use("certificate of a name" if issuer.names else "certificate of an authorization")
     if isinstance(issuer.principal, Hash):
-        FORMS.used("a hash as an issuer")
+        FORMS.count_use("a hash as an issuer")
     name = issuer.names[0] if issuer.names else None
     return Certificate(issuer.principal, name, subject, b"propagate" in said, said.get(b"tag"), window, canonical(value))
 
 
 def read_signature(value: Value) -> Signature:
-    """`(signature hash principal value)`."""
+    """Reads `(signature hash principal value)`."""
     members = Members(value, b"signature")
     signature = Signature(read_hash(members.next()), read_principal(members.next()), canonical(members.next()))
     members.end()
@@ -447,7 +447,7 @@ def read_signature(value: Value) -> Signature:
 
 
 def read_operation(value: Value) -> Operation:
-    """`(do hash alg)`."""
+    """Reads `(do hash alg)`."""
     members = Members(value, b"do")
     if not members.left:
         raise fault_at("UnknownOp", "no second member")
@@ -456,36 +456,37 @@ def read_operation(value: Value) -> Operation:
         raise fault_at("UnknownOp", "a list" if isinstance(operation, tuple) else "a hint" if operation.hint is not None else "another string")
     read_algorithm(members.next(), "an operation")
     members.end()
-    FORMS.used("do")
+    FORMS.count_use("do")
     return Operation()
 
 
 def read_sequence(value: Value) -> list[Item]:
-    """`(sequence item*)`, in which a signature follows each certificate."""
+    """Reads `(sequence item*)`. Behind each certificate must be its signature, with only `(do ..)` between."""
     items: list[Item] = []
-    waits = 0
+    # the number of the certificate whose signature is still to come, or 0
+    unsigned = 0
     for number, member in enumerate(Members(value, b"sequence").left, 1):
-        if waits and head_of(member) not in (b"do", b"signature"):
+        if unsigned and head_of(member) not in (b"do", b"signature"):
             break
-        if not waits and head_of(member) == b"signature":
+        if not unsigned and head_of(member) == b"signature":
             raise ItemFault(number, StructureFault("StraySignature").kind)
         item = numbered(number, read_item, member)
-        if waits and isinstance(item, Operation):
-            FORMS.used("do between certificate and signature")
-        waits = number if isinstance(item, Certificate) else 0 if isinstance(item, Signature) else waits
+        if unsigned and isinstance(item, Operation):
+            FORMS.count_use("do between certificate and signature")
+        unsigned = number if isinstance(item, Certificate) else 0 if isinstance(item, Signature) else unsigned
         items.append(item)
-    if waits:
-        raise ItemFault(waits, StructureFault("UnsignedCert").kind)
+    if unsigned:
+        raise ItemFault(unsigned, StructureFault("UnsignedCert").kind)
     return items
 
 
 def read_item(value: Value) -> Item:
-    """An item of a sequence."""
+    """An item of a sequence, by the reader for its head."""
     readers: dict[bytes | None, Callable[[Value], Item]] = {
         b"public-key": read_key, b"do": read_operation, b"cert": read_certificate, b"signature": read_signature}
     head = head_of(value)
     if head not in readers:
         raise shape("no item")
     if head == b"public-key":
-        FORMS.used("key item")
+        FORMS.count_use("key item")
     return readers[head](value)

@@ -30,8 +30,8 @@ class TagFault(Exception):
 
 
 def fault(row: str, kind: str) -> TagFault:
-    """A fault of the table."""
-    FAULTS.used(row)
+    """The TagFault to raise. Counts a row of FAULTS."""
+    FAULTS.count_use(row)
     return TagFault(kind)
 
 
@@ -93,7 +93,7 @@ NOTHING = AnyOf(())
 
 
 def read(value: Value) -> Tag:
-    """The tag that is written, in normal form, or the first fault."""
+    """The tag that a value is, in normal form. Raises TagFault with the first fault."""
     return Reader().tag(value)
 
 
@@ -104,7 +104,7 @@ class Reader:
         self.nodes = 0
 
     def tag(self, value: Value) -> Tag:
-        """The tag at a value, outside before inside, in normal form."""
+        """The tag that a value is, in normal form. Raises TagFault, for an outer list before those inside."""
         self.nodes += 1
         if self.nodes > MOST_NODES:
             raise fault("TooManyNodes", "TooManyNodes")
@@ -177,7 +177,7 @@ def range_of(members: tuple[Value, ...]) -> Tag:
 
 
 def limit(members: tuple[Value, ...], strict: bytes, other: bytes) -> tuple[Limit | None, tuple[Value, ...]]:
-    """The limit that members begin with, None if it is none of these two words and a string; and the members behind it."""
+    """The limit that members begin with, and the members behind it. The limit is None if they do not begin with one of the two words and a string."""
     if len(members) >= 2 and is_plain(members[0], strict, other) and is_plain(members[1]):
         word, body = members[0], members[1]
         assert isinstance(word, Atom) and isinstance(body, Atom)
@@ -189,27 +189,27 @@ def limit(members: tuple[Value, ...], strict: bytes, other: bytes) -> tuple[Limi
 
 
 def normal_list(members: tuple[Tag, ...]) -> Tag:
-    """A list of members that are in normal form."""
+    """The normal form of a list. Its members are in normal form."""
     if NOTHING in members:
-        NORMAL.used("a list with a member (* set)")
+        NORMAL.count_use("a list with a member (* set)")
         return NOTHING
     return Plain(members)
 
 
 def normal_set(members: tuple[Tag, ...]) -> Tag:
-    """A set of members that are in normal form."""
+    """The normal form of a set. Its members are in normal form."""
     flat: list[Tag] = []
     for member in members:
         if isinstance(member, AnyOf):
-            NORMAL.used("a set in a set")
+            NORMAL.count_use("a set in a set")
             flat += member.members
         else:
             flat.append(member)
     if Star() in flat:
-        NORMAL.used("a set with a member (*)")
+        NORMAL.count_use("a set with a member (*)")
         return Star()
     if len(flat) == 1:
-        NORMAL.used("a set with one member")
+        NORMAL.count_use("a set with one member")
         return flat[0]
     return AnyOf(tuple(flat))
 
@@ -225,7 +225,7 @@ def has_set(tag: Tag) -> bool:
 
 
 def weight(tag: Tag) -> int:
-    """The number of tags in a tag, heads of lists apart, and the octets of their strings."""
+    """A measure of size: the number of tags inside, where a list and its head are one, plus the octets of all strings."""
     if isinstance(tag, Plain):
         return weight(tag.members[0]) + sum(map(weight, tag.members[1:]))
     if isinstance(tag, AnyOf):
@@ -259,10 +259,10 @@ def written(tag: Tag) -> Value:
 
 
 def read_request(value: Value) -> Value:
-    """The value itself if it is a request, or the first fault."""
+    """The value itself if it is a request. Raises TagFault with the first fault."""
     kind = request_fault(value)
     if kind:
-        REQUEST_FAULTS.used(kind)
+        REQUEST_FAULTS.count_use(kind)
         raise TagFault(kind)
     return value
 
@@ -283,7 +283,7 @@ def request_fault(value: Value) -> str | None:
 def contains(tag: Tag, request: Value) -> bool:
     """Whether a tag contains a request."""
     kind, answer = contained(tag, request)
-    CONTAINED.used(f"{kind}: {'yes' if answer else 'no'}")
+    CONTAINED.count_use(f"{kind}: {'yes' if answer else 'no'}")
     return answer
 
 

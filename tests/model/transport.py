@@ -4,7 +4,7 @@ import re
 
 from . import canonical
 from .coverage import Rows
-from .octets import from_base64, skip
+from .octets import from_base64, past_whitespace
 from .values import LONGEST, FormFault, Value, octet_at
 from .values import canonical as canonical_text
 
@@ -15,16 +15,16 @@ FAULTS = Rows("transport form, fault", [
 
 
 def fault(row: str, kind: str, at: int | None = None) -> FormFault:
-    """A fault of the table."""
-    FAULTS.used(row)
+    """The FormFault to raise. Counts a row of FAULTS."""
+    FAULTS.count_use(row)
     return FormFault(kind, at)
 
 
 def read(text: bytes) -> Value:
-    """The value of a text whose first octet past whitespace is `{`, or the first fault from the left."""
+    """The value of a text whose first octet past whitespace must be `{`. Raises FormFault with the first fault from the left."""
     if len(text) > LONGEST:
         raise fault("TooLong", "TooLong")
-    begins = skip(text, 0) + 1
+    begins = past_whitespace(text, 0) + 1
     inside = INSIDE.match(text, begins)
     assert inside
     ends = inside.end()
@@ -41,7 +41,7 @@ def read(text: bytes) -> Value:
         if found.kind == "TooDeep":
             raise fault("TooDeep at the }", "TooDeep") from None
         raise fault("Bad at the }, no canonical form", "Bad", ends) from None
-    behind = skip(text, ends + 1)
+    behind = past_whitespace(text, ends + 1)
     if behind < len(text):
         raise fault("Trailing", "Trailing", behind)
     return value

@@ -37,7 +37,7 @@ class Row(NamedTuple):
 
 
 def octets_of(found: re.Match[bytes]) -> bytes:
-    """The octets that an escape stands for."""
+    """The octets that an escape, a match of ESCAPE, stands for. Raises ValueError if it has no meaning."""
     code, line_feed, nothing, times, repeated, path, _ = found.groups()
     if code:
         return bytes.fromhex(code.decode())
@@ -59,7 +59,7 @@ def unescaped(field: bytes) -> bytes:
 
 
 def rows_of(table: str) -> Iterator[Row]:
-    """The rows of a table."""
+    """The rows of a table, by its path. A row of `any` is one for each command."""
     with open(table, "rb") as lines:
         for number, line in enumerate(lines, 1):
             line = line.rstrip(b"\n")
@@ -88,7 +88,7 @@ def fault_of(program: str, row: Row) -> str | None:
 
 
 def fault_beside(program: str, row: Row) -> str | None:
-    """What is wrong with what other commands say of a row whose answer is right, None if nothing is."""
+    """What is wrong with what other commands answer to the text of a row, None if nothing is. The row's own answer is right."""
     if row.command == "check":
         return fault_of_check(program, row)
     if row.command != "canonical" or row.status:

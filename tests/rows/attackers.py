@@ -34,7 +34,7 @@ DENIED, UNDECIDED = {400, 401, 403, 404, 405, 409}, {500, 502, 503}
 
 
 def changes_of(site: Site, answer: bytes) -> Iterator[str]:
-    """The files whose content is in an answer, and those that have changed."""
+    """A line for each file whose content is in an answer, and for each of the site that an attack has changed or made."""
     for name, content in CONTENTS.items():
         if content in answer:
             yield f"{name} is sent"
@@ -44,7 +44,7 @@ def changes_of(site: Site, answer: bytes) -> Iterator[str]:
 
 
 def faults_of(site: Site, asked: Asked, must: set[int]) -> list[str]:
-    """What is wrong in the answer to a plain request, whose status must be one of some."""
+    """What is wrong with the answer to a plain request: a status that is not in `must`, or what `changes_of` finds."""
     who, method, path = asked
     body = "made" if method == "PUT" else ""
     header = f"{method} {path} HTTP/1.1\r\nHost: localhost\r\nConnection: close\r\nContent-Length: {len(body)}\r\n\r\n"
@@ -59,27 +59,27 @@ def statuses(answer: bytes) -> list[int]:
 
 
 def in_braces(value: Any) -> str:
-    """A sequence, or octets that are none, as a header has it."""
+    """The octets of a sequence, or any octets, as a header has them."""
     return "{" + base64.b64encode(value if isinstance(value, bytes) else canonical(value)).decode() + "}"
 
 
 def sequence(site: Site, by: str, to: str, tag: str, *, days: int = 9, begins: int = 0, chain: Value | None = None) -> Any:
-    """The sequence of a certificate, which may not be delegated."""
+    """The sequence with a certificate from one to another, behind a chain if there is one. It does not delegate. Days count from now."""
     signer, key = (signer_at(site.at(f"keys/{who}")) for who in (by, to))
     fields = fields_of(read_text(tag.encode())[1].value, now(begins), now(days))
     return signed_sequence(certificate_of(signer.key, key.key, fields), signer, chain)
 
 
 class Attackers:
-    """What is sent to a site."""
+    """What attackers send to a site. `form` is that of a certificate in the server's header, as `Behind.form`."""
 
     def __init__(self, site: Site, form: str = "escaped-pem") -> None:
         self.site, self.form = site, form
         self.sent = self.sequences()
-        self.certificates_of_tls()
+        self.make_tls_certificates()
 
     def sequences(self) -> dict[str, str]:
-        """What attacks.py names, as headers have it."""
+        """The texts for the names that attacks.py has in braces."""
         site = self.site
         good = sequence(site, "ann", "ben", READ)
         text = canonical(good)
@@ -100,16 +100,17 @@ class Attackers:
         return {**{name: in_braces(value) for name, value in values.items()}, "ann": ann, "key": digest}
 
     def key(self, who: str) -> bytes:
+        """Somebody's key in canonical form."""
         return canonical(signer_at(self.site.at(f"keys/{who}")).key)
 
     def name(self) -> Value:
-        """A certificate by which Ann only calls Ben something."""
+        """The sequence of a certificate by which Ann gives Ben a name, and no right."""
         signer = signer_at(self.site.at("keys/ann"))
         certificate = certificate_of(signer.key, signer_at(self.site.at("keys/ben")).key, fields_of(None, None, now(9)), b"readers")
         return signed_sequence(certificate, signer, None)
 
-    def certificates_of_tls(self) -> None:
-        """Certificates for TLS that only attackers make."""
+    def make_tls_certificates(self) -> None:
+        """Writes certificates for TLS as attackers make them into the site's keys/."""
         site, make = self.site, ("openssl", "req", "-x509", "-new")
         site.sh(*make, "-key", "keys/eve", "-subj", "/CN=ann", "-days", "9", "-out", "keys/named-ann.crt")
         site.write("keys/both.crt", site.text("keys/eve.crt") + site.text("keys/ann.crt"))
@@ -119,5 +120,5 @@ class Attackers:
         site.sh("openssl", "x509", "-req", "-in", "tmp/old.csr", "-key", "keys/ben", "-days", "-1", "-out", "keys/old.crt")
 
     def filled(self, octets: bytes) -> bytes:
-        """The octets of an attack, with what they name."""
+        """The octets of an attack, with each name in braces replaced by its text."""
         return re.sub(rb"\{(\w+)\}", lambda found: self.sent.get(found[1].decode(), found[0].decode()).encode(), octets)

@@ -44,12 +44,13 @@ WEB, PLAN = "/web/index.html", "/secret/plan.txt"
 
 
 def request(path: str, *lines: str, method: str = "GET", body: str = "", version: str = "HTTP/1.1") -> bytes:
-    """A request with more lines in its header."""
+    """The octets of a request, with these lines added to its header."""
     length = [f"Content-Length: {len(body)}"] if body else []
     return "\r\n".join([f"{method} {path} {version}", "Host: localhost", "Connection: close", *lines, *length, "", body]).encode("latin-1")
 
 
 def raw(text: str) -> bytes:
+    """A text as it is sent, with CR LF at the end of its lines."""
     return text.replace("\n", "\r\n").encode("latin-1")
 
 
@@ -75,7 +76,7 @@ def of_headers() -> Iterator[Plain]:
     yield "the server's header without TLS's certificate", None, request(WEB, "X-Client-Cert: {ann}")
 
 
-def doubled() -> Iterator[Plain]:
+def of_doubled_parts() -> Iterator[Plain]:
     """Headers twice, two requests in one, and lines that are no header."""
     shown, basic = "Authorization: SPKI {ben}", "Authorization: Basic YW5uOmFubg=="
     yield "two headers with certificates, the first of another scheme", "ben", request(WEB, basic, shown)
@@ -108,7 +109,7 @@ def doubled() -> Iterator[Plain]:
 
 
 def of_methods() -> Iterator[Plain]:
-    """Methods that the configuration has no word for, and versions."""
+    """Methods that the configuration does not name, methods without a right, and versions of HTTP."""
     for method in ("POST", "PATCH", "OPTIONS", "TRACE", "CONNECT", "PROPFIND", "MKCOL", "get", "GETX", "G\0T"):
         yield f"the method {method!r}", "ann", request(WEB, method=method, body="x" if method == "POST" else "")
     yield "the method 'PUT\\t'", "ben", request(WEB, "Authorization: SPKI {ben}", method="PUT\t", body="ben")
@@ -199,18 +200,19 @@ def of_leaving() -> Iterator[Plain]:
     yield "certificates of 9,000 octets", "ben", request(LEAVING, method="PUT", body="(sequence)".ljust(9000))
 
 
-def of_group(attacks: Iterator[Plain], must: set[int]) -> Iterator[Attack]:
+def with_statuses(attacks: Iterator[Plain], must: set[int]) -> Iterator[Attack]:
+    """The attacks of a group, whose answers must have one of these statuses, or of those that MUST has for one."""
     for what, who, octets in attacks:
         yield Attack(what, who, octets, MUST.get(what, must))
 
 
-def all_of_them() -> Iterator[Attack]:
-    """Each row. A path that has more than plain characters, or leaves its folder, may be refused by the server itself."""
-    yield from of_group(of_headers(), DENIED)
-    yield from of_group(doubled(), MALFORMED)
-    yield from of_group(of_methods(), DENIED)
-    for path, each in zip(PATHS, of_paths()):
+def all_attacks() -> Iterator[Attack]:
+    """All rows. A path that has more than plain characters, or leaves its folder, may be refused by the server itself."""
+    yield from with_statuses(of_headers(), DENIED)
+    yield from with_statuses(of_doubled_parts(), MALFORMED)
+    yield from with_statuses(of_methods(), DENIED)
+    for path, each in zip(PATHS, of_paths(), strict=True):
         is_plain = PLAIN_PATH.fullmatch(path) and ".." not in path
-        yield from of_group(iter([each]), DENIED if is_plain else UNCLEAR)
-    yield from of_group(of_certificates(), DENIED)
-    yield from of_group(of_leaving(), UNCLEAR)
+        yield from with_statuses(iter([each]), DENIED if is_plain else UNCLEAR)
+    yield from with_statuses(of_certificates(), DENIED)
+    yield from with_statuses(of_leaving(), UNCLEAR)

@@ -67,14 +67,14 @@ def tables() -> dict[str, list[CallRow]]:
 
 
 def answers(program: str, rows: Iterable[CallRow]) -> list[bytes]:
-    """What the program answers to rows. The last answer is what it says where it stops early."""
+    """What the program answers to rows. If it ends early, the last answer has its exit status."""
     given = b"".join(row.line() for row in rows)
     done = subprocess.run([program], input=given, stdout=subprocess.PIPE, stderr=subprocess.STDOUT, timeout=SECONDS)
     return [answer_of(line) for line in done.stdout.split(b"\n")[:-1]] + ([b"ended with %d" % done.returncode] if done.returncode else [])
 
 
 def answer_of(line: bytes) -> bytes:
-    """The answer that a line is, or the line itself where it is none."""
+    """The octets of a line that has them in hexadecimal digits, or the line itself if it has not, as a message of a fault."""
     try:
         return bytes.fromhex(line.decode())
     except ValueError:
@@ -85,7 +85,7 @@ def answer_of(line: bytes) -> bytes:
 
 
 def first_run() -> bytes:
-    """The text of the first run."""
+    """The text of examples/first-run.csexp."""
     with open(os.path.join(EXAMPLES, "first-run.csexp"), "rb") as file:
         return file.read()
 
@@ -102,6 +102,7 @@ def cut_short() -> Iterator[CallRow]:
 
 
 def number(value: int) -> bytes:
+    """A number as a text of a row."""
     return b"%d" % value
 
 

@@ -14,23 +14,27 @@ def canonical(text: str | bytes) -> bytes:
 
 
 def digest(text, alg="sha256"):
+    """The hash of a text's canonical form, as it is written."""
     return f"(hash {alg} #{hashlib.new(alg, canonical(text)).hexdigest()}#)"
 
 
 def key(letter):
+    """A key, as it is written."""
     return f"(public-key (test {letter}))"
 
 
 def cert(issuer, subject, fields="(propagate) (tag (*))"):
+    """A certificate, as it is written."""
     return f"(cert (issuer {issuer}) (subject {subject}) {fields})"
 
 
 def signed(certificate, signer, value="sig", of=None):
-    """A certificate and its signature, which may be of another text."""
+    """A certificate and its signature. `of` is the text that the signature has the digest of, by default the certificate."""
     return f"{certificate} (signature {digest(of or certificate)} {signer} {value})"
 
 
 def row(certificate, signer, value="sig"):
+    """The row that accepts a signature of a certificate."""
     return f"(by {signer} {digest(certificate)} {value})"
 
 
@@ -39,6 +43,7 @@ def case(entries, rows="", items="", asks=key("d"), request="(ftp)", at=NOW, pol
 
 
 def entry(letter, fields="(propagate) (tag (*))"):
+    """An entry for the key of a letter."""
     return f"(entry {key(letter)} {fields})"
 
 
@@ -46,6 +51,7 @@ YES, NO = (0, "yes entry 1\n"), (1, "no\n")
 
 
 def refused(line):
+    """The status and the line of a refusal."""
     return 2, f"refused {line}\n"
 
 
@@ -55,7 +61,7 @@ CHAIN = [(key("a"), key("b")), (key("b"), key("c")), (key("c"), key("d"))]
 
 
 def chain(changed=None, how=None):
-    """The rows and the items of the chain, of which one certificate fails a test of its evidence."""
+    """The rows and the items of the chain. The certificate at the place `changed`, if given, fails a test of evidence: `how` says which."""
     rows, items = [], []
     for place, (issuer, subject) in enumerate(CHAIN):
         fails = how if place == changed else None
@@ -69,6 +75,7 @@ def chain(changed=None, how=None):
 
 
 def chains():
+    """The chain, and others that differ from it at one place."""
     yield "whole chain", case(entry("a"), *chain()), YES
     for place in range(3):
         for how in ("key not shown", "digest differs", "signer differs", "not accepted"):
@@ -88,6 +95,7 @@ def chains():
 
 
 def windows_and_tags():
+    """A certificate whose window or tag decides."""
     for limit, answer in (('(not-after "2024-01-01_00:00:00")', YES), ('(not-after "2023-12-31_23:59:59")', NO),
                           ('(valid (not-before "2024-01-01_00:00:01"))', NO)):
         c = cert(key("a"), key("d"), f"(tag (*)) {limit}")
@@ -146,6 +154,7 @@ def long_lists():
 def long_lists_of_tags():
     """Lists of nine entries, and two certificates whose tags have over 1,000,000 as the product of their nodes."""
     def behind(entries, tag):
+        """A case of entries and of two certificates with a tag."""
         first, second = cert(key("a"), key("b"), f"(propagate) (tag {tag})"), cert(key("b"), key("d"), f"(tag {tag})")
         both = row(first, key("a")) + row(second, key("b")), signed(first, key("a")) + signed(second, key("b"))
         return case(entries, *both, request="n")
@@ -198,7 +207,7 @@ def policies():
 
 
 def order():
-    """Where signatures stand."""
+    """Signatures at right and wrong places of a sequence."""
     a, c1 = key("a"), cert(key("a"), key("b"), "(tag (*))")
     one = f"(signature {digest(c1)} {a} sig)"
     for items, line in ((one, "1 StraySignature"), (f"{c1} {a} {one}", "1 UnsignedCert"), (c1, "1 UnsignedCert"),
@@ -214,6 +223,7 @@ HASH = digest("x")
 
 
 def malformed():
+    """Cases that are refused for a row or a policy, or have several faults, of which the first is named."""
     faults = [
         ("()", "Shape"), ("x", "Shape"), ("(by)", "Shape"), ("(row)", "Shape"), (f"(by {key('a')})", "Shape"),
         (f"(by {key('a')} {HASH})", "Shape"), (f"(by {key('a')} {HASH} sig sig)", "Shape"), (f"(by a {HASH} sig)", "Shape"),
@@ -252,7 +262,7 @@ def shown(*certificates):
 
 
 def explained():
-    """Cases with the reduction and the explanation of each: the status and the lines."""
+    """Cases: the name, the text, what `reduce` answers, and what `explain` answers, each a status and lines."""
     a, b, c = key("a"), key("b"), key("c")
     all_of_it = entry("a")
     c1, c2 = cert(a, b, "(tag (*))"), cert(b, c, "(tag (*))")
@@ -329,17 +339,18 @@ def explained():
             0, f'entry 1 (five (subject {c}) (tag (http)) (valid (not-after "2000-01-01_00:00:00")))\n'), (1, f"entry 1 {why}\n")
 
 
-def decided(lines):
-    """What `check` answers of a case that `explain` answers so."""
+def answer_of_check(lines):
+    """The status and the line of `check` for a case, by the lines of `explain`."""
     granted = re.search(r"^entry (\d+) grants$", lines, re.MULTILINE)
     return (0, f"yes entry {granted[1]}\n") if granted else NO
 
 
 def rows():
+    """The fields of each row: its place, command, text, status and answer."""
     for examples in (chains, windows_and_tags, moments, policies, order, sizes, long_lists, long_lists_of_tags,
                      malformed):
         for name, text, (status, answer) in examples():
             yield f"chains:{name}", "check", text.encode(), status, answer.encode()
     for name, text, reduced, why in explained():
-        for command, (status, answer) in (("reduce", reduced), ("explain", why), ("check", decided(why[1]))):
+        for command, (status, answer) in (("reduce", reduced), ("explain", why), ("check", answer_of_check(why[1]))):
             yield f"chains:{name}", command, text.encode(), status, answer.encode()

@@ -32,42 +32,42 @@ def case(entries: str, rows: str = "", items: str = "", asks: str = KB, request:
 # ---- cases and verifiers
 
 
-def changed(certificate: str) -> str:
-    """A certificate and its signature, with one octet of the digest changed."""
+def signed_wrongly(certificate: str) -> str:
+    """A certificate and a signature of KA, with one bit of the digest changed."""
     digest = chains.digest(certificate)
     other = digest.replace("#" + digest.split("#")[1][:2], f"#{int(digest.split('#')[1][:2], 16) ^ 1:02x}")
     return f"{certificate} (signature {other} {KA} sig)"
 
 
-def by_hash(behind: str, is_changed: bool = False) -> bytes:
-    """A case with a certificate whose issuer is the hash of KA. The items behind it may show KA."""
+def case_by_hash(behind: str, is_changed: bool = False) -> bytes:
+    """A case with a certificate whose issuer is the hash of KA. `behind` are further items, as KA. `is_changed`: the digest is wrong."""
     hashed = cert(chains.digest(KA), KB, "(tag (*))")
-    return case(ALL, row(hashed, KA), (changed(hashed) if is_changed else signed(hashed, KA)) + behind)
+    return case(ALL, row(hashed, KA), (signed_wrongly(hashed) if is_changed else signed(hashed, KA)) + behind)
 
 
 def delegation(rows: str, signer: str) -> bytes:
-    """A case in which KA delegates its right to KB."""
+    """A case in which KA delegates its right to KB, with these rows and this signer of the certificate."""
     return case(ALL, rows, signed(C1, signer))
 
 
 def rows_of(text: bytes) -> bytes:
-    """The accepted list of a case."""
+    """The `(accepted ..)` of a case, in canonical form."""
     return written(members_of(text)[2])
 
 
 def members_of(text: bytes) -> Any:
-    """The members of a case, which are taken apart without looking at their types."""
+    """The members of a case, as a tuple of any type."""
     return forms.read(text)
 
 
 def of_verifiers() -> Iterator[CallRow]:
     """Evidence and decisions, by the case's own list and by other verifiers."""
     right, none = delegation(row(C1, KA), KA), delegation("", KA)
-    other, shown = delegation(row(C1, KB), KB), by_hash(KA)
-    differs = by_hash(KA, is_changed=True)
+    other, shown = delegation(row(C1, KB), KB), case_by_hash(KA)
+    differs = case_by_hash(KA, is_changed=True)
     for name, call, text, rows, wanted in [
         ("hash-issuer: shown", "judge", shown, rows_of(shown), b"1"),
-        ("hash-issuer: not shown", "judge", by_hash(""), rows_of(shown), b"1 KeyNotShown"),
+        ("hash-issuer: not shown", "judge", case_by_hash(""), rows_of(shown), b"1 KeyNotShown"),
         ("hash-issuer: another digest", "judge", differs, rows_of(differs), b"1 DigestDiffers"),
         ("hash-issuer: another digest, all accepted", "judge", differs, b"all", b"1 DigestDiffers"),
         ("not-accepted: no row", "judge", none, NO_ROWS, b"1 NotAccepted"),
@@ -139,7 +139,7 @@ def of_revoked_keys() -> Iterator[CallRow]:
 
 
 def parts_of(text: bytes) -> list[bytes]:
-    """The texts of a case's list, sequence, key, request and moment, and its policy."""
+    """The texts of a case's list [0], sequence [1], key [2], request [3] and moment [4], and its policy [5], `open` or `strict`."""
     value = members_of(text)
     parts = [value[1], value[3], *(part[1] for part in value[4:7])]
     return [*map(written, parts), b"strict" if len(value) > 7 else b"open"]
@@ -153,7 +153,7 @@ def answer_of(wish: str, parts: list[bytes], rows: bytes) -> tuple[guard.Answer,
 
 
 def in_debug(wish: str, said: bytes) -> bytes:
-    """An answer's lines as `test_one_call` writes what the calls return."""
+    """The lines of an answer as `test_one_call` writes the result of the call: as a value of the language, or of `reduce` in canonical form."""
     if wish == "decide":
         return b"No" if said == b"no\n" else b"Yes(%s)" % said.split()[2]
     if said.startswith(b"item "):
@@ -165,13 +165,13 @@ def in_debug(wish: str, said: bytes) -> bytes:
 
 
 def reason(line: bytes) -> bytes:
-    """A line of an explanation as the value of its entry."""
+    """What an explanation says of an entry, written as a value of the language."""
     found = re.fullmatch(rb"item (\d+) (\w+)", line)
     return b"Stopped { item: %s, cause: %s }" % found.groups() if found else line.replace(b"grants", b"Grants")
 
 
 def questions() -> Iterator[tuple[str, bytes]]:
-    """The worked examples of cases."""
+    """The names and texts of the worked examples of cases."""
     yield "first-run", first_run()
     for request in ("(ftp)", "(ftp host dir)", "(ftp host)", "ftp", "(http host)"):
         yield f"shorter-request {request}", case(HOST, asks=KA, request=request)
@@ -187,7 +187,7 @@ def questions() -> Iterator[tuple[str, bytes]]:
             yield f"not-accepted {signer} {listed}", delegation(row(C1, listed), signer)
         yield f"not-accepted {signer}", delegation("", signer)
     for behind in (KA, KB, ""):
-        yield f"hash-issuer {behind or 'not shown'}", by_hash(behind)
+        yield f"hash-issuer {behind or 'not shown'}", case_by_hash(behind)
 
 
 def of_questions() -> Iterator[CallRow]:
@@ -203,7 +203,7 @@ def of_questions() -> Iterator[CallRow]:
 
 
 def of_question(place: str, wish: str, parts: list[bytes], rows: bytes, said: bytes, listed: list[guard.Signed]) -> Iterator[CallRow]:
-    """One question, in each way in which it is asked."""
+    """The rows of one question, by each call that can be asked it. `said` and `listed` are the model's answer."""
     at, asked = (parts[0], parts[5], b"", b""), tuple(parts[1:5])
     marks = marks_of(rows, listed)
     yield CallRow(f"{place} {wish}", f"PreparedQuestion::{wish}", (*at, *asked, rows), in_debug(wish, said))
@@ -223,11 +223,11 @@ def of_question(place: str, wish: str, parts: list[bytes], rows: bytes, said: by
 
 
 def is_done(said: bytes) -> bool:
-    """Whether an entry grants, or becomes an authorization."""
+    """Whether the lines of an answer say that an entry grants, or becomes an authorization."""
     return re.search(rb"^(yes entry \d+|entry \d+ grants|entry \d+ \(five .*)$", said, re.MULTILINE) is not None
 
 
 def marks_of(rows: bytes, listed: list[guard.Signed]) -> bytes:
-    """1 for each signature that a row accepts, 0 for each other."""
+    """The marks of a question's signatures: `1` for each that a row accepts, `0` for each other."""
     accepted = {(it.key.octets, it.digest, it.value) for it in cases.read_rows(forms.read(rows))}
     return b"".join(b"1" if (one, hashlib.sha256(message).digest(), value) in accepted else b"0" for one, message, value in listed)

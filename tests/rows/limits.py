@@ -12,15 +12,17 @@ STRUCTURES = {"intersect": "intersect Shape", "check": "case Shape", "reduce": "
 
 
 def strings(count, each="a"):
+    """One string so many times."""
     return " ".join([each] * count)
 
 
 def numbered(count):
+    """So many different strings."""
     return " ".join(f"n{place}" for place in range(count))
 
 
 def one_string(size, form):
-    """A text of `size` octets that is a string, in a form, and its canonical form."""
+    """A text of `size` octets with one string, in a form of FORMS, and the canonical form of the string."""
     room = {"canonical": size - len(f"{size}:"), "advanced": size - 2, "braces": (size - 2) // 4 * 3 - len(f"{size}:")}[form]
     octets = b"x" * room
     canonical = b"%d:%s" % (room, octets)
@@ -49,7 +51,7 @@ def lengths():
 
 
 def longer_in_canonical_form():
-    """A text of fewer octets than may be, whose canonical form has more."""
+    """A text with fewer octets than the limit, whose canonical form has more."""
     text = b"(" + b"a " * 400000 + b")"
     yield "400,000 tokens", "canonical", text, (0, b"(" + b"1:a" * 400000 + b")")
     for command in STRUCTURES:
@@ -72,6 +74,7 @@ def lists_in_lists():
 def deep_parts():
     """Requests and tags as deep as may be, and deeper by one list."""
     def nested(depth):
+        """A list of so many lists in one another."""
         return "(f " * depth + "f" + ")" * depth
 
     for depth, answer in ((62, YES), (63, refused("form TooDeep"))):
@@ -124,6 +127,7 @@ def work():
     the first certificate, its 4 tags and its 99,936 octets. Then nothing is left of the tags. The second certificate has 336 nodes, so that the
     product of all is over 1,000,000."""
     def chain_of(more, *tags):
+        """The rows and the items of the first certificate, with so many octets more, and of one for each tag."""
         first = cert(key("a"), key("b"), f"(propagate) (tag (* set r {'x' * 49_967} {'y' * (49_968 + more)}))")
         shown = [(first, "a")] + [(cert(key("b"), key("b"), f"(propagate) (tag {tag})"), "b") for tag in tags]
         return "".join(row(it, key(by)) for it, by in shown), "".join(signed(it, key(by)) for it, by in shown)
@@ -140,11 +144,13 @@ def work():
     yield "23 entries and a certificate for all requests", "check", case(each * 23, *chain_of(1, "(*)"), **asked), NO
 
 
-def octets(words):
-    return words if isinstance(words, bytes) else words.encode()
+def octets_of(text):
+    """A text as octets, which it may be already."""
+    return text if isinstance(text, bytes) else text.encode()
 
 
 def rows():
+    """The fields of each row: its place, command, text, status and answer."""
     for rows_of in (lengths, longer_in_canonical_form, lists_in_lists, deep_parts, nodes, products, work):
         for name, command, text, (status, answer) in rows_of():
-            yield f"limits: {name}", command, octets(text), status, octets(answer)
+            yield f"limits: {name}", command, octets_of(text), status, octets_of(answer)

@@ -13,14 +13,17 @@ DIGITS = "0368c1992558bdb83ef3d36b9b41700d9dd8a7a57769aa960f3555cc92f6ec69"
 
 
 def certificate(fields):
+    """A certificate whose fields begin on the second line, in column 2."""
     return f"(cert (issuer {KEY}) (subject {OTHER})\n {fields})\n"
 
 
 def entry(fields):
+    """A list of an entry whose fields begin on the third line, in column 3."""
     return f"(acl\n (entry {KEY}\n  {fields}))\n"
 
 
 def hash_of(text):
+    """A list of an entry for a hash, whose parts are this text."""
     return f"(acl\n (entry (hash {text})\n  (tag (packages read))))\n"
 
 

@@ -16,20 +16,21 @@ def written(members):
     return b"(" + b" ".join((b"*", b"set") + members) + b")"
 
 
-def gathered(members):
-    """The normal form of a set whose members are no sets: a set of one member is that member."""
+def normal_form(members):
+    """A set with these members, none of them a set, in normal form: a set of one member is that member."""
     return members[0] if len(members) == 1 else written(members)
 
 
 def intersection(one, other):
+    """The text that asks for the intersection of two tags."""
     return b"(intersect " + one + b" " + other + b")"
 
 
 def rows(intersected):
-    """The rows of all pairs. `intersected` starts the program's command on a text, and gives what waits for its status and answer."""
+    """The fields of the rows of all pairs. `intersected` starts the program on a text, and returns a future of its status and answer."""
     started = {pair: intersected(intersection(*pair)) for pair in product(MEMBERS, MEMBERS)}
     met = {pair: run.result()[1].rstrip(b"\n") for pair, run in started.items()}
     for ones, others in product(sets(), sets()):
         left = tuple(met[pair] for pair in product(ones, others) if met[pair] != NOTHING)
         text = intersection(written(ones), written(others))
-        yield f"pairs: {text.decode()}", "intersect", text, 0, gathered(left) + b"\n"
+        yield f"pairs: {text.decode()}", "intersect", text, 0, normal_form(left) + b"\n"

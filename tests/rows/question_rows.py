@@ -34,6 +34,7 @@ PART = {"Acl": "access list", "Sequence": "sequence", "Key": "key", "Request": "
 
 
 def as_text(text: str | bytes) -> bytes:
+    """A text as octets, which it may be already."""
     return text.encode() if isinstance(text, str) else text
 
 
@@ -50,7 +51,7 @@ def of_refused_parts() -> Iterator[CallRow]:
 
 
 def of_refused_part(place: str, texts: list[bytes], part: str, item: int | None, kind: str) -> Iterator[CallRow]:
-    """What a guard says of parts of which one is refused."""
+    """The rows in which a guard refuses the texts of a list, sequence, key, request and moment, for the fault of one of them."""
     fault, said = f"CertFault {{ item: {item}, kind: {kind} }}", f"item {item}: {TEXT_OF[kind]}"
     at, words = (texts[0], b"open", b"", b""), kind.replace("(", " ").replace(")", "")
     if part == "Acl":
@@ -68,12 +69,12 @@ def of_refused_part(place: str, texts: list[bytes], part: str, item: int | None,
 
 
 def list_of(tag: bytes, fields: bytes = b"") -> bytes:
-    """The list of an entry for KA."""
+    """A list with an entry for KA, which has a tag and further fields."""
     return group(string("acl"), group(string("entry"), A, group(string("tag"), tag), fields))
 
 
-def asked(place: str, listed: bytes, seconds: int, words: tuple[bytes, ...], answer: bytes, octets: bytes = b"") -> CallRow:
-    """A row of a question by strings at a moment in seconds."""
+def row_by_strings(place: str, listed: bytes, seconds: int, words: tuple[bytes, ...], answer: bytes, octets: bytes = b"") -> CallRow:
+    """A row of a question of KA to a list, by strings and at a moment in seconds. `octets` is the limit, empty for none."""
     return CallRow(f"calls/words:{place}", "Guard::ask", (listed, b"open", octets, b"", A, number(seconds), *words), answer)
 
 
@@ -90,17 +91,17 @@ def of_strings() -> Iterator[CallRow]:
     """Strings are granted by their own list, and by no list with one more member. Each octet of a string stands for itself."""
     for place, words in enumerate(STRINGS):
         own = [*map(string, words)]
-        yield asked(f"strings {place}", list_of(group(*own)), 0, words, b"Yes(1)")
-        yield asked(f"strings {place} and more", list_of(group(*own, b"(1:*)")), 0, words, b"No")
+        yield row_by_strings(f"strings {place}", list_of(group(*own)), 0, words, b"Yes(1)")
+        yield row_by_strings(f"strings {place} and more", list_of(group(*own, b"(1:*)")), 0, words, b"No")
     for octet in range(256):
         words = b"ftp", bytes([octet])
-        yield asked(f"octet {octet}", list_of(group(*map(string, words))), 0, words, b"Yes(1)")
-        yield asked(f"octet {octet}, another list", list_of(b"(3:ftp2:ab)"), 0, words, b"No")
+        yield row_by_strings(f"octet {octet}", list_of(group(*map(string, words))), 0, words, b"Yes(1)")
+        yield row_by_strings(f"octet {octet}, another list", list_of(b"(3:ftp2:ab)"), 0, words, b"No")
     for place, (tag, word, answer) in enumerate(ONE):
-        yield asked(f"one string {place}", list_of(tag), 0, (word,), answer)
+        yield row_by_strings(f"one string {place}", list_of(tag), 0, (word,), answer)
     for words, kind in NO_REQUESTS:
         fault = f"Ask(Request({kind})): request: {TEXT_OF[kind]}".encode()
-        yield asked(f"no request {b' '.join(words).decode()}", list_of(b"(1:*)"), 0, words, fault)
+        yield row_by_strings(f"no request {b' '.join(words).decode()}", list_of(b"(1:*)"), 0, words, fault)
 
 
 DATES = {
@@ -115,11 +116,11 @@ def of_seconds() -> Iterator[CallRow]:
     for seconds, date in DATES.items():
         for limit, text, answer in ((date, string(date), b"Yes(1)"), (b"1971-01-01_00:00:00", string(date), b"No")):
             listed = list_of(b"(1:*)", group(string("not-before"), string(limit)) + group(string("not-after"), string(limit)))
-            yield asked(f"seconds {seconds} {answer.decode()}", listed, seconds, (b"a",), answer)
+            yield row_by_strings(f"seconds {seconds} {answer.decode()}", listed, seconds, (b"a",), answer)
             yield CallRow(f"calls/words:text {seconds} {answer.decode()}", "PreparedQuestion::decide_by",
                           (listed, b"open", b"", b"", NOTHING, A, b"1:a", text, b""), answer)
     for seconds in NO_DATES:
-        yield asked(f"no date {seconds}", list_of(b"(1:*)"), seconds, (b"a",), b"Ask(Moment(BadDate)): moment: not a date")
+        yield row_by_strings(f"no date {seconds}", list_of(b"(1:*)"), seconds, (b"a",), b"Ask(Moment(BadDate)): moment: not a date")
 
 
 # ---- limits, and several entries
@@ -133,7 +134,7 @@ def of_limits() -> Iterator[CallRow]:
     """A question of as many octets as may be, and of more; and products of nodes, which do not limit a decision."""
     for words, length in LENGTHS:
         for octets, answer in ((60 + length, b"Yes(1)"), (59 + length, TOO_LONG), (0, TOO_LONG)):
-            yield asked(f"octets {length} {octets}", list_of(b"(1:*)"), 0, words, answer, number(octets))
+            yield row_by_strings(f"octets {length} {octets}", list_of(b"(1:*)"), 0, words, answer, number(octets))
     text = sets_case()
     yield CallRow("calls/limits:sets", "decide", (text, rows_of(text)), b"Yes(1)")
     parts = parts_of(text)

@@ -30,7 +30,8 @@ MAINS = {
 
 @dataclass(frozen=True)
 class Row:
-    """A wrong use: its language and place in the file, what comes of it, the word of the compiler's that says so, its name and its code."""
+    """A wrong use: its language and place in the file, its outcome, a text that the compiler must print or none, its
+    name and its code."""
 
     language: str
     place: int
@@ -46,7 +47,7 @@ class Row:
 
 
 def parts_of(language: str) -> tuple[str, list[Row]]:
-    """What the rows of a language share, and the rows."""
+    """The code that all rows of a language share, and the rows."""
     with open(os.path.join(FOLDER, language), encoding="utf-8") as file:
         shared, _, rest = file.read().partition("ROWS\n")
     heads = list(HEAD.finditer(rest))
@@ -56,7 +57,7 @@ def parts_of(language: str) -> tuple[str, list[Row]]:
 
 
 def program_of(shared: str, rows: list[Row]) -> tuple[str, dict[int, Row]]:
-    """A program with these rows, and the row that each of its lines is of."""
+    """The text of a program with these rows, and the row of each of its line numbers that is in one."""
     text, lines = shared + "\n", {}
     for row in rows:
         first = text.count("\n") + 1
@@ -67,10 +68,10 @@ def program_of(shared: str, rows: list[Row]) -> tuple[str, dict[int, Row]]:
 
 
 def faults_in(said: str, path: str, lines: dict[int, Row]) -> Iterator[tuple[Row, str]]:
-    """The rows that a compiler names by the lines of a file, and what it says there: up to where it names the next one."""
+    """Each row whose lines a compiler names, and what the compiler says there. That begins behind the line named before, and ends at the next."""
     found = list(re.finditer(rf"{re.escape(os.path.basename(path))}:(\d+)", said))
     for place, (at, end) in enumerate(zip(found, [*(it.start() for it in found[1:]), len(said)])):
         if int(at[1]) in lines:
-            # (a fault in a template is told before the line that has asked for it)
+            # (the fault of a template precedes the line that uses it)
             before = found[place - 1].start() if place else 0
             yield lines[int(at[1])], said[before:end]

@@ -27,8 +27,8 @@ def columns_of(kind: type[web_servers.Behind]) -> list[str]:
 
 
 def rows_of(kind: type[web_servers.Behind], column: str) -> list[tuple[str, attacks.Attack]]:
-    """The rows of a column, by name."""
-    return [(f"{kind.name}, {column}: {each.what}", each) for each in attacks.all_of_them() if (kind.name, each.what) not in attacks.GRANTED]
+    """The names and attacks of a column, without those that the server grants by right."""
+    return [(f"{kind.name}, {column}: {each.what}", each) for each in attacks.all_attacks() if (kind.name, each.what) not in attacks.GRANTED]
 
 
 class Pages(unittest.TestCase):
@@ -68,12 +68,13 @@ class Table(unittest.TestCase):
         os.symlink("../secret", cls.site.at("files/web/link"))
 
     def grants_ann(self) -> None:
+        """Ann must get the page that she may read."""
         self.assertEqual(self.site.status("ann", "GET", "/web/index.html"), 200)
 
-    def rows_pass(self, column: str) -> None:
-        """Each row of a column. Before them and behind them Ann is granted what she may do, unless the daemon is stopped."""
+    def check_rows(self, column: str) -> None:
+        """Each row of a column must fail as an attack. Before them and behind them Ann is granted what she may do, unless the daemon is stopped."""
         is_stopped = column.startswith("stopped")
-        self.site.becomes(self.kind.sites.get(column.removeprefix(STOPPED), []))
+        self.site.restart_with(self.kind.sites.get(column.removeprefix(STOPPED), []))
         self.grants_ann()
         if is_stopped:
             self.site.stop_daemon()
@@ -82,24 +83,24 @@ class Table(unittest.TestCase):
         for name, each in rows_of(self.kind, column):
             if is_chosen(name):
                 with self.subTest(name):
-                    self.fails(each, is_stopped)
+                    self.check_attack(each, is_stopped)
         if not is_stopped:
             self.grants_ann()
             self.assertNotIn('"answer":"failed"', self.site.text("log/authd.log"))
 
-    def fails(self, each: attacks.Attack, is_stopped: bool) -> None:
-        """What is sent must be answered as the table says, and leave all else as it is."""
+    def check_attack(self, each: attacks.Attack, is_stopped: bool) -> None:
+        """An attack must be answered as the table says, and leave all else as it is."""
         answer = self.site.answer(each.who, self.sender.filled(each.octets))
         must = (each.must | attacks.DENIED) - {401} | attacks.WITHOUT_DAEMON if is_stopped else each.must
         self.assertLessEqual(set(attackers.statuses(answer) or [0]), must, answer)
         self.assertEqual(list(attackers.changes_of(self.site, answer)), [])
 
-    def sites_pass(self) -> None:
+    def check_sites(self) -> None:
         """Among the lines of each other site, and there without the daemon, nobody gets what the daemon denies. The gate has a third of them."""
         for name, more in self.kind.sites.items():
             if not is_chosen(f"{self.kind.name}, {name}", 3):
                 continue
-            self.site.becomes(more)
+            self.site.restart_with(more)
             with self.subTest(name):
                 if not name.endswith(" that fails"):
                     self.grants_ann()
@@ -110,26 +111,27 @@ class Table(unittest.TestCase):
                 finally:
                     self.site.start_daemon()
 
-    def probe_finds(self) -> None:
+    def check_probe(self) -> None:
         """`-probe` finds nothing with the daemon, nor `-stopped` without it, and finds a hole."""
-        self.site.becomes([])
-        self.probes(0, "nothing was granted")
-        self.site.becomes(self.kind.hole)
-        self.probes(1, "granted: ")
-        self.site.becomes([])
+        self.site.restart_with([])
+        self.probe(0, "nothing was granted")
+        self.site.restart_with(self.kind.hole)
+        self.probe(1, "granted: ")
+        self.site.restart_with([])
         self.site.stop_daemon()
         try:
-            self.probes(0, "nothing was granted", "-stopped")
+            self.probe(0, "nothing was granted", "-stopped")
         finally:
             self.site.start_daemon()
 
-    def probes(self, status: int, said: str, *more: str) -> None:
+    def probe(self, status: int, said: str, *more: str) -> None:
+        """Probes the site, which must end with a status, and write a text among others."""
         words = (self.site.program, "-probe", f"https://localhost:{self.site.port}/web/", *more)
         met = output_of(*words, env={**self.site.settings, "SSL_CERT_FILE": self.site.at("ca/ca.crt")}, seconds=served.SECONDS)
         self.assertEqual((met[0], said in met[1]), (status, True), met[1])
         self.assertNotIn("left out", met[1])
 
-    def port_is_verified(self) -> None:
+    def check_port(self) -> None:
         """On a port the server lets pass what the holder of the daemon's certificate says, and tells its secret to nobody else."""
         make = ("openssl", "req", "-x509", "-newkey", "ed25519", "-nodes", "-days", "9", "-subj", "/CN=spki-authd", "-addext",
                 "subjectAltName=DNS:spki-authd,IP:127.0.0.1")
@@ -138,7 +140,7 @@ class Table(unittest.TestCase):
         for name, is_granted in (("authd", True), ("other", False)):
             impostor = web_servers.Impostor(self.site.at(f"etc/{name}.crt"), self.site.at(f"etc/{name}.key"))
             try:
-                self.site.asks_port(impostor.server_port)
+                self.site.restart_asking_port(impostor.server_port)
                 self.assertEqual(self.site.status("eve", "GET", "/secret/plan.txt") == 200, is_granted)
                 self.assertEqual(impostor.secrets, ["THE-SECRET"] if is_granted else [])
             finally:
@@ -146,20 +148,21 @@ class Table(unittest.TestCase):
                 impostor.server_close()
 
     def get_nothing(self, asked: list[attackers.Asked], statuses: set[int]) -> None:
+        """No request may be granted: each must have one of these statuses."""
         for each in asked:
             self.assertEqual(attackers.faults_of(self.site, each, statuses), [])
 
 
 def table_of(kind: type[web_servers.Behind]) -> Callable[[type[Table]], type[Table]]:
-    """Gives a class the tests of a server: one for each column, and one for the other sites."""
+    """Returns a decorator that gives a class the tests of a server: one for each column, and others."""
     def made(table: type[Table]) -> type[Table]:
         table.kind = kind
         for column in columns_of(kind):
-            setattr(table, f"test_{re.sub('[^a-z]+', '_', column)}", lambda self, column=column: self.rows_pass(column))
-        setattr(table, "test_other_sites", lambda self: self.sites_pass())
-        setattr(table, "test_probe", lambda self: self.probe_finds())
+            setattr(table, f"test_{re.sub('[^a-z]+', '_', column)}", lambda self, column=column: self.check_rows(column))
+        setattr(table, "test_other_sites", lambda self: self.check_sites())
+        setattr(table, "test_probe", lambda self: self.check_probe())
         if kind.on_port:
-            setattr(table, "test_port", lambda self: self.port_is_verified())
+            setattr(table, "test_port", lambda self: self.check_port())
         return needs.needs(*served.NEEDS, *kind.needs, *needs.LIBRARY)(table)
     return made
 
@@ -175,12 +178,12 @@ class Caddy(Table):
 
     def test_without_certificate(self) -> None:
         """Who has no certificate sends none: the placeholder's name would be refused as a malformed one."""
-        self.site.becomes([])
+        self.site.restart_with([])
         self.assertEqual(self.site.status(None, "GET", "/web/index.html"), 401)
 
     def test_who_only_writes(self) -> None:
         """PUT and DELETE are not answered as GET, also where the daemon grants them."""
-        self.site.becomes([])
+        self.site.restart_with([])
         for method in ("PUT", "DELETE"):
             self.assertEqual(attackers.faults_of(self.site, ("robot", method, "/web/out/main.js"), {403}), [])
 

@@ -27,14 +27,14 @@ SECONDS = 600
 
 
 def listens(path: str) -> bool:
-    """Whether somebody listens at a socket."""
+    """Whether a process listens at the socket with this path."""
     with socket.socket(socket.AF_UNIX) as client:
         return client.connect_ex(path) == 0
 
 
 @contextlib.contextmanager
 def asked_by_many(asks: Callable[[], list[int]]) -> Iterator[list[object]]:
-    """The statuses of what several threads ask meanwhile, and the faults."""
+    """A context in which several threads call `asks` again and again. Its list gets the statuses that this returns, and each OSError as a text."""
     ends, met = threading.Event(), list[object]()
 
     def asks_on() -> None:
@@ -72,7 +72,7 @@ class OfDaemon(test_go.OfGo):
 
     @contextlib.contextmanager
     def daemon(self, *before: str, **more: object) -> Iterator[Daemon]:
-        """A daemon, which ends well."""
+        """A context with a daemon, which must start, and end with status 0. `before` and `more` are those of `Daemon`."""
         with tempfile.TemporaryDirectory() as room:
             made = Daemon(room, self.daemon_program, self.access_list, *before, **more)
             try:
@@ -85,11 +85,11 @@ class OfDaemon(test_go.OfGo):
                 made.process.communicate()
 
     def headers(self, target: str = "/web/a") -> dict[str, str]:
-        """What the web server sends for Alice."""
+        """The fields that a web server sends to the daemon for Alice."""
         return {"X-Original-Method": "GET", "X-Original-URI": target, "X-Client-Cert": urllib.parse.quote(self.alice.certificate)}
 
     def ask_often(self, path: str, times: int, headers: dict[str, str], target: str = "/") -> list[int]:
-        """The statuses of requests on one connection."""
+        """The statuses of the answers to so many requests on one connection."""
         connection = OverSocket(path)
         found = []
         try:
@@ -345,7 +345,7 @@ class Started(OfDaemon):
 
     @staticmethod
     def queue(path: str) -> int:
-        """How many connections may wait at a socket."""
+        """How many connections the system lets wait at a socket."""
         said = subprocess.run(["ss", "-xl"], stdout=subprocess.PIPE, text=True, check=True).stdout
         return next(int(line.split()[3]) for line in said.splitlines() if f" {path} " in line)
 

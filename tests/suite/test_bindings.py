@@ -59,7 +59,7 @@ class Asked(NamedTuple):
 
 
 def questions(program) -> list[Asked]:
-    """The questions of all cases, each with the place of the first row that has the case."""
+    """The questions of all cases of the tables and of chains.py. The name of each is the place of the first row that has its case."""
     rows = [row for table in tables_here() for row in rows_of(table)] + list(chains.rows())
     rows = [row for row in rows if row[1] in COMMANDS.values() and not row[4].startswith(NO_CASE)]
     with ThreadPoolExecutor(os.cpu_count()) as pool:
@@ -70,21 +70,21 @@ def questions(program) -> list[Asked]:
 
 
 def accepted_by(rows, sequence):
-    """What the rows of a case accept: keys, messages and values. The messages are the certificates that have their digests."""
+    """What the rows of a case accept, each as key, message and value. The message is the certificate of the sequence that has the row's digest."""
     certificates = [canonical(item) for item in sequence if isinstance(item, list) and item[:1] == [b"cert"]]
     messages = {hashlib.sha256(text).digest(): text for text in certificates}
     return tuple((canonical(key), messages[digest[2]], canonical(value)) for _, key, digest, value in rows if digest[2] in messages)
 
 
 def words_of(request):
-    """The strings of a request that a guard takes by its strings, or None."""
+    """The strings of a request, None if it has lists inside or is a list of fewer than two strings."""
     if isinstance(request, bytes):
         return (request,)
     return tuple(request) if isinstance(request, list) and len(request) > 1 and all(isinstance(it, bytes) for it in request) else None
 
 
 def seconds_of(moment):
-    """The seconds of a moment that the calendar has, from 1970 on, or None."""
+    """The seconds of a moment since 1970, None if it is earlier, or no calendar has it."""
     try:
         date = datetime.strptime(moment.decode(), "%Y-%m-%d_%H:%M:%S")
         seconds = int(date.replace(tzinfo=timezone.utc).timestamp())
@@ -94,7 +94,7 @@ def seconds_of(moment):
 
 
 def questions_of(program, text, name) -> Iterator[Asked]:
-    """The questions of a case, by texts, and by strings and seconds where that can be."""
+    """The questions of a case, in which the request and the moment are texts, and again strings and seconds where that can be."""
     case, line = read(text), run(program, "check", text)[1]
     if line.startswith(b"refused") and line != TOO_LARGE:
         case[2] = [b"accepted"]
@@ -105,21 +105,21 @@ def questions_of(program, text, name) -> Iterator[Asked]:
     for command, wanted in COMMANDS.items():
         line = run(program, wanted, canonical(case))[1]
         if command == "decide" and line == TOO_LARGE:
-            line = decided(canonical(case))
+            line = decided_by_model(canonical(case))
         yield Asked(name, command, len(case) == 8, *texts, canonical(request), canonical(moment), accepted, line)
         if words or seconds is not None:
             yield Asked(f"{name}, by strings or seconds", command, len(case) == 8, *texts, words or canonical(request),
                         canonical(moment) if seconds is None else seconds, accepted, line)
 
 
-def decided(text):
+def decided_by_model(text):
     """What the model decides of a case that is too large for `check`: a guard decides it."""
     case = model.read_case(text)
     return model.decide(case, case.rows)[1]
 
 
-def otherwise(asked, answers):
-    """What is wrong with the answers to questions, or nothing."""
+def faults_of_answers(asked, answers):
+    """A text with each wrong answer to the questions, empty if all are right."""
     if len(answers) != len(asked):
         return f"{len(answers)} answers to {len(asked)} questions"
     faults = [(each, met) for each, met in zip(asked, answers) if met != each.wanted]
@@ -130,8 +130,8 @@ def otherwise(asked, answers):
 # ---- Python
 
 
-def spelled(reasons):
-    """The text of an explanation, from its lines taken apart."""
+def text_of_reasons(reasons):
+    """The lines of an explanation, from its reasons: entry or None, item or None, and a word."""
     lines = [f"{f'entry {entry} ' if entry else ''}{f'item {item} ' if item else ''}{word}" for entry, item, word in reasons]
     return "\n".join(lines or ["no entries"])
 
@@ -152,7 +152,7 @@ def answered_by_python(spki, asked):
         return f"{refused.line}\n".encode()
     if asked.command == "decide":
         return f"yes entry {answer.entry}\n".encode() if answer else b"no\n"
-    return f"{spelled(answer.reasons()) if asked.command == 'explain' else answer}\n".encode()
+    return f"{text_of_reasons(answer.reasons()) if asked.command == 'explain' else answer}\n".encode()
 
 
 # ---- Rust
@@ -173,7 +173,7 @@ def framed(asked):
 
 
 def strings_in(octets):
-    """The strings that stand one behind the other in a text."""
+    """Yields the strings that a text has in canonical form, one behind the other."""
     at = 0
     while at < len(octets):
         colon = octets.index(b":", at)
@@ -182,7 +182,7 @@ def strings_in(octets):
 
 
 def cargo(folder, words, given=None):
-    """What cargo does in the crate, offline and with the libraries of a folder."""
+    """Runs cargo in the crate, offline and with the libraries of a folder. Returns how it ended."""
     settings = {**os.environ, "SPKI_LIB_DIR": folder, "RUSTDOCFLAGS": "-D warnings", "CARGO_NET_OFFLINE": "true"}
     return subprocess.run(["cargo", *words], cwd=RUST, input=given, capture_output=True, env=settings, timeout=SECONDS)
 
@@ -261,9 +261,9 @@ class Binding(built.OfLibrary):
         os.environ["SPKI_LIBRARY"] = cls.shared
         cls.folder = os.path.dirname(cls.library)
 
-    def decides(self, *words):
-        """An example must grant the request to Bob, to whom Alice's certificate gives it, and to nobody else. It must deny it to Bob if a bit
-        of the signature is changed."""
+    def check_decisions(self, *words):
+        """An example, which these words run, must grant the request to Bob, to whom Alice's certificate gives it, and to nobody else. It must deny
+        it to Bob if a bit of the signature is changed."""
         from spki_cert_tool import keys
         for kind in keys.KINDS:
             alice, bob, carol = (keys.FileSigner(keys.new_private(it)) for it in (kind, keys.P256, keys.ED25519))
@@ -274,10 +274,10 @@ class Binding(built.OfLibrary):
             other = alice.sign(canonical([*certificate, [b"propagate"]]))
             for holder, shown, wanted in ((bob, value, "granted\n"), (carol, value, "denied\n"), (bob, other, "denied\n")):
                 signature = [b"signature", keys.hash_of(certificate), issuer, shown]
-                self.answers(words, (access_list, [b"sequence", alice.key, certificate, signature], holder.key), wanted)
+                self.check_output(words, (access_list, [b"sequence", alice.key, certificate, signature], holder.key), wanted)
 
-    def answers(self, words, parts, wanted):
-        """An example must answer what is wanted to a list, a sequence and a key."""
+    def check_output(self, words, parts, wanted):
+        """An example must write the wanted text for a list, a sequence and a key."""
         with tempfile.TemporaryDirectory() as room:
             paths = [os.path.join(room, name) for name in ("acl", "sequence", "key")]
             for path, value in zip(paths, parts):
@@ -307,16 +307,16 @@ class InPython(Binding):
         sys.path.append(PYTHON)
         spki = importlib.import_module("spki")
         asked = asked_of(self.program)
-        fault = otherwise(asked, [answered_by_python(spki, each) for each in asked])
+        fault = faults_of_answers(asked, [answered_by_python(spki, each) for each in asked])
         self.assertEqual(fault, "", fault)
 
     @needs.needs("import cryptography")
     def test_example(self):
-        self.decides(sys.executable, os.path.join(PYTHON, "examples", "decide.py"))
+        self.check_decisions(sys.executable, os.path.join(PYTHON, "examples", "decide.py"))
 
     @needs.needs("import cryptography")
     def test_asynchronous_example(self):
-        self.decides(sys.executable, os.path.join(PYTHON, "examples", "asynchronous.py"))
+        self.check_decisions(sys.executable, os.path.join(PYTHON, "examples", "asynchronous.py"))
 
     @needs.needs("import pip", "import setuptools", "import wheel")
     def test_pip(self):
@@ -361,28 +361,29 @@ class InPython(Binding):
 class InC(Binding):
     """The example in C, with each verifier."""
 
-    def decides_by(self, verifier, library):
+    def check_verifier(self, verifier, library):
+        """The example in C must decide by this verifier, which uses a library."""
         with tempfile.TemporaryDirectory() as room:
             to, sources = os.path.join(room, "decide"), [os.path.join(EXAMPLES, "c", name) for name in ("decide.c", f"{verifier}.c")]
             flags = ["-std=c11", "-Wall", "-Wextra", "-Wpedantic", "-Werror", "-I", CRATE]
             subprocess.run(["cc", *flags, "-o", to, *sources, self.library, library], timeout=SECONDS, check=True)
-            self.decides(to)
+            self.check_decisions(to)
 
     @needs.needs("/usr/include/gcrypt.h")
     def test_example_by_gcrypt(self):
-        self.decides_by("verify_gcrypt", "-lgcrypt")
+        self.check_verifier("verify_gcrypt", "-lgcrypt")
 
     @needs.needs("openssl/evp.h")
     def test_example_by_openssl(self):
-        self.decides_by("verify_openssl", "-lcrypto")
+        self.check_verifier("verify_openssl", "-lcrypto")
 
 
 @needs.needs("g++")
 class InCpp(Binding):
     """The header for C++."""
 
-    def owns(self, flags, *by):
-        """`owned.cpp` must compile with these flags and find nothing wrong."""
+    def check_owners(self, flags, *by):
+        """`owned.cpp` must compile with these flags and find nothing wrong. `by` are the words before it."""
         with tempfile.TemporaryDirectory() as room:
             to, source = os.path.join(room, "owned"), os.path.join(TESTS, "programs", "owned.cpp")
             words = ["-std=c++17", "-Wall", "-Wextra", "-Wpedantic", "-Werror", "-g", "-pthread", *flags, "-I", CRATE]
@@ -390,11 +391,11 @@ class InCpp(Binding):
             self.assertEqual(output_of(*by, to, seconds=SECONDS), (0, ""))
 
     def test_owners(self):
-        self.owns(["-fsanitize=address,undefined"])
+        self.check_owners(["-fsanitize=address,undefined"])
 
     @needs.needs("valgrind")
     def test_owners_under_helgrind(self):
-        self.owns([], *HELGRIND)
+        self.check_owners([], *HELGRIND)
 
     def test_answers_that_are_no_bool(self):
         """A verifier that returns a number is not compiled."""
@@ -410,7 +411,7 @@ class InRust(Binding):
     """The crate in Rust."""
 
     def does(self, *words, given=None):
-        """What cargo writes, which must end well."""
+        """Runs cargo in the crate, which must succeed. Returns its output."""
         done = cargo(self.folder, words, given)
         self.assertEqual(done.returncode, 0, f"cargo {' '.join(words)}: {(done.stdout + done.stderr).decode(errors='replace')[-4000:]}")
         return done.stdout
@@ -442,7 +443,7 @@ class InRust(Binding):
     def test_questions(self):
         asked = asked_of(self.program)
         lines = strings_in(self.does("run", "--quiet", "--example", "asked", given=b"".join(map(framed, asked))))
-        fault = otherwise(asked, [line + b"\n" for line in lines])
+        fault = faults_of_answers(asked, [line + b"\n" for line in lines])
         self.assertEqual(fault, "", fault)
 
     @needs.needs("/usr/share/cargo/registry/serde_json-1.*")
@@ -467,10 +468,10 @@ class InRust(Binding):
     @needs.needs("openssl", "import cryptography")
     def test_example(self):
         self.does("build", "--quiet", "--example", "decide")
-        self.decides(os.path.join(RUST, "out", "debug", "examples", "decide"))
+        self.check_decisions(os.path.join(RUST, "out", "debug", "examples", "decide"))
 
-    def builds(self, room, **settings):
-        """Whether the part that links the library is built with these settings, and what is said."""
+    def build_sys(self, room, **settings):
+        """Builds the part that links the library, with these settings of the environment. Returns the status, and what cargo writes."""
         whole = {name: value for name, value in os.environ.items() if not name.startswith(("SPKI_", "PKG_CONFIG"))}
         return output_of("cargo", "build", "--quiet", "-p", "spki-sys", cwd=RUST, seconds=SECONDS,
                          env={**whole, "CARGO_TARGET_DIR": room, "CARGO_NET_OFFLINE": "true", **settings})
@@ -482,12 +483,12 @@ class InRust(Binding):
                                     ({"SPKI_LIB_DIR": empty, "SPKI_SHARED": "1"}, f"there is no libspki_c.so in {empty}"),
                                     ({"SPKI_LIB_DIR": "."}, "SPKI_LIB_DIR must be a whole path"),
                                     ({"PKG_CONFIG_LIBDIR": empty}, "libspki_c is not found"), ({"PKG_CONFIG": "/nowhere"}, "/nowhere")):
-                status, said = self.builds(room, **settings)
+                status, said = self.build_sys(room, **settings)
                 self.assertEqual((status != 0, words in said), (True, True), f"{settings}: {said}")
-            self.assertEqual(self.builds(room, SPKI_LIB_DIR=self.folder), (0, ""))
+            self.assertEqual(self.build_sys(room, SPKI_LIB_DIR=self.folder), (0, ""))
             for name in ("libspki_c.a", "libspki_c.so"):
                 os.symlink(os.path.join(self.folder, name), os.path.join(empty, name))
-            self.assertEqual(self.builds(room, SPKI_LIB_DIR=empty, SPKI_SHARED="1"), (0, ""))
+            self.assertEqual(self.build_sys(room, SPKI_LIB_DIR=empty, SPKI_SHARED="1"), (0, ""))
 
     @needs.needs("pkg-config")
     def test_versions_of_pkg_config(self):
@@ -498,14 +499,14 @@ class InRust(Binding):
                 os.mkdir(folder)
                 with open(os.path.join(folder, "spki.pc"), "w", encoding="ascii") as file:
                     file.write(f"Name: spki\nDescription: spki\nVersion: {version}\nLibs: -L{self.folder} -lspki_c\n")
-                status, said = self.builds(room, PKG_CONFIG_PATH=folder)
+                status, said = self.build_sys(room, PKG_CONFIG_PATH=folder)
                 self.assertEqual(status == 0, is_built, f"{version}: {said}")
 
     @needs.needs("pkg-config")
     def test_another_target(self):
         """For another target a library of its system is linked, and none of the host."""
         with tempfile.TemporaryDirectory() as room:
-            self.assertEqual(self.builds(room, SPKI_LIB_DIR=self.folder), (0, ""))
+            self.assertEqual(self.build_sys(room, SPKI_LIB_DIR=self.folder), (0, ""))
             script, = glob.glob(os.path.join(room, "debug", "build", "spki-sys-*", "build-script-build"))
             system = os.path.join(room, "system")
             folder = os.path.join(system, "usr", "lib")

@@ -19,6 +19,7 @@ HEAD = re.compile(r"(?:impl|pub trait)\b.*\{$")
 
 
 def page_of(crate):
+    """The text of a crate's CALLING.md, empty if it has none."""
     path = f"crates/{crate}/CALLING.md"
     return text_of(path) if os.path.exists(os.path.join(ROOT, path)) else ""
 
@@ -32,12 +33,12 @@ def path_in(crate, path):
 
 
 def owner_of(head):
-    """The type of an `impl`, or the trait."""
+    """The name of the type or trait in the first line of an `impl` or a trait."""
     return re.match(r"(?:impl(?:<.*?>)?(?: \w+ for)?|pub trait) (\w+)", head)[1]
 
 
 def calls_in(source):
-    """The public calls of a source: each one's type or trait, where it has one, and its name."""
+    """The public calls of a source: each one's type or trait, or None, and its name."""
     owner, is_trait = None, False
     for line in source.splitlines():
         if HEAD.match(line):
@@ -51,7 +52,7 @@ def calls_in(source):
 
 @functools.cache
 def calls_at(crate):
-    """The public calls of a crate's sources: each one's file, its type or trait, where it has one, and its name."""
+    """The public calls of a crate's sources: each one's file, its type or trait, or None, and its name."""
     paths = [os.path.relpath(file, ROOT) for file in glob.glob(os.path.join(ROOT, "crates", crate, "src", "*.rt"))]
     return [(path, owner, name) for path in paths for owner, name in calls_in(text_of(path))]
 

@@ -39,7 +39,7 @@ def examples() -> list[CallRow]:
 
 
 def rank(row: CallRow) -> tuple[bool, int]:
-    """Which of two rows is the better example."""
+    """How good an example a row is: the greater the value, the better."""
     return row.place.startswith(BY_CERTIFICATE), len(row.answer)
 
 
@@ -60,7 +60,7 @@ class OfCalls(unittest.TestCase):
 
     @classmethod
     def setUpClass(cls) -> None:
-        said = call_rows.answers(built.there(cls.path), cls.rows.values())
+        said = call_rows.answers(built.existing(cls.path), cls.rows.values())
         cls.answers = dict(zip(cls.rows, said))
 
     def is_answered(self, name: str) -> None:

@@ -50,18 +50,20 @@ needs_ssh = needs.needs("ssh-keygen")
 
 
 def quiet(*words, **settings):
+    """The output of a command, which must end with status 0."""
     return subprocess.run(words, check=True, stdout=subprocess.PIPE, stderr=subprocess.PIPE, **settings).stdout
 
 
 def ended_by(call):
-    """The status with which a call ends the program."""
+    """Calls a function. Returns the status by which it ends the program, or else its result."""
     try:
         return call()
     except SystemExit as end:
         return end.code
 
 
-def text_in(path):
+def octets_in(path):
+    """The octets of a file."""
     with open(path, "rb") as file:
         return file.read()
 
@@ -77,9 +79,11 @@ class Case(unittest.TestCase):
             self.settings.pop(name, None)
 
     def entered(self):
+        """A new folder, which is removed after the test: before Python 3.11 there is no `enterContext`."""
         return room_for(self)
 
     def at(self, name):
+        """The path of a file in the folder."""
         return os.path.join(self.room, name)
 
     def write(self, name, text):
@@ -87,7 +91,8 @@ class Case(unittest.TestCase):
             file.write(text.encode() if isinstance(text, str) else text)
 
     def done(self, *words, wanted=0, **more):
-        """What the command writes on both streams in the folder. It must end with a status. It runs in this process, which takes less time."""
+        """Runs `spki-cert` in the folder, within this process, which takes less time. It must end with the status `wanted`. Returns what it writes on
+        both streams. `more` are settings of the environment."""
         said, before = io.TextIOWrapper(io.BytesIO(), write_through=True), os.getcwd()
         os.chdir(self.room)
         try:
@@ -101,14 +106,16 @@ class Case(unittest.TestCase):
         return text
 
     def ssh_key(self, name, kind="ed25519", passphrase=""):
+        """Makes a key of OpenSSH in the folder."""
         quiet("ssh-keygen", "-q", *TYPES[kind], "-N", passphrase, "-C", name, "-f", self.at(name))
 
     def pem_key(self, name, kind, *encryption):
+        """Makes a key in PEM in the folder. `encryption` are options of openssl."""
         quiet("openssl", "genpkey", "-algorithm", *PEM_TYPES[kind], *encryption, "-out", self.at(name))
 
     def verified(self, name):
         """The certificates of a sequence. Each must be signed by its issuer, as `cryptography` verifies."""
-        sequence = value_in(text_in(self.at(name))).value
+        sequence = value_in(octets_in(self.at(name))).value
         found = certificates_in(sequence)
         for each in found:
             self.assertIsNone(fault_of_signature(each, Keys(keys_in(sequence))), name)
@@ -144,7 +151,7 @@ class OfKeys(Case):
     def test_pkcs1_is_read(self):
         self.pem_key("key.pem", "rsa")
         quiet("openssl", "rsa", "-traditional", "-in", self.at("key.pem"), "-out", self.at("old.pem"))
-        self.assertIn(b"BEGIN RSA PRIVATE KEY", text_in(self.at("old.pem")))
+        self.assertIn(b"BEGIN RSA PRIVATE KEY", octets_in(self.at("old.pem")))
         self.assertEqual(self.done("key", "old.pem"), self.done("key", "key.pem"))
 
     def test_private_keys_of_libgcrypt_are_read(self):
@@ -190,13 +197,13 @@ class OfKeys(Case):
             self.done("key", "new", "--no-passphrase", "--type", kind, kind)
             self.assertEqual(stat.S_IMODE(os.stat(self.at(kind)).st_mode), 0o600)
             public = quiet("ssh-keygen", "-y", "-f", self.at(kind)).split()[:2]
-            self.assertEqual(public, text_in(self.at(f"{kind}.pub")).split()[:2])
+            self.assertEqual(public, octets_in(self.at(f"{kind}.pub")).split()[:2])
         self.done("key", "new", "--no-passphrase", "--pem", "pem")
         self.assertEqual(self.done("key", "pem"), self.done("key", "pem.pub"))
-        self.assertIn(b"BEGIN PRIVATE KEY", text_in(self.at("pem")))
-        before = text_in(self.at("rsa"))
+        self.assertIn(b"BEGIN PRIVATE KEY", octets_in(self.at("pem")))
+        before = octets_in(self.at("rsa"))
         self.assertIn("there already", self.done("key", "new", "--no-passphrase", "rsa", wanted=2))
-        self.assertEqual(text_in(self.at("rsa")), before)
+        self.assertEqual(octets_in(self.at("rsa")), before)
 
     @needs_ssh
     def test_json(self):
@@ -327,10 +334,10 @@ class OfCertificates(Case):
         self.assertTrue(self.done("entry", "--to", "bob.pub", "--tag", TAG).startswith("(entry"))
         said = self.done("entry", "--to", "alice.pub", "--tag", TAG, "--propagate", "--acl", "acl.sexp")
         self.assertEqual(said, "made acl.sexp\nentries added: 1\n")
-        before = text_in(self.at("acl.sexp")).replace(b"(tag", b"\n\n  (tag")
+        before = octets_in(self.at("acl.sexp")).replace(b"(tag", b"\n\n  (tag")
         self.write("acl.sexp", before)
         self.done("entry", "--to", "bob.pub", "--named", "team", "--tag", TAG, "--days", "9", "--comment", "the team", "--acl", "acl.sexp")
-        self.assertTrue(text_in(self.at("acl.sexp")).startswith(before.rstrip()[:-1]))
+        self.assertTrue(octets_in(self.at("acl.sexp")).startswith(before.rstrip()[:-1]))
         self.done("check", "acl.sexp")
         os.chmod(self.at("acl.sexp"), 0o640)
         os.symlink("acl.sexp", self.at("link.sexp"))
@@ -341,7 +348,7 @@ class OfCertificates(Case):
             self.assertIn(words, said)
         self.write("acl.tsexp", "{" + base64.b64encode(sexp.canonical(value_in(before).value)).decode() + "}")
         self.done("entry", "--to", self.done("key", "--hash", "bob.pub"), "--tag", TAG, "--acl", "acl.tsexp")
-        self.assertEqual(len(value_in(text_in(self.at("acl.tsexp"))).value), 3)
+        self.assertEqual(len(value_in(octets_in(self.at("acl.tsexp"))).value), 3)
 
     def test_entries_are_removed(self):
         """The entries for a subject, by its key or its hash, and no other: what is around them stays."""
@@ -368,7 +375,7 @@ class OfCertificates(Case):
                 (("entry", "--to", "(name team)", "--tag", TAG), 2, "--to KEY --named NAME"), ((*to, "--tag", "(a"), 2, "a `)` is missing")]:
             with self.subTest(said):
                 self.assertIn(said, self.done(*words, *into, wanted=status))
-                self.assertEqual(text_in(self.at("acl.sexp")), b"(acl)")
+                self.assertEqual(octets_in(self.at("acl.sexp")), b"(acl)")
         self.done(*to, "--tag", "(*)", "--yes", *into)
         self.write("acl.sexp", "(acl")
         self.assertIn("acl.sexp: refused", self.done(*to, "--tag", TAG, *into, wanted=2))
@@ -379,7 +386,7 @@ class OfCertificates(Case):
         self.assertIn("nothing was written", self.sign("--days", "1", "-o", "folder", wanted=2))
         self.assertIn("nothing was written", self.sign("--days", "1", "-o", "none/c.sexp", wanted=2))
         self.sign("-o", "c.sexp", wanted=4)
-        self.assertEqual(text_in(self.at("c.sexp")), b"before")
+        self.assertEqual(octets_in(self.at("c.sexp")), b"before")
         self.assertEqual([name for name in os.listdir(self.room) if name.startswith(".spki")], [])
 
     def test_show_says_who_and_until_when(self):
@@ -390,13 +397,13 @@ class OfCertificates(Case):
         self.assertIn("ENDED", self.done("show", "--at", "2027-01-01", "c.sexp"))
         row, = json.loads(self.done("show", "--json", "--labels", "bob.pub", "c.sexp"))[0]["shows"]
         self.assertEqual((row["subject"], row["delegates"], row["fault"]), ("bob", True, None))
-        changed = text_in(self.at("c.sexp")).replace(b"(propagate)", b"")
+        changed = octets_in(self.at("c.sexp")).replace(b"(propagate)", b"")
         self.write("changed.sexp", changed)
         self.assertIn("DigestDiffers", self.done("show", "changed.sexp"))
         self.write("c.tsexp", self.done("show", "--braces", "c.sexp"))
-        self.assertEqual(*(value_in(text_in(self.at(name))).value for name in ("c.sexp", "c.tsexp")))
+        self.assertEqual(*(value_in(octets_in(self.at(name))).value for name in ("c.sexp", "c.tsexp")))
         self.done("show", "--svg", "c.svg", "c.sexp")
-        self.assertIn(b"(* prefix /web/))", text_in(self.at("c.svg")))
+        self.assertIn(b"(* prefix /web/))", octets_in(self.at("c.svg")))
 
 
 class OfMistakes(Case):
@@ -449,7 +456,7 @@ class OfMistakes(Case):
 
 
 def used_since(before):
-    """The processor's seconds of the programs that were run since then."""
+    """The processor seconds of the programs that have ended since `before`, a result of `os.times`."""
     after = os.times()
     return after.children_user + after.children_system - before.children_user - before.children_system
 
@@ -539,7 +546,7 @@ class OfAnswers(Case):
         folder = self.at("story")
         os.mkdir(folder)
         path = os.path.join(TOP, "examples", "builds", "story.sh")
-        self.assertLessEqual(len(text_in(path).splitlines()), 40)
+        self.assertLessEqual(len(octets_in(path).splitlines()), 40)
         status, said = output_of(path, folder, env=self.in_the_path(), seconds=SECONDS)
         self.assertEqual(status, 0, said)
         answers = [line.split(":")[0] for line in said.splitlines() if line.startswith(("yes:", "no:"))]
@@ -570,10 +577,10 @@ class OfAnswers(Case):
             self.assertIn(words, self.done(*asks, *more, *request, wanted=0 if "grants" in words else 1))
         self.done(*asks, "--save", "case.sexp", "--svg", "x.svg", *request)
         self.assertIn("so entry 1 grants it", self.done("ask", "--case", "case.sexp"))
-        self.assertIn(b"yes entry 1", text_in(self.at("x.svg")))
+        self.assertIn(b"yes entry 1", octets_in(self.at("x.svg")))
         self.assertEqual(json.loads(self.done(*asks, "--json", *request))["entry"], 1)
         self.certificates_are_picked(asks[:-1], request)
-        changed = text_in(self.at("chain.sexp")).replace(b"(packages read)", b"(packages write)")
+        changed = octets_in(self.at("chain.sexp")).replace(b"(packages read)", b"(packages write)")
         self.write("chain.sexp", changed)
         self.assertIn("DigestDiffers", self.done(*asks, *request, wanted=1))
         self.assertIn("NotTheKey", self.done("ask", "--acl", "acl.sexp", "--key", "bob.pub", *request[1:], wanted=1))
@@ -703,7 +710,7 @@ int main(int count, char **words)
             self.assertTrue(os.path.exists(self.at(f"target/{name}")), name)
 
     def test_it_has_one_version(self):
-        self.assertIn(f'version = "{version()}"', text_in(os.path.join(TOP, "apps", "spki-cert", "pyproject.toml")).decode())
+        self.assertIn(f'version = "{version()}"', octets_in(os.path.join(TOP, "apps", "spki-cert", "pyproject.toml")).decode())
 
 
 def into(name):
@@ -712,11 +719,11 @@ def into(name):
 
 
 def version():
-    return text_in(os.path.join(TOP, "VERSION")).decode().strip()
+    return octets_in(os.path.join(TOP, "VERSION")).decode().strip()
 
 
 def data_for_libgcrypt(kind, message):
-    """What libgcrypt verifies a signature of."""
+    """The S-expression of a message for libgcrypt, which verifies a signature of it by a kind of key."""
     import hashlib
     digest, longer = [b"hash", b"sha256", hashlib.sha256(message).digest()], [b"hash", b"sha384", hashlib.sha384(message).digest()]
     return {"ed25519": [b"data", [b"flags", b"eddsa"], [b"hash-algo", b"sha512"], [b"value", message]],

@@ -23,6 +23,7 @@ class Text(bytes):
     """Octets that count how many of them are looked through."""
 
     def seen(self, octets: int) -> None:
+        """Counts octets as looked through."""
         SEEN[0] += octets
 
     def rfind(self, part: bytes, begin: int = 0, end: int | None = None) -> int:  # type: ignore[override]
@@ -47,7 +48,7 @@ class Text(bytes):
 
 @contextmanager
 def counted() -> Iterator[None]:
-    """Counts steps in SEEN meanwhile."""
+    """A context that sets SEEN to 0 and counts steps there: lines of `spki_cert_tool` that run, and octets that are serialized."""
     from spki_cert_tool import asking, certificates, checking, making, sexp
 
     def trace(frame, event, _):
@@ -133,8 +134,8 @@ CHECKED = [members_behind_a_long_line, entries_that_ended, long_display, hashes_
 class OfCheck(unittest.TestCase):
     """`check`, which reads a text, says what is probably a mistake, and verifies."""
 
-    def steps(self, work: Callable[[int], None]) -> None:
-        """The steps of a work with four times the parts must be at most five times as many."""
+    def grows_linearly(self, work: Callable[[int], None]) -> None:
+        """`work(parts)` must take at most MOST_TIMES as many steps for TIMES as many parts."""
         met = []
         for parts in (FEW, FEW * TIMES):
             with counted():
@@ -149,14 +150,14 @@ class OfCheck(unittest.TestCase):
             texts = {parts: Text(make(parts)) for parts in (FEW, FEW * TIMES)}
             read = checking.remarks_on_key_file if make is keys_in_lines else lambda path, octets: checking.remarks_on_text(path, octets, NOW)
             with self.subTest(make.__name__):
-                self.steps(lambda parts: read("text", texts[parts]) and None)
+                self.grows_linearly(lambda parts: read("text", texts[parts]) and None)
 
     def test_removed_entries(self) -> None:
         """The entries of a list are removed in one pass."""
         from spki_cert_tool import making
         entry, other = (b"\n (entry %s (tag (ftp)))" % canonical(key(name)) for name in "ab")
         lists = {parts: Text(b"(acl" + (entry + other) * parts + b")") for parts in (FEW, FEW * TIMES)}
-        self.steps(lambda parts: making.list_without(key("a"), lists[parts]) and None)
+        self.grows_linearly(lambda parts: making.list_without(key("a"), lists[parts]) and None)
         text, gone = making.list_without(key("a"), lists[FEW])
         self.assertEqual((text, len(gone)), (b"(acl" + other * FEW + b")", FEW))
 
@@ -200,7 +201,7 @@ class OfAsk(unittest.TestCase):
     """The search for chains."""
 
     def found(self, pairs, entries, holder, most=20_000):
-        """The chains of certificates for pairs of issuers and subjects, and the steps."""
+        """The chains that are found from entries to a holder, and the steps. `pairs` are the issuers and subjects of the certificates."""
         from spki_cert_tool import certificates
         given = [certificates.Signed(certificates.terms_of(certificate(*pair)), b"", 1) for pair in pairs]
         steps = certificates.Steps(most)

@@ -56,7 +56,7 @@ NO_ROWS = b"(accepted)"
 
 
 def as_library(command, answer):
-    """What the library answers where the program answers so: yes and no are answered by decisions alone."""
+    """The library's answer to a command, by its number, given the program's. Only decisions return GRANTED or NO; other calls return DONE."""
     status, octets = answer
     if status > NO:
         return answer
@@ -86,8 +86,8 @@ def questions_of_tables():
 
 
 def rows_apart(program, answered):
-    """Of each case that the program decides: its rows apart, beside a case without rows and beside the case with its own; and no
-    rows beside the case with its own, which are not to be asked then."""
+    """Three questions for each case that the program decides: its rows apart, beside the case without rows and beside the whole case; and no rows
+    beside the whole case, whose own rows must not count then."""
     cases = {text for (_, command, text, _), (status, _) in answered if COMMANDS[command] == "check" and status in (NO, GRANTED)}
     for text in sorted(cases, key=lambda each: (len(each), each)):
         whole = read(run(program, "canonical", text)[1])
@@ -138,7 +138,7 @@ def worked_rows():
 
 
 def answers_of(words, questions):
-    """The status of `clibrary.c`, what it says, and its answers."""
+    """Runs `clibrary.c` by these words on questions. Returns its status, what it writes to standard error, and its answers."""
     given = b"".join(b"%d %d %d\n%s%s" % (command, len(text), len(rows), text, rows) for (_, command, text, rows), _ in questions)
     done = subprocess.run(words, input=given, capture_output=True, timeout=SECONDS)
     answers, at = [], 0
@@ -150,8 +150,8 @@ def answers_of(words, questions):
     return done.returncode, done.stderr.decode(errors="replace"), answers
 
 
-def otherwise(words, questions):
-    """What is wrong with the answers of `clibrary.c`, or nothing."""
+def faults_of_answers(words, questions):
+    """A text with what is wrong with the answers of `clibrary.c`, empty if nothing is. `words` start it."""
     status, said, answers = answers_of(words, questions)
     if status or len(answers) != len(questions):
         return f"status {status} after {len(answers)} of {len(questions)} answers: {said[-2000:]}"
@@ -186,8 +186,8 @@ def worked_question():
     return [case[at[0]:at[1]].strip(), case[at[2]:at[3]].strip(), case[at[3]:at[4]].strip()[len("(key "):-1]]
 
 
-def beside(shared):
-    """The word for the linker that lets a program find a shared object in its folder."""
+def rpath_to(shared):
+    """The word for the compiler by which a program finds a shared object in its folder."""
     return f"-Wl,-rpath,{os.path.dirname(shared)}"
 
 
@@ -199,7 +199,7 @@ def asked_of(program):
 
 
 def short_of(program):
-    """The short questions, which slow ways are asked."""
+    """The short questions, for ways of asking that are slow."""
     files, _, apart = asked_of(program)
     return [each for each in files + apart if len(each[0][2]) + len(each[0][3]) <= SHORT] + list(worked_rows())[:8]
 
@@ -229,10 +229,10 @@ class OfC(built.OfLibrary):
         shutil.copy(cls.shared, link)
         os.symlink(link, os.path.join(cls.room, soname_of(cls.shared)))
         cls.shared = link
-        cls.linking = {"static": [cls.library], "shared": [cls.shared, beside(cls.shared)]}
+        cls.linking = {"static": [cls.library], "shared": [cls.shared, rpath_to(cls.shared)]}
 
     def compiled(self, source, library, *more):
-        """A program in C, compiled with a library."""
+        """Compiles a program of tests/programs/ with a library, `static` or `shared`, once. Returns its path."""
         to = os.path.join(self.room, f"{source}-{library}-{len(more)}")
         if not os.path.exists(to):
             words = [f"{self.prefix}gcc" if self.prefix else "cc", *STRICT, *more, "-o", to, os.path.join(TESTS, "programs", source)]
@@ -240,14 +240,15 @@ class OfC(built.OfLibrary):
             self.assertTrue(is_compiled(*words), f"{source} is not compiled")
         return to
 
-    def answers(self, questions, library, *more, by=(), threads=2, refusals=0):
-        """The answers to questions must be those that are wanted."""
+    def check_answers(self, questions, library, *more, by=(), threads=2, refusals=0):
+        """`clibrary.c` must give the wanted answers to questions, in so many threads. `by` are the words before the program, and with refusals it
+        refuses requests for memory."""
         print(f"{len(questions)} questions")
-        fault = otherwise([*self.by, *by, self.compiled("clibrary.c", library, *more), str(threads), str(refusals)], questions)
+        fault = faults_of_answers([*self.by, *by, self.compiled("clibrary.c", library, *more), str(threads), str(refusals)], questions)
         self.assertEqual(fault, "", fault)
 
     def has_its_symbols(self, library, *words):
-        """A library must give the calls of the header and no other symbol, and need only what is known."""
+        """A library must define the calls of the header and no other symbol, and need only symbols of NEEDED. `words` are options of `nm`."""
         nm = f"{self.prefix}nm"
         # (the version of the calls is a symbol too)
         given = {name for name in symbols(library, *words, "--defined-only", "--extern-only", nm=nm) if not name.startswith("SPKI_")}
@@ -256,16 +257,16 @@ class OfC(built.OfLibrary):
         needed = {name for name in symbols(library, *words, "--undefined-only", nm=nm) if not name.startswith(WEAK)}
         self.assertLessEqual(needed, NEEDED)
 
-    def holds(self, source, library, *more, by=(), words=()):
-        """A program that asks as the header says must find nothing wrong, with a library."""
+    def check_program(self, source, library, *more, by=(), words=()):
+        """A program in C that checks the library itself must end with status 0. `by` are the words before it, `words` those behind it."""
         words = [*self.by, *by, self.compiled(source, library, *more), *words]
         done = subprocess.run(words, capture_output=True, text=True, timeout=SECONDS)
         self.assertEqual(done.returncode, 0, f"{' '.join(words)[:300]}: {done.stderr[-2000:]}")
 
-    def holds_guards(self, library, *more, by=(), threads=THREADS, refusals=0):
+    def check_guards(self, library, *more, by=(), threads=THREADS, refusals=0):
         """Guards must do as the header says, and misuse must be seen."""
-        self.holds("cguard.c", library, *more, by=by, words=[str(threads), str(refusals), *worked_question()])
-        self.holds("misuse.c", library, *more, by=by)
+        self.check_program("cguard.c", library, *more, by=by, words=[str(threads), str(refusals), *worked_question()])
+        self.check_program("misuse.c", library, *more, by=by)
 
 
 class Links(OfC):
@@ -277,52 +278,52 @@ class Links(OfC):
     def test_symbols_of_the_shared_object(self):
         self.has_its_symbols(self.shared, "--dynamic")
 
-    def links(self, *words):
+    def check_linking(self, *words):
         """`linked.c` must be compiled and linked in each way, and end with 0."""
         other, to = os.path.join(self.room, "libother.a"), os.path.join(self.room, "linked")
         renamed = [f"--redefine-sym={name}=other_{name}" for name in calls_of_header()]
         subprocess.run(["objcopy", *renamed, self.library, other], check=True)
-        by_name = ["-L", os.path.dirname(self.shared), "-lspki_c", beside(self.shared)]
+        by_name = ["-L", os.path.dirname(self.shared), "-lspki_c", rpath_to(self.shared)]
         for way, flags, more in (("static", [], [self.library]), ("shared", [], by_name), ("two archives", ["-DOTHER"], [self.library, other])):
             with self.subTest(way):
                 made = is_compiled(*words, *WARNINGS, *flags, "-o", to, os.path.join(TESTS, "programs", "linked.c"), "-x", "none", *more)
                 self.assertTrue(made and subprocess.run([to], timeout=SECONDS).returncode == 0)
 
     def test_c11(self):
-        self.links("cc", "-std=c11")
+        self.check_linking("cc", "-std=c11")
 
     @needs.needs("g++")
     def test_cpp17(self):
-        self.links("g++", "-std=c++17", "-x", "c++")
+        self.check_linking("g++", "-std=c++17", "-x", "c++")
 
 
 class Answers(OfC):
     """`clibrary.c`: the answers to texts."""
 
     def test_files(self):
-        self.answers(asked_of(self.program)[0], "static", threads=THREADS, refusals=REFUSALS)
+        self.check_answers(asked_of(self.program)[0], "static", threads=THREADS, refusals=REFUSALS)
 
     def test_tables(self):
-        self.answers(asked_of(self.program)[1], "static", threads=THREADS, refusals=REFUSALS)
+        self.check_answers(asked_of(self.program)[1], "static", threads=THREADS, refusals=REFUSALS)
 
     def test_rows_apart(self):
-        self.answers(asked_of(self.program)[2], "static", threads=THREADS, refusals=REFUSALS)
+        self.check_answers(asked_of(self.program)[2], "static", threads=THREADS, refusals=REFUSALS)
 
     def test_worked_rows(self):
-        self.answers(list(worked_rows()), "static", threads=THREADS, refusals=REFUSALS)
+        self.check_answers(list(worked_rows()), "static", threads=THREADS, refusals=REFUSALS)
 
     def test_shared(self):
-        self.answers(short_of(self.program), "shared")
+        self.check_answers(short_of(self.program), "shared")
 
 
 class UnderAddressSanitizer(OfC):
     """The answers to short questions of each library, under AddressSanitizer."""
 
     def test_static(self):
-        self.answers(short_of(self.program), "static", *SANITIZED, threads=0, refusals=REFUSALS)
+        self.check_answers(short_of(self.program), "static", *SANITIZED, threads=0, refusals=REFUSALS)
 
     def test_shared(self):
-        self.answers(short_of(self.program), "shared", *SANITIZED, threads=0)
+        self.check_answers(short_of(self.program), "shared", *SANITIZED, threads=0)
 
 
 @needs.needs("valgrind")
@@ -330,7 +331,7 @@ class StaticUnderValgrind(OfC):
     """The answers of the static library to short questions, under valgrind."""
 
     def test_answers(self):
-        self.answers(short_of(self.program), "static", by=VALGRIND, refusals=REFUSALS)
+        self.check_answers(short_of(self.program), "static", by=VALGRIND, refusals=REFUSALS)
 
 
 @needs.needs("valgrind")
@@ -338,7 +339,7 @@ class SharedUnderValgrind(OfC):
     """The answers of the shared library to short questions, under valgrind."""
 
     def test_answers(self):
-        self.answers(short_of(self.program), "shared", by=VALGRIND)
+        self.check_answers(short_of(self.program), "shared", by=VALGRIND)
 
 
 class Guards(OfC):
@@ -415,18 +416,19 @@ class Until(OfC):
 class Swapped(OfC):
     """`swapped.c`: a guard is changed while threads ask it, by a lock for reading and writing."""
 
-    def is_swapped(self, *by):
+    def check_swapping(self, *by):
+        """`swapped.c` must end with status 0 and write nothing. `by` are the words before it."""
         to = os.path.join(self.room, "swapped")
         self.assertTrue(is_compiled("cc", *STRICT, "-o", to, os.path.join(TESTS, "programs", "swapped.c"), self.library), "swapped.c is not compiled")
         done = subprocess.run([*by, to], stdout=subprocess.PIPE, stderr=subprocess.STDOUT, text=True, timeout=SECONDS)
         self.assertEqual((done.returncode, done.stdout), (0, ""))
 
     def test_threads(self):
-        self.is_swapped()
+        self.check_swapping()
 
     @needs.needs("valgrind")
     def test_threads_under_helgrind(self):
-        self.is_swapped(*HELGRIND)
+        self.check_swapping(*HELGRIND)
 
 
 @needs.needs(*needs.LIBRARY)
@@ -438,8 +440,8 @@ class Structures(unittest.TestCase):
              ("the most octets of the answer */\n", "the most octets of the answer */\n    size_t later;\n"),
              ("past the year 9999 */\n};", "past the year 9999 */\n    const void *later;\n};"))
 
-    def reads(self, *changes):
-        """spki.c with a header that is changed reads what it should."""
+    def check_structures(self, *changes):
+        """`later.c` must find nothing wrong with spki.c, compiled with a header that has these changes, each an old and a new text."""
         with tempfile.TemporaryDirectory() as room:
             header = text_of(os.path.join("crates", "spki_c", "spki.h"))
             for old, new in changes:
@@ -455,17 +457,17 @@ class Structures(unittest.TestCase):
             self.assertEqual((done.returncode, done.stdout), (0, ""))
 
     def test_of_other_headers(self):
-        self.reads()
+        self.check_structures()
 
     def test_by_a_later_library(self):
-        self.reads(*self.LATER)
+        self.check_structures(*self.LATER)
 
 
 @needs.needs(*needs.FUZZER)
 class Fuzzed(OfC):
     """`fuzz/calls.c`: the answers to fuzzed parts, through an spki.c that is checked as well."""
 
-    def is_fuzzed(self, *flags):
+    def check_fuzzing(self, *flags):
         """Fuzzing must find nothing. What it finds is kept in tests/out/."""
         to, folder, kept = (os.path.join(*words) for words in ((self.room, "fuzz"), (TESTS, "fuzz"), (TESTS, "out")))
         sources = [os.path.join(folder, "calls.c"), *(os.path.join(CRATE, name) for name in ("spki.c", "heap.c"))]
@@ -478,10 +480,10 @@ class Fuzzed(OfC):
         self.assertEqual(done.returncode, 0, done.stdout[-4000:])
 
     def test_corpus(self):
-        self.is_fuzzed("-runs=0")
+        self.check_fuzzing("-runs=0")
 
     def test_for_ten_minutes(self):
-        self.is_fuzzed(f"-max_total_time={FUZZ_SECONDS}", "-rss_limit_mb=2048")
+        self.check_fuzzing(f"-max_total_time={FUZZ_SECONDS}", "-rss_limit_mb=2048")
 
 
 if not built.IS_LONG:
@@ -503,16 +505,16 @@ class OnArm(OfC):
         self.has_its_symbols(self.shared, "--dynamic")
 
     def test_static(self):
-        self.answers(short_of(self.program), "static", refusals=REFUSALS)
+        self.check_answers(short_of(self.program), "static", refusals=REFUSALS)
 
     def test_shared(self):
-        self.answers(short_of(self.program), "shared")
+        self.check_answers(short_of(self.program), "shared")
 
     def test_guards_of_static(self):
-        self.holds_guards("static", refusals=REFUSALS)
+        self.check_guards("static", refusals=REFUSALS)
 
     def test_guards_of_shared(self):
-        self.holds_guards("shared")
+        self.check_guards("shared")
 
 
 def add_ways():
@@ -520,10 +522,10 @@ def add_ways():
     library itself."""
     valgrind = needs.needs("valgrind")
     for library, refused in (("static", REFUSALS), ("shared", 0)):
-        ways = {"": lambda self, it=library, most=refused: self.holds_guards(it, refusals=most),
-                "_under_address_sanitizer": lambda self, it=library, most=refused: self.holds_guards(it, *SANITIZED, refusals=most),
-                "_under_valgrind": valgrind(lambda self, it=library, most=refused: self.holds_guards(it, by=VALGRIND, threads=2, refusals=most)),
-                "_under_helgrind": valgrind(lambda self, it=library: self.holds_guards(it, by=HELGRIND))}
+        ways = {"": lambda self, it=library, most=refused: self.check_guards(it, refusals=most),
+                "_under_address_sanitizer": lambda self, it=library, most=refused: self.check_guards(it, *SANITIZED, refusals=most),
+                "_under_valgrind": valgrind(lambda self, it=library, most=refused: self.check_guards(it, by=VALGRIND, threads=2, refusals=most)),
+                "_under_helgrind": valgrind(lambda self, it=library: self.check_guards(it, by=HELGRIND))}
         for way, test in ways.items():
             setattr(Guards, f"test_{library}{way}", test)
 

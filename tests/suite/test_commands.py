@@ -61,7 +61,8 @@ def statuses_of(lines: Iterable[str]) -> str:
 
 
 def faults_in(lines: list[str], said: str) -> list[str]:
-    """The commands that ended otherwise than they must, by what a script of `statuses_of` wrote. A remark at the end of one is its answer."""
+    """A line for each command that ended otherwise than it must, by what a script of `statuses_of` wrote. A remark at the end of a command is what
+    it must write."""
     parts = STATUS.split(said)
     found = dict(zip(range(len(lines)), zip(parts[::2], map(int, parts[1::2]))))
     faults = []
@@ -90,41 +91,41 @@ class InACopy(built.OfLibrary):
         copied(os.path.join(cls.room, "clone"), (it for it in tracked() if it.startswith(("apps", "bindings/python", "examples", "crates/spki_c"))))
         put_built(os.path.join(cls.room, "clone"))
 
-    def said(self, folder: str, script: str) -> str:
-        """What a shell writes in a folder."""
+    def output(self, folder: str, script: str) -> str:
+        """Runs a script in a folder, with an empty home. Returns what it writes."""
         home = tempfile.mkdtemp(dir=self.room)
         commands = [os.path.dirname(sys.executable), os.path.join(self.room, "clone", "apps", "spki-cert"), "/usr/bin", "/bin"]
         return output_of("sh", text=script, cwd=folder, env={"HOME": home, "PATH": ":".join(commands)}, seconds=SECONDS)[1]
 
-    def is_right(self, folder: str, page: str, lines: list[str]) -> None:
-        """Commands must end as they are to, after what their page takes as there."""
-        said = self.said(folder, BEFORE.get(page, "") + f"echo '{END}' 0\n" + statuses_of(lines))
+    def check_lines(self, folder: str, page: str, lines: list[str]) -> None:
+        """Commands must end as they are to. Before them is made what their page presupposes."""
+        said = self.output(folder, BEFORE.get(page, "") + f"echo '{END}' 0\n" + statuses_of(lines))
         self.assertEqual(faults_in(lines, STATUS.split(said, maxsplit=1)[-1]), [])
 
     def test_examples(self) -> None:
         """Those of examples/README.md that no list leaves out, each block in a shell of its own."""
         for block in page_commands.indented_blocks(text_of("examples/README.md")):
             each = [Command("examples/README.md", "indented", line) for line in block.splitlines()]
-            lines = [it.line for it in each if not any(page_commands.is_about(row, it) for row in NOT_RUN)]
+            lines = [it.line for it in each if not any(page_commands.covers(row, it) for row in NOT_RUN)]
             with self.subTest(block):
-                self.is_right(os.path.join(self.room, "clone"), "examples/README.md", lines)
+                self.check_lines(os.path.join(self.room, "clone"), "examples/README.md", lines)
 
     def test_peers(self) -> None:
         """Those of docs/PEERS.md."""
         lines = [line for block in page_commands.indented_blocks(text_of("docs/PEERS.md")) for line in block.splitlines()]
-        self.is_right(tempfile.mkdtemp(dir=self.room), "docs/PEERS.md", lines)
+        self.check_lines(tempfile.mkdtemp(dir=self.room), "docs/PEERS.md", lines)
 
     def test_help(self) -> None:
         """The examples of the help, each where what it reads is there, and what it writes is not."""
         made = os.path.join(self.room, "made")
         os.mkdir(made)
-        self.is_right(made, "help", [])
+        self.check_lines(made, "help", [])
         for number, it in enumerate(page_commands.commands_of_help()):
             with self.subTest(it.line):
                 folder, written = os.path.join(self.room, f"help-{number}"), re.search(r" (?:-o|entry .* --acl) (\S+)", it.line)
                 shutil.copytree(made, folder)
                 before = "mkdir ~/.ssh; ssh-keygen -q -t ed25519 -N '' -f ~/.ssh/id_ed25519" + (f"; rm -f {written[1]}" if written else "")
-                self.is_right(folder, "", [before, it.line])
+                self.check_lines(folder, "", [before, it.line])
 
 
 # ---- on machines that have what a page names
@@ -153,7 +154,7 @@ IN_CLONE = re.compile(r"python3 -m venv .*")
 
 
 def put_key(room: str) -> str:
-    """The commands that put a new key of OpenSSH where people have theirs."""
+    """Makes a key of OpenSSH in a folder. Returns the commands that write it into ~/.ssh."""
     path = os.path.join(room, "id_ed25519")
     subprocess.run(["ssh-keygen", "-q", "-t", "ed25519", "-N", "", "-f", path], check=True)
     lines = ["mkdir -m 700 ~/.ssh", "umask 077"]
@@ -167,23 +168,23 @@ def put_key(room: str) -> str:
 class OnMachines(built.OfLibrary):
     """The commands of a page where there is what the page names, and nothing else."""
 
-    def said(self, machine: Machine, by_root: str, script: str) -> str:
-        """What the commands of a page write on a machine of its own."""
+    def output(self, machine: Machine, by_root: str, script: str) -> str:
+        """What a script of root and one of the user write on a machine that has what a page names."""
         packages = sorted({*machines.packages_of(text_of(machine.page)), *machine.packages})
         with tempfile.TemporaryDirectory() as room:
             clone = os.path.join(room, "clone")
             copied(clone, tracked())
             put_built(clone)
             before = put_key(room) if "~/.ssh" in script else ""
-            return machines.said_on_machine(packages, clone, machine.by_root + by_root,
-                                            f"echo {machine.page}\n{machine.before}{before}echo '{END}' 0\n{script}")
+            return machines.output_on_machine(packages, clone, machine.by_root + by_root,
+                                              f"echo {machine.page}\n{machine.before}{before}echo '{END}' 0\n{script}")
 
-    def is_right(self, machine: Machine) -> None:
-        """Commands must write what the page says, or where it says nothing end with 0."""
+    def check_page(self, machine: Machine) -> None:
+        """The commands of a page must write what the page says, or where it says nothing end with 0."""
         found = list(page_commands.commands_of(machine.page))
         if any(it.kind == "console" for it in found):
             steps = list((test_guide.steps_of_manual if machine.page.endswith(".1") else test_guide.steps_of_markdown)(text_of(machine.page)))
-            said = STATUS.split(self.said(machine, "", "".join(test_guide.script(steps))), maxsplit=1)[-1]
+            said = STATUS.split(self.output(machine, "", "".join(test_guide.script(steps))), maxsplit=1)[-1]
             met = [each.strip("\n") for each in said.split(f"{test_guide.END}\n")]
             self.assertEqual(met, [*(answer.strip("\n") for kind, _, answer in steps if kind == "command"), ""])
         by_root = [f"({it.line})" for it in found if it.kind == "inline" and OF_ROOT.fullmatch(it.line)]
@@ -192,13 +193,13 @@ class OnMachines(built.OfLibrary):
                    for block in blocks]
         by_user += [[it.line] for it in found if it.kind == "inline" and IN_CLONE.fullmatch(it.line)]
         if by_root or by_user:
-            self.ends_right(machine, by_root, by_user)
+            self.check_statuses(machine, by_root, by_user)
 
-    def ends_right(self, machine: Machine, by_root: list[str], by_user: list[list[str]]) -> None:
+    def check_statuses(self, machine: Machine, by_root: list[str], by_user: list[list[str]]) -> None:
         """Commands of root, and then blocks of the user, must end as they are to."""
         begin = "cd ~/clone\n" * (machine.blocks != "on")
         script = "cd ~/clone\n" + "".join(begin + statuses_of(lines) for lines in by_user)
-        said = self.said(machine, f"echo '{END}' 0\n" + statuses_of(by_root), script)
+        said = self.output(machine, f"echo '{END}' 0\n" + statuses_of(by_root), script)
         of_root, of_user = STATUS.split(said, maxsplit=1)[-1].split(machine.page + "\n", maxsplit=1)
         self.assertEqual(faults_in(by_root, of_root), [])
         self.assertEqual(faults_in([line for lines in by_user for line in lines], STATUS.split(of_user, maxsplit=1)[-1]), [])
@@ -206,7 +207,7 @@ class OnMachines(built.OfLibrary):
 
 def made_test(machine: Machine) -> Callable[[OnMachines], None]:
     """The test of a page."""
-    return lambda self: self.is_right(machine)
+    return lambda self: self.check_page(machine)
 
 
 class OfToolchain(unittest.TestCase):

@@ -44,6 +44,7 @@ def is_right(signature):
 
 
 def question(sequence, asker, request=REQUEST, moment=NOON):
+    """A question of a key, with a sequence as a value or as a text."""
     key = spki.ProvenKey.assume(canonical(asker))
     return spki.Question(sequence if isinstance(sequence, bytes) else canonical(sequence), key, words=request, moment=moment)
 
@@ -59,6 +60,7 @@ class Maker:
         self.keys = [key_of(b"k%d" % place) for place in range(KEYS)]
 
     def principal(self, key):
+        """A key, or a hash of it."""
         return self.random.choice([key, key, hash_of(key), hash_of(key), hash_of(key, "sha512"), hash_of(key, "sha1")])
 
     def tag(self):
@@ -69,7 +71,7 @@ class Maker:
         return self.random.choice([[], [], [], [[b"not-after", b"2026-02-01_00:00:00"]], [[b"not-before", b"2026-02-01_00:00:00"]]])
 
     def entry(self):
-        """What `entries.entry` is called with."""
+        """The arguments of `entries.entry`: a principal, fields and names."""
         propagate = [[b"propagate"]] if self.random.random() < 0.8 else []
         names = self.random.choice([(), (), (), (b"friends",), (b"friends", b"bob")])
         fields = [canonical(field) for field in [*propagate, self.tag(), *self.validity()]]
@@ -99,15 +101,15 @@ class Maker:
 
 
 def outcome(decide, asked):
-    """The number of the entry, None, or the line of the refusal."""
+    """What `decide` returns for a question, the number of an entry or None; or the line of the refusal that it raises."""
     try:
         return decide(asked)
     except spki.Refused as refusal:
         return refusal.line
 
 
-def whole(store, policy):
-    """Decides by a guard of all rows of the store, and names the row that grants."""
+def decider_by_whole_list(store, policy):
+    """Returns a function that decides a question by a guard of all rows of the store: the number of the row that grants, or None."""
     rows = list(store.all())
     guard = entries.list_of([row.text for row in rows], policy, entries.LIMITS)
 
@@ -117,8 +119,8 @@ def whole(store, policy):
     return decide
 
 
-def is_that_of_the_whole(store, seed, policy):
-    """Whether random questions have the answers of the whole list, before and after some entries are removed."""
+def agrees_with_whole_list(store, seed, policy):
+    """Whether a service answers random questions as the whole list does, before and after some entries are removed."""
     maker, met = Maker(seed), {"yes": 0, "no": 0, "refused": 0}
     numbers = []
     for _ in range(ENTRIES):
@@ -126,7 +128,7 @@ def is_that_of_the_whole(store, seed, policy):
         numbers.append(store.add(entries.entry(principal, *fields, names=names)))
     service = entries.Service(store, policy)
     for _ in range(2):
-        decide = whole(store, policy)
+        decide = decider_by_whole_list(store, policy)
         for _ in range(QUESTIONS // 2):
             asked = maker.question()
             wanted, found = outcome(decide, asked), outcome(lambda it: service.decide(it, is_right), asked)
@@ -144,7 +146,7 @@ def is_that_of_the_whole(store, seed, policy):
 
 
 def client(opened, place):
-    """Adds and removes entries of a key of its own, and asks in between. Returns what was wrong."""
+    """Adds and removes entries of a key of its own, and asks in between. `opened` connects to the store. Returns what was wrong, or None."""
     store, own = opened(), key_of(b"client%d" % place)
     service, asked = entries.Service(store), question(b"(sequence)", own)
     for turn in range(ROUNDS):
@@ -163,6 +165,7 @@ def client(opened, place):
 
 
 def clients_agree(opened):
+    """Whether several clients at once find nothing wrong. Prints what they find."""
     with ThreadPoolExecutor(CLIENTS) as pool:
         wrong = list(filter(None, pool.map(lambda place: client(opened, place), range(CLIENTS))))
     print("".join(f"{each}\n" for each in wrong), end="")
@@ -170,6 +173,7 @@ def clients_agree(opened):
 
 
 def is_refused(call, *given, **more):
+    """Whether a call raises that it refuses its arguments."""
     try:
         call(*given, **more)
     except (spki.Refused, ValueError):
@@ -178,7 +182,7 @@ def is_refused(call, *given, **more):
 
 
 def entries_refused():
-    """By name, whether what makes no entry is refused before it is in the table."""
+    """For each of some arguments that make no entry, by a name: whether they are refused."""
     own = canonical(key_of(b"k"))
     return {"an entry without a tag": is_refused(entries.entry, own), "an entry for a tag": is_refused(entries.entry, TAG, TAG),
             "two principals": is_refused(entries.entry, own + own, TAG),
@@ -216,10 +220,10 @@ class Stores(built.OfLibrary):
         return store
 
     def test_strict(self):
-        self.assertTrue(is_that_of_the_whole(self.opened(), 0, spki.Policy.STRICT))
+        self.assertTrue(agrees_with_whole_list(self.opened(), 0, spki.Policy.STRICT))
 
     def test_open(self):
-        self.assertTrue(is_that_of_the_whole(self.opened(), 1, spki.Policy.ALLOW_SHA1))
+        self.assertTrue(agrees_with_whole_list(self.opened(), 1, spki.Policy.ALLOW_SHA1))
 
     def test_several_clients(self):
         self.assertTrue(clients_agree(self.opened))

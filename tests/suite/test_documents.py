@@ -32,7 +32,7 @@ MADE = {"ask.py", "builders.sexp", "to-bob.sexp", "to-carol.sexp", "case.sexp", 
 
 
 def names_here():
-    """The names of all files of the repository, without what is built."""
+    """The bare names of all files of the repository, without what is built."""
     found = set()
     for _, folders, names in os.walk(TOP):
         folders[:] = set(folders) - {".git", "out", "__pycache__"}
@@ -47,7 +47,7 @@ def anchor(heading):
 
 
 def dead_links(page):
-    """The relative links of a page that lead nowhere."""
+    """Yields a text for each relative link of a page that leads to no file or no heading."""
     for target in LINK.findall(TICKS.sub("", FENCED.sub("", text_of(page)))):
         if re.match(r"[a-z]+:", target):
             continue
@@ -76,7 +76,7 @@ def bases(page):
 
 
 def dead_paths(page, names):
-    """The paths that a page names and that are not there."""
+    """Yields the paths that a page names and that are not there. `names` are those of all files."""
     written = {name for _, name, _ in FENCED.findall(text_of(page)) if name}
     for word in words_of(page):
         word = re.sub(r"^(?:\.\./|\./)+", "", word.rstrip(".,;:)"))

@@ -31,8 +31,8 @@ COMMENTS = ("see sha256 of the release", f"sha256 {A} #")
 WRITERS = 6
 
 
-def whole(*lines: str) -> bytes:
-    """The file of these lines, with its last line."""
+def sealed(*lines: str) -> bytes:
+    """The file of ended certificates with these lines and its last line, which has their number and a digest."""
     text = "".join(f"{line}\n" for line in lines).encode("utf-8", "surrogateescape")
     count = len([line for line in lines if re.match("[0-9a-f]{64}", line)])
     return text + f"end {count} {hashlib.sha256(text).hexdigest()}\n".encode()
@@ -46,7 +46,7 @@ def digests_by_model(text: bytes) -> list[str]:
 
 
 def place(kind: str, path: str) -> None:
-    """Puts something of a kind where the file is expected."""
+    """Puts something at the path of the file of ended certificates: a file, or by its kind what is none, or cannot be used."""
     if kind == "fifo":
         os.mkfifo(path)
     elif kind == "folder":
@@ -55,15 +55,15 @@ def place(kind: str, path: str) -> None:
         os.symlink("/dev/null" if kind == "device" else "not-there", path)
     else:
         with open(path, "xb") as file:
-            file.write(b"#" * (ending.MOST_ENDED + 1) if kind == "long" else whole(A))
+            file.write(b"#" * (ending.MOST_ENDED + 1) if kind == "long" else sealed(A))
     if kind == "read-only":
         os.chmod(path, 0o444)
     elif kind == "two names":
         os.link(path, f"{path}2")
 
 
-def what_is(path: str) -> list[int]:
-    """What a file is, but for the time when it was read."""
+def state_of(path: str) -> list[int]:
+    """All that the system knows about a file but the time when it was read."""
     about = os.lstat(path)
     return [about.st_ino, about.st_mode, about.st_size, about.st_nlink, about.st_mtime_ns, about.st_ctime_ns]
 
@@ -91,6 +91,7 @@ class Case(unittest.TestCase):
 
     @classmethod
     def at(cls, name: str) -> str:
+        """The path of a file in the folder."""
         return os.path.join(cls.room, name)
 
     @classmethod
@@ -100,6 +101,7 @@ class Case(unittest.TestCase):
 
     @classmethod
     def write(cls, name: str, octets: bytes) -> None:
+        """Writes a new file in the folder, in the place of an old one."""
         with contextlib.suppress(FileNotFoundError):
             os.unlink(cls.at(name))
         with open(cls.at(name), "xb") as file:
@@ -107,7 +109,7 @@ class Case(unittest.TestCase):
 
     @classmethod
     def run_here(cls, *words: str) -> tuple[int, str]:
-        """The status of the command in the folder, and what it writes on both streams."""
+        """Runs `spki-cert` in the folder, within this process. Returns its status, and what it writes on both streams."""
         said, before = io.TextIOWrapper(io.BytesIO(), "ascii", write_through=True), os.getcwd()
         os.chdir(cls.room)
         try:
@@ -117,18 +119,19 @@ class Case(unittest.TestCase):
             os.chdir(before)
 
     def ended(self, *words: str, wanted: int = 0) -> str:
-        """What `spki-cert end` writes. It must end with a status."""
+        """Runs `spki-cert end`, which must end with the status `wanted`. Returns what it writes."""
         status, said = self.run_here("end", "--ended", ENDED, *words)
         self.assertEqual(status, wanted, said)
         return said
 
     def rows(self) -> list[str]:
-        """The digests of the file. Its last line must be right."""
+        """The digests in the file of ended certificates, whose last line must be right."""
         lines = self.octets(ENDED).decode().splitlines()
-        self.assertEqual(self.octets(ENDED), whole(*lines[:-1]))
+        self.assertEqual(self.octets(ENDED), sealed(*lines[:-1]))
         return [line[:64] for line in lines if re.match("[0-9a-f]{64}", line)]
 
     def is_unchanged(self, before: bytes, said: str) -> None:
+        """The file of ended certificates must be as before, and no temporary file may be left."""
         self.assertEqual(self.octets(ENDED), before, said)
         self.assertEqual([name for name in os.listdir(self.room) if name.startswith(".")], [], said)
 
@@ -137,7 +140,7 @@ class Ends(Case):
     """What gets into the file."""
 
     def setUp(self) -> None:
-        self.write(ENDED, whole())
+        self.write(ENDED, sealed())
 
     def test_which_certificate(self) -> None:
         """The last certificate of a file, that at a place, the one that is alone, or a digest. Comments of certificates do nothing."""
@@ -146,7 +149,7 @@ class Ends(Case):
                               (["second", "--place", "2"], [second]), (["first", "second"], [first, second]), (["--digest", B], [B]),
                               (["--digest", B.upper()], [B]), (["first", "--digest", B, "--digest", C], [first, B, C]), (["first", "cert"], [first])):
             with self.subTest(words=words):
-                self.write(ENDED, whole())
+                self.write(ENDED, sealed())
                 said = self.ended(*words)
                 self.assertEqual((self.rows(), f"digests added: {len(wanted)};" in said), (wanted, True), said)
                 self.assertEqual("--digest is compared with no certificate" in said, "--digest" in words)
@@ -155,7 +158,7 @@ class Ends(Case):
         """A file in another form of the same value has the same digest."""
         for name, octets in (("advanced", self.octets("own")), ("braces", self.run_here("show", "--braces", "second")[1].encode())):
             with self.subTest(name=name):
-                self.write(ENDED, whole())
+                self.write(ENDED, sealed())
                 self.write("form", octets)
                 self.ended("form")
                 self.assertEqual(self.rows(), [self.digests[1]])
@@ -166,7 +169,7 @@ class Ends(Case):
                                ("a\rb\x1b[2Jc\x85d\0e", " a b [2Jc\\x85d e"),
                                ("Schl\xfcssel", " Schl\\xfcssel"), ("\udcff", " \\udcff"), ("# \\ '", " # \\ '"), ("x" * 999, " " + "x" * 200)):
             with self.subTest(reason=reason):
-                self.write(ENDED, whole())
+                self.write(ENDED, sealed())
                 self.ended("second", "--reason", reason)
                 line = self.octets(ENDED).decode().splitlines()[0]
                 self.assertRegex(line, rf"^{self.digests[1]} # \d{{4}}-\d\d-\d\d{re.escape(wanted)}$")
@@ -185,18 +188,18 @@ class Ends(Case):
     def test_undo(self) -> None:
         """All that are named are taken out, or none is."""
         kept = ["# M\xfcller", "", f"{A} # 2026-01-01", f"{B}"]
-        self.write(ENDED, whole(*kept, self.digests[1]))
+        self.write(ENDED, sealed(*kept, self.digests[1]))
         before = self.octets(ENDED)
         for words in (["first"], ["second", "first"], ["--digest", C]):
             said = self.ended("--undo", *words, wanted=1)
             self.assertIn("it has not ended; nothing was written", said)
             self.is_unchanged(before, said)
         self.assertIn("-reload -fewer", self.ended("--undo", "second"))
-        self.assertEqual(self.octets(ENDED), whole(*kept))
+        self.assertEqual(self.octets(ENDED), sealed(*kept))
 
     def test_list(self) -> None:
         """Digest, date and reason, and the last line as the file has it. Nothing that a terminal would obey."""
-        text = whole("# a comment", "", f"{A} # 2026-01-02 stolen", f"{B} # 2026-01-03", f"{C} # M\xfcller \x1b[2J 2026-01-04", "d" * 64)
+        text = sealed("# a comment", "", f"{A} # 2026-01-02 stolen", f"{B} # 2026-01-03", f"{C} # M\xfcller \x1b[2J 2026-01-04", "d" * 64)
         self.write(ENDED, text)
         self.assertEqual(self.ended("--list"), f"{A} 2026-01-02 stolen\n{B} 2026-01-03\n{C} - M\\xfcller [2J 2026-01-04\n{'d' * 64} -\n"
                          + text.decode().splitlines()[-1] + "\n")
@@ -213,7 +216,7 @@ class Ends(Case):
         self.is_unchanged(before, "the file is there")
 
     def test_mode_owner_and_comments_stay(self) -> None:
-        self.write(ENDED, whole("# M\xfcller \udcff", f"{A} # \x01 \xe9"))
+        self.write(ENDED, sealed("# M\xfcller \udcff", f"{A} # \x01 \xe9"))
         os.chmod(self.at(ENDED), 0o640)
         if os.geteuid() == 0:
             os.chown(self.at(ENDED), 1, 2)
@@ -226,7 +229,7 @@ class Ends(Case):
 
     def test_link(self) -> None:
         """A symbolic link stays, and what it names is replaced."""
-        self.write("real", whole())
+        self.write("real", sealed())
         os.unlink(self.at(ENDED))
         os.symlink("real", self.at(ENDED))
         self.ended("first")
@@ -244,7 +247,7 @@ class Ends(Case):
         """What another writer puts there between opening and locking is kept."""
         def changes_and_locks(handle: int, how: int) -> None:
             if self.rows() == []:
-                self.write(ENDED, whole(A))
+                self.write(ENDED, sealed(A))
             flock(handle, how)
 
         flock = fcntl.flock
@@ -257,7 +260,7 @@ class Ends(Case):
         with files.locked(self.at(ENDED)), mock.patch.object(files, "SECONDS_TO_LOCK", 0):
             said = self.ended("first", wanted=2)
         self.assertIn("another program has locked it", said)
-        self.is_unchanged(whole(), said)
+        self.is_unchanged(sealed(), said)
 
     def test_full_disk(self) -> None:
         """If the new file cannot be written, the old one stays, and no other file is left."""
@@ -265,7 +268,7 @@ class Ends(Case):
             with self.subTest(name=name), mock.patch(name, side_effect=OSError(28, "No space left on device")):
                 said = self.ended("first", wanted=3)
                 self.assertIn("No space left on device; the file is as before", said)
-                self.is_unchanged(whole(), said)
+                self.is_unchanged(sealed(), said)
 
     def test_full_output(self) -> None:
         """If only the output cannot be written, the status says so, and nothing denies that the file is written."""
@@ -287,7 +290,7 @@ class Refuses(Case):
     """What ends with a status that is not 0, and changes nothing."""
 
     def test_what_is_meant(self) -> None:
-        self.write(ENDED, whole(A))
+        self.write(ENDED, sealed(A))
         self.write("none", b"(sequence)")
         self.write("list", b"(acl)")
         self.write("half", self.octets("second")[:-9])
@@ -305,11 +308,11 @@ class Refuses(Case):
             with self.subTest(words=words):
                 said = self.ended(*words, wanted=2)
                 self.assertIn(text, said)
-                self.is_unchanged(whole(A), said)
+                self.is_unchanged(sealed(A), said)
 
     def test_files(self) -> None:
         """A file that is not as it was written is refused by each command, with what differs and what to do."""
-        good = whole("# M\xfcller", f"{A} # 2026-01-01 x", "", B)
+        good = sealed("# M\xfcller", f"{A} # 2026-01-01 x", "", B)
         lines = good.split(b"\n")
         rows = [("empty", b"", "not `end COUNT"), ("cut in a line", good[:99], "not `end COUNT"),
                 ("cut in the last line", good[:-9], "not `end COUNT"),
@@ -319,11 +322,11 @@ class Refuses(Case):
                 ("another digest", good.replace(B.encode(), C.encode()), "has another SHA-256"),
                 ("another comment", good.replace(b"x", b"y"), "has another SHA-256"),
                 ("an empty line behind", good + b"\n", "not `end COUNT"), ("a comment behind", good + b"# x\n", "not `end COUNT"),
-                ("twice", good + good, "line 5 is no digest"), ("capitals", whole(A.upper()), "line 1 is no digest"),
-                ("a space in front", whole("", f" {A}"), "line 2 is no digest"), ("no space", whole(f"{A}# x"), "line 1 is no digest"),
-                ("no space behind", whole(f"{A} #x"), "line 1 is no digest"), ("two spaces", whole(f"{A}  # x"), "line 1 is no digest"),
-                ("words", whole(f"{A} x"), "line 1 is no digest"), ("long", whole(A + "a"), "line 1 is no digest"),
-                ("spaces", whole(" "), "line 1 is no digest"),
+                ("twice", good + good, "line 5 is no digest"), ("capitals", sealed(A.upper()), "line 1 is no digest"),
+                ("a space in front", sealed("", f" {A}"), "line 2 is no digest"), ("no space", sealed(f"{A}# x"), "line 1 is no digest"),
+                ("no space behind", sealed(f"{A} #x"), "line 1 is no digest"), ("two spaces", sealed(f"{A}  # x"), "line 1 is no digest"),
+                ("words", sealed(f"{A} x"), "line 1 is no digest"), ("long", sealed(A + "a"), "line 1 is no digest"),
+                ("spaces", sealed(" "), "line 1 is no digest"),
                 ("returns", good.replace(b"\n", b"\r\n"), "not `end COUNT"), ("a wrong count", re.sub(b"end 2", b"end 02", good), "not `end COUNT"),
                 ("the sequence", self.octets("second"), "not `end COUNT")]
         words_of: list[list[str]] = [["first"], [], ["--list"], ["--undo", "--digest", A]]
@@ -343,10 +346,10 @@ class Refuses(Case):
             with self.subTest(kind=kind, words=words), tempfile.TemporaryDirectory(dir=self.room) as room:
                 path = os.path.join(room, "ended")
                 place(kind, path)
-                before = what_is(path)
+                before = state_of(path)
                 status, said = self.run_here("end", "--ended", path, *words)
                 self.assertEqual((status, text in said), (2, True), said)
-                self.assertEqual((what_is(path), [name for name in os.listdir(room) if name.startswith(".")]), (before, []))
+                self.assertEqual((state_of(path), [name for name in os.listdir(room) if name.startswith(".")]), (before, []))
 
     def test_gone(self) -> None:
         """A wrong name of the file makes no new one, which no daemon would read."""
@@ -364,18 +367,18 @@ class Adopts(Case):
                 ("old", f"#old\n\n{A.upper()}\n {B} #  x\n{C}#\xfc\n".encode(), ["#old", "", A, f"{B} # x", f"{C} # \xfc"]),
                 ("nothing in a comment", f"{A} #\n#\n{B}\t# \n".encode(), [A, "#", B]),
                 ("no end of line", A.encode(), [A]), ("returns", f"{A}\r\n# x\r\n".encode(), [A, "# x"]),
-                ("another comment", whole(f"{A} # x").replace(b"x", b"y"), [f"{A} # y"]), ("whole", whole(A, "# x"), [A, "# x"]),
-                ("no last line", whole(A, B)[:130], [A, B])):
+                ("another comment", sealed(f"{A} # x").replace(b"x", b"y"), [f"{A} # y"]), ("whole", sealed(A, "# x"), [A, "# x"]),
+                ("no last line", sealed(A, B)[:130], [A, B])):
             with self.subTest(name=name):
                 self.write(ENDED, octets)
                 said = self.ended("--adopt")
-                self.assertEqual((self.octets(ENDED), f"digests: {len(self.rows())}\n" in said), (whole(*lines), True), said)
+                self.assertEqual((self.octets(ENDED), f"digests: {len(self.rows())}\n" in said), (sealed(*lines), True), said)
 
     def test_doubtful(self) -> None:
         """What was probably cut is taken with `--yes` alone."""
         rows: list[tuple[str, bytes, list[str]]] = [
-            ("empty", b"", []), ("comments", b"# x\n", ["# x"]), ("a line less", whole(A, B)[65:], [B]),
-            ("a line more", A.encode() + b"\n" + whole(B), [A, B]), ("a cut last line", whole(A, B)[:-9], [A, B])]
+            ("empty", b"", []), ("comments", b"# x\n", ["# x"]), ("a line less", sealed(A, B)[65:], [B]),
+            ("a line more", A.encode() + b"\n" + sealed(B), [A, B]), ("a cut last line", sealed(A, B)[:-9], [A, B])]
         for name, octets, lines in rows:
             with self.subTest(name=name):
                 self.write(ENDED, octets)
@@ -383,11 +386,11 @@ class Adopts(Case):
                 self.assertIn("was it cut?", said)
                 self.is_unchanged(octets, said)
                 self.ended("--adopt", "--yes")
-                self.assertEqual(self.octets(ENDED), whole(*lines))
+                self.assertEqual(self.octets(ENDED), sealed(*lines))
 
     def test_refused(self) -> None:
         """A line that is none is never guessed at."""
-        for octets in (A.encode() + b"\n" + B[:30].encode(), b"see sha256 of the release\n", whole(A) + whole(B), b"\x00", A.encode() + b" x\n"):
+        for octets in (A.encode() + b"\n" + B[:30].encode(), b"see sha256 of the release\n", sealed(A) + sealed(B), b"\x00", A.encode() + b" x\n"):
             with self.subTest(octets=octets):
                 self.write(ENDED, octets)
                 said = self.ended("--adopt", "--yes", wanted=2)
@@ -408,7 +411,7 @@ class OfLibrary(Case):
         settings = {**os.environ, "SPKI_LIBRARY": built.shared(), "PYTHONPATH": os.path.join(TOP, "bindings", "python")}
         status, said = output_of(sys.executable, "-c", asks, "second", "key", cwd=self.room, env=settings)
         self.assertEqual((status, said.split()), (0, self.digests))
-        self.write(ENDED, whole())
+        self.write(ENDED, sealed())
         self.ended("first", "second")
         self.assertEqual(self.rows(), said.split())
 

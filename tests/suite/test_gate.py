@@ -130,7 +130,7 @@ class Commands(unittest.TestCase):
     def shown(self, *words: str, minutes: float = 1.0) -> tuple[str, int, str]:
         """What a command says, its status, and what is printed of it."""
         with contextlib.redirect_stdout(io.StringIO()) as printed, run.Parts(1) as parts:
-            said, status = parts.shown(parts.begin(*words), minutes)
+            said, status = parts.wait_and_print(parts.begin(*words), minutes)
         return said, status, printed.getvalue()
 
     def test_shown(self) -> None:

@@ -34,7 +34,7 @@ class OfGo(test_bindings.Binding):
     """A test of what is written in Go."""
 
     def does(self, folder: str, *words: str, given: bytes | None = None, **more: str) -> bytes:
-        """What a command of Go writes, which must end well."""
+        """Runs a command of Go in a folder, which must succeed. Returns its output."""
         done = golang.go(folder, list(words), self.library, given, **more)
         said = (done.stdout + done.stderr).decode(errors="replace")
         self.assertEqual(done.returncode, 0, f"go {' '.join(words)}: {said[-4000:]}")
@@ -74,14 +74,14 @@ class InGo(OfGo):
     def test_questions(self) -> None:
         asked = test_bindings.asked_of(self.program)
         lines = self.does(golang.MODULE, "run", "./examples/asked", given=b"".join(map(test_bindings.framed, asked)))
-        fault = test_bindings.otherwise(asked, [line + b"\n" for line in test_bindings.strings_in(lines)])
+        fault = test_bindings.faults_of_answers(asked, [line + b"\n" for line in test_bindings.strings_in(lines)])
         self.assertEqual(fault, "", fault)
 
     def test_example(self) -> None:
         with tempfile.TemporaryDirectory() as room:
             to = os.path.join(room, "decide")
             self.does(golang.MODULE, "build", "-o", to, "./examples/decide")
-            self.decides(to)
+            self.check_decisions(to)
 
     @needs.needs("pkg-config")
     def test_shared(self) -> None:
@@ -143,12 +143,12 @@ class Person:
         self.digest = value_of(spki_cert("key", "--hash", self.public))[2].hex()
 
     def gives(self, to: "Person", tag: str, *more: str) -> bytes:
-        """The sequence of a certificate by which the person gives a right to another one."""
+        """The sequence of a certificate by which this person gives a right to another. `more` are options of `spki-cert sign`."""
         return spki_cert("sign", "--by", self.path, "--to", to.public, "--tag", tag, "--days", "1", *more)
 
 
 def sealed(lines: str) -> str:
-    """The lines of a file of ended certificates, with their last line."""
+    """The text of a file of ended certificates: lines, and its last line, which has their number and a digest."""
     count = sum(bool(line) and not line.startswith("#") for line in lines.splitlines())
     return f"{lines}end {count} {hashlib.sha256(lines.encode()).hexdigest()}\n"
 
@@ -181,22 +181,22 @@ class Daemon:
             file.write(text)
 
     def message(self) -> dict[str, object]:
-        """The next message of the daemon itself."""
+        """Waits for the next message on the daemon's standard error, and returns it."""
         assert self.process.stderr is not None
         return dict(json.loads(self.process.stderr.readline()))
 
     def reload(self) -> dict[str, object]:
-        """Has the list read again."""
+        """Has the daemon read its list again. Returns its message about that."""
         self.process.send_signal(signal.SIGHUP)
         return self.message()
 
     def does(self, *words: str) -> tuple[int, str, str]:
-        """The status of the program with these words, and what it writes."""
+        """Runs the daemon's program with these words and its configuration. Returns the status, the output and the errors."""
         done = subprocess.run([self.program, *words, "-config", self.config], stdout=subprocess.PIPE, stderr=subprocess.PIPE, text=True, timeout=600)
         return done.returncode, done.stdout, done.stderr
 
     def ask(self, who: Person, method: str, target: str, sequence: bytes = b"", door: str = "") -> http.client.HTTPResponse:
-        """The answer to a request, at another socket if one is given."""
+        """The daemon's answer to what a web server asks about a person's request. `door` is the path of a socket other than the daemon's own."""
         headers = {"X-Original-Method": method, "X-Original-URI": target, "X-Client-Cert": urllib.parse.quote(who.certificate)}
         if sequence:
             shown = subprocess.run([built.program(), "transport"], input=sequence, stdout=subprocess.PIPE, check=True).stdout
@@ -211,7 +211,7 @@ class Daemon:
             connection.close()
 
     def last(self) -> dict[str, object]:
-        """The last line of the log of grants."""
+        """The last line of the log of grants, as an object."""
         with open(self.grants, encoding="utf-8") as log:
             return dict(json.loads(log.readlines()[-1]))
 
@@ -222,7 +222,7 @@ class Served(OfGo):
 
     @contextlib.contextmanager
     def served(self, access_list: str, room: str) -> Iterator[Daemon]:
-        """A daemon, which ends by SIGTERM with status 0."""
+        """A context with a daemon, which must end by SIGTERM with status 0."""
         daemon = Daemon(room, golang.build_daemon(self.library, os.path.join(room, "spki-authd")), access_list)
         try:
             self.assertEqual(daemon.event["event"], "started")

@@ -42,7 +42,7 @@ SHELLS = ("sh", "bash")
 
 
 def commands(text):
-    """The commands of a block, each with what it should write."""
+    """Yields the steps of a block of commands: `command`, the command, and what it should write."""
     for part in re.split(r"^\$ ", text, flags=re.MULTILINE)[1:]:
         first, *rest = part.splitlines()
         more = list(itertools.takewhile(lambda line: line.startswith("> "), rest))
@@ -50,7 +50,8 @@ def commands(text):
 
 
 def steps_of_markdown(page):
-    """The page's files and commands, in order: a file's name and text, or a command and what it should write."""
+    """Yields the steps of a page in order, each three texts: `file` or `quotation`, its name and its text; or `command`, the command, and what it
+    should write. Raises ValueError if a block is none of these."""
     for kind, name, text in BLOCK.findall(page):
         if kind in ("c", "rust", "python") and name and program_of(name):
             yield "quotation", name, text
@@ -63,19 +64,19 @@ def steps_of_markdown(page):
 
 
 def program_of(name):
-    """The example of this name that a page may quote, or None."""
+    """The path of the program in examples/ with this name, None if there is none."""
     paths = [os.path.join(TOP, folder, name) for folder in PROGRAMS]
     return next(filter(os.path.exists, paths), None)
 
 
 def steps_of_manual(page):
-    """The manual's commands, from its blocks without filling."""
+    """The steps of a manual: the commands in its blocks without filling."""
     for block in re.findall(r"^\.nf\n(.*?)^\.fi$", page, re.MULTILINE | re.DOTALL):
         yield from commands(textwrap.dedent(block).replace("\\-", "-").replace("\\(aq", "'").replace("\\(ga", "`"))
 
 
 def script(found):
-    """The files and the commands as one script, which writes a mark after each command."""
+    """The parts of a script that writes the files and runs the commands of steps, and writes END after each command."""
     for kind, first, second in found:
         if kind == "file":
             yield f"printf %s {shlex.quote(second)} > {shlex.quote(first)}\n"
@@ -84,7 +85,7 @@ def script(found):
 
 
 def outputs_of(shell, found, program):
-    """What the shell writes, command by command."""
+    """Runs the steps in a shell, in an empty folder. Returns what each command writes, and what is written behind the last."""
     with tempfile.TemporaryDirectory() as room:
         for folder in ("bin", "work"):
             os.mkdir(os.path.join(room, folder))
@@ -99,19 +100,19 @@ def outputs_of(shell, found, program):
 
 
 def needs_library(commands_of_page: Iterable[str]) -> bool:
-    """Whether commands make certificates and ask the library."""
+    """Whether one of these commands is `spki-cert`, which asks the library."""
     return any("spki-cert" in command for command in commands_of_page)
 
 
 def of_library(found: Iterable[tuple[str, str, str]]) -> dict[str, str]:
-    """The settings by which the commands of a page find the library and its module."""
+    """The settings of the environment by which the commands of steps find the library and its module, none if they do not need it."""
     if not needs_library(first for kind, first, _ in found if kind == "command"):
         return {}
     return {"SPKI_LIBRARY": built.shared(), "PYTHONPATH": os.path.join(TOP, "bindings", "python")}
 
 
 def is_as_in_examples(kind, name, text):
-    """Whether examples/ has no file of this name, or one with this text; of a quotation whether its program has it."""
+    """Whether a file of examples/ has just this text, or for a quotation has it inside. True if there is no such file."""
     path = program_of(name) if kind == "quotation" else os.path.join(TOP, "examples", name)
     if not os.path.exists(path):
         return True
@@ -162,7 +163,7 @@ class Pages(built.OfProgram):
         """The steps of a page."""
         return list((steps_of_manual if page.endswith(".1") else steps_of_markdown)(text_of(page)))
 
-    def is_run(self, page: str, shell: str) -> None:
+    def check_commands(self, page: str, shell: str) -> None:
         """Each command of a page must write what the page says."""
         found = self.steps(page)
         wanted = [(command, answer) for kind, command, answer in found if kind == "command"]
@@ -172,7 +173,7 @@ class Pages(built.OfProgram):
                   if met.strip("\n") != answer.strip("\n")]
         self.assertEqual(faults, [], f"{page}, {shell}:\n" + "\n".join(faults))
 
-    def is_quoted(self, page: str) -> None:
+    def check_files(self, page: str) -> None:
         """The files of a page must be those of examples/, and its quotations parts of programs."""
         others = [file for kind, file, text in self.steps(page) if kind != "command" and not is_as_in_examples(kind, file, text)]
         self.assertEqual(others, [], f"{page}: these are not as in examples/")
@@ -180,12 +181,12 @@ class Pages(built.OfProgram):
 
 def files_test(page: str) -> Callable[[Pages], None]:
     """The test of a page's files and quotations."""
-    return lambda self: self.is_quoted(page)
+    return lambda self: self.check_files(page)
 
 
 def commands_test(page: str, shell: str) -> Callable[[Pages], None]:
     """The test of a page's commands in a shell."""
-    test: Callable[[Pages], None] = lambda self: self.is_run(page, shell)
+    test: Callable[[Pages], None] = lambda self: self.check_commands(page, shell)
     text = text_of(page)
     of_guide = ["import cryptography", "ssh-keygen", *needs.LIBRARY] if needs_library(re.findall(r"^[$] .*$", text, re.MULTILINE)) else []
     return needs.needs(*(["openssl"] if "openssl" in text else []), *of_guide)(test)
@@ -227,7 +228,7 @@ class Snippets(built.OfLibrary):
         self.assertTrue(texts, f"the pages have no snippet in {language}")
         with tempfile.TemporaryDirectory() as room:
             for text in texts:
-                self.assertIsNone(snippets.otherwise(language, text, room, self.program, self.library))
+                self.assertIsNone(snippets.fault_of_snippet(language, text, room, self.program, self.library))
 
     def test_c(self) -> None:
         self.is_right("C")

@@ -87,8 +87,8 @@ class Example:
         return f"{self.command} on {self.name}"
 
 
-def answered(line):
-    """How a run ends that has a status and a line."""
+def end_of(line):
+    """How a run ends: the status, the output and the errors, by a text with the status and the line of output."""
     status, words = line.split(" ", 1)
     return int(status), words.encode() + b"\n", b""
 
@@ -104,9 +104,9 @@ def of_files():
         yield Example(name, "canonical", text, (0, canonical, b""))
         yield Example(name, "transport", text, (0, braced(canonical) + b"\n", b""))
         yield Example(name, "advanced", text, None)
-        yield Example(name, "intersect", text, answered("2 refused intersect Shape"))
+        yield Example(name, "intersect", text, end_of("2 refused intersect Shape"))
         for command, line in lines.items():
-            yield Example(name, command, text, answered(line))
+            yield Example(name, command, text, end_of(line))
 
 
 def of_chains():
@@ -114,7 +114,7 @@ def of_chains():
     for name, command, text, status, answer in chains.rows():
         yield Example(name, command, text, (status, answer, b""))
         for other, line in CHAINS.get(name.removeprefix("chains:"), {}).items():
-            yield Example(name, other, text, answered(line))
+            yield Example(name, other, text, end_of(line))
 
 
 def of_tables():
@@ -125,6 +125,7 @@ def of_tables():
 
 
 def of_limits():
+    """The texts at the limits."""
     for name, command, text, status, answer in limits.rows():
         yield Example(name, command, text, (status, answer, b""))
 
@@ -203,14 +204,14 @@ def refused_in_turn(program, example, behind):
 
 
 def call_refused(program, row, behind):
-    """The same for a call by itself."""
-    one_call = Program(built.there(built.ONE_CALL), program.library)
+    """The same for a row of `calls/`, which `test_one_call` does by itself."""
+    one_call = Program(built.existing(built.ONE_CALL), program.library)
     answer = 0, row.answer.hex().encode() + b"\n", b""
     return refused_in_turn(one_call, Example(row.place, row.call, row.line(), answer), behind)
 
 
 def cut_short(program, command, text, places):
-    """The text ends after each of these numbers of octets."""
+    """The text ends after each of these numbers of octets: all runs must refuse it as Short."""
     faults = []
     for length in places:
         ended = program.run(command, text[:length])
@@ -220,7 +221,8 @@ def cut_short(program, command, text, places):
 
 
 def failing_in_turn(program, example, end, told, wanted):
-    """Each call reads or writes one octet, and the Nth call returns an error. `wanted` returns how a run with that error ends."""
+    """Each call that reads or writes (`end`) does so for one octet. The Nth returns the error `told`, or 0 octets. `wanted(example, N)` returns how
+    such a run must end."""
     refusals, faults = 0, []
     for number in count(1):
         ended = program.run(example.command, example.text, step=1, **{end: number, "with": told})
@@ -231,6 +233,8 @@ def failing_in_turn(program, example, end, told, wanted):
         refusals += ended.refused
     return None
 
+
+# How a run of an example must end whose call of this number is told an error, or 0.
 
 def read_fault(example, number):
     return READ_FAULT
@@ -255,20 +259,20 @@ def interrupted_for_ever(program, example, end, asks, wanted):
     return 1, ended.refused, [] if right else [f"{example}: {end} interrupted for ever: {ended}, {ended.asked[end]} asks"]
 
 
-def ends_so(program, what, wanted, call, *words):
-    """One run, which ends as it should."""
+def one_run(program, what, wanted, call, *words):
+    """One run by the method `call` of a Program, with its words, which must end as wanted. A fault begins with `what`."""
     ended = getattr(program, call)(*words)
     return 1, 0, [] if ended.answer == wanted else [f"{what}: {ended}"]
 
 
-def stands(program, example):
-    """One run with a small stack, which ends as one with a large one does."""
+def with_small_stack(program, example):
+    """One run with a small stack, which must end as one with a large stack does."""
     wanted = example.answer or program.run(example.command, example.text).answer
-    return ends_so(program, f"{example} in {STACK} octets of stack", wanted, "limited", example.command, example.text, resource.RLIMIT_STACK, STACK)
+    return one_run(program, f"{example} in {STACK} octets of stack", wanted, "limited", example.command, example.text, resource.RLIMIT_STACK, STACK)
 
 
 def in_less_memory(program, example):
-    """Runs that may take less and less memory in all: each answers as it should, or says that there was none."""
+    """Runs with less and less memory in all: each must give the right answer, or say that memory was lacking."""
     refusals, faults = 0, []
     wanted = example.answer or program.run(example.command, example.text).answer
     for mebibytes in LIMITS:
@@ -279,8 +283,8 @@ def in_less_memory(program, example):
     return len(LIMITS), refusals, faults
 
 
-def fits(program, example):
-    """One run of much work, within the time and the memory that there is."""
+def within_limits(program, example):
+    """One run of much work, which must take at most MOST_SECONDS and MOST_MEMORY MiB."""
     ended = program.run(example.command, example.text)
     seconds, mebibytes = memory.used(program.path, example.command, example.text)
     print(f"{example.name:<40}{example.command:<10}{len(example.text):>9}{len(ended.out):>9}{seconds:>8.2f} s{mebibytes:>8.1f} MiB", flush=True)
@@ -289,8 +293,8 @@ def fits(program, example):
     return 1, 0, [] if right and within else [f"{example}: {ended}, {seconds:.2f} s, {mebibytes:.1f} MiB"]
 
 
-def checked(program, example, plan):
-    """One run under valgrind, which finds no memory lost, and no read or write where none may be."""
+def with_valgrind(program, example, plan):
+    """One run under valgrind, with the settings of refuse.c in `plan`. Valgrind must find no lost memory, and no forbidden read or write."""
     leaks = ["--leak-check=full", "--show-leak-kinds=definite", "--errors-for-leak-kinds=definite", "--error-exitcode=99"]
     words = ["valgrind", "-q", "--soname-synonyms=somalloc=nouserintercepts", *leaks]
     wanted = example.answer or program.run(example.command, example.text).answer
@@ -300,7 +304,7 @@ def checked(program, example, plan):
 
 
 def attempted(do, program, *words):
-    """What a task gives; where it cannot go on that is a fault."""
+    """Does a task, and returns what it returns. An OSError is a fault."""
     try:
         return do(program, *words)
     except OSError as fault:
@@ -327,11 +331,11 @@ def truncation():
             yield cut_short, command, text, range(start, min(start + 100, len(text)))
     for text in three_certificates():
         for more in (b"", b" ", b" \t\v\f\r\n"):
-            yield ends_so, "whitespace behind a case", answered("0 yes entry 1"), "run", "check", text + more
+            yield one_run, "whitespace behind a case", end_of("0 yes entry 1"), "run", "check", text + more
 
 
 def ends_failing():
-    whole = Example("first-run.csexp", "check", first_run()[0], answered("0 yes entry 1"))
+    whole = Example("first-run.csexp", "check", first_run()[0], end_of("0 yes entry 1"))
     short = Example("a short text", "canonical", b"(abc def)", (0, b"(3:abc3:def)", b""))
     for example in (whole, short):
         for told, wanted in ((EIO, read_fault), (EINTR, asked_again), (0, ended_early)):
@@ -343,7 +347,7 @@ def ends_failing():
     for command in COMMANDS:
         for words, wanted in ENDS:
             words = words.replace("FILE", os.path.join(EXAMPLES, "first-run.csexp"))
-            yield ends_so, f"{command} {words}", wanted, "redirected", command, words
+            yield one_run, f"{command} {words}", wanted, "redirected", command, words
 
 
 def long_answer(members, octets):
@@ -357,10 +361,10 @@ def long_answers():
     text, whole = long_answer(100, 1)
     for most in (0, 4095, 4096, 4097, 12288, len(whole) - 1):
         wanted = 3, whole[:most], WRITE_FAULT[2]
-        yield ends_so, f"a file of at most {most} octets", wanted, "limited", "intersect", text, resource.RLIMIT_FSIZE, most
-    yield ends_so, "a long answer", (0, whole, b""), "run", "intersect", text
+        yield one_run, f"a file of at most {most} octets", wanted, "limited", "intersect", text, resource.RLIMIT_FSIZE, most
+    yield one_run, "a long answer", (0, whole, b""), "run", "intersect", text
     text, whole = long_answer(200, 1200)
-    yield ends_so, f"an answer of {len(whole)} octets in 24 MiB", (0, whole, b""), "limited", "intersect", text, resource.RLIMIT_AS, 24 << 20
+    yield one_run, f"an answer of {len(whole)} octets in 24 MiB", (0, whole, b""), "limited", "intersect", text, resource.RLIMIT_AS, 24 << 20
 
 
 def pipes_and_files():
@@ -368,25 +372,25 @@ def pipes_and_files():
     whole = first_run()[0]
     for dies in (False, True):
         for command in COMMANDS:
-            yield ends_so, f"{command} with no reader", WRITE_FAULT, "reader_gone", command, whole, 0, dies
-        yield ends_so, "a reader that leaves", (3, long[:5], WRITE_FAULT[2]), "reader_gone", "canonical", long, 5, dies
+            yield one_run, f"{command} with no reader", WRITE_FAULT, "reader_gone", command, whole, 0, dies
+        yield one_run, "a reader that leaves", (3, long[:5], WRITE_FAULT[2]), "reader_gone", "canonical", long, 5, dies
     for text in (*first_run(), *three_certificates()):
-        yield ends_so, "one octet at a time", answered("0 yes entry 1"), "in_packets", "check", text
+        yield one_run, "one octet at a time", end_of("0 yes entry 1"), "in_packets", "check", text
     for most in range(12):
         wanted = 3, b"yes entry 1\n"[:most], WRITE_FAULT[2]
-        yield ends_so, f"a file of at most {most} octets", wanted, "limited", "check", whole, resource.RLIMIT_FSIZE, most
-    yield ends_so, "a reader that cannot wait", READ_FAULT, "without_waiting", "check", b""
-    yield ends_so, "a writer that cannot wait", (3, long[:PIPE], WRITE_FAULT[2]), "without_waiting", "canonical", long
+        yield one_run, f"a file of at most {most} octets", wanted, "limited", "check", whole, resource.RLIMIT_FSIZE, most
+    yield one_run, "a reader that cannot wait", READ_FAULT, "without_waiting", "check", b""
+    yield one_run, "a writer that cannot wait", (3, long[:PIPE], WRITE_FAULT[2]), "without_waiting", "canonical", long
 
 
 def at_limits():
     for example in known(of_limits):
-        yield ends_so, example, example.answer, "run", example.command, example.text
+        yield one_run, example, example.answer, "run", example.command, example.text
 
 
 def in_small_stack():
     for example in known(of_limits) + [Example(what, command, text, None) for what, command, text, _ in most_work()]:
-        yield stands, example
+        yield with_small_stack, example
 
 
 def less_memory():
@@ -397,13 +401,13 @@ def less_memory():
 def work():
     print(f"{'text':<40}{'command':<10}{'octets':>9}{'written':>9}{'time':>10}{'memory':>12}")
     for what, command, text, begins in most_work():
-        yield fits, Example(what, command, text, begins)
+        yield within_limits, Example(what, command, text, begins)
 
 
 def under_valgrind():
     for example in known(of_files, of_chains)[::VALGRIND_STEP]:
         for number in ("0", "5", "40.."):
-            yield checked, example, {"memory": number}
+            yield with_valgrind, example, {"memory": number}
 
 
 PARTS = {

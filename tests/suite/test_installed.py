@@ -21,13 +21,13 @@ def files_below(folder: str) -> set[str]:
 
 
 def found(pattern: str, text: str) -> str:
-    """What a pattern finds in a text first, or nothing."""
+    """What the group of a pattern finds first in a text, or an empty text."""
     match = re.search(pattern, text, re.MULTILINE)
     return match[1] if match else ""
 
 
 def installed(program: str, library: str, **settings: str) -> tuple[tempfile.TemporaryDirectory, str]:
-    """A folder with other files, to which install.sh has installed, and what it said."""
+    """Installs by install.sh into a new folder with other files. Returns the folder, and what install.sh wrote. Raises AssertionError if it fails."""
     prefix = tempfile.TemporaryDirectory()
     for place in OTHERS:
         os.makedirs(os.path.dirname(os.path.join(prefix.name, place)))
@@ -54,7 +54,7 @@ class Installed(built.OfLibrary):
         cls.addClassCleanup(room.cleanup)
         cls.prefix, cls.page = room.name, os.path.join(room.name, "share", "man", "man1", "spki.1")
 
-    def links(self, *linking: str) -> None:
+    def check_linking(self, *linking: str) -> None:
         """`linked.c` must compile with what is installed, link by these words, and end with 0."""
         with tempfile.TemporaryDirectory() as room:
             linked = os.path.join(room, "linked")
@@ -68,15 +68,15 @@ class Installed(built.OfLibrary):
         self.assertEqual(answer, (0, "yes entry 1\n"))
 
     def test_shared_library(self) -> None:
-        self.links(f"-I{self.prefix}/include", f"-L{self.prefix}/lib", "-lspki_c")
+        self.check_linking(f"-I{self.prefix}/include", f"-L{self.prefix}/lib", "-lspki_c")
 
     def test_static_library(self) -> None:
-        self.links(f"-I{self.prefix}/include", os.path.join(self.prefix, "lib", "libspki_c.a"))
+        self.check_linking(f"-I{self.prefix}/include", os.path.join(self.prefix, "lib", "libspki_c.a"))
 
     @needs.needs("pkg-config")
     def test_pkg_config(self) -> None:
         settings = {**os.environ, "PKG_CONFIG_PATH": os.path.join(self.prefix, "lib", "pkgconfig")}
-        self.links(*output_of("pkg-config", "--cflags", "--libs", "spki", env=settings)[1].split())
+        self.check_linking(*output_of("pkg-config", "--cflags", "--libs", "spki", env=settings)[1].split())
 
     @needs.needs("cmake")
     def test_cmake(self) -> None:

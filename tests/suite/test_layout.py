@@ -24,16 +24,16 @@ LINE = re.compile(r"Last run of `\.ci/deep`: commit ([0-9a-f]{12,40}), \d+ passe
                   r"(?:wrong bodies only, |(?:.|\n(?!\n))*\b1,000,000 (?:.|\n(?!\n))*\bseed [0-9a-f]{8}\b)")
 
 
-def misplaced(crate: str) -> str:
-    """The files of a crate that `rt fmt` lays out otherwise, in a copy, since it has no word with which it only looks."""
+def files_laid_out_wrongly(crate: str) -> str:
+    """The files of a crate that `rt fmt` changes, as it prints them. It works on a copy, since it has no option for only looking."""
     with tempfile.TemporaryDirectory() as room:
         for part in filter(os.path.isdir, (os.path.join(crate, part) for part in ("src", "specs", "proofs"))):
             shutil.copytree(part, os.path.join(room, os.path.basename(part)))
         return output_of("rt", "fmt", cwd=room)[1]
 
 
-def unfit() -> Iterator[str]:
-    """The wrong bodies that cannot be applied, and those that `.ci/run` tries and CONTRIBUTING.md does not list, or the other way round."""
+def faults_of_wrong_bodies() -> Iterator[str]:
+    """A line for each wrong body that cannot be applied, or that only one of `.ci/run` and the list of CONTRIBUTING.md has."""
     tried = {(crate, name) for crate, names in plan.TRIED.items() for name in names}
     for crate in sorted(os.listdir(os.path.join(ROOT, "crates"))):
         folder = os.path.join(ROOT, "crates", crate)
@@ -50,6 +50,7 @@ def unfit() -> Iterator[str]:
 
 
 def git(*words):
+    """Runs git in the repository. Returns how it ended, and its output."""
     return subprocess.run(["git", *words], cwd=ROOT, stdout=subprocess.PIPE, stderr=subprocess.DEVNULL, text=True)
 
 
@@ -58,11 +59,11 @@ class Layout(unittest.TestCase):
 
     def test_sources(self) -> None:
         crates = sorted(os.path.dirname(path) for path in glob.glob(os.path.join(ROOT, "crates", "*", "src")))
-        faults = {os.path.relpath(crate, ROOT): said for crate in crates if (said := misplaced(crate))}
+        faults = {os.path.relpath(crate, ROOT): said for crate in crates if (said := files_laid_out_wrongly(crate))}
         self.assertEqual(faults, {}, f"run rt fmt in {', '.join(faults)}")
 
     def test_wrong_bodies(self) -> None:
-        faults = list(unfit())
+        faults = list(faults_of_wrong_bodies())
         self.assertEqual(faults, [], "\n".join(faults))
 
     def test_links(self) -> None:

@@ -122,7 +122,7 @@ LOCATE = loaded(PATH)
 
 
 def printed(text, *words):
-    """The exit status of the tool and what it prints of a text, with the words of a refusal."""
+    """The exit status of `locate` on a text, and what it prints. `words` are those of a refusal."""
     with tempfile.NamedTemporaryFile() as file:
         file.write(text)
         file.flush()
@@ -133,17 +133,18 @@ def printed(text, *words):
 
 
 def has_no_place(answer):
+    """Whether an answer is a refusal of the text as a whole."""
     return answer in (b"refused TooLarge\n", b"refused Memory\n")
 
 
 def show_places(wrong, inner, places):
-    """Shows each place of a fault, which must go well."""
+    """Has `locate` show each place of a fault. It must not raise."""
     for at, _ in [(wrong.at, wrong.why), *wrong.others] if wrong else []:
         LOCATE.place_shown(inner, places, at)
 
 
 def refusal_of_part(name, text):
-    """The line of the model's refusal of a part, or None."""
+    """The line by which the model refuses a part of a question, None if it reads it."""
     try:
         if name == "acl":
             guard.open_guard(text, False, guard.USUAL)
@@ -158,7 +159,7 @@ class Refusals(unittest.TestCase):
     """What the tool finds in texts."""
 
     def shows(self, text: str, given: str, wanted: str, place: tuple[int, int], words: str) -> None:
-        """The tool must show a refusal at a place, with these words, and each place once."""
+        """`locate` must show a refusal at a line and column, with these words, and no place twice. `given` are the words of the refusal, or empty."""
         said = printed(text.encode(), *(["refused", *given.split()] if given else []))[1]
         first, offsets = said.split("\n")[1] if "\n" in said else "", PLACE.findall(said)
         is_right = f"refused {wanted}\n" in said and first.startswith(f"line {place[0]}, column {place[1]},") and words in said
@@ -166,7 +167,7 @@ class Refusals(unittest.TestCase):
             self.fail(f"text   {text!r}, given {given!r}\nwanted {wanted} at line {place[0]}, column {place[1]}, {words}\ncame   {said}")
 
     def finds(self, place: str, command: str, text: bytes, wanted: tuple[int, bytes]) -> None:
-        """The tool must find the refusal where the answer is wanted."""
+        """`locate` must find the refusal that `wanted` is, or none if it is no refusal. `place` names the text."""
         (wrong, inner, places), _ = LOCATE.read_text(text, READ_AS.get(command, "refused form"))
         found = f"{LOCATE.refusal(wrong, places)}\n".encode() if wrong else b""
         show_places(wrong, inner, places)

@@ -60,9 +60,9 @@ class Counted(test_bindings.Binding):
         self.counts = os.path.join(self.room, self.id())
         self.settings = {**os.environ, "SPKI_COUNTED": self.counts, "SPKI_LIBRARY": self.counting}
 
-    def counted_once(self, asked: list[Asked], answers):
-        """The answers must be those that are wanted, with one call for each."""
-        fault = test_bindings.otherwise(asked, answers)
+    def check_counts(self, asked: list[Asked], answers):
+        """The answers must be the wanted ones, and the library must have been called once for each."""
+        fault = test_bindings.faults_of_answers(asked, answers)
         self.assertEqual(fault, "", fault)
         with open(self.counts, encoding="ascii") as file:
             self.assertEqual(file.read().splitlines(), [f"{each.command} {DONE} {len(each.wanted)}" for each in asked])
@@ -76,14 +76,14 @@ class Counted(test_bindings.Binding):
     def test_in_python(self):
         done = subprocess.run([sys.executable, "-c", BY_PYTHON, PYTHON], input=pickle.dumps(self.asked), stdout=subprocess.PIPE, cwd=TESTS,
                               env=self.settings, check=True, timeout=SECONDS)
-        self.counted_once(self.asked, pickle.loads(done.stdout))
+        self.check_counts(self.asked, pickle.loads(done.stdout))
 
     @needs.needs("go")
     def test_in_go(self):
         given = b"".join(map(test_bindings.framed, self.asked))
         done = golang.go(golang.MODULE, ["run", "./examples/asked"], self.archive, given, SPKI_COUNTED=self.counts)
         self.assertEqual(done.returncode, 0, done.stderr)
-        self.counted_once(self.asked, [line + b"\n" for line in test_bindings.strings_in(done.stdout)])
+        self.check_counts(self.asked, [line + b"\n" for line in test_bindings.strings_in(done.stdout)])
 
     @needs.needs("cargo")
     def test_in_rust(self):
@@ -91,7 +91,7 @@ class Counted(test_bindings.Binding):
         settings = {**self.settings, "SPKI_LIB_DIR": self.room, "CARGO_TARGET_DIR": target, "CARGO_NET_OFFLINE": "true"}
         done = subprocess.run(["cargo", "run", "--quiet", "--example", "asked"], cwd=test_bindings.RUST, input=given, stdout=subprocess.PIPE,
                               env=settings, check=True, timeout=SECONDS)
-        self.counted_once(self.asked, [line + b"\n" for line in test_bindings.strings_in(done.stdout)])
+        self.check_counts(self.asked, [line + b"\n" for line in test_bindings.strings_in(done.stdout)])
 
     @needs.needs("g++")
     def test_in_cpp(self):
@@ -106,4 +106,4 @@ class Counted(test_bindings.Binding):
                     file.write(octets)
             done = subprocess.run([program, explained.limits, *paths], stdout=subprocess.PIPE, env=self.settings, check=True, timeout=SECONDS)
             answers += [done.stdout[:len(explained.wanted)], done.stdout[len(explained.wanted):]]
-        self.counted_once(self.asked, answers)
+        self.check_counts(self.asked, answers)

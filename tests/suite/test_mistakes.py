@@ -15,7 +15,7 @@ from unittest import mock
 
 from harness import built, needs
 from rows import mistakes
-from suite.test_cert import COMMAND, TAG, Case, text_in
+from suite.test_cert import COMMAND, TAG, Case, octets_in
 from spki_cert_tool import arguments, asking, certificates, commands, ending, files, keys, sexp
 from spki_cert_tool.places import value_in
 
@@ -50,18 +50,19 @@ class Room(Case):
         self.sign("--propagate", "-o", "to-bob")
 
     def sign(self, *words, by="alice", to="bob.pub", tag="(packages read)", wanted=0, days=("--days", "30")):
+        """Runs `spki-cert sign`. Returns what it writes."""
         return self.done("sign", "--by", by, "--to", to, "--tag", tag, *days, *words, wanted=wanted)
 
-    def stays(self, *words, said="", wanted=2):
-        """A command ends with a status and changes no file."""
-        before = self.before()
+    def changes_nothing(self, *words, said="", wanted=2):
+        """A command must end with the status `wanted`, write the text `said`, and change no file."""
+        before = self.contents()
         with self.subTest(words):
             self.assertIn(said, self.done(*words, wanted=wanted))
-            self.assertEqual(before, self.before())
+            self.assertEqual(before, self.contents())
 
-    def before(self):
-        """What each file of the folder has, by its name."""
-        return {name: text_in(self.at(name)) for name in os.listdir(self.room) if stat.S_ISREG(os.lstat(self.at(name)).st_mode)}
+    def contents(self):
+        """The octets of each file of the folder, by its name."""
+        return {name: octets_in(self.at(name)) for name in os.listdir(self.room) if stat.S_ISREG(os.lstat(self.at(name)).st_mode)}
 
 
 class OfWriting(Room):
@@ -81,7 +82,7 @@ class OfWriting(Room):
                 (("key", "new", "--no-passphrase", "to-key"), "is there already"),
                 (("show", "--svg", "to-bob", "--force", "to-bob"), "reads this file"),
                 (("show", "--svg", "alice.pub", "--force", "--labels", ".", "to-bob"), "reads this file")]:
-            self.stays(*words, said=said)
+            self.changes_nothing(*words, said=said)
 
     def test_no_secret_is_written_over_or_shown(self):
         """Private keys in forms that are not read, and one that is not whole. Nor is the file of ended certificates written over."""
@@ -107,12 +108,12 @@ class OfWriting(Room):
                     said = self.done(*words, wanted=0 if words == ("check", "wg") else 2)
                     for shown in (seed.decode()[:20], octets.hex()[:20], "\\x", base64.b64encode(text).decode()[-20:]):
                         self.assertNotIn(shown, said)
-            self.stays("key", "bob.pub", "--force", "-o", name, said="is not written over")
+            self.changes_nothing("key", "bob.pub", "--force", "-o", name, said="is not written over")
             self.no_word_is_shown(secret.decode(errors="surrogateescape").strip("\0\n"), seed.decode()[:20], octets.hex()[:20])
         for name, (whole, _) in self.pairs.items():
             self.no_word_is_shown(whole.decode(), *whole.decode().split("\n")[1:-2])
         self.done("end", "--ended", "ended")
-        self.stays("key", "bob.pub", "--force", "-o", "ended", said="the file of ended certificates is there already")
+        self.changes_nothing("key", "bob.pub", "--force", "-o", "ended", said="the file of ended certificates is there already")
 
     def no_word_is_shown(self, secret, *parts):
         """Nothing of a secret that is given as a word is said. A seed alone is known only where a file is named."""
@@ -138,16 +139,17 @@ class OfWriting(Room):
         self.write("c.sexp", "before")
         os.chmod(self.at("c.sexp"), 0o640)
         self.assertIn("--force writes over it", self.sign("-o", "c.sexp", wanted=2))
-        self.assertEqual(text_in(self.at("c.sexp")), b"before")
+        self.assertEqual(octets_in(self.at("c.sexp")), b"before")
         os.symlink("c.sexp", self.at("link"))
         self.sign("-o", "link", "--force")
         self.assertEqual((os.path.islink(self.at("link")), stat.S_IMODE(os.stat(self.at("c.sexp")).st_mode)), (True, 0o640))
         self.verified("c.sexp")
         for mode in (0o444, 0o400, 0o000):
             os.chmod(self.at("c.sexp"), mode)
-            self.stays_closed("sign", "--by", "alice", "--to", "bob.pub", "--tag", TAG, "--days", "1", "--force", "-o", "c.sexp")
+            self.is_not_written("sign", "--by", "alice", "--to", "bob.pub", "--tag", TAG, "--days", "1", "--force", "-o", "c.sexp")
 
-    def stays_closed(self, *words):
+    def is_not_written(self, *words):
+        """A command must refuse to write c.sexp, and leave it as it is."""
         before = os.stat(self.at("c.sexp"))
         self.assertIn("is not to be written", self.done(*words, wanted=2))
         self.assertEqual(before, os.stat(self.at("c.sexp")))
@@ -161,17 +163,17 @@ class OfWriting(Room):
         self.assertEqual(self.done(*adds), "entries added: 1\n")
         after = os.stat(self.at("acl.sexp"))
         self.assertEqual([(it.st_mode, it.st_uid, it.st_gid) for it in (before, after)][0], (after.st_mode, after.st_uid, after.st_gid))
-        self.stays(*adds, said="entry 2 of the list gives all of this already", wanted=4)
+        self.changes_nothing(*adds, said="entry 2 of the list gives all of this already", wanted=4)
         os.chmod(self.at("acl.sexp"), 0o444)
         for words in ((*adds, "--yes"), ("entry", "--remove", "--to", "bob.pub", "--acl", "acl.sexp")):
-            self.stays(*words, said="its mode 444")
+            self.changes_nothing(*words, said="its mode 444")
 
     def test_edits_at_the_same_time_are_all_kept(self):
         """Each waits for the lock of the list."""
         children = [subprocess.Popen([sys.executable, COMMAND, "entry", "--to", "bob.pub", "--tag", f"(packages a{number})", "--acl", "new.sexp"],
                                      cwd=self.room, stdout=subprocess.DEVNULL) for number in range(4)]
         self.assertEqual([child.wait(SECONDS) for child in children], [0] * 4)
-        self.assertEqual(len(value_in(text_in(self.at("new.sexp"))).value), 5)
+        self.assertEqual(len(value_in(octets_in(self.at("new.sexp"))).value), 5)
 
     def test_a_dash_is_a_stream(self):
         for words, name in [(("key", "-"), "bob.pub"), (("show", "-"), "to-bob"), (("check", "-"), "acl.sexp"),
@@ -195,7 +197,7 @@ class OfWriting(Room):
         for call in ("fsync", "fchmod", "replace"):
             with self.subTest(call), mock.patch.object(os, call, side_effect=OSError(28, "No space left on device")):
                 self.assertIn("the file is as before", self.sign("--force", "-o", "c.sexp", wanted=3))
-            self.assertEqual((text_in(self.at("c.sexp")), [it for it in os.listdir(self.room) if it.startswith(".")]), (b"before", []))
+            self.assertEqual((octets_in(self.at("c.sexp")), [it for it in os.listdir(self.room) if it.startswith(".")]), (b"before", []))
 
     def test_a_folder_that_is_not_on_the_disk_is_said(self):
         """The file is there then. A file system that does not do this for folders is no fault."""
@@ -220,10 +222,10 @@ class OfTheLibrary(Room):
         asks = ("ask", "--acl", "acl.sexp", "--key", "bob.pub", "--cert", "to-bob")
         for option in ("--save", "--sequence", "--svg"):
             for name in ("acl.sexp", "hard", "soft", "bob.pub", "to-bob"):
-                self.stays(*asks, "--force", option, name, "--", "packages", "read", said="reads this file")
-        self.stays(*asks, "--save", "new", "--svg", "./new", "--", "packages", "read", said="to one file")
+                self.changes_nothing(*asks, "--force", option, name, "--", "packages", "read", said="reads this file")
+        self.changes_nothing(*asks, "--save", "new", "--svg", "./new", "--", "packages", "read", said="to one file")
         signs = ("sign", "--by", "bob", "--to", "carol.pub", "--tag", "(packages read)", "--days", "1")
-        self.stays(*signs, "--chain", "to-bob", "--force", "-o", "to-bob", said="reads this file")
+        self.changes_nothing(*signs, "--chain", "to-bob", "--force", "-o", "to-bob", said="reads this file")
 
 
 class OfArguments(Room):
@@ -243,7 +245,7 @@ class OfArguments(Room):
     def test_what_is_not_meant_is_not_made(self):
         for row in mistakes.OF_WORDS:
             self.write("authorized_keys", b"".join(public + b"\n" for _, public in self.pairs.values()))
-            self.write("braces", b"{%s}" % base64.b64encode(sexp.canonical(value_in(text_in(self.at("to-bob"))).value)))
+            self.write("braces", b"{%s}" % base64.b64encode(sexp.canonical(value_in(octets_in(self.at("to-bob"))).value)))
             with self.subTest(row.what):
                 said = self.done(*row.words, wanted=row.status)
                 self.assertIn(row.said, said)
@@ -316,10 +318,11 @@ class OfChains(Room):
 
     def signed(self, count):
         """A sequence of certificates of bob for himself, one for carol, and the one of alice for bob."""
-        made = [self.at_home("bob", "bob", number) for number in range(count)]
-        return [*made, self.at_home("bob", "carol", 0), value_in(text_in(self.at("to-bob"))).value]
+        made = [self.signed_here("bob", "bob", number) for number in range(count)]
+        return [*made, self.signed_here("bob", "carol", 0), value_in(octets_in(self.at("to-bob"))).value]
 
-    def at_home(self, issuer, subject, number):
+    def signed_here(self, issuer, subject, number):
+        """The sequence of a certificate from one person to another, with a number as its comment."""
         private, to = (keys.read_private(self.pairs[issuer][0], lambda: b""), keys.read_public(self.pairs[subject][1], lambda: b""))
         signer = keys.FileSigner(private)
         certificate = [b"cert", [b"issuer", signer.key], [b"subject", to], [b"propagate"], [b"tag", [b"packages"]], [b"comment", b"%d" % number]]
@@ -329,7 +332,7 @@ class OfChains(Room):
     def test_the_search_is_bounded(self):
         """Certificates that a key issues for itself lead nowhere, and a net of keys that all name each other ends at the bound."""
         holder, found = keys.read_public(self.pairs["carol"][1], lambda: b""), self.signed(12)
-        entries = certificates.entries_of(value_in(text_in(self.at("acl.sexp"))).value)
+        entries = certificates.entries_of(value_in(octets_in(self.at("acl.sexp"))).value)
         given = [it for one in found for it in certificates.certificates_in(one)]
         steps = certificates.Steps()
         chains = list(certificates.chains(entries, given, certificates.Keys(), holder, steps))
@@ -355,6 +358,7 @@ class OfTheRightOfAChain(OfChains):
         self.settings["SPKI_LIBRARY"] = built.shared()
 
     def chained(self, *words, by="bob", to="carol.pub", tag="(packages read)", chain="to-bob", wanted=0):
+        """Runs `spki-cert sign --chain`. Returns what it writes."""
         return self.sign("--chain", chain, "--force", "-o", "c.sexp", *words, by=by, to=to, tag=tag, wanted=wanted, days=("--days", "5"))
 
     def test_what_the_issuer_has_is_signed(self):
@@ -363,12 +367,12 @@ class OfTheRightOfAChain(OfChains):
             self.assertEqual(len(self.verified("c.sexp")), 2)
         self.done("name", "--by", "alice", "--name", "team", "--to", "bob.pub", "--days", "9", "-o", "named")
         self.done("sign", "--by", "alice", "--named", "team", "--tag", "(packages (* set write read))", "--propagate", "--days", "9", "-o", "to-team")
-        team, name = (value_in(text_in(self.at(it))).value for it in ("to-team", "named"))
+        team, name = (value_in(octets_in(self.at(it))).value for it in ("to-team", "named"))
         self.write("both", sexp.laid_out([*team, *name[1:]]))
         self.chained(chain="both", tag="(packages (* set read write))")
 
     def test_what_the_issuer_cannot_give_is_not_signed(self):
-        text = text_in(self.at("to-bob"))
+        text = octets_in(self.at("to-bob"))
         self.write("changed", text.replace(b"(packages read)", b"(packages)"))
         self.write("tampered", re.sub(rb"\(s\s+#..", lambda it: it[0][:-2] + b"%02x" % (int(it[0][-2:], 16) ^ 1), text))
         self.write("none", "(sequence)")
@@ -419,7 +423,7 @@ class OfTheRightOfAChain(OfChains):
         self.assertIn("TagLacks", self.done(*asks, "mail", wanted=1))
         with mock.patch.object(certificates.Steps, "most", 1), mock.patch.object(certificates.Steps.__init__, "__defaults__", (1, False)):
             self.assertIn("the search for chains ended after 1 steps", self.done(*asks, "packages", "read", wanted=1))
-        self.write("many/other", sexp.laid_out(self.at_home("bob", "carol", 99)))
+        self.write("many/other", sexp.laid_out(self.signed_here("bob", "carol", 99)))
         for most, is_cut in ((1, True), (2, False)):
             with mock.patch.object(asking, "MOST_CHAINS", most):
                 said = self.done(*asks, "mail", wanted=1)
@@ -456,7 +460,7 @@ class Child:
                 os._exit(99)
 
     def ended(self):
-        """The status with which it ends, and what it has said."""
+        """Waits until the command has ended. Returns its status, and what it has written to standard error."""
         status = os.waitstatus_to_exitcode(os.waitpid(self.process, 0)[1])
         self.said.seek(0)
         with self.said:
@@ -464,6 +468,7 @@ class Child:
 
 
 def output(path, encoding="utf-8"):
+    """Returns a function that opens a file as standard output."""
     return lambda: open(path, "w", encoding=encoding)
 
 
@@ -494,7 +499,7 @@ class OfStreams(Room):
         self.write("x.pub", self.pairs["carol"][1] + " \x1b[2Jcarol ä".encode())
         status, said = Child(self.room, ("show", "--labels", ".", "c.sexp"), self.settings, stdout=output("out", "ascii")).ended()
         self.assertEqual((status, said), (0, ""))
-        self.assertIn(b"f\\xfcr Bob", text_in(self.at("out")))
+        self.assertIn(b"f\\xfcr Bob", octets_in(self.at("out")))
         self.sign("-o", "d.sexp", to="x.pub")
         os.remove(self.at("carol.pub"))
         self.assertIn("\\x1b[2Jcarol ä", self.done("show", "--labels", ".", "d.sexp"))
@@ -519,8 +524,8 @@ class OfSignals(Room):
         self.each_ends("key", "show", "check", "ask", "completion")
 
     def each_ends(self, *names):
-        """The signal comes while the command waits for its input, or where it has none, for its output to be taken."""
-        before = self.before()
+        """Each signal must end these commands as it should, while they wait for their input, or if they have none, for their output to be read."""
+        before = self.contents()
         wanted = sorted(signal.valid_signals() - {signal.SIGKILL, signal.SIGSTOP} - set(range(signal.SIGRTMIN + 1, signal.SIGRTMAX)))
         for name in names:
             for number in wanted:
@@ -534,10 +539,10 @@ class OfSignals(Room):
                 for made in ("new", "new.pub"):
                     with contextlib.suppress(FileNotFoundError):
                         os.remove(self.at(made))
-        self.assertEqual(before, self.before())
+        self.assertEqual(before, self.contents())
 
     def ended_by(self, words, number):
-        """How a command ends that gets a signal while it waits, and then what it waits for."""
+        """Sends a signal to a command that waits, and then gives it what it waits for. Returns its status, and what it has written."""
         (ready, is_ready), (hang, let) = os.pipe(), os.pipe()
 
         def before():
@@ -598,12 +603,12 @@ class OfRandomWords(Room):
         self.write("c.sexp", "(acl)")
         self.write("c.key", self.done("key", "bob.pub"))
         os.symlink("acl.sexp", self.at("link"))
-        self.sources = [text_in(self.at(name)) for name in ("alice", "alice.pub", "acl.sexp", "to-bob", "keys")]
+        self.sources = [octets_in(self.at(name)) for name in ("alice", "alice.pub", "acl.sexp", "to-bob", "keys")]
         if not built.IS_ALONE and os.path.exists(os.environ.get("SPKI_TEST_LIBRARY", built.LIBRARY)):
             self.settings["SPKI_LIBRARY"] = built.shared()
 
     def words(self, rng):
-        """The words of a command: likely ones, of which some are changed, or any."""
+        """Random words of a command: likely ones, of which some are changed, or any."""
         commands_of = arguments.commands_with_options()
         if rng.random() < 0.2:
             name = rng.choice(list(commands_of))
@@ -620,7 +625,7 @@ class OfRandomWords(Room):
         return words
 
     def wild(self, rng):
-        """The octets of a file: those of another one with octets that are changed, left out or repeated, or any."""
+        """Random octets of a file: those of another one with some changed, left out or repeated, or any."""
         octets = bytearray(rng.choice(self.sources) if rng.random() < 0.8 else rng.randbytes(rng.randrange(200)))
         for _ in range(rng.randrange(5)):
             place = rng.randrange(len(octets) + 1)
@@ -628,7 +633,7 @@ class OfRandomWords(Room):
         return bytes(octets)
 
     def test_nothing_is_lost(self):
-        rng, before = random.Random(SEED), self.before()
+        rng, before = random.Random(SEED), self.contents()
         for number in range(RUNS):
             words, wild = self.words(rng), {name: self.wild(rng) for name in ("wild", "wild.pub", "wild.sexp")}
             for name, octets in wild.items():
@@ -637,21 +642,21 @@ class OfRandomWords(Room):
                 output(os.devnull), output(os.devnull), output(os.devnull, "ascii"), output("/dev/full"), None))
             with self.subTest(number=number, words=words):
                 status, said = Child(self.room, words, self.settings, stdin, stdout).ended()
-                self.judged(words, status, said, {**before, **wild})
+                self.check_run(words, status, said, {**before, **wild})
 
     def test_nothing_is_lost_by_the_program(self):
-        rng, before = random.Random(SEED + " starts"), self.before()
+        rng, before = random.Random(SEED + " starts"), self.contents()
         for number in range(STARTS):
             words, wild = self.words(rng), {"wild": self.wild(rng)}
             self.write("wild", wild["wild"])
             done = subprocess.run([sys.executable, COMMAND, *words], cwd=self.room, env=self.settings, stdin=subprocess.DEVNULL,
                                   stdout=subprocess.DEVNULL, stderr=subprocess.PIPE, start_new_session=True, timeout=SECONDS)
             with self.subTest(number=number, words=words):
-                self.judged(words, done.returncode, done.stderr.decode(errors="replace"), {**before, **wild})
+                self.check_run(words, done.returncode, done.stderr.decode(errors="replace"), {**before, **wild})
 
-    def judged(self, words, status, said, before):
-        """Looks for a traceback, a changed input, a key that is gone, a file half written. Then the folder is as before."""
-        after, may_change = self.before(), {words[place + 1] for place, word in enumerate(words[:-1]) if word in self.OUTPUTS}
+    def check_run(self, words, status, said, before):
+        """A command must end without a traceback, a changed input, a lost key or a half-written file. Restores the folder to `before`."""
+        after, may_change = self.contents(), {words[place + 1] for place, word in enumerate(words[:-1]) if word in self.OUTPUTS}
         if "link" in may_change:
             may_change.add("acl.sexp")
         changed = {name for name in before if after.get(name) != before[name]}

@@ -30,7 +30,7 @@ ASKED = (*COMMANDS, "check_accepted", *(f"guard {wish}" for wish in WISHES), "ca
 
 
 def fault_columns(text: str) -> Iterator[str]:
-    """What is in the columns for faults of the tables in a text."""
+    """Yields the cells of the columns of tables in a text whose heading begins with `Fault`."""
     column: int | None = None
     for line in text.splitlines():
         cells = line.split("|") if line.startswith("|") else []
@@ -78,13 +78,13 @@ class Generated(built.OfProgram):
         cls.seed = secrets.token_hex(4)
         with tempfile.TemporaryDirectory() as folder:
             archive = None if built.IS_ALONE else built.library()
-            comparison = differential.compared(cls.program, archive, folder, cls.seed)
+            comparison = differential.comparison_of(cls.program, archive, folder, cls.seed)
             cls.differ, cls.ended, cls.rows = differential.compare(comparison, 0, built.CASES, os.cpu_count() or 1)
-            cls.told = {number: differential.told(comparison, number) for number in cls.differ[:differential.SHOWN]}
-        cls.told.update({number: differential.told_of_ended(cls.seed, number) for number in cls.ended})
+            cls.told = {number: differential.lines_of_case(comparison, number) for number in cls.differ[:differential.SHOWN]}
+        cls.told.update({number: differential.line_of_ended(cls.seed, number) for number in cls.ended})
         cls.by_program = comparison.by_program
 
-    def agrees_on(self, command: str) -> None:
+    def check_command(self, command: str) -> None:
         """No case of a command may differ."""
         alone = " --program-alone" if built.IS_ALONE else ""
         faults = [f"{self.told.get(number, f'case {number} differs')}\n"
@@ -111,19 +111,19 @@ class GeneratedOnArm(built.OfProgram):
             relayed = Relayed([*ON_ARM, relay])
             comparison = differential.Comparison(differential.Library(relayed), self.program, seed)
             differ, ended, _ = differential.compare(comparison, 0, cases, os.cpu_count() or 1)
-            told = [differential.told(comparison, number) for number in differ[:differential.SHOWN]]
+            told = [differential.lines_of_case(comparison, number) for number in differ[:differential.SHOWN]]
             relayed.close()
         self.assertEqual((told, ended), ([], []), f"cases 0 to {cases}, seed {seed}")
 
 
 def made_test(command: str) -> Callable[[Generated], None]:
     """The test of the cases of a command."""
-    return lambda self: self.agrees_on(command)
+    return lambda self: self.check_command(command)
 
 
 def rows_that_came(self: Generated) -> None:
     """With 20,000 cases each row of the model comes."""
-    never = differential.never_came(self.rows) if built.CASES >= differential.WHOLE_COVERAGE else []
+    never = differential.unreached(self.rows) if built.CASES >= differential.WHOLE_COVERAGE else []
     self.assertEqual(never, [], f"never came, seed {self.seed}")
 
 

@@ -36,6 +36,7 @@ class OfSite(unittest.TestCase):
         cls.addClassCleanup(cls.site.end)
 
     def grants_ann(self) -> None:
+        """Ann must get the page that she may read."""
         self.assertEqual(self.site.status("ann", "GET", "/web/index.html"), 200)
 
 
@@ -44,6 +45,7 @@ class Attacks(OfSite):
     """What the attacks of test_attacks.py are made of, and one that cannot be sent as octets."""
 
     def lines(self) -> int:
+        """How many lines the logs of the daemon have."""
         return sum(self.site.text(name).count("\n") for name in LOGS)
 
     def test_what_is_granted(self) -> None:
@@ -116,22 +118,23 @@ class Sites(OfSite):
 
     def setUp(self) -> None:
         self.kept = {name: self.site.text(f"etc/{name}") for name in ("loopback.conf", "files.conf")}
-        self.addCleanup(lambda: self.sets("", ""))
+        self.addCleanup(lambda: self.restart_nginx("", ""))
 
-    def sets(self, of_all: str, of_server: str, without: str = "no such line") -> None:
-        """Starts nginx again with more lines, and without some."""
+    def restart_nginx(self, of_all: str, of_server: str, without: str = "no such line") -> None:
+        """Starts nginx again with more lines outside of the server and in it, and without those that a pattern matches."""
         for name, place, lines in (("loopback.conf", "include files.conf;", of_all), ("files.conf", "server_name localhost;", of_server)):
             more = lines.replace("{room}", self.site.room)
             self.site.write(f"etc/{name}", re.sub(f"(?m)^ *{without}$", "", self.kept[name]).replace(place, f"{more}\n{place}", 1))
         self.site.restart_server()
 
     def get_nothing(self, asked: list[Asked], must: set[int]) -> None:
+        """No request may be granted: each must have one of these statuses."""
         for each in asked:
             self.assertEqual(faults_of(self.site, each, must), [])
 
     def test_denied(self) -> None:
         for name, of_all, of_server in SITES:
-            self.sets(of_all, of_server)
+            self.restart_nginx(of_all, of_server)
             with self.subTest(name):
                 self.grants_ann()
                 self.get_nothing(ASKED, DENIED)
@@ -139,7 +142,7 @@ class Sites(OfSite):
 
     def test_included(self) -> None:
         """A file that Ann writes includes none that she may not read."""
-        self.sets("ssi on; ssi_types *;", "")
+        self.restart_nginx("ssi on; ssi_types *;", "")
         page = '<!--#include virtual="/secret/plan.txt" -->'
         self.assertEqual(self.site.status("ann", "PUT", "/web/page.html", body=page), 201)
         answer = self.site.answer("ann", b"GET /web/page.html HTTP/1.1\r\nHost: localhost\r\nConnection: close\r\n\r\n")
@@ -148,7 +151,7 @@ class Sites(OfSite):
     def test_one_lock(self) -> None:
         """Where the first lock is broken, the second holds: an answer of 200 that is not the daemon's finds no file."""
         for name, of_all, line in LOCKS:
-            self.sets(of_all, "", without=line)
+            self.restart_nginx(of_all, "", without=line)
             with self.subTest(name):
                 self.get_nothing([each for each in ASKED if each[2] != "/web/"], DENIED | UNDECIDED)
 
@@ -157,13 +160,13 @@ class Sites(OfSite):
         self.site.stop_daemon()
         self.addCleanup(self.site.start_daemon)
         for name, of_all, of_server in SITES:
-            self.sets(of_all, of_server)
+            self.restart_nginx(of_all, of_server)
             with self.subTest(name):
                 self.get_nothing([*ASKED, *GRANTED], DENIED - {401} | UNDECIDED)
 
     def test_full_queue(self) -> None:
         """Where the queue of the daemon's socket is full, nginx cannot ask, and nobody gets anything."""
-        self.sets(f"error_page {ERRORS} = {SORRY};", "")
+        self.restart_nginx(f"error_page {ERRORS} = {SORRY};", "")
         self.grants_ann()
         self.site.stop_daemon()
         self.addCleanup(self.site.start_daemon)
@@ -183,7 +186,7 @@ class Numbers(unittest.TestCase):
     """Numbers of the example that must fit others."""
 
     def number(self, pattern: str) -> int:
-        """The only number at a place of the example."""
+        """The number that a pattern finds in the example, once."""
         found, = re.findall(pattern, text_of("examples/nginx/files.conf"))
         return int(found)
 

@@ -44,8 +44,8 @@ GO_CACHE = os.path.join(TESTS, "out", "go")
 SETTINGS = {**os.environ, "DPKG_DEB_COMPRESSOR_TYPE": "gzip", "DPKG_DEB_COMPRESSOR_LEVEL": "1", "GOCACHE": GO_CACHE}
 
 
-def packages(top: str, *words: str, **settings: str) -> tuple[int, str]:
-    """The status of packages.sh of some sources, and what it writes."""
+def make_packages(top: str, *words: str, **settings: str) -> tuple[int, str]:
+    """Runs packages.sh of the sources in a folder. Returns its status, and what it writes."""
     return output_of(os.path.join(top, "packages.sh"), *words, env={**SETTINGS, **settings}, seconds=golang.SECONDS)
 
 
@@ -61,7 +61,7 @@ def logics(path: str) -> set[bytes]:
 
 
 def copied_sources(folder: str) -> str:
-    """A copy of the sources of the packages in another place, which is no clone."""
+    """Copies the sources of the packages into a folder, which is no clone of git. Returns the folder."""
     words = ["git", "ls-files", "-z", "-co", "--exclude-standard", "--", *SOURCES]
     listed = subprocess.run(words, cwd=TOP, stdout=subprocess.PIPE, check=True).stdout
     subprocess.run(["xargs", "-0", "cp", "--parents", "-t", folder], cwd=TOP, input=listed, check=True)
@@ -81,7 +81,7 @@ class Packages(built.OfLibrary):
         super().setUpClass()
         room = room_for(cls)
         cls.folder = os.path.join(room, "packages")
-        status, said = packages(TOP, "--maintainer", MAINTAINER, cls.folder, cls.program, cls.library)
+        status, said = make_packages(TOP, "--maintainer", MAINTAINER, cls.folder, cls.program, cls.library)
         if status:
             raise AssertionError(f"packages.sh ended with status {status}: {said}")
         cls.made = {name.split("_")[0]: os.path.join(cls.folder, name) for name in os.listdir(cls.folder) if name.endswith(".deb")}
@@ -93,7 +93,7 @@ class Packages(built.OfLibrary):
 
     @classmethod
     def inside(cls, name: str, *path: str) -> str:
-        """The place of an unpacked package, or of a file of it."""
+        """The path of an unpacked package, or of a file of it."""
         return os.path.join(cls.unpacked, name, *path)
 
     def test_packages(self) -> None:
@@ -194,8 +194,9 @@ class Packages(built.OfLibrary):
         name, address = MAINTAINER.rstrip(">").split(" <")
         with tempfile.TemporaryDirectory() as room:
             top, folder = copied_sources(room), os.path.join(room, "made")
-            status, said = packages(top, folder, self.program, self.library, SOURCE_DATE_EPOCH=epoch, DEBFULLNAME=name, DEBEMAIL=address,
-                                    TZ="Asia/Tokyo", LC_ALL="C.UTF-8", HOME=room, GOCACHE=os.path.join(room, "go") if built.IS_LONG else GO_CACHE)
+            status, said = make_packages(top, folder, self.program, self.library, SOURCE_DATE_EPOCH=epoch, DEBFULLNAME=name, DEBEMAIL=address,
+                                         TZ="Asia/Tokyo", LC_ALL="C.UTF-8", HOME=room,
+                                         GOCACHE=os.path.join(room, "go") if built.IS_LONG else GO_CACHE)
             self.assertEqual(status, 0, said)
             self.assertEqual(sorted(os.listdir(folder)), sorted(os.listdir(self.folder)))
             for made in sorted(os.listdir(folder)):
@@ -287,7 +288,7 @@ class Scripts(unittest.TestCase):
     def test_time(self) -> None:
         """Sources that are no clone need the time that the packages get."""
         with tempfile.TemporaryDirectory() as room:
-            status, said = packages(copied_sources(room), "--maintainer", MAINTAINER, os.path.join(room, "made"))
+            status, said = make_packages(copied_sources(room), "--maintainer", MAINTAINER, os.path.join(room, "made"))
             self.assertEqual((status, "set SOURCE_DATE_EPOCH" in said), (2, True), said)
             self.assertFalse(os.path.exists(os.path.join(room, "made")))
 
@@ -325,7 +326,7 @@ class PackagesForArm(built.OfLibrary):
     def test_libraries(self) -> None:
         """The code is that of the libraries for ARM."""
         with tempfile.TemporaryDirectory() as room:
-            status, said = packages(TOP, "--maintainer", MAINTAINER, "--arm64", room, self.program, self.library)
+            status, said = make_packages(TOP, "--maintainer", MAINTAINER, "--arm64", room, self.program, self.library)
             self.assertEqual(status, 0, said)
             self.assertEqual(len([name for name in os.listdir(room) if name.endswith(".deb")]), len(FILES) + 2)
             for name, end, own in ((SHARED, f"so.{INTERFACE}", "so"), ("libspki-dev", "a", "a")):

@@ -24,14 +24,14 @@ class Lists(unittest.TestCase):
         cls.found = page_commands.all_commands()
 
     def test_all_are_known(self) -> None:
-        unknown = page_commands.unknown(self.found)
+        unknown = page_commands.uncovered(self.found)
         self.assertEqual(unknown, [], "\n".join([ADVICE, *unknown]))
 
     def test_each_row_is_about_a_command(self) -> None:
         """A row whose commands are gone is to be removed."""
         idle = [row for row in RUN if not any((it.page, it.kind) == (row.page, row.kind) for it in self.found)]
         self.assertEqual(idle, [], "these rows of RUN are about no command: remove them")
-        left = [row for row in NOT_RUN if not any(page_commands.is_about(row, it) for it in self.found)]
+        left = [row for row in NOT_RUN if not any(page_commands.covers(row, it) for it in self.found)]
         self.assertEqual(left, [], "these rows of NOT_RUN are about no command: remove them")
 
     def test_the_tests_read_their_pages(self) -> None:

@@ -67,7 +67,7 @@ class Page:
         self.process.stdout.close()
 
     def reply(self, method, path, body=None, **headers):
-        """The status, the headers and the octets of a reply."""
+        """Sends a request to the page's server. Returns the status, the headers and the octets of the reply."""
         connection = http.client.HTTPConnection(self.address.hostname, self.address.port, timeout=SECONDS)
         with contextlib.closing(connection):
             connection.request(method, path, body, headers)
@@ -75,7 +75,7 @@ class Page:
             return got.status, got.headers, got.read()
 
     def ask(self, name, **question):
-        """The answer to a job, as the page gets it, with the case."""
+        """The server's answer to a question of a kind (`name`), as the page gets it, with the case. It must have status 200."""
         question = {"withCase": True, **question}
         headers = {"Origin": self.origin, "Content-Type": "application/json"}
         status, _, octets = self.reply("POST", self.address.path + name, json.dumps(question), **headers)
@@ -84,14 +84,14 @@ class Page:
         return json.loads(octets)
 
 
-def where(reason):
-    """A reason of an answer as `explain` writes it."""
+def line_of_reason(reason):
+    """The line that `explain` writes for a reason of an answer."""
     parts = [reason["entry"] and f"entry {reason['entry']}", reason["item"] and f"item {reason['item']}", reason["word"]]
     return " ".join(part for part in parts if part)
 
 
 def lines_of(command, case):
-    """The lines of the program."""
+    """The lines that a command of the program writes of a case."""
     return run(built.program(), command, case.encode())[1].decode().splitlines()
 
 
@@ -138,8 +138,8 @@ class Answers(OfPage):
                     continue
                 self.assertEqual([answer["line"]], lines_of("check", answer["case"]))
                 explained = lines_of("explain", answer["case"])
-                self.assertEqual(sorted(map(where, answer["reasons"])) or ["no entries"], sorted(explained))
-                self.assertEqual(([*map(where, answer["reasons"]), "no entries"])[0], example["wanted"])
+                self.assertEqual(sorted(map(line_of_reason, answer["reasons"])) or ["no entries"], sorted(explained))
+                self.assertEqual(([*map(line_of_reason, answer["reasons"]), "no entries"])[0], example["wanted"])
 
     def test_each_cause_of_a_no_is_an_example(self) -> None:
         words = ("KeyNotShown", "DigestDiffers", "SignerDiffers", "NotAccepted", "NotTheKey", "TagLacks", "WindowLacks", "NotIssuer", "NotTheName",
@@ -161,7 +161,7 @@ class Answers(OfPage):
             text = text_of(f"examples/guide/{name}.sexp")
             answer = self.page.ask("case", text=text)
             self.assertEqual([answer["line"]], lines_of("check", text))
-            self.assertEqual([where(reason) for reason in answer["reasons"]], lines_of("explain", text))
+            self.assertEqual([line_of_reason(reason) for reason in answer["reasons"]], lines_of("explain", text))
 
     def test_a_mistake_is_found_at_its_place(self) -> None:
         mistakes = [
@@ -278,7 +278,8 @@ class Answers(OfPage):
 
     def test_a_signature_that_does_not_count(self) -> None:
         answer = self.page.ask("question", **{**STORY, "refused": [0]})
-        self.assertEqual((answer["line"], where(answer["reasons"][0]), answer["signatures"][0]["counts"]), ("no", "item 1 NotAccepted", False))
+        met = answer["line"], line_of_reason(answer["reasons"][0]), answer["signatures"][0]["counts"]
+        self.assertEqual(met, ("no", "item 1 NotAccepted", False))
 
     def test_what_is_no_question(self) -> None:
         for question in ({}, {"acl": 5, "request": "x", "refused": "x"}, {"request": [1, None]}, {"acl": "(" * 100_000}, {"acl": "\ud800"}):
@@ -306,7 +307,7 @@ class Hostile(OfPage):
     seconds = HOSTILE_SECONDS
 
     def answered(self, word, **question):
-        """What an answer has under a word. On a slow machine it may take some questions."""
+        """The field `word` of the answer to a question. On a slow machine it is asked up to TRIES times."""
         for _ in range(TRIES):
             answer = self.page.ask("question", **question)
             if word in answer:
@@ -341,6 +342,7 @@ class Doors(OfPage):
     """Who is answered."""
 
     def posted(self, path=None, body="{}", **headers):
+        """The status of a POST to the server, by default as the page sends it. A header that is None is left out."""
         usual = {"Origin": self.page.origin, "Content-Type": "application/json"}
         wanted = {name.replace("_", "-"): value for name, value in {**usual, **headers}.items() if value is not None}
         return self.page.reply("POST", path or self.page.address.path + "question", body, **wanted)[0]
@@ -430,15 +432,16 @@ class InChromium(OfPage):
         """Waits until a script returns something true, and returns it."""
         ends = time.monotonic() + SECONDS
         while not (got := self.browser.execute_script(script, *given)):
-            self.assertLess(time.monotonic(), ends, f"{script} {given}: {self.seen('verdict')}")
+            self.assertLess(time.monotonic(), ends, f"{script} {given}: {self.text_shown('verdict')}")
             time.sleep(0.01)
         return got
 
-    def seen(self, name):
+    def text_shown(self, name):
+        """The text of an element of the page, by its id."""
         return self.browser.execute_script("return document.getElementById(arguments[0]).textContent.trim().replace(/\\s+/g, ' ')", name)
 
     def put(self, name, text):
-        """Puts a text into a box, as if it were pasted."""
+        """Puts a text into the box with this id, as if it were pasted."""
         self.browser.execute_script("const it = document.getElementById(arguments[0]); it.value = arguments[1];"
                                     "it.dispatchEvent(new Event('input', {bubbles: true}))", name, text)
 
@@ -470,8 +473,8 @@ class InChromium(OfPage):
                                     "it.setSelectionRange(at, at)")
         self.keys("x")
         self.until("return document.querySelector('[data-box=acl] mark')?.textContent === '(propxagate'")
-        self.assertEqual(self.seen("kind"), "Refused")
-        self.assertIn("is `propagate` meant?", self.seen("acl-fault"))
+        self.assertEqual(self.text_shown("kind"), "Refused")
+        self.assertIn("is `propagate` meant?", self.text_shown("acl-fault"))
         self.assertEqual(self.browser.execute_script("return document.getElementById('acl').getAttribute('aria-invalid')"), "true")
         from selenium.webdriver.common.keys import Keys
         self.keys(Keys.BACKSPACE)
@@ -507,7 +510,7 @@ class InChromium(OfPage):
         ActionChains(self.browser).key_down(Keys.CONTROL).send_keys("a").key_up(Keys.CONTROL).perform()
         self.keys("packages", Keys.ENTER, "write", Keys.ENTER, "/builds/x")
         self.until("return document.getElementById('line').textContent === 'no, entry 1 TagLacks'")
-        self.assertIn("does not contain this request", self.seen("spoken"))
+        self.assertIn("does not contain this request", self.text_shown("spoken"))
         self.browser.execute_script("document.getElementById('tab-question').focus()")
         self.keys(Keys.ARROW_RIGHT, Keys.ARROW_RIGHT)
         self.assertEqual(self.focused(), "tab-tags")
@@ -580,7 +583,7 @@ class InChromium(OfPage):
                                            ".filter((it) => it.checkVisibility({visibilityProperty: true}) && it.getBoundingClientRect().height"
                                            " && (it.textContent || it.id === 'bar')).map((it) => it.textContent)")
         self.assertEqual(seen, [])
-        self.assertNotRegex(self.seen("verdict"), "Yes|Carol|entry")
+        self.assertNotRegex(self.text_shown("verdict"), "Yes|Carol|entry")
         self.assertEqual(self.browser.execute_script("return document.getElementById('verdict').dataset.kind"), "none")
 
     def test_an_answer_that_does_not_come(self) -> None:
@@ -596,7 +599,7 @@ class InChromium(OfPage):
         self.instead_of_server("question", "Promise.resolve(new Response('{\"labelFaults\": [], \"notice\": \"It took too long.\"}'))")
         self.put("acl", STORY["acl"])
         self.until("return document.getElementById('verdict').textContent.includes('It took too long.')")
-        self.assertEqual(self.seen("kind"), "No answer")
+        self.assertEqual(self.text_shown("kind"), "No answer")
         self.shows_nothing_else()
 
     def test_an_answer_to_an_earlier_text(self) -> None:
@@ -606,7 +609,7 @@ class InChromium(OfPage):
         self.put("request", "packages\nread")
         self.browser.execute_script("held[0]()")
         self.until("return held.length === 2 || document.getElementById('title').textContent === 'Waiting for the answer.'")
-        self.assertNotIn("an earlier answer", self.seen("verdict"))
+        self.assertNotIn("an earlier answer", self.text_shown("verdict"))
         self.browser.execute_script("held.at(-1)()")
         self.until("return document.getElementById('title').textContent === 'an earlier answer'")
 
@@ -628,7 +631,7 @@ class InChromium(OfPage):
         for tab, card in (("tags", "tags-card"), ("forms", "forms-card")):
             self.choose(tab)
             self.until("return document.getElementById(arguments[0]).textContent.includes('The server does not answer')", card)
-            self.assertNotRegex(self.seen(card), "contains it|packages|3:fgh")
+            self.assertNotRegex(self.text_shown(card), "contains it|packages|3:fgh")
         # (the browser logs each connection that is refused)
         self.browser.get_log("browser")
 

@@ -28,6 +28,7 @@ Change = Callable[[list[str]], list[str]]
 
 
 def same(lines: list[str]) -> list[str]:
+    """No change to the lines of a request."""
     return lines
 
 
@@ -55,7 +56,7 @@ class Proxies(unittest.TestCase):
         self.service = self.services[0]
 
     def start(self, words: list[str], text: str) -> None:
-        """Starts a proxy, and waits until it listens."""
+        """Starts a proxy with this text as its configuration, and waits until it listens."""
         with open(os.path.join(self.room, "conf"), "w", encoding="ascii") as file:
             file.write(text)
         with open(os.path.join(self.room, "log"), "wb") as log:
@@ -78,7 +79,7 @@ class Proxies(unittest.TestCase):
                    NGINX.format(room=self.room, to=to or self.service.name, more=more, http=http))
 
     def asked(self, method: str, target: str, change: Change = same, host: str = NAME, body: bytes = b"") -> str:
-        """The refusal, `valid`, or the status of the proxy."""
+        """Sends a signed request through the proxy. Returns `valid`, or the verifier's refusal, or the status if the proxy itself answers."""
         fields = self.signer.fields(method, f"http://{NAME}{target}", body)
         length = [f"Content-Length: {len(body)}"] if body else []
         lines = change([f"{name}: {it}" for name, it in fields.items()])
@@ -93,8 +94,8 @@ class Proxies(unittest.TestCase):
         status, answer = said.split(b" ", 2)[1].decode(), said.partition(b"\r\n\r\n")[2]
         return "valid" if b"(10:public-key" in answer else answer.decode() if status == "401" else status
 
-    def answers(self, wanted: dict[str, str]) -> None:
-        """The answers to each kind of request."""
+    def check_answers(self, wanted: dict[str, str]) -> None:
+        """Each kind of request must have the wanted answer, by default `valid`."""
         kinds: dict[str, tuple[str, Change, str]] = {
             "plain": ("/a/b?c=d", same, NAME), "empty query": ("/a?", same, NAME), "percent-encoding": ("/%7ea%2Fb%2f?%20+", same, NAME),
             "dots": ("/a/../b/./c", same, NAME), "slashes": ("/a//b", same, NAME), "no URI's octets": ('/a"b|c[d]{e}', same, NAME),
@@ -112,7 +113,7 @@ class Proxies(unittest.TestCase):
     def test_nginx(self) -> None:
         """nginx passes on all that it takes as it is."""
         self.start_nginx(OWN_HOST)
-        self.answers({})
+        self.check_answers({})
 
     @needs.needs("nginx")
     def test_nginx_before_two_services(self) -> None:
@@ -138,4 +139,4 @@ class Proxies(unittest.TestCase):
     def test_caddy(self) -> None:
         """Caddy encodes the octets that no URI has, and unfolds lines."""
         self.start(["caddy", "run", "--config", "conf", "--adapter", "caddyfile"], CADDY.format(room=self.room, port=self.service.server_port))
-        self.answers({"no URI's octets": "invalid-signature", "folded": "malformed"})
+        self.check_answers({"no URI's octets": "invalid-signature", "folded": "malformed"})

@@ -105,8 +105,8 @@ def proofs(story: LastingStory) -> Iterator[tuple[str, Sent, bool]]:
     yield "and then it is granted, once", (method, target, fields), True
 
 
-def answered(port: int, octets: bytes) -> bytes:
-    """The first line of the answer to these octets, or nothing."""
+def first_line_for(port: int, octets: bytes) -> bytes:
+    """The first line of the answer to these octets, empty if there is no answer."""
     with socket.create_connection(("127.0.0.1", port), timeout=SECONDS) as client, contextlib.suppress(OSError):
         client.sendall(octets)
         client.shutdown(socket.SHUT_WR)
@@ -118,7 +118,7 @@ def is_granted(port: int, sent: Sent) -> bool:
     """Whether a request is granted."""
     method, target, fields = sent
     lines = [f"{method} {target} HTTP/1.1", *(f"{name}: {value}" for name, value in {"Host": NAME, "Connection": "close", **fields}.items()), "", ""]
-    return b" 200 " in answered(port, "\r\n".join(lines).encode("latin-1"))
+    return b" 200 " in first_line_for(port, "\r\n".join(lines).encode("latin-1"))
 
 
 NO_REQUESTS = (b"", b"\r\n\r\n", b"GET\r\n\r\n", b"GET / HTTP/1.1\r\n\r\n", b"GET / HTTP/1.1\r\n: x\r\n\r\n", b"\0" * 99, b"GET " + b"a" * 99_999,
@@ -145,8 +145,8 @@ class Service(built.OfLibrary):
         with open(path, "w", encoding="ascii") as file:
             file.write(text)
 
-    def answers(self, *words: str, **settings: str) -> None:
-        """The service must answer each request as it should, and end on lists that are none."""
+    def check_service(self, *words: str, **settings: str) -> None:
+        """The service that these words start must answer each request as it should, and must not start on a wrong list."""
         others = {**os.environ, **settings}
         with open(os.path.join(self.room, "said"), "w+b") as said, subprocess.Popen(
                 [*words, self.path, NAME], stdout=subprocess.PIPE, stderr=said, env=others) as service:
@@ -157,7 +157,7 @@ class Service(built.OfLibrary):
                     with self.subTest(remark):
                         self.assertEqual(is_granted(port, sent), wanted)
                 for octets in NO_REQUESTS:
-                    self.assertNotIn(b" 200 ", answered(port, octets))
+                    self.assertNotIn(b" 200 ", first_line_for(port, octets))
                 self.assertTrue(is_granted(port, asked_by(self.story.alice, READ)))
                 self.assertIsNone(service.poll())
             finally:
@@ -189,18 +189,18 @@ class InC(Service):
         return service
 
     def test_service(self) -> None:
-        self.answers(self.compiled())
+        self.check_service(self.compiled())
 
     @needs.needs("/usr/include/gcrypt.h")
     def test_service_by_gcrypt(self) -> None:
-        self.answers(self.compiled(verifier="verify_gcrypt.c", library="-lgcrypt"))
+        self.check_service(self.compiled(verifier="verify_gcrypt.c", library="-lgcrypt"))
 
     def test_under_address_sanitizer(self) -> None:
-        self.answers(self.compiled(*SANITIZED))
+        self.check_service(self.compiled(*SANITIZED))
 
     @needs.needs("valgrind")
     def test_under_valgrind(self) -> None:
-        self.answers(*VALGRIND, self.compiled())
+        self.check_service(*VALGRIND, self.compiled())
 
 
 class InOtherLanguages(Service):
@@ -211,13 +211,13 @@ class InOtherLanguages(Service):
         settings = {**os.environ, "SPKI_LIB_DIR": os.path.dirname(self.library), "CARGO_NET_OFFLINE": "true"}
         status, said = output_of("cargo", "build", "--quiet", "--example", "service", cwd=RUST, env=settings, seconds=SECONDS)
         self.assertEqual(status, 0, said)
-        self.answers(os.path.join(RUST, "out", "debug", "examples", "service"))
+        self.check_service(os.path.join(RUST, "out", "debug", "examples", "service"))
 
     def test_python(self) -> None:
-        self.answers(sys.executable, os.path.join(PYTHON, "examples", "service.py"), PYTHONPATH=PYTHON, SPKI_LIBRARY=self.shared)
+        self.check_service(sys.executable, os.path.join(PYTHON, "examples", "service.py"), PYTHONPATH=PYTHON, SPKI_LIBRARY=self.shared)
 
     @needs.needs("go")
     def test_go(self) -> None:
         program = os.path.join(self.room, "service")
         golang.go(golang.MODULE, ["build", "-o", program, "./examples/service"], self.library).check_returncode()
-        self.answers(program)
+        self.check_service(program)

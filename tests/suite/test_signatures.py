@@ -28,7 +28,7 @@ KINDS = ("ed25519", "rsa", "p256", "p384")
 
 
 def spki_cert(*words: str, room: str, **settings: str) -> subprocess.CompletedProcess[bytes]:
-    """What `spki-cert` does in a folder."""
+    """Runs `spki-cert` in a folder. Returns how it ended."""
     kept = {name: value for name, value in os.environ.items() if name not in ("SSH_AUTH_SOCK", "SPKI_LABELS")}
     return subprocess.run([sys.executable, COMMAND, *words], cwd=room, stdin=subprocess.DEVNULL, stdout=subprocess.PIPE, stderr=subprocess.PIPE,
                           timeout=SECONDS, env={**kept, **settings, "no_proxy": "*"})
@@ -40,6 +40,7 @@ class Handler(http.server.BaseHTTPRequestHandler):
     server: Service
 
     def answer_it(self) -> None:
+        """Answers with the proved key and 200, or with the refusal and 401."""
         import spki_http
         body = self.rfile.read(int(self.headers.get("Content-Length", 0)))
         self.server.met.append((self.command, self.path, body))
@@ -92,12 +93,13 @@ class Requests(unittest.TestCase):
         self.url = f"http://{self.service.name}/a%20b/c?d=e"
 
     def done(self, *words: str, wanted: int = 0, **settings: str) -> str:
+        """Runs `spki-cert`, which must end with the status `wanted`. Returns its output, or if it must fail its errors."""
         made = spki_cert(*words, room=self.room, **settings)
         self.assertEqual(made.returncode, wanted, made.stderr)
         return (made.stdout if wanted == 0 else made.stderr).decode(errors="replace")
 
     def asked(self, fields: str, method: str = "GET", body: bytes | None = None) -> tuple[int, bytes]:
-        """What the service answers to a request with these fields."""
+        """The status and the body by which the service answers a request with these fields."""
         headers = dict(line.split(": ", 1) for line in fields.splitlines())
         opener = urllib.request.build_opener(urllib.request.ProxyHandler({}), Quiet())
         with opener.open(urllib.request.Request(self.url, body, headers, method=method)) as answer:
@@ -175,17 +177,17 @@ class InC(unittest.TestCase):
         self.room = room_for(self)
 
     def answers(self, program: str, rows: list[Row]) -> list[str]:
-        """The answers to requests, and to the digests of their bodies."""
+        """The answers of a program to the requests of rows, and to their bodies by the digests that it returns."""
         strings: list[bytes] = []
         for _, message, now, again, _ in rows:
             words = [message.method, message.authority, message.target, str(now), "" if again is None else str(again), str(len([*message.fields]))]
             strings += [word.encode("latin-1") for word in [*words, *(it for pair in message.fields for it in pair)]]
         done = subprocess.run([program], input=b"".join(map(string, strings)), stdout=subprocess.PIPE, timeout=SECONDS)
         self.assertEqual(done.returncode, 0)
-        return [self.judged(line, row[1].body) for line, row in zip(done.stdout.decode().split("\n"), rows)]
+        return [self.answer_of(line, row[1].body) for line, row in zip(done.stdout.decode().split("\n"), rows)]
 
-    def judged(self, line: str, body: bytes | None) -> str:
-        """The answer of a line, with a look at the body, which the caller has."""
+    def answer_of(self, line: str, body: bytes | None) -> str:
+        """The answer on a line, `valid` only if the body has the digest there: the caller of the verifier must compare it."""
         answer, _, digest = line.partition(" ")
         if answer != "valid" or body is None:
             return answer
@@ -193,13 +195,14 @@ class InC(unittest.TestCase):
         return "valid" if made[len(digest)] == digest else "other-digest"
 
     def compiled(self, verifier: str, library: str) -> str:
+        """Compiles the verifier in C of requests, with one of signatures. Returns the path of the program."""
         folder, program = os.path.join(TOP, "examples", "c"), os.path.join(self.room, verifier)
         files = [os.path.join(folder, f"{name}.c") for name in ("http_request", "http_nonces", verifier)]
         self.assertTrue(is_compiled(*WARNINGS, "-I", folder, "-o", program, os.path.join(TESTS, "programs", "proving.c"), *files, library))
         return program
 
     def agrees(self, verifier: str, library: str) -> None:
-        """The answers to all rows and to mutated ones are right."""
+        """The answers to all rows must be right, and those to mutated rows must be those of the verifier in Python."""
         import test_spki_http
         program, rows = self.compiled(verifier, library), [*test_spki_http.rows()]
         self.assertEqual([*zip([row[0] for row in rows], self.answers(program, rows))], [(row[0], row[4]) for row in rows])

@@ -36,13 +36,14 @@ class OfSites(unittest.TestCase):
         cls.addClassCleanup(cls.site.end)
 
     def fields(self, who: str, path: str, *words: str) -> list[str]:
-        """The lines of a signed request."""
+        """The fields of a request for a path that somebody signs. `words` are options of `spki-cert request`."""
         return self.site.cert("request", "--by", f"keys/{who}", *words, f"https://localhost:{self.site.port}{path}").splitlines()
 
     def asked(self, method: str, path: str, *lines: str, body: str = "") -> int:
+        """The status of the answer to a request without a certificate for TLS."""
         return self.site.status(None, method, path, *lines, body=body)
 
-    def answers(self) -> None:
+    def check_signed(self) -> None:
         """Who signs is granted what the key may do, once."""
         ann = self.fields("ann", PAGE)
         self.assertEqual([self.asked("GET", PAGE, *ann) for _ in range(2)], [200, 403])
@@ -58,9 +59,9 @@ class OfSites(unittest.TestCase):
         self.assertEqual(self.asked("GET", PAGE, *both, "Signature: spki=:AAAA:"), self.second_line)
         self.assertEqual(self.site.status("ann", "GET", PAGE), 200)
         self.assertEqual(self.site.status("ann", "GET", PAGE, "Signature: spki=:AAAA:"), 403)
-        self.chained()
+        self.check_chain()
 
-    def chained(self) -> None:
+    def check_chain(self) -> None:
         """Ben shows Ann's certificate, and must sign it too."""
         right = ("--tag", "(files read (* prefix /web/))", "--days", "9")
         self.site.cert("sign", "--by", "keys/ann", "--to", "keys/ben.pub", *right, "--force", "-o", "b")
@@ -70,7 +71,7 @@ class OfSites(unittest.TestCase):
         sent = self.fields("ben", PAGE)
         self.assertEqual(self.asked("GET", PAGE, *sent, next(line for line in ben if line.startswith("X-Spki-Sequence"))), 403)
 
-    def leaves(self) -> None:
+    def check_left_chain(self) -> None:
         """Ben leaves Ann's certificate, once and in any form, and his requests need nothing but the key, of TLS too."""
         place, body = attacks.LEAVING, self.site.text("b")
         sent, nothing = self.fields("ben", place, "--body", "b"), list[str]()
@@ -87,13 +88,13 @@ class OfSites(unittest.TestCase):
         self.assertEqual([self.site.status("ben", "GET", PAGE), self.asked("GET", PAGE, *self.fields("ben", PAGE))], [200, 200])
         self.assertEqual(self.asked("GET", "/secret/plan.txt", *self.fields("ben", "/secret/plan.txt")), 401)
         sender = attackers.Attackers(self.site, self.site.form)
-        for each in attacks.of_group(attacks.of_leaving(), attacks.UNCLEAR):
+        for each in attacks.with_statuses(attacks.of_leaving(), attacks.UNCLEAR):
             answer = self.site.answer(each.who, sender.filled(each.octets))
             self.assertLessEqual(set(attackers.statuses(answer) or [0]), each.must, each.what)
         address = f"https://localhost:{self.site.port}{place}"
         self.site.cert("request", "--by", "keys/ben", "--body", "b", "--curl", address, "--", "--silent", "--fail", "--cacert", "ca/ca.crt")
 
-    def stores(self) -> None:
+    def check_curl(self) -> None:
         """A file is stored by curl in one line, with the digest of the body."""
         self.site.write("new", "some text")
         url = f"https://localhost:{self.site.port}/web/new"
@@ -110,11 +111,11 @@ class Nginx(OfSites):
     kind, second_line = web_servers.Nginx, 200
 
     def test_answers(self) -> None:
-        self.answers()
-        self.leaves()
+        self.check_signed()
+        self.check_left_chain()
 
     def test_stores(self) -> None:
-        self.stores()
+        self.check_curl()
 
 
 @needs.needs(*NEEDS, "git")
@@ -136,8 +137,8 @@ class Caddy(OfSites):
     kind = web_servers.Caddy
 
     def test_answers(self) -> None:
-        self.answers()
-        self.leaves()
+        self.check_signed()
+        self.check_left_chain()
 
 
 @needs.needs(*NEEDS, *web_servers.HAProxy.needs)
@@ -147,11 +148,11 @@ class HAProxy(OfSites):
     kind = web_servers.HAProxy
 
     def test_answers(self) -> None:
-        self.answers()
-        self.leaves()
+        self.check_signed()
+        self.check_left_chain()
 
     def test_stores(self) -> None:
-        self.stores()
+        self.check_curl()
 
 
 class WithRsync(web_servers.HAProxy):
@@ -199,7 +200,7 @@ class Apache(OfSites):
     kind = web_servers.Apache
 
     def test_answers(self) -> None:
-        self.answers()
+        self.check_signed()
 
     def test_stores(self) -> None:
-        self.stores()
+        self.check_curl()

@@ -63,28 +63,28 @@ class OfStore(built.OfLibrary):
         self.room = room_for(self)
 
     def file(self, octets: bytes, name: str = "list") -> str:
-        """A file with these octets."""
+        """Writes a file with these octets into the test's folder, and returns its path."""
         path = os.path.join(self.room, name)
         with open(path, "wb") as file:
             file.write(octets)
         return path
 
     def does(self, wanted: int, *words: str) -> str:
-        """What a command writes, whose exit status must be this one."""
+        """Runs `spki-store`, which must end with the status `wanted`. Returns what it writes on both streams."""
         out, fault = io.StringIO(), io.StringIO()
         with contextlib.redirect_stdout(out), contextlib.redirect_stderr(fault):
             status = commands.main(["--database", self.server.address, "--schema", self.schema, *words])
         self.assertEqual(status, wanted, (words, out.getvalue(), fault.getvalue()))
         return out.getvalue() + fault.getvalue()
 
-    def beats(self, address: str, *before: str) -> subprocess.Popen[bytes]:
-        """The program that increases the heartbeat."""
+    def start_beat(self, address: str, *before: str) -> subprocess.Popen[bytes]:
+        """Starts `spki-store beat`, which is killed after the test. `before` are words before the command."""
         process = subprocess.Popen([*before, STORE, "--database", address, "--schema", self.schema, "beat"], stderr=subprocess.DEVNULL)
         self.addCleanup(process.wait)
         self.addCleanup(process.kill)
         return process
 
-    def has_beaten(self) -> None:
+    def wait_for_beat(self) -> None:
         """Waits for the first beat: the state that `init` made may be stale before it, and something may fail before the program has begun."""
         waits_for("the first beat", lambda: bool(self.store.rows("SELECT 1 FROM {heartbeat} WHERE number > 0")))
 
@@ -161,20 +161,20 @@ class Command(OfStore):
         self.assertEqual(self.does(0, "diff", path), "entries that differ: 0\n")
         self.assertIn("wrong 0", self.does(0, "check"))
 
-    def older(self) -> tuple[list[bytes], list[tuple[int, bytes, bytes]]]:
-        """Entries, and the rows of a table of version 0.1.0 that has them: one in between was removed there, and no number is used again."""
+    def rows_of_0_1_0(self) -> tuple[list[bytes], list[tuple[int, bytes, bytes]]]:
+        """Entries, and the rows of a table of version 0.1.0 with them, each a number, a principal and a text. Its numbers have gaps."""
         wanted = [key_entry(b"a\0\n'", b"(8:packages4:read)"), ZEROS, A, key_entry(bytes(range(256))), A]
         return wanted, [(2 * place + 1, texts.principal_of(text), text) for place, text in enumerate(wanted)]
 
     def is_taken_over(self, wanted: list[bytes]) -> None:
-        """The store has these entries and no others, in their order and from 1 on, each of which can be read."""
+        """The store must have exactly these entries, in their order and numbered from 1 on, and each must be right."""
         self.assertEqual([(row.number, row.text) for row in self.store.all()], list(enumerate(wanted, 1)))
         self.assertEqual(self.does(0, "check"), f"entries checked: {len(wanted)}, wrong 0\n")
         self.assertEqual(self.store.rows("SELECT count(*) FROM {changes}"), [(len(wanted),)])
 
     def test_older_store_in_sqlite(self) -> None:
         """The entries of the example of version 0.1.0 are taken over from SQLite, by the command of the page."""
-        wanted, rows = self.older()
+        wanted, rows = self.rows_of_0_1_0()
         old, to = (os.path.join(self.room, name) for name in ("old", "list"))
         with contextlib.closing(sqlite3.connect(old)) as connection, connection:
             connection.execute("PRAGMA journal_mode = WAL")
@@ -187,7 +187,7 @@ class Command(OfStore):
 
     def test_older_store_in_postgresql(self) -> None:
         """The entries of the example of version 0.1.0 are taken over from PostgreSQL, by the statement of the page."""
-        wanted, rows = self.older()
+        wanted, rows = self.rows_of_0_1_0()
         statement, = re.findall(r"`(INSERT INTO spki\.entries [^`]*)`", text_of("apps/spki-store/README.md"))
         old = f"{self.schema}_old"
         with self.store.connection.transaction():
@@ -278,7 +278,7 @@ class Schema(OfStore):
                              [(1, "add"), (2, "add"), (3, "remove"), (4, "end")])
 
     def account(self, name: str, role: str) -> Store:
-        """The store, as an account in a role uses it."""
+        """Makes an account with a role. Returns the store as this account uses it."""
         account = f"{self.schema}_{name}"
         self.store.connection.execute(f"CREATE ROLE {account} LOGIN IN ROLE {self.schema}_{role}".encode())
         made = Store(f"host={self.server.folder} user={account} dbname=postgres", self.schema)
@@ -341,7 +341,7 @@ class OfDaemon(OfStore):
     """Tests of the daemon with the driver."""
 
     def go(self, *words: str, **more: str) -> str:
-        """What a command of Go writes, which must end well."""
+        """Runs a command of Go for the daemon, which must succeed. Returns what it writes."""
         done = golang.go(golang.DAEMON, list(words), self.library, None, **more)
         said = (done.stdout + done.stderr).decode(errors="replace")
         self.assertEqual(done.returncode, 0, said[-4000:])
@@ -385,10 +385,11 @@ class Around:
         self.room, self.process = room, self.daemon.process
 
     def status(self, who: Person, shown: bytes = b"") -> int:
+        """The status of the answer to a request of a person, who shows a sequence or none."""
         return self.daemon.ask(who, "GET", "/web/a", shown).status
 
-    def becomes(self, wanted: int, who: Person, shown: bytes = b"") -> None:
-        """Waits until a person gets an answer."""
+    def wait_for_status(self, wanted: int, who: Person, shown: bytes = b"") -> None:
+        """Waits until a person's request is answered with this status."""
         waits_for(f"{wanted} for {os.path.basename(who.path)} from {self.room}", lambda: self.status(who, shown) == wanted)
 
     def kill(self) -> None:
@@ -412,13 +413,14 @@ class OfServed(OfDaemon):
         cls.program = golang.build_daemon(cls.library, os.path.join(room, "spki-authd"), *WITH_DRIVER)
         cls.people = {name: Person(room, name, "ed25519") for name in ("alice", "bob", "mallory")}
 
-    def around(self, name: str, server: databases.Server, *before: str, chains: object = None, **more: str) -> Around:
+    def start_daemon(self, name: str, server: databases.Server, *before: str, chains: object = None, **more: str) -> Around:
+        """Starts a daemon with the store of a server, in a folder of this name. It is killed after the test."""
         made = Around(os.path.join(self.room, name), self.program, server, self.schema, *before, chains=chains, **more)
         self.addCleanup(made.kill)
         return made
 
-    def added(self, who: Person, store: Store | None = None) -> int:
-        """Adds an entry for a person."""
+    def add_entry(self, who: Person, store: Store | None = None) -> int:
+        """Adds an entry for a person to a store, by default that of the test. Returns its number."""
         text = texts.entry_of(f"(entry {who.key} (propagate) (tag (files read (* prefix /web/))))".encode())
         return (store or self.store).add(text)
 
@@ -429,11 +431,11 @@ class Served(OfServed):
     def test_one_server(self) -> None:
         """What is added grants, what is removed or has ended does not, and without a fresh store all is 503."""
         alice, bob, mallory = (self.people[name] for name in ("alice", "bob", "mallory"))
-        beats, shown = self.beats(self.server.address), alice.gives(bob, "(files read (* prefix /web/))")
-        it = self.around("one", self.server)
-        it.becomes(401, alice)
-        number = self.added(alice)
-        it.becomes(200, alice)
+        beats, shown = self.start_beat(self.server.address), alice.gives(bob, "(files read (* prefix /web/))")
+        it = self.start_daemon("one", self.server)
+        it.wait_for_status(401, alice)
+        number = self.add_entry(alice)
+        it.wait_for_status(200, alice)
         met = it.daemon.ask(bob, "GET", "/web/a", shown)
         self.assertEqual((met.status, met.headers["X-Spki-Entry"], it.daemon.last()["list"]), (200, str(number), "change 1"))
         self.assertEqual((it.status(mallory), it.status(mallory, shown)), (401, 403))
@@ -441,34 +443,34 @@ class Served(OfServed):
         digests = it.daemon.last()["certificates"]
         assert isinstance(digests, list)
         self.does(0, "end", *digests)
-        it.becomes(403, bob, shown)
+        it.wait_for_status(403, bob, shown)
         self.assertEqual(it.status(alice), 200)
         self.does(0, "remove", str(number))
-        it.becomes(401, alice)
-        self.added(alice)
-        it.becomes(200, alice)
+        it.wait_for_status(401, alice)
+        self.add_entry(alice)
+        it.wait_for_status(200, alice)
         beats.kill()
-        it.becomes(503, alice)
+        it.wait_for_status(503, alice)
         self.assertEqual((it.status(bob, shown), it.status(mallory)), (503, 503))
         status, said, fault = it.daemon.does("-health")
         self.assertEqual((status, "is stale" in fault), (1, True), said + fault)
-        self.beats(self.server.address)
-        it.becomes(200, alice)
+        self.start_beat(self.server.address)
+        it.wait_for_status(200, alice)
         self.server.kill()
-        it.becomes(503, alice)
+        it.wait_for_status(503, alice)
         self.server.start()
-        it.becomes(200, alice)
+        it.wait_for_status(200, alice)
 
     def test_kept_in_the_store(self) -> None:
         """Certificates that a client leaves with one daemon are used by another one."""
-        self.beats(self.server.address)
+        self.start_beat(self.server.address)
         of = {"host": self.server.folder, "database": "postgres", "user": "postgres", "schema": self.schema}
         alice, bob = self.people["alice"], self.people["bob"]
         shown = alice.gives(bob, "(files read (* prefix /web/))")
-        self.added(alice)
-        one, other = (self.around(name, self.server, chains={"postgres": of}) for name in ("one", "other"))
-        one.becomes(200, alice)
-        other.becomes(401, bob)
+        self.add_entry(alice)
+        one, other = (self.start_daemon(name, self.server, chains={"postgres": of}) for name in ("one", "other"))
+        one.wait_for_status(200, alice)
+        other.wait_for_status(401, bob)
         body, target = os.path.join(self.room, "shown"), "/.well-known/spki-chain"
         with open(body, "wb") as file:
             file.write(shown)
@@ -478,26 +480,26 @@ class Served(OfServed):
         met = connection.getresponse()
         self.assertEqual((met.status, met.headers["X-Spki-Answer"]), (201, "kept"))
         connection.close()
-        other.becomes(200, bob)
+        other.wait_for_status(200, bob)
         self.assertEqual(other.daemon.last()["kept"], "used")
 
     def test_server_that_hangs(self) -> None:
         """A server that takes requests and answers nothing ends in 503, and not in requests that hang."""
-        self.beats(self.server.address)
-        alice, it = self.people["alice"], self.around("hangs", self.server)
-        self.added(alice)
-        it.becomes(200, alice)
+        self.start_beat(self.server.address)
+        alice, it = self.people["alice"], self.start_daemon("hangs", self.server)
+        self.add_entry(alice)
+        it.wait_for_status(200, alice)
         assert self.server.process is not None
         processes = [self.server.process.pid, *children_of(self.server.process.pid)]
         try:
             for each in processes:
                 os.kill(each, signal.SIGSTOP)
-            it.becomes(503, alice)
+            it.wait_for_status(503, alice)
             self.assertEqual(it.status(self.people["mallory"]), 503)
         finally:
             for each in processes:
                 os.kill(each, signal.SIGCONT)
-        it.becomes(200, alice)
+        it.wait_for_status(200, alice)
 
 
 def children_of(process: int) -> list[int]:
@@ -523,7 +525,7 @@ class Asker(threading.Thread):
                         self.granted.append((begun, time.monotonic()))
 
     def end(self) -> list[tuple[float, float]]:
-        """When the requests began and ended that were granted."""
+        """Stops asking. Returns when each granted request began and ended."""
         self.ends.set()
         self.join()
         return self.granted
@@ -541,11 +543,11 @@ class Heartbeat(OfStore):
     def test_primary_that_is_heard_by_no_replica(self) -> None:
         """It acknowledges no beat, and ends no connection. The heartbeat leaves it, finds the new primary, and beats there."""
         with self.server.replica() as replica:
-            sets(self.server, "synchronous_standby_names", "ANY 1 (*)")
-            self.addCleanup(sets, self.server, "synchronous_standby_names", "")
-            self.beats(f"host={self.server.folder},{replica.folder} user=postgres dbname=postgres target_session_attrs=read-write")
+            change_setting(self.server, "synchronous_standby_names", "ANY 1 (*)")
+            self.addCleanup(change_setting, self.server, "synchronous_standby_names", "")
+            self.start_beat(f"host={self.server.folder},{replica.folder} user=postgres dbname=postgres target_session_attrs=read-write")
             waits_for("the replica has a beat", lambda: self.number(replica) > 1)
-            sets(replica, "primary_conninfo", "host=/none")
+            change_setting(replica, "primary_conninfo", "host=/none")
             time.sleep(STALE + 3)
             self.assertEqual(self.number(self.server), last := self.number(replica))
             with psycopg.connect(self.server.address) as connection:
@@ -582,85 +584,86 @@ class Replicated(OfServed):
             replicas = [stack.enter_context(self.server.replica()) for _ in range(2)]
             servers = [self.server, *replicas]
             anywhere = f"host={','.join(each.folder for each in servers)} user=postgres dbname=postgres target_session_attrs=read-write"
-            self.beats(anywhere)
-            self.has_beaten()
+            self.start_beat(anywhere)
+            self.wait_for_beat()
             alice, bob, mallory = (self.people[name] for name in ("alice", "bob", "mallory"))
-            daemons = [self.around(f"on-{place}", each) for place, each in enumerate(replicas)]
+            daemons = [self.start_daemon(f"on-{place}", each) for place, each in enumerate(replicas)]
             askers = [Asker(daemons, each) for each in (bob, mallory)]
             for each in askers:
                 each.start()
-            self.added(alice)
-            number = self.added(bob)
+            self.add_entry(alice)
+            number = self.add_entry(bob)
             for it in daemons:
-                it.becomes(200, alice)
-                it.becomes(200, bob)
-            self.lags(replicas[0], daemons)
+                it.wait_for_status(200, alice)
+                it.wait_for_status(200, bob)
+            self.check_lag(replicas[0], daemons)
             self.store.remove(number)
             removed = time.monotonic()
             for it in daemons:
-                it.becomes(401, bob)
+                it.wait_for_status(401, bob)
             self.server.kill()
             self.addCleanup(self.server.start)
             for it in daemons:
-                it.becomes(503, alice)
+                it.wait_for_status(503, alice)
             replicas[0].promote()
-            daemons[0].becomes(200, alice)
+            daemons[0].wait_for_status(200, alice)
             self.assertEqual(daemons[1].status(alice), 503)
-            follows(replicas[1], replicas[0])
-            daemons[1].becomes(200, alice)
+            follow(replicas[1], replicas[0])
+            daemons[1].wait_for_status(200, alice)
             again = Store(anywhere, self.schema)
             stack.callback(again.close)
             back = time.monotonic()
-            number = self.added(bob, again)
+            number = self.add_entry(bob, again)
             for it in daemons:
-                it.becomes(200, bob)
+                it.wait_for_status(200, bob)
             again.remove(number)
             gone = time.monotonic()
             for it in daemons:
-                it.becomes(401, bob)
+                it.wait_for_status(401, bob)
             bobs, mallorys = [each.end() for each in askers]
             self.assertEqual(mallorys, [])
             self.assertEqual([each for each in bobs if each[0] > removed + STALE and each[1] < back or each[0] > gone + STALE], [])
             self.assertTrue(bobs)
 
-    def lags(self, replica: databases.Server, daemons: list[Around]) -> None:
-        """A replica that no longer follows is stale, and the other one is not."""
+    def check_lag(self, replica: databases.Server, daemons: list[Around]) -> None:
+        """Stops the replica of the first daemon for a while: this daemon must answer 503 meanwhile, and the other must not."""
         alice = self.people["alice"]
         with psycopg.connect(replica.address, autocommit=True) as connection:
             connection.execute("SELECT pg_wal_replay_pause()")
-            daemons[0].becomes(503, alice)
+            daemons[0].wait_for_status(503, alice)
             self.assertEqual(daemons[1].status(alice), 200)
             connection.execute("SELECT pg_wal_replay_resume()")
-        daemons[0].becomes(200, alice)
+        daemons[0].wait_for_status(200, alice)
 
     @needs.needs("haproxy")
     def test_behind_haproxy(self) -> None:
         """HAProxy asks only daemons that decide: not one whose replica is behind, nor one that is gone."""
         alice, check = self.people["alice"], self.people["bob"]
         with self.server.replica() as replica, contextlib.ExitStack() as stack:
-            self.beats(self.server.address)
-            daemons = [self.around("behind", replica), self.around("direct", self.server)]
+            self.start_beat(self.server.address)
+            daemons = [self.start_daemon("behind", replica), self.start_daemon("direct", self.server)]
             front = os.path.join(self.room, "front")
             config = self.file(PROXY.format(front=front, certificate=urllib.parse.quote(check.certificate).replace("%", "%%"),
                                             one=daemons[0].daemon.socket, other=daemons[1].daemon.socket).encode(), "haproxy.cfg")
             process = subprocess.Popen(["haproxy", "-f", config], stdout=subprocess.DEVNULL, stderr=subprocess.DEVNULL)
-            stack.enter_context(databases.ended(process))
+            stack.enter_context(databases.killed_at_end(process))
 
             def is_always(wanted: int) -> bool:
+                """Whether HAProxy answers ten requests with this status."""
                 with contextlib.suppress(OSError):
                     return all(daemons[0].daemon.ask(alice, "GET", "/web/a", door=front).status == wanted for _ in range(10))
                 return False
 
-            self.added(alice)
+            self.add_entry(alice)
             waits_for("HAProxy asks nobody: the key of the check has no entry", lambda: is_always(503))
-            self.added(check)
+            self.add_entry(check)
             waits_for("HAProxy asks both", lambda: is_always(200))
             with psycopg.connect(replica.address, autocommit=True) as connection:
                 connection.execute("SELECT pg_wal_replay_pause()")
-                daemons[0].becomes(503, alice)
+                daemons[0].wait_for_status(503, alice)
                 waits_for("HAProxy asks the other daemon alone", lambda: is_always(200))
                 connection.execute("SELECT pg_wal_replay_resume()")
-            daemons[0].becomes(200, alice)
+            daemons[0].wait_for_status(200, alice)
             waits_for("HAProxy asks both again", lambda: is_always(200))
             daemons[1].kill()
             waits_for("HAProxy asks the daemon that is left", lambda: is_always(200))
@@ -685,12 +688,12 @@ backend daemons
 """
 
 
-def follows(replica: databases.Server, primary: databases.Server) -> None:
+def follow(replica: databases.Server, primary: databases.Server) -> None:
     """Has a replica follow another primary."""
-    sets(replica, "primary_conninfo", replica.source(primary))
+    change_setting(replica, "primary_conninfo", replica.source(primary))
 
 
-def sets(server: databases.Server, name: str, value: str) -> None:
+def change_setting(server: databases.Server, name: str, value: str) -> None:
     """Changes a setting of a server that runs."""
     with psycopg.connect(server.address, autocommit=True) as connection:
         connection.execute(sql.SQL("ALTER SYSTEM SET {} = {}").format(sql.Identifier(name), sql.Literal(value)))

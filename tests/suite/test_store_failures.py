@@ -28,20 +28,20 @@ SMALL = {"min_wal_size": "32MB", "max_wal_size": "48MB", "wal_keep_size": "0"}
 MIB = 160
 
 
-def does(server: Server, *statements: str) -> None:
+def execute(server: Server, *statements: str) -> None:
     """Runs statements, each in a transaction of its own."""
     with psycopg.connect(server.address, autocommit=True) as connection:
         for each in statements:
             connection.execute(each.encode())
 
 
-def is_synchronous(server: Server) -> None:
-    """From now on a change is on one replica before it is acknowledged."""
-    does(server, "ALTER SYSTEM SET synchronous_standby_names = 'ANY 1 (*)'", "SELECT pg_reload_conf()")
+def make_synchronous(server: Server) -> None:
+    """From now on the server acknowledges a change only once a replica has it."""
+    execute(server, "ALTER SYSTEM SET synchronous_standby_names = 'ANY 1 (*)'", "SELECT pg_reload_conf()")
 
 
 def fill(folder: str) -> str:
-    """Fills a disk, and returns the path of the file that does."""
+    """Fills the disk of a folder with a file, and returns its path."""
     path = os.path.join(folder, "filler")
     with contextlib.suppress(OSError), open(path, "wb", buffering=0) as file:
         while file.write(bytes(1 << 16)):
@@ -56,38 +56,39 @@ class Failing(test_store.OfServed):
     """Tests with servers of their own."""
 
     def entered(self, made: Entered) -> Entered:
-        """A server or a network, which ends with the test."""
+        """Enters the context of a server or a network, until the test ends. Returns it."""
         self.addCleanup(made.__exit__)
         made.__enter__()
         return made
 
     def primary(self, settings: dict[str, str] = USUAL, at: networks.Node | None = None, mib: int = 0) -> Server:
-        """A server with the store of this test."""
+        """Starts a server, at a node and on a disk of so many MiB if given, and makes the store of this test there."""
         made = self.entered(Server(at, mib, **settings))
         self.store.close()
         self.store = Store(made.address, self.schema)
         self.addCleanup(self.store.close)
         self.store.make()
-        does(made, f"CREATE TABLE {self.schema}.error (by interval)", f"INSERT INTO {self.schema}.error VALUES ('0 s')")
+        execute(made, f"CREATE TABLE {self.schema}.error (by interval)", f"INSERT INTO {self.schema}.error VALUES ('0 s')")
         return made
 
     def replica(self, of: Server, settings: dict[str, str] = USUAL, at: networks.Node | None = None, mib: int = 0) -> Server:
+        """Starts a replica of a server."""
         return self.entered(of.replica(at, mib, **settings))
 
     def network(self, count: int) -> list[networks.Node]:
-        """The nodes of a network."""
+        """Makes a network, and returns so many nodes of it."""
         made = self.entered(networks.Network())
         return [made.node() for _ in range(count)]
 
-    def certified(self, server: Server) -> str:
+    def give_certificate(self, server: Server) -> str:
         """Gives a server a certificate for its address. Returns the path of the certificate, which is its own authority."""
         key, certificate = (os.path.join(server.folder, name) for name in ("server.key", "server.crt"))
         subprocess.run(["openssl", "req", "-x509", "-newkey", "rsa:2048", "-nodes", "-days", "1", "-subj", "/CN=store", "-addext",
                         f"subjectAltName=IP:{server.host}", "-keyout", key, "-out", certificate], check=True, stderr=subprocess.DEVNULL)
         subprocess.run(["chown", "postgres:postgres", key, certificate], check=True)
         os.chmod(key, 0o600)
-        does(server, f"ALTER SYSTEM SET ssl_cert_file = '{certificate}'", f"ALTER SYSTEM SET ssl_key_file = '{key}'", "ALTER SYSTEM SET ssl = on",
-             "SELECT pg_reload_conf()")
+        execute(server, f"ALTER SYSTEM SET ssl_cert_file = '{certificate}'", f"ALTER SYSTEM SET ssl_key_file = '{key}'", "ALTER SYSTEM SET ssl = on",
+                "SELECT pg_reload_conf()")
         return certificate
 
 
@@ -103,8 +104,8 @@ class Questions(Failing):
         cls.questions = os.path.join(room, "questions")
         golang.go(golang.DAEMON, ["test", *test_store.WITH_DRIVER, "-c", "-o", cls.questions, "."], cls.library).check_returncode()
 
-    def asks(self, host: str, writers: list[Server], fails: Callable[[], None], *before: str, root: str = "") -> None:
-        """Asks a store while something fails."""
+    def ask_while(self, host: str, writers: list[Server], fails: Callable[[], None], *before: str, root: str = "") -> None:
+        """Runs the generated questions of the daemon's tests on a store, while `fails` makes something fail. All answers must be right."""
         end = os.path.join(self.room, "end")
         settings = {**golang.settings(self.library), "SPKI_STORE_HOST": host, "SPKI_STORE_ROOT": root, "SPKI_STORE_SCHEMA": self.schema,
                     "SPKI_STORE_WRITERS": ",".join(each.folder for each in writers), "SPKI_STORE_SEED": str(secrets.randbelow(1 << 32)),
@@ -112,7 +113,7 @@ class Questions(Failing):
         words = [*before, self.questions, "-test.run", "^TestQuestionsUnderFailures$", "-test.v", "-test.timeout", "30m"]
         with open(os.path.join(self.room, "said"), "w+b") as said:
             process = subprocess.Popen(words, cwd=golang.DAEMON, env=settings, stdout=said, stderr=said)
-            with databases.ended(process):
+            with databases.killed_at_end(process):
                 time.sleep(1)
                 try:
                     fails()
@@ -134,7 +135,7 @@ class Questions(Failing):
                 time.sleep(FAILING)
                 primary.start()
                 time.sleep(1)
-        self.asks(primary.folder, [primary], fails)
+        self.ask_while(primary.folder, [primary], fails)
 
     def test_replica_that_dies(self) -> None:
         primary = self.primary()
@@ -146,13 +147,13 @@ class Questions(Failing):
                 time.sleep(FAILING)
                 replica.start()
                 time.sleep(1)
-        self.asks(replica.folder, [primary], fails)
+        self.ask_while(replica.folder, [primary], fails)
 
     def test_failover(self) -> None:
         """The primary dies, the replica that received most takes its place, and the other one, which is asked, follows that."""
         primary = self.primary(SHORT)
         replicas = [self.replica(primary) for _ in range(2)]
-        is_synchronous(primary)
+        make_synchronous(primary)
 
         def fails() -> None:
             primary.kill()
@@ -160,8 +161,8 @@ class Questions(Failing):
             other = replicas[1] if received(replicas[1]) > received(replicas[0]) else replicas[0]
             other.promote()
             if other is replicas[0]:
-                test_store.follows(replicas[1], other)
-        self.asks(replicas[1].folder, [primary, *replicas], fails)
+                test_store.follow(replicas[1], other)
+        self.ask_while(replicas[1].folder, [primary, *replicas], fails)
 
     def test_replica_that_lags(self) -> None:
         """A replica replays nothing for a while, and then what was 1, 4 and 2 seconds ago."""
@@ -169,13 +170,13 @@ class Questions(Failing):
         replica = self.replica(primary)
 
         def fails() -> None:
-            does(replica, "SELECT pg_wal_replay_pause()")
+            execute(replica, "SELECT pg_wal_replay_pause()")
             time.sleep(FAILING)
-            does(replica, "SELECT pg_wal_replay_resume()")
+            execute(replica, "SELECT pg_wal_replay_resume()")
             for delay in ("1s", "4s", "2s", "0"):
-                does(replica, f"ALTER SYSTEM SET recovery_min_apply_delay = '{delay}'", "SELECT pg_reload_conf()")
+                execute(replica, f"ALTER SYSTEM SET recovery_min_apply_delay = '{delay}'", "SELECT pg_reload_conf()")
                 time.sleep(FAILING)
-        self.asks(replica.folder, [primary], fails)
+        self.ask_while(replica.folder, [primary], fails)
 
     def test_wrong_clock(self) -> None:
         """The clock of the primary is wrong by some seconds, and jumps: to the daemon it is the same as if its own were."""
@@ -184,9 +185,9 @@ class Questions(Failing):
 
         def fails() -> None:
             for by in (20, -20, 2, -2, 0.5, -3600, 3600, 0):
-                does(primary, f"UPDATE {self.schema}.error SET by = '{by} s'")
+                execute(primary, f"UPDATE {self.schema}.error SET by = '{by} s'")
                 time.sleep(FAILING)
-        self.asks(replica.folder, [primary], fails)
+        self.ask_while(replica.folder, [primary], fails)
 
     @needs.needs("ip")
     def test_network_between_servers(self) -> None:
@@ -200,14 +201,14 @@ class Questions(Failing):
                 time.sleep(FAILING)
                 second.mend()
                 time.sleep(FAILING)
-        self.asks(replica.folder, [primary], fails)
+        self.ask_while(replica.folder, [primary], fails)
 
     @needs.needs("ip")
     def test_network_to_the_store(self) -> None:
         """The store is read over a network, by TLS."""
         first, second = self.network(2)
         primary = self.primary(at=first)
-        root = self.certified(primary)
+        root = self.give_certificate(primary)
 
         def fails() -> None:
             for _ in range(2):
@@ -215,7 +216,7 @@ class Questions(Failing):
                 time.sleep(FAILING)
                 second.mend()
                 time.sleep(FAILING)
-        self.asks(primary.host, [primary], fails, *second.words, root=root)
+        self.ask_while(primary.host, [primary], fails, *second.words, root=root)
 
     @needs.needs("ip")
     def test_full_disk_of_the_primary(self) -> None:
@@ -223,12 +224,12 @@ class Questions(Failing):
 
         def fails() -> None:
             filler = fill(primary.folder)
-            uses_up(primary)
+            write_until_it_ends(primary)
             time.sleep(FAILING)
             os.unlink(filler)
             primary.kill()
             primary.start()
-        self.asks(primary.folder, [primary], fails)
+        self.ask_while(primary.folder, [primary], fails)
 
     @needs.needs("ip")
     def test_full_disk_of_a_replica(self) -> None:
@@ -237,12 +238,12 @@ class Questions(Failing):
 
         def fails() -> None:
             filler = fill(replica.folder)
-            does(primary, *["SELECT pg_switch_wal()", f"UPDATE {self.schema}.error SET by = by"] * 4)
+            execute(primary, *["SELECT pg_switch_wal()", f"UPDATE {self.schema}.error SET by = by"] * 4)
             time.sleep(FAILING)
             os.unlink(filler)
             replica.kill()
             replica.start()
-        self.asks(replica.folder, [primary], fails)
+        self.ask_while(replica.folder, [primary], fails)
 
 
 class Daemons(Failing):
@@ -255,39 +256,39 @@ class Daemons(Failing):
         nodes = self.network(4)
         primary = self.primary(SHORT, nodes[0])
         replicas = [self.replica(primary, at=each) for each in nodes[1:3]]
-        is_synchronous(primary)
-        root = self.certified(replicas[1])
-        self.beats(primary.address)
+        make_synchronous(primary)
+        root = self.give_certificate(replicas[1])
+        self.start_beat(primary.address)
         hosts = ",".join(each.address for each in nodes[:3])
-        self.beats(f"host={hosts} user=postgres dbname=postgres target_session_attrs=read-write", *nodes[3].words)
-        old, near, far = (self.around("old", primary), self.around("near", replicas[0]),
-                          self.around("far", replicas[1], *nodes[3].words, host=nodes[2].address, root=root))
+        self.start_beat(f"host={hosts} user=postgres dbname=postgres target_session_attrs=read-write", *nodes[3].words)
+        old, near, far = (self.start_daemon("old", primary), self.start_daemon("near", replicas[0]),
+                          self.start_daemon("far", replicas[1], *nodes[3].words, host=nodes[2].address, root=root))
         alice, bob = self.people["alice"], self.people["bob"]
         asker = test_store.Asker([old, near, far], bob)
         asker.start()
-        self.added(alice)
-        number = self.added(bob)
+        self.add_entry(alice)
+        number = self.add_entry(bob)
         for it in (old, near, far):
-            it.becomes(200, alice)
-            it.becomes(200, bob)
+            it.wait_for_status(200, alice)
+            it.wait_for_status(200, bob)
         for node, cut, others in ((nodes[1], near, (old, far)), (nodes[3], far, (old, near))):
             node.cut()
-            cut.becomes(503, alice)
+            cut.wait_for_status(503, alice)
             self.assertEqual([each.status(alice) for each in others], [200, 200])
             node.mend()
-            cut.becomes(200, alice)
+            cut.wait_for_status(200, alice)
         nodes[0].cut()
         for it in (old, near, far):
-            it.becomes(503, alice)
+            it.wait_for_status(503, alice)
         replicas[0].promote()
-        test_store.follows(replicas[1], replicas[0])
+        test_store.follow(replicas[1], replicas[0])
         for it in (near, far):
-            it.becomes(200, alice)
+            it.wait_for_status(200, alice)
         with contextlib.closing(Store(replicas[0].address, self.schema)) as store:
             store.remove(number)
         removed = time.monotonic()
         for it in (near, far):
-            it.becomes(401, bob)
+            it.wait_for_status(401, bob)
         nodes[0].mend()
         for _ in range(20):
             self.assertEqual([old.status(alice), old.status(bob), near.status(alice), far.status(alice)], [503, 503, 200, 200])
@@ -306,13 +307,13 @@ class Daemons(Failing):
         self.addCleanup(databases.unmount, room)
         subprocess.run(["chown", "postgres:postgres", room], check=True)
         self.server = primary
-        self.beats(primary.address)
-        it, alice, bob = self.around("full", primary), self.people["alice"], self.people["bob"]
-        does(primary, f"CREATE TABLESPACE small LOCATION '{room}'", f"ALTER TABLE {self.schema}.entries SET TABLESPACE small",
-             f"ALTER TABLE {self.schema}.changes SET TABLESPACE small", f"ALTER INDEX {self.schema}.changes_pkey SET TABLESPACE small")
-        self.addCleanup(does, primary, f"DROP SCHEMA {self.schema} CASCADE", "DROP TABLESPACE small")
-        number = self.added(alice)
-        it.becomes(200, alice)
+        self.start_beat(primary.address)
+        it, alice, bob = self.start_daemon("full", primary), self.people["alice"], self.people["bob"]
+        execute(primary, f"CREATE TABLESPACE small LOCATION '{room}'", f"ALTER TABLE {self.schema}.entries SET TABLESPACE small",
+                f"ALTER TABLE {self.schema}.changes SET TABLESPACE small", f"ALTER INDEX {self.schema}.changes_pkey SET TABLESPACE small")
+        self.addCleanup(execute, primary, f"DROP SCHEMA {self.schema} CASCADE", "DROP TABLESPACE small")
+        number = self.add_entry(alice)
+        it.wait_for_status(200, alice)
         listed = [test_store.key_entry(b"k%06d" % place, b"(1:*)") for place in range(20_000)]
         path = self.file(b"(3:acl" + b"".join(listed) + b")")
         self.assertIn("No space left on device", self.does(3, "import", path))
@@ -328,10 +329,10 @@ class Daemons(Failing):
         self.assertEqual((it.status(alice), it.status(bob)), (200, 401))
         subprocess.run(["mount", "-o", "remount,size=16m", room], check=True)
         self.does(0, "remove", str(number))
-        it.becomes(401, alice)
+        it.wait_for_status(401, alice)
 
     def removes(self, number: int) -> bool:
-        """Whether an entry can be removed by a new connection, which looks for room anew. Otherwise the disk is full."""
+        """Removes an entry by a new connection. Returns whether it was there, and False if the disk is full."""
         with contextlib.closing(Store(self.server.address, self.schema)) as store, contextlib.suppress(psycopg.errors.DiskFull):
             return store.remove(number)
         return False
@@ -340,36 +341,36 @@ class Daemons(Failing):
     def test_full_disk_for_the_log(self) -> None:
         """A primary that has no room for its own log ends again and again, and its daemon answers 503. What was acknowledged is there afterwards."""
         self.server = primary = self.primary(SMALL, mib=MIB)
-        self.beats(primary.address)
-        self.has_beaten()
-        it, alice, bob = self.around("full", primary), self.people["alice"], self.people["bob"]
-        self.added(alice)
-        number = self.added(bob)
-        it.becomes(200, bob)
+        self.start_beat(primary.address)
+        self.wait_for_beat()
+        it, alice, bob = self.start_daemon("full", primary), self.people["alice"], self.people["bob"]
+        self.add_entry(alice)
+        number = self.add_entry(bob)
+        it.wait_for_status(200, bob)
         filler = fill(primary.folder)
         self.does(0, "remove", str(number))
-        uses_up(primary)
-        it.becomes(503, alice)
-        it.becomes(503, bob)
+        write_until_it_ends(primary)
+        it.wait_for_status(503, alice)
+        it.wait_for_status(503, bob)
         os.unlink(filler)
         primary.kill()
         primary.start()
-        it.becomes(200, alice)
+        it.wait_for_status(200, alice)
         self.assertEqual(it.status(bob), 401)
 
 
 def received(replica: Server) -> int:
-    """How much of the log a replica has received."""
+    """How many octets of the log of PostgreSQL a replica has received."""
     with psycopg.connect(replica.address) as connection:
         (octets,), = connection.execute("SELECT pg_wal_lsn_diff(pg_last_wal_receive_lsn(), '0/0')::bigint").fetchall()
         return int(octets)
 
 
-def uses_up(server: Server) -> None:
-    """Writes to a server whose disk is full until it has no room for its log, and does not start again."""
+def write_until_it_ends(server: Server) -> None:
+    """Writes to a server whose disk is full, until it has no room for its log and ends."""
     def is_over() -> bool:
         with contextlib.suppress(psycopg.Error):
-            does(server, "SELECT pg_switch_wal()", "SELECT txid_current()")
+            execute(server, "SELECT pg_switch_wal()", "SELECT txid_current()")
         return server.process is None or server.process.poll() is not None
     waits_for("the server has no room and ends", is_over)
 

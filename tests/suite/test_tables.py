@@ -21,7 +21,7 @@ class BySecondCompiler(built.OfProgram):
 
     @classmethod
     def setUpClass(cls) -> None:
-        cls.program = built.there(built.BY_RATTLE)
+        cls.program = built.existing(built.BY_RATTLE)
 
 
 # ---- rows
@@ -37,7 +37,8 @@ def made_test(row: Row) -> Test:
 
 
 def named_tests(rows: Iterable[Row]) -> Iterator[tuple[str, Test]]:
-    """The tests of rows with their names: where a row stands; where there are several rows, the command; and again, a number."""
+    """Yields the name and the test of each row. The name is the place of the row, with the command if several have this place, and with a number
+    if several have both."""
     listed = list(rows)
     places, named = Counter(row.place for row in listed), Counter[str]()
     for row in listed:
@@ -72,7 +73,7 @@ def pairs_test(number: int) -> Test:
 
 
 def classes(base: type[built.OfProgram], ending: str = "") -> Iterator[type]:
-    """The classes of tests of a program. Their names end so."""
+    """The classes of tests of a program, derived from `base`. `ending` is the end of their names."""
     tables = {os.path.basename(path).capitalize(): rows_of(path) for path in tables_here()}
     for name, rows in {**tables, "Chains": map(Row._make, chains.rows())}.items():
         asked = (row for row in rows if not (built.IS_ALONE and row.place in SLOW_WITHOUT_PROOFS))

@@ -18,29 +18,29 @@ NO_TEXT = (2, b"", b"error: the words aren't UTF-8\n")
 class Words(built.OfProgram):
     """The words of the command line."""
 
-    def met(self, words: tuple[bytes, ...]) -> tuple[int, bytes, bytes]:
-        """The status, and what goes to standard output and to standard error."""
+    def run_with(self, words: tuple[bytes, ...]) -> tuple[int, bytes, bytes]:
+        """Runs the program with these words on TEXT. Returns its status, its output and its errors."""
         done = subprocess.run([self.program.encode(), *words], input=TEXT, stdout=subprocess.PIPE, stderr=subprocess.PIPE, timeout=SECONDS)
         return done.returncode, done.stdout, done.stderr
 
     def test_wrong_words(self) -> None:
         for words in WRONG:
             with self.subTest(words):
-                status, out, said = self.met(words)
+                status, out, said = self.run_with(words)
                 is_said = said.startswith(b"error: ") or b"Usage: spki" in said
                 self.assertEqual((status, out, is_said), (2, b"", True), f"spki {b' '.join(words)!r}: {said!r}")
 
     def test_words_that_are_no_text(self) -> None:
-        self.assertEqual(self.met((b"\xff",)), NO_TEXT)
-        self.assertEqual(self.met((b"check", b"\xff")), NO_TEXT)
+        self.assertEqual(self.run_with((b"\xff",)), NO_TEXT)
+        self.assertEqual(self.run_with((b"check", b"\xff")), NO_TEXT)
 
     def test_help(self) -> None:
         for words in HELP:
             with self.subTest(words):
-                status, out, said = self.met(words)
+                status, out, said = self.run_with(words)
                 is_said = b"Usage: spki" in said and all(each in said for each in STATUSES)
                 self.assertEqual((status, out, is_said), (0, b"", True), f"spki {b' '.join(words)!r}: {said!r}")
-        self.assertTrue(self.met((b"--help",))[2].startswith(b"Decides"))
+        self.assertTrue(self.run_with((b"--help",))[2].startswith(b"Decides"))
 
     def test_right_word(self) -> None:
-        self.assertEqual(self.met((b"canonical",)), (0, TEXT, b""))
+        self.assertEqual(self.run_with((b"canonical",)), (0, TEXT, b""))

@@ -69,8 +69,8 @@ class WrongUses(built.OfLibrary):
             with self.subTest(row.name):
                 self.assertRegex(met[row.name], f"(?s){row.said}")
 
-    def come_to(self, rows: list[Row], said: str) -> None:
-        """Each of these rows must have its outcome."""
+    def check_outcomes(self, rows: list[Row], said: str) -> None:
+        """Each of these rows must have its outcome, by what the program says."""
         self.assertEqual(said, "".join(f"{row.place} {row.outcome}\n" for row in rows), [f"{row.place}: {row.name}" for row in rows])
 
     def split(self, language: str) -> tuple[str, list[Row], list[Row]]:
@@ -85,7 +85,7 @@ class WrongUses(built.OfLibrary):
         self.are_refused(wrong, self.said(*words, "-c", "-O1", "-o", "wrong.o", path, status=1), path, lines)
         path, _ = self.written("run.c", shared, others)
         self.said(*words, "-o", "run", path, "-x", "none", self.library, status=0)
-        self.come_to(others, self.said("./run", status=0))
+        self.check_outcomes(others, self.said("./run", status=0))
 
     @needs.needs("g++")
     def test_cpp(self) -> None:
@@ -95,7 +95,7 @@ class WrongUses(built.OfLibrary):
         self.are_refused(wrong, self.said(*words, "-fsyntax-only", path, status=1), path, lines)
         path, _ = self.written("run.cpp", shared, others)
         self.said(*words, "-o", "run", path, self.library, status=0)
-        self.come_to(others, self.said("./run", status=0))
+        self.check_outcomes(others, self.said("./run", status=0))
 
     @needs.needs("cargo")
     def test_rust(self) -> None:
@@ -111,7 +111,7 @@ class WrongUses(built.OfLibrary):
             self.are_refused([row], self.said(*words, "--emit=metadata", "-o", "wrong.rmeta", path, status=1), path, lines)
         path, _ = self.written("run.rs", shared, others)
         self.said(*words, "-o", "run", path, status=0)
-        self.come_to(others, self.said("./run", status=0))
+        self.check_outcomes(others, self.said("./run", status=0))
 
     @needs.needs("go")
     def test_go(self) -> None:
@@ -124,7 +124,7 @@ class WrongUses(built.OfLibrary):
             said = self.said("go", "build", "-gcflags=-e", "-o", "made", ".", folder=os.path.dirname(path), status=None if rows is wrong else 0)
             if rows is wrong:
                 self.are_refused(wrong, said, path, lines)
-        self.come_to(others, self.said(os.path.join(self.room, "run", "made"), status=0))
+        self.check_outcomes(others, self.said(os.path.join(self.room, "run", "made"), status=0))
 
     @needs.needs("mypy")
     def test_python_by_types(self) -> None:
@@ -137,7 +137,7 @@ class WrongUses(built.OfLibrary):
     def test_python(self) -> None:
         shared, _, others = self.split("python")
         path, _ = self.written("run.py", shared, others)
-        self.come_to(others, self.said(sys.executable, "-W", "ignore", path, status=0))
+        self.check_outcomes(others, self.said(sys.executable, "-W", "ignore", path, status=0))
 
 
 if __name__ == "__main__":
