@@ -18,7 +18,7 @@ use Rattle.spki_words.specs.declared.commands.Command.{Command}
 use Rattle.spki_words.specs.declared.commands.Command.TheVariants.{Intersect, Reduce, Check, Explain}
 use Rattle.spki_guard.specs.declared.refusals.Refusal.{Refusal}
 use Rattle.spki_guard.specs.declared.refusals.Refusal.TheVariants as refusals
-use Rattle.spki_service.specs.Questions.{RefusesForm}
+use Rattle.sexpr_text.specs.CanonicalTexts.{RefusesForm}
 use Rattle.spki_service.proofs.OneAsking.{text_one, refuses_one}
 use Rattle.spki_guard.specs.declared.intersection.IntersectFault.{IntersectFault}
 use Rattle.spki_guard.specs.declared.intersection.IntersectFault.TheVariants as intersect

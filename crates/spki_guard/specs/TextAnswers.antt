@@ -25,7 +25,7 @@ use Rattle.spki_decision.specs.declared.reduction.Reduction.{Reduction}
 use Rattle.spki_decision.specs.declared.explanation.Explanation.{Explanation}
 use Rattle.spki_decision.specs.Granted.{IsDecision, IsUnrefused, IsTooLarge, IsReduction, AreDated, EndAtDates, SomeTooLarge}
 use Rattle.spki_decision.specs.Explained.{IsExplanation}
-use Rattle.spki_service.specs.Questions.{RefusesForm}
+use Rattle.sexpr_text.specs.CanonicalTexts.{RefusesForm}
 use Rattle.spki_guard.specs.Lines.{IsReductionReport, IsExplanationReport, yes_entry, no_line, refused_form, refused_line, refused_memory}
 use Rattle.spki_guard.specs.Intersect.{IsMetText, TextNotMet}
 use Rattle.sexpr_core.specs.declared.fault.FormFault.{FormFault}

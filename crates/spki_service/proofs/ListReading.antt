@@ -1,9 +1,12 @@
 -- How a text is read as an access list. It is one list or has one fault.
-use Rattle.std.proofs.Common.{◌≡◌, ◌≢◌, inl, inr, ℕ, ◌≤◌, List, map, length, sym, subst, Result, IfOk, IfErr, rules, ◌++◌, ap, ◌∙◌, codes}
+use Rattle.std.proofs.Common.{◌≡◌, ◌≢◌, inl, inr, ℕ, ◌≤◌, List, map, length, sym, subst, Result, Ok, Err, IfOk, IfErr, rules, ◌++◌, ap, ◌∙◌, codes}
 use Rattle.std.proofs.lemmas.Result.{IfOk-weaker, IfErr-weaker}
 use Rattle.std.proofs.lemmas.Slice.Zip.{AllZip-long}
+use Rattle.sexpr_core.specs.declared.fault.FormFault.{FormFault}
 use Rattle.sexpr_core.specs.Value.{Value, canon}
 use Rattle.sexpr_text.specs.AdvancedForm.{IsTextWithin}
+use Rattle.sexpr_text.specs.CanonicalTexts.{IsReadAs, RefusesForm}
+use Rattle.spki_case.proofs.OneCase.{one_text}
 use Rattle.spki_cert.specs.declared.entry.Entry.{Entry}
 use Rattle.spki_cert.specs.declared.fault.CertFault.{CertFault}
 use Rattle.spki_cert.specs.declared.fault.CertFaultKind.TheVariants as kinds
@@ -11,7 +14,7 @@ use Rattle.spki_cert.specs.Structures.{EntryOf, AclOf}
 use Rattle.spki_case.specs.Case.{IsOuter}
 use Rattle.spki_service.specs.declared.list_fault.AclFault.{AclFault}
 use Rattle.spki_service.specs.declared.list_fault.AclFault.TheVariants as faults
-use Rattle.spki_service.specs.AccessLists.{GuardModel, AreEntries, HoldsValue, HoldsList, IsNoAcl, IsNoAccessList, ListRefused}
+use Rattle.spki_service.specs.AccessLists.{GuardModel, AreEntries, HoldsValue, HoldsList, IsNoAcl, IsNoAccessList}
 use Rattle.spki_service.proofs.SelectedEntries.{held}
 use Rattle.spki_cert.specs.StructureFaults.{behind_version}
 use Rattle.spki_cert.proofs.HeadedLists.{same_others}
@@ -41,15 +44,6 @@ value_held v es texts a same = record { entries = es; is = a; texts_are = same; 
 pub many : (v : Value) (es : List Entry) (a : AclOf v es) → length a.entries ≡ length es
 many v es a = sym (AllZip-long EntryOf a.entries es a.each)
 
-pub list_refused : {A : Type 0} (v w : Value) (r : Result A AclFault) → w ≡ v → length (canon v) ≤ 1048576
-    → IfErr r (λ fault. fault ≢ faults.Memory → (inner : CertFault) × (fault ≡ faults.Acl inner) × IsNoAcl inner w)
-    → IfErr r (λ fault. fault ≢ faults.Memory → ListRefused v fault)
-list_refused v w r same short = IfErr-weaker r _ _ (λ fault h found. search rules)
-
-pub value_there : (v w : Value) (r : Result GuardModel AclFault) → w ≡ v → length (canon v) ≤ 1048576 → IfOk r (λ g. HoldsValue w g.texts)
-    → IfOk r (λ g. (length (canon v) ≤ 1048576) × HoldsValue v g.texts)
-value_there v w r same short = IfOk-weaker r _ _ (λ g h. (short, subst (λ u. HoldsValue u g.texts) same h))
-
 -- ---- a text of which the value is known
 
 pub holds_list : (text : List ℕ) (v : Value) (texts : List (List ℕ)) → IsTextWithin text v → length (canon v) ≤ 1048576
@@ -57,19 +51,24 @@ pub holds_list : (text : List ℕ) (v : Value) (texts : List (List ℕ)) → IsT
 holds_list text v texts meant short h =
     record { value = v; spelled = meant; short = short; holds = h }
 
-pub converted_held : (text : List ℕ) (v : Value) → IsTextWithin text v → (r : Result GuardModel AclFault)
-    → IfOk r (λ g. (length (canon v) ≤ 1048576) × HoldsValue v g.texts) → IfOk r (λ g. HoldsList text g.texts)
-converted_held text v meant r = IfOk-weaker r _ _ (λ g h. holds_list text v g.texts meant h.0 h.1)
+-- a text that is read, and the document that is opened for it
+module _ (text : List ℕ) (read : Result (List ℕ) FormFault) (v w : Value) (is : IsReadAs (IsTextWithin text) (RefusesForm text) read)
+    (opened : read ≡ Ok (canon v)) (same : w ≡ v) where
+  meant : (r : Result (List ℕ) FormFault) → IsReadAs (IsTextWithin text) (RefusesForm text) r → r ≡ Ok (canon v)
+      → IsTextWithin text w × (length (canon w) ≤ 1048576)
+  meant (Ok octets) (u, m, within, written) e =
+      let given : octets ≡ canon v = cc e in
+      let one : u ≡ w = one_text octets u v written given ∙ sym same in
+      (subst (IsTextWithin text) one m, subst (λ (x : Value). length (canon x) ≤ 1048576) one within.short)
+  meant (Err fault) r e = let no : ⊥ = cc e in absurd no
 
-module _ (text : List ℕ) (v w : Value) (same : w ≡ v) (meant : IsTextWithin text v) where
-  pub list_held : (r : Result GuardModel AclFault) → length (canon v) ≤ 1048576 → IfOk r (λ g. HoldsValue w g.texts)
-      → IfOk r (λ g. HoldsList text g.texts)
-  list_held r short = IfOk-weaker r _ _ (λ g h. holds_list text v g.texts meant short (subst (λ u. HoldsValue u g.texts) same h))
+  pub list_held : (r : Result GuardModel AclFault) → IfOk r (λ g. HoldsValue w g.texts) → IfOk r (λ g. HoldsList text g.texts)
+  list_held r = let m = meant read is opened in IfOk-weaker r _ _ (λ g h. holds_list text w g.texts m.0 m.1 h)
 
-  pub list_refused_text : (r : Result GuardModel AclFault) → length (canon v) ≤ 1048576
+  pub list_refused : (r : Result GuardModel AclFault)
       → IfErr r (λ fault. fault ≢ faults.Memory → (inner : CertFault) × (fault ≡ faults.Acl inner) × IsNoAcl inner w)
       → IfErr r (λ fault. fault ≢ faults.Memory → IsNoAccessList text fault)
-  list_refused_text r short = IfErr-weaker r _ _ (λ fault h found. search rules)
+  list_refused r = let m = meant read is opened in IfErr-weaker r _ _ (λ fault h found. search (rules, m.0, m.1))
 
 -- ---- a text is read as one access list or has one fault
 

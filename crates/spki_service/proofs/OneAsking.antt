@@ -4,6 +4,7 @@ use Rattle.sexpr_core.specs.declared.fault.FormFault.{FormFault}
 use Rattle.sexpr_core.specs.declared.fault.FormFault.TheVariants.{TooLong, Memory}
 use Rattle.sexpr_core.specs.Value.{Value}
 use Rattle.sexpr_text.specs.AdvancedForm.{IsText, IsTextWithin}
+use Rattle.sexpr_text.specs.CanonicalTexts.{RefusesForm, LacksForm}
 use Rattle.sexpr_text.proofs.OneValue.{one_value}
 use Rattle.sexpr_text.proofs.OneRefusal.{one_of_any}
 use Rattle.spki_tag.proofs.RequestReading.{request_only}
@@ -19,7 +20,7 @@ use Rattle.spki_service.specs.declared.question.Part.{Part}
 use Rattle.spki_service.specs.declared.question.Part.TheVariants as parts
 use Rattle.spki_service.specs.declared.question.AskFault.{AskFault}
 use Rattle.spki_service.specs.declared.question.AskFault.TheVariants as faults
-use Rattle.spki_service.specs.Questions.{RefusesForm, Reads, LacksForm, IsNoDateFor, IsWanted, RefusesWanted, IsAskedAt, IsAskedCase, IsNoSequenceFor, IsNoKeyFor, IsNoRequestFor, ReadsSequence, ReadsKey, ReadsRequest, ReadsBefore, LacksFormOfMoment, IsAskedAtNone, IsNotAsked, certificates_in, HasFewStrings, HasManyCertificates, HasManyStrings, IsTooMany, IsRefused}
+use Rattle.spki_service.specs.Questions.{Reads, IsNoDateFor, IsWanted, RefusesWanted, IsAskedAt, IsAskedCase, IsNoSequenceFor, IsNoKeyFor, IsNoRequestFor, ReadsSequence, ReadsKey, ReadsRequest, ReadsBefore, LacksFormOfMoment, IsAskedAtNone, IsNotAsked, certificates_in, HasFewStrings, HasManyCertificates, HasManyStrings, IsTooMany, IsRefused}
 use Rattle.spki_service.proofs.DateLaws.{no_date, one_date}
 
 -- ---- texts

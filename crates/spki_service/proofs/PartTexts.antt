@@ -1,10 +1,10 @@
--- The texts of a question's parts: what is read from them and from their copies, how many strings a request has, and
--- the text of a request that is given by its strings.
-use Rattle.std.proofs.Common.{◌≡◌, ◌≢◌, ℕ, List, [], inl, inr, refl, sym, subst, Result, Ok, Err, IfOk, IfErr, Vec, ◌∙◌, ap, rules, ◌≤◌, ◌<◌, ◌∷◌, Bool, true, false, Option, Some, None, MatchOption, ◌+◌, ◌*◌, ◌/◌, ◌%◌, ◌++◌, length, map, take, drop, get_or, arith, length-append, IsErrAnd, Global, Bor}
+-- The texts of a question's parts: what is read from them, how many strings a request has, and the text of a request
+-- that is given by its strings.
+use Rattle.std.proofs.Common.{ℤ, ◌≡◌, ◌≢◌, ℕ, List, [], inl, inr, refl, sym, subst, Result, Ok, Err, IfErr, ◌∙◌, ap, rules, ◌≤◌, ◌<◌, ◌∷◌, Bool, true, false, Option, Some, None, MatchOption, ◌+◌, ◌*◌, ◌/◌, ◌%◌, ◌++◌, length, map, take, drop, get_or, arith, length-append, IsErrAnd, Bor}
 use Rattle.sexpr_core.specs.declared.fault.FormFault.{FormFault}
-use Rattle.sexpr_core.specs.Value.{Value, canon, IsWithinLimits, values, plain, group, decimal, verbatim, canons, depths, IsShallow}
-use Rattle.sexpr_text.specs.AdvancedForm.{IsTextWithin}
-use Rattle.sexpr_text.proofs.Printed.{canonical_spelled}
+use Rattle.sexpr_core.specs.declared.fault.FormFault.TheVariants as form
+use Rattle.sexpr_core.specs.Value.{Value, canon, values, plain, group, decimal, verbatim, canons, depths, IsShallow}
+use Rattle.sexpr_text.specs.CanonicalTexts.{RefusesForm, LacksForm, IsReadAs}
 use Rattle.spki_tag.specs.Request.{Request}
 use Rattle.spki_cert.specs.declared.certificate.SeqItem.{SeqItem}
 use Rattle.spki_cert.specs.declared.fault.CertFaultKind.TheVariants as kinds
@@ -19,76 +19,35 @@ use Rattle.spki_service.specs.declared.question.Part.{Part}
 use Rattle.spki_service.specs.declared.question.Part.TheVariants as parts
 use Rattle.spki_service.specs.declared.question.AskFault.{AskFault}
 use Rattle.spki_service.specs.declared.question.AskFault.TheVariants as faults
-use Rattle.spki_service.specs.declared.texts.PartText.{PartText}
-use Rattle.spki_service.specs.declared.texts.PartText.TheVariants.{Canonical, Made, Malformed}
 use Rattle.spki_service.specs.declared.texts.MomentText.{MomentText}
 use Rattle.spki_service.specs.declared.texts.MomentText.TheVariants as of_moment
 use Rattle.spki_service.specs.declared.texts.Texts.{Texts}
-use Rattle.spki_service.specs.Questions.{RefusesForm, Reads, LacksForm, RefusesWanted, IsAskedAt, IsAskedCase, ReadsSequence, ReadsKey, ReadsRequest, IsNotAsked, IsWanted, strings_in, TellsStrings, TellsStringsOf, HasFewStrings, words_value}
-use Rattle.spki_service.specs.GuardQuestions.{IsReadAs, IsMomentText, IsTextsOf, OfText, HasDate, NamesForm, NamesPart, NamesSequence, NamesKey, NamesRequest, NamesDate, IsConditionalGrant, IsCopyOf, IsMomentCopy, AreCopies}
-use Rattle.spki_decision.specs.declared.grant.Grant.{Grant}
-use Rattle.spki_decision.specs.CertificateTests.{Signed}
-use Rattle.spki_service.specs.AccessLists.{GuardModel}
+use Rattle.spki_service.specs.Questions.{Reads, RefusesWanted, IsAskedAt, IsDateAt, IsAtNoDate, IsAskedCase, ReadsSequence, ReadsKey, ReadsRequest, IsNotAsked, IsWanted, strings_in, TellsStrings, HasFewStrings, IsTooMany, words_value}
+use Rattle.spki_service.specs.GuardQuestions.{IsMomentText, IsTextsOf, OfText, HasDate, NamesForm, NamesPart, NamesSequence, NamesKey, NamesRequest, NamesDate}
 use Rattle.spki_tag.proofs.TagReading.{weight, weights}
 use Rattle.spki_service.proofs.OneAsking.{form_unread, of_wanted, MomentLacks}
 use Rattle.std.proofs.lemmas.List.{map-append, take_all, take-append-drop, length-map}
 use Rattle.sexpr_core.proofs.Texts.{decimal_digit, decimal_more, verbatim_is}
 use Rattle.sexpr_core.proofs.TreeLaws.{canons-append, member_written}
 
--- ---- what is read from the text of a part
-
--- ---- texts that are canonical
-
--- a canonical text spells its value
-pub canonical_text : (text : List ℕ) (v : Value) → IsWithinLimits v → text ≡ canon v → IsTextWithin text v
-canonical_text text v within e = search (rules, canonical_spelled)
-
--- a text that has the value, for whatever means it
-pub read_as : (means : Value → Type 0) (refuses : FormFault → Type 0) (v : Value) (text : PartText) → means v
-    → IsReadAs (λ w. w ≡ v) (λ fault. ⊥) text → IsReadAs means refuses text
-read_as means refuses v (Canonical document) m r = (subst means (sym r.0) m, r.1)
-read_as means refuses v (Made octets) m (w, e, within, written) = (w, subst means (sym e) m, within, written)
-read_as means refuses v (Malformed fault) m (inl h) = absurd h
-read_as means refuses v (Malformed fault) m (inr h) =
-    inr (record { value = h.value; meant = subst means (sym h.meant) m; long = h.long; named = h.named })
-
--- ---- a part whose canonical text was made
-
-module _ (octets : Vec ℕ Global) (made : List ℕ) (document d : Value) (value : made ≡ octets.items)
-    (written : made ≡ canon document) (top : d ≡ document) where
-  of_made : (said : Value → Type 0) → said d → (v : Value) → IsWithinLimits v → octets.items ≡ canon v → said v
-  of_made said h v within f = subst said (one_text octets.items d v (sym value ∙ written ∙ ap canon (sym top)) f) h
-
-  pub made_read : {X : Type 0} (said : X → Value → Type 0) (text : PartText) (r : Result X AskFault) → text ≡ Made octets
-      → IfOk r (λ x. said x d) → IfOk r (λ x. OfText text (said x))
-  made_read said text (Ok x) is h = rw is (of_made (said x) h)
-  made_read said text (Err fault) is h = tt
-
-  pub made_refused : {X : Type 0} (part : Part) (names : AskFault → Value → Type 0) (text : PartText) (r : Result X AskFault) → text ≡ Made octets
-      → IfErr r (λ fault. fault ≢ faults.Memory → names fault d) → IfErr r (λ fault. fault ≢ faults.Memory → NamesPart part names text fault)
-  made_refused part names text (Ok x) is h = tt
-  made_refused part names text (Err fault) is h = λ found. rw is (inr (of_made (names fault) (h found)))
-
 -- ---- what the parts of a question are read as
 
-said_read : (means : Value → Type 0) (refuses : FormFault → Type 0) (said : Value → Type 0) (text : PartText)
+said_read : (means : Value → Type 0) (refuses : FormFault → Type 0) (said : Value → Type 0) (text : Result (List ℕ) FormFault)
     → IsReadAs means refuses text → OfText text said → Reads means said
-said_read means refuses said (Canonical document) r h = record { value = document; meant = r.0; short = r.1.short; is = h }
-said_read means refuses said (Made octets) (v, meant, within, written) h =
-    record { value = v; meant = meant; short = within.short; is = h v within written }
-said_read means refuses said (Malformed fault) r h = absurd h
+said_read means refuses said (Ok octets) (v, meant, within, written) h =
+    let given : octets ≡ canon h.value = cc h.written in
+    let same : h.value ≡ v = one_text octets h.value v given written in
+    record { value = v; meant = meant; short = within.short; is = subst said same h.is }
+said_read means refuses said (Err fault) r h = let no : ⊥ = cc h.written in absurd no
 
-form_named : (means : Value → Type 0) (refuses : FormFault → Type 0) (part : Part) (text : PartText) (fault : AskFault)
+form_named : (means : Value → Type 0) (refuses : FormFault → Type 0) (part : Part) (text : Result (List ℕ) FormFault) (fault : AskFault)
     → IsReadAs means refuses text → NamesForm part text fault
     → (form : FormFault) × (fault ≡ faults.Form part form) × LacksForm means refuses form
-form_named means refuses part (Canonical document) fault r n = absurd n.none
-form_named means refuses part (Made octets) fault (v, meant, within, written) n = absurd (n.none v within written)
-form_named means refuses part (Malformed form) fault r n =
-    (n.form, n.named, subst (LacksForm means refuses) (sym n.none) r)
+form_named means refuses part text fault r n = (n.form, n.named, subst (IsReadAs means refuses) n.none r)
 
 asked_at : (m : of_question.Moment) (text : MomentText) (date : List ℕ) → IsMomentText m text → HasDate text date → IsAskedAt m date
 asked_at (moments.Text text) (of_moment.Text part) date r h = said_read _ (RefusesForm text.now) (λ v. DateOf v date) part r h
-asked_at (moments.Seconds seconds) (of_moment.At octets) date r h = rw h r
+asked_at (moments.Seconds seconds) (of_moment.Seconds same) date r h = subst (λ (n : ℤ). IsDateAt n date) r h
 asked_at m text date r h = search
 
 moment_named : (m : of_question.Moment) (text : MomentText) (fault : AskFault) → IsMomentText m text → NamesDate text fault
@@ -96,7 +55,8 @@ moment_named : (m : of_question.Moment) (text : MomentText) (fault : AskFault) �
 moment_named (moments.Text text) (of_moment.Text part) fault r (inl n) =
     inl (form_named _ (RefusesForm text.now) parts.Moment part fault r n)
 moment_named (moments.Text text) (of_moment.Text part) fault r (inr h) = search (rules, said_read)
-moment_named (moments.Seconds seconds) of_moment.Dateless fault r h = inr (kinds.BadDate, h, (refl, r))
+moment_named (moments.Seconds seconds) (of_moment.Seconds same) fault r h =
+    inr (kinds.BadDate, h.0, (refl, subst (λ (n : ℤ). IsAtNoDate n) r h.1))
 moment_named m text fault r h = search
 
 module _ (q : Question) (texts : Texts) (t : IsTextsOf q texts) where
@@ -142,45 +102,6 @@ pub lifted : {T : Type 0} (q : Question) (inner : AskFault) (r : Result T AskFau
 lifted q inner (Ok x) is f = absurd is
 lifted q inner (Err fault) is f = λ found. subst (IsNotAsked q) (sym is) (f (subst (λ x. x ≢ faults.Memory) is found))
 
--- ---- texts and their copies are the texts of the same questions
-
-module _ (means : Value → Type 0) (refuses : FormFault → Type 0) where
-  copied : (text copy : PartText) → IsCopyOf text copy → IsReadAs means refuses text → IsReadAs means refuses copy
-  copied (Canonical document) (Made octets) is r = (document, r.0, r.1, is)
-  copied (Canonical document) copy is r = search
-  copied text copy is r = rw is r
-
-  of_copy : (text copy : PartText) → IsCopyOf text copy → IsReadAs means refuses copy → IsReadAs means refuses text
-  of_copy (Canonical document) (Made octets) is (v, meant, within, written) =
-      let same : v ≡ document = sym (one_text octets.items document v is written) in
-      (subst means same meant, subst (λ (w : Value). IsWithinLimits w) same within)
-  of_copy (Canonical document) copy is r = search
-  of_copy text copy is r = subst (IsReadAs means refuses) is r
-
-moment_copied : (i : of_question.Moment) (text copy : MomentText) → IsMomentCopy text copy → IsMomentText i text → IsMomentText i copy
-moment_copied (moments.Text words) (of_moment.Text text) (of_moment.Text copy) is r =
-    copied (IsTextWithin words.now) (RefusesForm words.now) text copy is r
-moment_copied i (of_moment.Text text) copy is r = search
-moment_copied i text copy is r = rw is r
-
-of_moment_copy : (i : of_question.Moment) (text copy : MomentText) → IsMomentCopy text copy → IsMomentText i copy → IsMomentText i text
-of_moment_copy (moments.Text words) (of_moment.Text text) (of_moment.Text copy) is r =
-    of_copy (IsTextWithin words.now) (RefusesForm words.now) text copy is r
-of_moment_copy (moments.Seconds n) (of_moment.Text text) (of_moment.Text copy) is r = absurd r
-of_moment_copy i (of_moment.Text text) copy is r = search
-of_moment_copy i text copy is r = subst (IsMomentText i) is r
-
-module _ (texts copies : Texts) (are : AreCopies texts copies) where
-  pub texts_copied : (q : Question) → IsTextsOf q texts → IsTextsOf q copies
-  texts_copied q of = search (rules, copied, moment_copied)
-
-  of_copies : (q : Question) → IsTextsOf q copies → IsTextsOf q texts
-  of_copies q of = search (rules, of_copy, of_moment_copy)
-
-  pub conditional_of_copies : (held : GuardModel) (signed : List Signed) (grant : Option Grant) → IsConditionalGrant held texts signed grant
-      → IsConditionalGrant held copies signed grant
-  conditional_of_copies held signed grant kept = search (rules, of_copies)
-
 -- ---- how many strings a question has
 
 -- of a list that begins with a member
@@ -195,20 +116,29 @@ rest_weight all left further first within parts = search (rules, weights)
 -- ---- of the text of a request
 
 module _ (q : Question) (texts : Texts) (t : IsTextsOf q texts) (c : Case) (a : IsAskedCase q c) (most : ℕ) (has_more : Bool) where
-  told : (text : PartText) → IsReadAs (IsWanted q.request) (RefusesWanted q.request) text → TellsStringsOf most has_more text
-      → Reads (IsWanted q.request) (TellsStrings most has_more)
-  told (Malformed fault) r tells = absurd (form_unread (of_wanted q.request) fault r a.request)
-  told text r tells = said_read (IsWanted q.request) (RefusesWanted q.request) (TellsStrings most has_more) text r tells
-
   few : (v : Value) → TellsStrings most has_more v → has_more ≡ false → strings_in v ≤ most
   few v tells is = search rules
 
-  module _ (tells : TellsStringsOf most has_more texts.request) where
+  module _ (tells : OfText texts.request (TellsStrings most has_more)) where
+    read : Reads (IsWanted q.request) (TellsStrings most has_more)
+    read = said_read (IsWanted q.request) (RefusesWanted q.request) (TellsStrings most has_more) texts.request t.request tells
+
     pub has_many : has_more ≡ true → Reads (IsWanted q.request) (λ v. most < strings_in v)
-    has_many is = let r = told texts.request t.request tells in record { value = r.value; meant = r.meant; short = r.short; is = r.is.0 is }
+    has_many is = record { value = read.value; meant = read.meant; short = read.short; is = read.is.0 is }
 
     pub has_few : has_more ≡ false → HasFewStrings most q
-    has_few is = let r = told texts.request t.request tells in record { value = r.value; meant = r.meant; short = r.short; is = few r.value r.is is }
+    has_few is = record { value = read.value; meant = read.meant; short = read.short; is = few read.value read.is is }
+
+-- a request that is read has a text
+pub uncounted : {T : Type 0} (q : Question) (texts : Texts) (c : Case) (certificates words : ℕ) (inner : AskFault) (r : Result T AskFault)
+    → IsTextsOf q texts → IsAskedCase q c → IsErrAnd r (λ fault. fault ≡ inner)
+    → (inner ≢ faults.Memory → NamesForm parts.Request texts.request inner)
+    → IfErr r (λ fault. fault ≢ faults.Memory → IsTooMany certificates words q fault)
+uncounted q texts c certificates words inner (Ok x) t a is n = absurd is
+uncounted q texts c certificates words inner (Err fault) t a is n = λ found.
+    let named = n (subst (λ x. x ≢ faults.Memory) is found) in
+    let lacks = form_named (IsWanted q.request) (RefusesWanted q.request) parts.Request texts.request inner t.request named in
+    absurd (form_unread (of_wanted q.request) lacks.0 lacks.2 a.request)
 
 -- ---- the canonical text of strings, and its length
 
@@ -311,3 +241,31 @@ flat (x ∷ xs) = rw (flat xs) refl
 pub words_shallow : (xs : List (List ℕ)) → IsShallow (words_value xs)
 words_shallow (w ∷ x ∷ ws) = rw (flat ws) (omega arith)
 words_shallow _ = omega arith
+
+-- ---- the request that was made of strings
+
+module _ (words : List (List ℕ)) (octets : List ℕ) (r : Result (List ℕ) FormFault) (written : octets ≡ canon (words_value words))
+    (short : length octets ≤ 1048576 → r ≡ Ok octets) (long : 1048576 < length octets → r ≡ Err form.TooLong) where
+  is_made : (s : Result (List ℕ) FormFault) → r ≡ s → IsReadAs (λ v. v ≡ words_value words) (λ fault. ⊥) s
+  is_made (Ok out) e =
+      let fits : 1048576 < length octets → ⊥ = λ h. (let f = long h in let no : ⊥ = cc in no) in
+      let low : length octets ≤ 1048576 = omega (arith, fits) in
+      let same : octets ≡ out = (let f = short low in cc) in (
+        words_value words,
+        refl,
+        record { short = subst (λ (xs : List ℕ). length xs ≤ 1048576) written low; shallow = words_shallow words },
+        sym same ∙ written,
+      )
+  is_made (Err fault) e =
+      let over : length octets ≤ 1048576 → ⊥ = λ h. (let f = short h in let no : ⊥ = cc in no) in
+      let high : 1048576 < length octets = omega (arith, over) in
+      let named : fault ≡ form.TooLong = (let f = long high in cc) in
+      inr (record {
+        value = words_value words;
+        meant = refl;
+        long = subst (λ (xs : List ℕ). 1048576 < length xs) written high;
+        named = named;
+      })
+
+  pub made_read : IsReadAs (λ v. v ≡ words_value words) (λ fault. ⊥) r
+  made_read = is_made r refl

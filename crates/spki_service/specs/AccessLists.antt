@@ -8,13 +8,13 @@ use Rattle.spki_cert.specs.declared.entry.Entry.{Entry}
 use Rattle.spki_cert.specs.declared.principal.Policy.{Policy}
 use Rattle.spki_cert.specs.Structures.{EntryOf, AclOf}
 use Rattle.spki_service.specs.declared.limits.Limits.{Limits}
-use Rattle.sexpr_core.specs.declared.fault.FormFault.TheVariants as form
 use Rattle.spki_cert.specs.declared.fault.CertFault.{CertFault}
 use Rattle.spki_cert.specs.declared.fault.CertFaultKind.TheVariants as kinds
 use Rattle.spki_cert.specs.StructureFaults.{acl_fault}
 use Rattle.spki_service.specs.declared.list_fault.AclFault.{AclFault}
 use Rattle.spki_service.specs.declared.list_fault.AclFault.TheVariants as faults
-use Rattle.spki_service.specs.Questions.{RefusesForm, Reads, LacksForm}
+use Rattle.sexpr_text.specs.CanonicalTexts.{RefusesForm, LacksForm}
+use Rattle.spki_service.specs.Questions.{Reads}
 use Rattle.std.specs.List.{filter}
 use Rattle.std.specs.List.Sorted.{IsSortedByKey}
 use Rattle.std.specs.Ordering.{nat_cmp, ordering_then}
@@ -90,12 +90,6 @@ pub record IsNoAcl (fault : CertFault) (v : Value) : Type 0 where
   pub found : fault.kind ≢ kinds.Memory
   pub named : acl_fault v ≡ Some fault
   pub none : (es : List Entry) → ¬ AclOf v es
-
--- What a fault means for a value, except for Memory: its canonical form is too long, or it is no access list.
-abbrev pub ListRefused : Value → AclFault → Type 0
-ListRefused v (faults.Form fault) = (1048576 < length (canon v)) × (fault ≡ form.TooLong)
-ListRefused v (faults.Acl fault) = (length (canon v) ≤ 1048576) × IsNoAcl fault v
-ListRefused v faults.Memory = ⊥
 
 -- What a fault means for a text in any of the three forms, except for Memory.
 abbrev pub IsNoAccessList : List ℕ → AclFault → Type 0

@@ -1,8 +1,9 @@
 -- Questions that are put to a guard: the texts of their parts, what is kept of a question that is opened, and the
 -- answers by what a verifier accepts or has marked (RFC 2693, section 6).
 use Rattle.sexpr_core.specs.declared.fault.FormFault.{FormFault}
-use Rattle.sexpr_core.specs.Value.{Value, canon, IsShallow, IsWithinLimits}
+use Rattle.sexpr_core.specs.Value.{Value, canon}
 use Rattle.sexpr_text.specs.AdvancedForm.{IsTextWithin}
+use Rattle.sexpr_text.specs.CanonicalTexts.{IsReadAs, RefusesForm}
 use Rattle.spki_service.specs.declared.question.Question.{Question}
 use Rattle.spki_tag.specs.declared.fault.TagFault.{TagFault}
 use Rattle.spki_cert.specs.declared.fault.CertFault.{CertFault}
@@ -15,12 +16,10 @@ use Rattle.spki_service.specs.declared.question.AskFault.{AskFault}
 use Rattle.spki_service.specs.declared.question.AskFault.TheVariants as faults
 use Rattle.spki_service.specs.declared.question.Moment as of_question
 use Rattle.spki_service.specs.declared.question.Moment.TheVariants as moments
-use Rattle.spki_service.specs.declared.texts.PartText.{PartText}
-use Rattle.spki_service.specs.declared.texts.PartText.TheVariants.{Canonical, Made, Malformed}
 use Rattle.spki_service.specs.declared.texts.MomentText.{MomentText}
 use Rattle.spki_service.specs.declared.texts.MomentText.TheVariants as of_moment
 use Rattle.spki_service.specs.declared.texts.Texts.{Texts}
-use Rattle.spki_service.specs.Questions.{RefusesForm, LacksForm, IsDateAt, IsAtNoDate, IsWanted, RefusesWanted, IsNoSequenceFor, IsNoKeyFor, IsNoRequestFor, IsNoDateFor, asked_octets, certificates_in, HasFewStrings, IsAskedCase}
+use Rattle.spki_service.specs.Questions.{IsDateAt, IsAtNoDate, IsWanted, RefusesWanted, IsNoSequenceFor, IsNoKeyFor, IsNoRequestFor, IsNoDateFor, asked_octets, certificates_in, HasFewStrings, IsAskedCase}
 use Rattle.spki_cert.specs.declared.entry.Entry.{Entry}
 use Rattle.spki_case.specs.Case.{Case, Verified}
 use Rattle.spki_decision.specs.declared.fault.GuardFault.{GuardFault}
@@ -48,20 +47,14 @@ use Rattle.spki_service.specs.declared.failure.Failure.{Failure}
 
 -- ---- the texts of a question's parts
 
--- the text is the canonical text of a value of the part; or the part has none, and this is the fault of its form
-abbrev pub IsReadAs : (means : Value → Type 0) → (refuses : FormFault → Type 0) → PartText → Type 0
-IsReadAs means refuses (Canonical document) = means document × IsWithinLimits document
-IsReadAs means refuses (Made octets) = (v : Value) × means v × IsWithinLimits v × (octets.items ≡ canon v)
-IsReadAs means refuses (Malformed fault) = LacksForm means refuses fault
+-- The text of each part is read as CanonicalTexts of `sexpr_text` says.
 
--- the same for a moment
+-- the text of a moment, or its seconds
 abbrev pub IsMomentText : of_question.Moment → MomentText → Type 0
 IsMomentText (moments.Text text) (of_moment.Text part) = IsReadAs (IsTextWithin text.now) (RefusesForm text.now) part
-IsMomentText (moments.Text text) (of_moment.At date) = ⊥
-IsMomentText (moments.Text text) of_moment.Dateless = ⊥
+IsMomentText (moments.Text text) (of_moment.Seconds seconds) = ⊥
 IsMomentText (moments.Seconds seconds) (of_moment.Text part) = ⊥
-IsMomentText (moments.Seconds seconds) (of_moment.At date) = IsDateAt seconds date
-IsMomentText (moments.Seconds seconds) of_moment.Dateless = IsAtNoDate seconds
+IsMomentText (moments.Seconds seconds) (of_moment.Seconds same) = same ≡ seconds
 
 -- The texts are those of the question's parts, which have so many octets together.
 pub record IsTextsOf (q : Question) (texts : Texts) : Type 0 where
@@ -73,29 +66,19 @@ pub record IsTextsOf (q : Question) (texts : Texts) : Type 0 where
 
 -- ---- the value of a part's text
 
--- a canonical text that was made, unless it is too long
-abbrev pub IsMade : List ℕ → PartText → Type 0
-IsMade octets text = (v : Value) → octets ≡ canon v → IsShallow v → IsReadAs (λ w. w ≡ v) (λ fault. ⊥) text
-
--- a statement is true of the value of the text
-abbrev pub OfText : PartText → (Value → Type 0) → Type 0
-OfText (Canonical document) said = said document
-OfText (Made octets) said = (v : Value) → IsWithinLimits v → octets.items ≡ canon v → said v
-OfText (Malformed fault) said = ⊥
-
--- the text has no value, for this fault
-abbrev pub HasNone : PartText → FormFault → Type 0
-HasNone (Canonical document) fault = ⊥
-HasNone (Made octets) fault = (v : Value) → IsWithinLimits v → octets.items ≡ canon v → ⊥
-HasNone (Malformed form) fault = fault ≡ form
+-- The text is the canonical text of a value for which the statement is true.
+pub record OfText (text : Result (List ℕ) FormFault) (said : Value → Type 0) : Type 0 where
+  pub value : Value
+  pub written : text ≡ Ok (canon value)
+  pub is : said value
 
 -- ---- faults of a part's text
 
--- The fault names a part whose text has no value.
-pub record NamesForm (part : Part) (text : PartText) (fault : AskFault) : Type 0 where
+-- The fault names a part that has no text, and contains the reason.
+pub record NamesForm (part : Part) (text : Result (List ℕ) FormFault) (fault : AskFault) : Type 0 where
   pub form : FormFault
   pub named : fault ≡ faults.Form part form
-  pub none : HasNone text form
+  pub none : text ≡ Err form
 
 -- The fault names the part, and its value is refused.
 pub record NamesSequence (fault : AskFault) (v : Value) : Type 0 where
@@ -119,46 +102,18 @@ pub record NamesMoment (fault : AskFault) (v : Value) : Type 0 where
   pub refused : IsNoDateFor inner v
 
 -- What a fault means for the text of a part, except for Memory: it has no value, or its value is refused.
-abbrev pub NamesPart : Part → (AskFault → Value → Type 0) → PartText → AskFault → Type 0
+abbrev pub NamesPart : Part → (AskFault → Value → Type 0) → Result (List ℕ) FormFault → AskFault → Type 0
 NamesPart part names text fault = NamesForm part text fault ⊎ OfText text (names fault)
 
 -- the same for the text of a moment, or for its seconds
 abbrev pub NamesDate : MomentText → AskFault → Type 0
 NamesDate (of_moment.Text text) fault = NamesPart parts.Moment NamesMoment text fault
-NamesDate (of_moment.At date) fault = ⊥
-NamesDate of_moment.Dateless fault = fault ≡ faults.Moment kinds.BadDate
+NamesDate (of_moment.Seconds seconds) fault = (fault ≡ faults.Moment kinds.BadDate) × IsAtNoDate seconds
 
 -- the date of a moment's text, or of its seconds
 abbrev pub HasDate : MomentText → List ℕ → Type 0
 HasDate (of_moment.Text text) date = OfText text (λ v. DateOf v date)
-HasDate (of_moment.At octets) date = date ≡ octets
-HasDate of_moment.Dateless date = ⊥
-
--- ---- texts in memory of their own
-
--- the second text is the first, in memory of its own
-abbrev pub IsCopyOf : PartText → PartText → Type 0
-IsCopyOf (Canonical document) (Canonical other) = ⊥
-IsCopyOf (Canonical document) (Made octets) = octets.items ≡ canon document
-IsCopyOf (Canonical document) (Malformed fault) = ⊥
-IsCopyOf (Made octets) text = text ≡ Made octets
-IsCopyOf (Malformed fault) text = text ≡ Malformed fault
-
--- the same of a moment
-abbrev pub IsMomentCopy : MomentText → MomentText → Type 0
-IsMomentCopy (of_moment.Text text) (of_moment.Text copy) = IsCopyOf text copy
-IsMomentCopy (of_moment.Text text) (of_moment.At date) = ⊥
-IsMomentCopy (of_moment.Text text) of_moment.Dateless = ⊥
-IsMomentCopy (of_moment.At date) copy = copy ≡ of_moment.At date
-IsMomentCopy of_moment.Dateless copy = copy ≡ of_moment.Dateless
-
--- The second texts are the first, in memory of their own.
-pub record AreCopies (texts copies : Texts) : Type 0 where
-  pub sequence : IsCopyOf texts.sequence copies.sequence
-  pub key : IsCopyOf texts.key copies.key
-  pub request : IsCopyOf texts.request copies.request
-  pub moment : IsMomentCopy texts.moment copies.moment
-  pub octets : copies.octets ≡ texts.octets
+HasDate (of_moment.Seconds seconds) date = IsDateAt seconds date
 
 -- ---- questions and answers
 

@@ -1,11 +1,10 @@
 -- The parts of a question in any of the three forms, the case that they are, and why a question is refused: a part
 -- cannot be read, or there are too many certificates or strings.
-use Rattle.std.specs.Prelude.{◌≡◌, ◌≢◌, ◌⊎◌, ◌↔◌, ℕ, ◌<◌, ◌≤◌, List, length, ◌+◌, ◌-◌, ◌*◌, ◌/◌, ◌%◌, min, nat_lt, if◌then◌else◌, slice_index, [], ◌∷◌, ◌++◌, ℤ, pos, neg_ℤ, ◌+ℤ◌, ◌*ℤ◌, ◌<ℤ◌, ◌≤ℤ◌, map, Some, Bool, IsTrue}
+use Rattle.std.specs.Prelude.{◌≡◌, ◌≢◌, ◌⊎◌, ◌↔◌, ℕ, ◌<◌, ◌≤◌, List, length, ◌+◌, ◌-◌, ◌*◌, ◌/◌, ◌%◌, min, nat_lt, if◌then◌else◌, slice_index, [], ◌∷◌, ◌++◌, ℤ, pos, ◌+ℤ◌, ◌*ℤ◌, ◌<ℤ◌, ◌≤ℤ◌, map, Some, Bool, IsTrue}
 use Rattle.sexpr_core.specs.declared.fault.FormFault.{FormFault}
-use Rattle.sexpr_core.specs.declared.fault.FormFault.TheVariants as form
-use Rattle.sexpr_core.specs.Value.{Value, canon, plain, group, Values, string, list, none, more, IsWithinLimits}
+use Rattle.sexpr_core.specs.Value.{Value, canon, plain, group, Values, string, list, none, more}
 use Rattle.sexpr_text.specs.AdvancedForm.{IsTextWithin}
-use Rattle.sexpr_text.specs.Refusal.{RefusesText}
+use Rattle.sexpr_text.specs.CanonicalTexts.{RefusesForm, LacksForm}
 use Rattle.jiff_core.specs.Calendar.{IsCivilDate, days_in_month, days_from_civil}
 use Rattle.sexpr_core.specs.Characters.{char}
 use Rattle.spki_tag.specs.Request.{Request}
@@ -31,18 +30,8 @@ use Rattle.spki_service.specs.declared.question.Part.TheVariants as parts
 use Rattle.spki_service.specs.declared.question.AskFault.{AskFault}
 use Rattle.spki_service.specs.declared.question.AskFault.TheVariants as faults
 use Rattle.spki_cert.specs.declared.certificate.SeqItem.TheVariants.{Auth, Name}
-use Rattle.spki_service.specs.declared.texts.PartText.{PartText}
-use Rattle.spki_service.specs.declared.texts.PartText.TheVariants.{Canonical, Made, Malformed}
 
--- ---- the value that a text in any of the three forms is read as, and why it is read as none
-
--- The text spells and braces no value within the limits, and this is its fault. The fault is TooLong exactly if the text has more
--- than 1,048,576 octets.
-pub record RefusesForm (text : List ℕ) (fault : FormFault) : Type 0 where
-  pub found : fault ≢ form.Memory
-  pub none : (v : Value) → ¬ IsTextWithin text v
-  pub long : (fault ≡ form.TooLong) ↔ (1048576 < length text)
-  pub refused : RefusesText text fault
+-- ---- the value that a text in any of the three forms is read as
 
 -- The part means a value for which the statement is true, and whose canonical form has at most 1,048,576 octets.
 pub record Reads (means said : Value → Type 0) : Type 0 where
@@ -50,18 +39,6 @@ pub record Reads (means said : Value → Type 0) : Type 0 where
   pub meant : means value
   pub short : length (canon value) ≤ 1048576
   pub is : said value
-
--- The part means a value whose canonical form has more than 1,048,576 octets, and the fault is TooLong.
-pub record IsOverlong (means : Value → Type 0) (fault : FormFault) : Type 0 where
-  pub value : Value
-  pub meant : means value
-  pub long : 1048576 < length (canon value)
-  pub named : fault ≡ form.TooLong
-
--- The part has no value that is read, and this is the fault of its form. Its text is refused, or it means a value that is too
--- long.
-abbrev pub LacksForm : (means : Value → Type 0) → (refuses : FormFault → Type 0) → FormFault → Type 0
-LacksForm means refuses fault = refuses fault ⊎ IsOverlong means fault
 
 -- ---- the date of a number of seconds since 1970-01-01 00:00:00 UTC
 
@@ -280,12 +257,6 @@ abbrev mutual
 -- whether a value has more strings than `most`
 abbrev pub TellsStrings : ℕ → Bool → Value → Type 0
 TellsStrings most has_more v = IsTrue has_more ↔ (most < strings_in v)
-
--- the same for the value of a text
-abbrev pub TellsStringsOf : ℕ → Bool → PartText → Type 0
-TellsStringsOf most has_more (Canonical document) = TellsStrings most has_more document
-TellsStringsOf most has_more (Made octets) = (v : Value) → IsWithinLimits v → octets.items ≡ canon v → TellsStrings most has_more v
-TellsStringsOf most has_more (Malformed fault) = Unit {0}
 
 -- the request has at most so many strings
 abbrev pub HasFewStrings : ℕ → Question → Type 0

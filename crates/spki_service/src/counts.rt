@@ -3,15 +3,16 @@
 ghost use Rattle.std.specs.Prelude.{◌≡◌, ◌≢◌, ◌↔◌, ◌<◌, ◌≤◌, ◌+◌, IsTrue, IfOk, IfErr, MatchOption};
 ghost use Rattle.sexpr_core.specs.Value.{values};
 ghost use Rattle.spki_case.specs.View.{model};
-ghost use Rattle.spki_service.specs.Questions.{certificate_count, certificates_in, strings_in, strings_all, TellsStrings, TellsStringsOf, HasFewStrings, IsTooMany, IsAskedCase};
-ghost use Rattle.spki_service.specs.GuardQuestions.{IsTextsOf};
+ghost use Rattle.spki_service.specs.Questions.{certificate_count, certificates_in, strings_in, strings_all, TellsStrings, HasFewStrings, IsTooMany, IsAskedCase};
+ghost use Rattle.spki_service.specs.GuardQuestions.{IsTextsOf, OfText, NamesForm};
 ghost use Rattle.spki_service.specs.declared.question.Question.{Question};
 
 use crate::limits::Limits;
-use crate::question::AskFault;
-use crate::texts::{PartText, Texts};
+use crate::parts::opened;
+use crate::question::{AskFault, Part};
+use crate::texts::Texts;
 use sexpr_core::syntax::{Members, Node, NodeKind};
-use sexpr_core::{Doc, FormFault};
+use sexpr_text::CanonicalText;
 use spki_case::Case;
 use spki_cert::SeqItem;
 use std::alloc::Global;
@@ -70,21 +71,13 @@ fn certificate_count(item: &SeqItem) -> usize
     }
 }
 
-/// Whether the value of a part's text has more than `most` strings. False if the text has no value within the limits.
-/// Err if memory ran out.
-fn has_more_strings(alloc: Global, text: &PartText, most: usize) -> Result<bool, AskFault>
-    ensures tells { IfOk result (λ has_more. TellsStringsOf most has_more text.now) }
-    ensures only { IfErr result (λ fault. fault ≡ AskFault.Memory) }
+/// Whether the value of a request's text has more than `most` strings. Err is `Form` if there is no text, or `Memory`.
+fn has_more_strings(alloc: Global, text: &CanonicalText, most: usize) -> Result<bool, AskFault>
+    ensures tells { IfOk result (λ has_more. OfText text.now (TellsStrings most has_more)) }
+    ensures refused { IfErr result (λ fault. fault ≢ AskFault.Memory → NamesForm Part.Request text.now fault) }
 {
-    match text {
-        PartText::Canonical(document) => Ok(node_has_more_strings(&document.top(), most)),
-        PartText::Made(octets) => match Doc::open(alloc, octets) {
-            Ok(document) => Ok(node_has_more_strings(&document.top(), most)),
-            Err(FormFault::Memory) => Err(AskFault::Memory),
-            Err(_) => Ok(false),
-        },
-        PartText::Malformed(_) => Ok(false),
-    }
+    let text = opened(alloc, Part::Request, text)?;
+    Ok(node_has_more_strings(&text.top(), most))
 }
 
 /// Whether a value has more than `most` strings. A display hint does not count.

@@ -1,10 +1,9 @@
 //! Access lists that are read once.
 
 ghost use Rattle.std.specs.Prelude.{◌≡◌, ◌≢◌, ◌↔◌, ◌⊎◌, ◌<◌, ◌≤◌, ℕ, List, Some, length, IfOk, IfErr, IsErrOf, option_copied};
-ghost use Rattle.sexpr_core.specs.Value.{Value, canon, IsShallow};
 ghost use Rattle.spki_cert.specs.declared.entry.Entry.{Entry};
 ghost use Rattle.spki_case.specs.Case.{IsOuter};
-ghost use Rattle.spki_service.specs.AccessLists.{AreEntries, HasLimits, HoldsList, HoldsValue, numbers_from, IsNoAccessList, IsNoAcl, ListRefused, is_of};
+ghost use Rattle.spki_service.specs.AccessLists.{AreEntries, HasLimits, HoldsList, HoldsValue, numbers_from, IsNoAccessList, IsNoAcl, is_of};
 ghost use Rattle.spki_service.specs.Questions.{certificates_in, HasFewStrings, IsRefused, IsAskedCase, asked_octets};
 ghost use Rattle.spki_service.specs.GuardQuestions.{IsTextsOf, NoneMarked};
 ghost use Rattle.spki_decision.specs.CertificateTests.{asked};
@@ -21,9 +20,9 @@ use crate::prepared_question::PreparedQuestion;
 use crate::question::{AskFault, Question};
 use crate::text_list::TextList;
 use crate::texts::{Texts, texts_of};
+use sexpr_core::FormFault;
 use sexpr_core::syntax::Node;
-use sexpr_core::{Doc, FormFault};
-use sexpr_text::{Form, convert};
+use sexpr_text::CanonicalText;
 use spki_cert::{CertFault, CertFaultKind, Key, Policy, acl_principals};
 use spki_decision::examine;
 use std::alloc::{AllocError, Global};
@@ -82,10 +81,11 @@ impl Guard {
         ensures limits { IfOk result (λ g. HasLimits g limits) }
         ensures refused { IfErr result (λ fault. fault ≢ AclFault.Memory → IsNoAccessList list.now fault) }
     {
-        match Doc::open(alloc, list) {
+        let text = CanonicalText::read(alloc, list)?;
+        match text.document(alloc) {
             Ok(document) => Guard::of(alloc, &document.top(), policy, limits),
             Err(FormFault::Memory) => Err(AclFault::Memory),
-            Err(_) => Guard::of_converted(alloc, list, policy, limits),
+            Err(fault) => Err(AclFault::Form(fault)),
         }
     }
 
@@ -180,45 +180,6 @@ impl Guard {
         match key {
             None => Ok(Vec::new(alloc)),
             Some(key) => self.index.found(alloc, key, self.policy),
-        }
-    }
-
-    /// Makes a guard from an access list in any of the three forms, which is converted to canonical form first. The
-    /// faults are those of `read`.
-    fn of_converted(
-        alloc: Global,
-        list: &[u8],
-        policy: Policy,
-        limits: Limits,
-    ) -> Result<Guard, AclFault>
-        ensures list { IfOk result (λ g. HoldsList list.now g.texts) }
-        ensures given { IfOk result (λ g. (g.policy ≡ policy) × HasLimits g limits) }
-        ensures refused { IfErr result (λ fault. fault ≢ AclFault.Memory → IsNoAccessList list.now fault) }
-    {
-        match convert(alloc, Form::Canonical, list) {
-            Ok(octets) => Guard::of_text(alloc, &octets, policy, limits),
-            Err(FormFault::Memory) => Err(AclFault::Memory),
-            Err(fault) => Err(AclFault::Form(fault)),
-        }
-    }
-
-    /// Makes a guard from the canonical text of an access list. The faults are those of `read`.
-    fn of_text(
-        alloc: Global,
-        octets: &[u8],
-        policy: Policy,
-        limits: Limits,
-    ) -> Result<Guard, AclFault>
-        ensures list { (v : Value) → octets.now ≡ canon v
-            → IfOk result (λ g. (length (canon v) ≤ 1048576) × HoldsValue v g.texts) }
-        ensures given { IfOk result (λ g. (g.policy ≡ policy) × HasLimits g limits) }
-        ensures refused { (v : Value) → octets.now ≡ canon v → IsShallow v
-            → IfErr result (λ fault. fault ≢ AclFault.Memory → ListRefused v fault) }
-    {
-        match Doc::open(alloc, octets) {
-            Ok(document) => Guard::of(alloc, &document.top(), policy, limits),
-            Err(FormFault::Memory) => Err(AclFault::Memory),
-            Err(fault) => Err(AclFault::Form(fault)),
         }
     }
 

@@ -18,7 +18,6 @@ mod measure;
 mod openings;
 mod owned_question;
 mod owned_signed;
-mod owned_texts;
 mod parts;
 mod prepared_question;
 mod question;

@@ -1,20 +1,23 @@
 //! Reads the parts of a question from their texts.
 
 ghost use Rattle.std.specs.Prelude.{◌≡◌, ◌≢◌, IfOk, IfErr};
-ghost use Rattle.sexpr_core.specs.Value.{Value, canon, IsWithinLimits};
+ghost use Rattle.sexpr_core.specs.Value.{canon};
+ghost use Rattle.sexpr_text.specs.CanonicalTexts.{opened_value};
 ghost use Rattle.spki_cert.specs.Readings.{KeyOf, DateOf};
 ghost use Rattle.spki_cert.specs.Structures.{SeqOf};
 ghost use Rattle.spki_case.specs.Case.{RequestOf, AreSigned, IsOuter};
 ghost use Rattle.spki_case.specs.View.{model};
-ghost use Rattle.spki_service.specs.Questions.{IsAskedCase, IsNotAsked};
-ghost use Rattle.spki_service.specs.GuardQuestions.{IsTextsOf, OfText, HasDate, NamesPart, NamesSequence, NamesKey, NamesRequest, NamesMoment, NamesDate};
+ghost use Rattle.spki_service.specs.Questions.{IsAskedCase, IsNotAsked, IsDateAt, IsAtNoDate};
+ghost use Rattle.spki_service.specs.GuardQuestions.{IsTextsOf, OfText, HasDate, NamesForm, NamesPart, NamesSequence, NamesKey, NamesRequest, NamesMoment, NamesDate};
 ghost use Rattle.spki_service.specs.declared.question.Question.{Question};
 
+use crate::date::date_at;
 use crate::limits::Limits;
 use crate::question::{AskFault, Part};
-use crate::texts::{MomentText, PartText, Texts};
+use crate::texts::{MomentText, Texts};
+use sexpr_core::FormFault;
 use sexpr_core::syntax::Node;
-use sexpr_core::{Doc, FormFault};
+use sexpr_text::{CanonicalText, OpenText};
 use spki_case::Case;
 use spki_cert::{
     Algorithms, CertFault, CertFaultKind, Date, Key, Policy, SeqItem, date_of, key_of, sequence_of,
@@ -62,95 +65,61 @@ pub(crate) fn case_of<'a>(
     )?)
 }
 
-/// Opens the document of a canonical text that was made for `part`. Err names `part` if the text has no value within
-/// the limits, or is `Memory`.
-fn made_document<'a>(alloc: Global, part: Part, octets: &'a [u8]) -> Result<Doc<'a>, AskFault>
-    ensures read { IfOk result (λ document. octets.entry.now ≡ canon document) }
-    ensures refused { IfErr result (λ fault. fault ≢ AskFault.Memory → (form : FormFault) × (fault ≡ AskFault.Form part form)
-        × ((v : Value) → IsWithinLimits v → octets.entry.now ≡ canon v → ⊥)) }
+/// Opens the text of a part. Err is `Form` if there is none, or `Memory`.
+pub(crate) fn opened<'a>(
+    alloc: Global,
+    part: Part,
+    text: &'a CanonicalText<'_>,
+) -> Result<OpenText<'a>, AskFault>
+    ensures read { IfOk result (λ opened. text.entry.now ≡ Ok (canon (opened_value opened))) }
+    ensures refused { IfErr result (λ fault. fault ≢ AskFault.Memory → NamesForm part text.entry.now fault) }
 {
-    match Doc::open(alloc, octets) {
-        Ok(document) => Ok(document),
+    match text.document(alloc) {
+        Ok(text) => Ok(text),
         Err(FormFault::Memory) => Err(AskFault::Memory),
         Err(fault) => Err(AskFault::Form { part, fault }),
     }
 }
 
-/// Reads the sequence from the text of that part. Err is `Form` if the text has no value within the limits, `Sequence`
-/// if the value is no sequence, or `Memory`.
-fn sequence_in<'a>(alloc: Global, text: &'a PartText<'_>) -> Result<Vec<SeqItem<'a>>, AskFault>
+/// Reads the sequence from the text of that part. Err is `Form` if the text has no value within the limits, `Sequence` if
+/// the value is no sequence, or `Memory`.
+fn sequence_in<'a>(alloc: Global, text: &'a CanonicalText<'_>) -> Result<Vec<SeqItem<'a>>, AskFault>
     ensures read { IfOk result (λ items. OfText text.entry.now (λ v. SeqOf v items.items)) }
     ensures signed { IfOk result (λ items. AreSigned items.items) }
     ensures refused { IfErr result (λ fault. fault ≢ AskFault.Memory → NamesPart Part.Sequence NamesSequence text.entry.now fault) }
 {
-    match text {
-        PartText::Canonical(document) => sequence_at(alloc, &document.top()),
-        PartText::Made(octets) => {
-            let document = made_document(alloc, Part::Sequence, octets)?;
-            sequence_at(alloc, &document.top())
-        }
-        PartText::Malformed(fault) => Err(AskFault::Form {
-            part: Part::Sequence,
-            fault: *fault,
-        }),
-    }
+    let text = opened(alloc, Part::Sequence, text)?;
+    sequence_at(alloc, &text.top())
 }
 
-/// Reads the client's key from the text of that part. Err is `Form` if the text has no value within the limits, `Key`
-/// if the value is no key, or `Memory`.
-fn key_in<'a>(alloc: Global, text: &'a PartText<'_>) -> Result<Key<'a>, AskFault>
+/// Reads the client's key from the text of that part. Err is `Form` if the text has no value within the limits, `Key` if
+/// the value is no key, or `Memory`.
+fn key_in<'a>(alloc: Global, text: &'a CanonicalText<'_>) -> Result<Key<'a>, AskFault>
     ensures read { IfOk result (λ key. OfText text.entry.now (λ v. KeyOf v key)) }
     ensures refused { IfErr result (λ fault. fault ≢ AskFault.Memory → NamesPart Part.Key NamesKey text.entry.now fault) }
 {
-    match text {
-        PartText::Canonical(document) => key_at(&document.top()),
-        PartText::Made(octets) => {
-            let document = made_document(alloc, Part::Key, octets)?;
-            key_at(&document.top())
-        }
-        PartText::Malformed(fault) => Err(AskFault::Form {
-            part: Part::Key,
-            fault: *fault,
-        }),
-    }
+    let text = opened(alloc, Part::Key, text)?;
+    key_at(&text.top())
 }
 
 /// Reads the request from the text of that part. Err is `Form` if the text has no value within the limits, `Request` if
 /// the value is no request, or `Memory`.
-fn request_in(alloc: Global, text: &PartText) -> Result<Ground, AskFault>
+fn request_in(alloc: Global, text: &CanonicalText) -> Result<Ground, AskFault>
     ensures read { IfOk result (λ request. OfText text.now (λ v. RequestOf v request)) }
     ensures refused { IfErr result (λ fault. fault ≢ AskFault.Memory → NamesPart Part.Request NamesRequest text.now fault) }
 {
-    match text {
-        PartText::Canonical(document) => request_at(alloc, &document.top()),
-        PartText::Made(octets) => {
-            let document = made_document(alloc, Part::Request, octets)?;
-            request_at(alloc, &document.top())
-        }
-        PartText::Malformed(fault) => Err(AskFault::Form {
-            part: Part::Request,
-            fault: *fault,
-        }),
-    }
+    let text = opened(alloc, Part::Request, text)?;
+    request_at(alloc, &text.top())
 }
 
 /// Reads the date from the text of the moment. Err is `Form` if the text has no value within the limits, `Moment` if
 /// the value is no date, or `Memory`.
-fn date_in(alloc: Global, text: &PartText) -> Result<Date, AskFault>
+fn date_in(alloc: Global, text: &CanonicalText) -> Result<Date, AskFault>
     ensures read { IfOk result (λ date. OfText text.now (λ v. DateOf v date)) }
     ensures refused { IfErr result (λ fault. fault ≢ AskFault.Memory → NamesPart Part.Moment NamesMoment text.now fault) }
 {
-    match text {
-        PartText::Canonical(document) => date_of_node(&document.top()),
-        PartText::Made(octets) => {
-            let document = made_document(alloc, Part::Moment, octets)?;
-            date_of_node(&document.top())
-        }
-        PartText::Malformed(fault) => Err(AskFault::Form {
-            part: Part::Moment,
-            fault: *fault,
-        }),
-    }
+    let text = opened(alloc, Part::Moment, text)?;
+    date_of_node(&text.top())
 }
 
 /// The date of a moment that was given as a text or as seconds. Err is a fault of the text, `Moment(BadDate)` if the
@@ -161,8 +130,19 @@ fn moment_in(alloc: Global, text: &MomentText) -> Result<Date, AskFault>
 {
     match text {
         MomentText::Text(text) => date_in(alloc, text),
-        MomentText::At(date) => Ok(*date),
-        MomentText::Dateless => Err(AskFault::Moment(CertFaultKind::BadDate)),
+        MomentText::Seconds(seconds) => date_of_seconds(seconds),
+    }
+}
+
+/// The date of seconds since 1970-01-01 00:00:00 UTC. Err is `Moment(BadDate)` if its year is not from 0 to 9999.
+fn date_of_seconds(seconds: &i64) -> Result<Date, AskFault>
+    ensures read { IfOk result (IsDateAt seconds.now) }
+    ensures refused { IfErr result (λ fault. (fault ≡ AskFault.Moment CertFaultKind.BadDate) × IsAtNoDate seconds.now) }
+{
+    let seconds = *seconds;
+    match date_at(seconds) {
+        Some(date) => Ok(date),
+        None => Err(AskFault::Moment(CertFaultKind::BadDate)),
     }
 }
 

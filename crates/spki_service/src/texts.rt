@@ -1,47 +1,31 @@
 //! The texts of a question's parts, in canonical form.
 
-ghost use Rattle.std.specs.Prelude.{◌≡◌, ◌≢◌, ◌<◌, ◌⊎◌, ◌↔◌, map, length, IsTrue, IfOk, IfErr, IsErrOf};
-ghost use Rattle.sexpr_text.specs.AdvancedForm.{IsTextWithin};
-ghost use Rattle.spki_service.specs.Questions.{RefusesForm, asked_octets, IsWanted, RefusesWanted};
-ghost use Rattle.spki_service.specs.GuardQuestions.{IsReadAs, IsTextsOf, IsMomentText, IsMade};
+ghost use Rattle.std.specs.Prelude.{◌≡◌, ◌<◌, ◌⊎◌, ◌↔◌, IfOk, IfErr, IsErrOf};
+ghost use Rattle.sexpr_text.specs.CanonicalTexts.{IsReadAs};
+ghost use Rattle.spki_service.specs.Questions.{asked_octets, IsWanted, RefusesWanted};
+ghost use Rattle.spki_service.specs.GuardQuestions.{IsTextsOf, IsMomentText};
 
-use crate::date::date_at;
 use crate::measure::octets_within;
 use crate::question::{AskFault, Moment, Question, RequestInput};
 use crate::words::words_text;
-use sexpr_core::{Doc, FormFault, MOST_OCTETS};
-use sexpr_text::{Form, convert};
-use spki_cert::Date;
-use std::alloc::Global;
-
-/// The text of a part, in canonical form.
-#[derive(Drop)]
-pub(crate) enum PartText<'q> {
-    /// The text is canonical itself: its document.
-    Canonical(Doc<'q>),
-    /// The canonical form of its value.
-    Made(Vec<u8>),
-    /// There is no such text, for this fault.
-    Malformed(FormFault),
-}
+use sexpr_text::CanonicalText;
+use std::alloc::{AllocError, Global};
 
 /// The text of a moment.
 #[derive(Drop)]
 pub(crate) enum MomentText<'q> {
     /// The moment was given as a text.
-    Text(PartText<'q>),
-    /// The moment was given as seconds, with this date.
-    At(Date),
-    /// The moment was given as seconds without a date.
-    Dateless,
+    Text(CanonicalText<'q>),
+    /// The moment was given as seconds.
+    Seconds(i64),
 }
 
 /// The texts of a question's parts, in canonical form. If a part has no canonical text, the fault of its form.
 #[derive(Drop)]
 pub struct Texts<'q> {
-    pub(crate) sequence: PartText<'q>,
-    pub(crate) key: PartText<'q>,
-    pub(crate) request: PartText<'q>,
+    pub(crate) sequence: CanonicalText<'q>,
+    pub(crate) key: CanonicalText<'q>,
+    pub(crate) request: CanonicalText<'q>,
     pub(crate) moment: MomentText<'q>,
     /// How many octets the question's texts have together.
     pub(crate) octets: usize,
@@ -67,82 +51,70 @@ pub(crate) fn texts_of<'q>(
         return Err(AskFault::TooLong);
     };
     Ok(Texts {
-        sequence: part_text(alloc, question.sequence)?,
-        key: part_text(alloc, question.key)?,
+        sequence: CanonicalText::read(alloc, question.sequence)?,
+        key: CanonicalText::read(alloc, question.key)?,
         request: wanted_text(alloc, &question.request)?,
         moment: moment_text(alloc, &question.moment)?,
         octets,
     })
 }
 
-/// Returns the canonical text of a part's text, or `Malformed` if that has no value within the limits. Err only if
-/// memory ran out.
-fn part_text<'q>(alloc: Global, text: &'q [u8]) -> Result<PartText<'q>, AskFault>
-    ensures read { IfOk result (IsReadAs (IsTextWithin text.entry.now) (RefusesForm text.entry.now)) }
-    ensures only { IfErr result (λ fault. fault ≡ AskFault.Memory) }
-{
-    match Doc::open(alloc, text) {
-        Ok(document) => Ok(PartText::Canonical(document)),
-        Err(FormFault::Memory) => Err(AskFault::Memory),
-        Err(_) => converted_text(alloc, text),
-    }
-}
-
-/// Converts a text in any of the three forms to canonical form, in new memory. Returns `Malformed` if the text has no
-/// value within the limits. Err only if memory ran out.
-fn converted_text(alloc: Global, text: &[u8]) -> Result<PartText<'static>, AskFault>
-    ensures read { IfOk result (IsReadAs (IsTextWithin text.now) (RefusesForm text.now)) }
-    ensures only { IfErr result (λ fault. fault ≡ AskFault.Memory) }
-{
-    match convert(alloc, Form::Canonical, text) {
-        Ok(octets) => Ok(made_text(octets)),
-        Err(FormFault::Memory) => Err(AskFault::Memory),
-        Err(fault) => Ok(PartText::Malformed(fault)),
-    }
-}
-
-/// Returns a canonical text that was made, or `Malformed` if it has more than 1,048,576 octets.
-fn made_text(octets: Vec<u8>) -> PartText<'static>
-    ensures { IsMade octets.items result }
-{
-    if octets.len() > MOST_OCTETS {
-        PartText::Malformed(FormFault::TooLong)
-    } else {
-        PartText::Made(octets)
-    }
-}
-
-/// Returns the canonical text of a request, or `Malformed` if it has no value within the limits. Err only if memory ran
-/// out.
-fn wanted_text<'q>(alloc: Global, wanted: &RequestInput<'q>) -> Result<PartText<'q>, AskFault>
-    ensures read { IfOk result (IsReadAs (IsWanted wanted.now) (RefusesWanted wanted.now)) }
-    ensures only { IfErr result (λ fault. fault ≡ AskFault.Memory) }
+/// Returns the canonical text of a request. Err if memory ran out.
+fn wanted_text<'q>(
+    alloc: Global,
+    wanted: &RequestInput<'q>,
+) -> Result<CanonicalText<'q>, AllocError>
+    ensures { IfOk result (IsReadAs (IsWanted wanted.now) (RefusesWanted wanted.now)) }
 {
     match wanted {
-        RequestInput::Text(text) => part_text(alloc, text),
-        RequestInput::Words(words) => Ok(made_text(words_text(alloc, words)?)),
+        RequestInput::Text(text) => CanonicalText::read(alloc, text),
+        RequestInput::Words(words) => Ok(CanonicalText::made(words_text(alloc, words)?)),
     }
 }
 
-/// Returns the canonical text of a moment that is a text, or the date of one that is seconds. Err only if memory ran
-/// out.
-fn moment_text<'q>(alloc: Global, moment: &Moment<'q>) -> Result<MomentText<'q>, AskFault>
-    ensures read { IfOk result (IsMomentText moment.now) }
-    ensures only { IfErr result (λ fault. fault ≡ AskFault.Memory) }
+/// Returns the canonical text of a moment that is a text, or the seconds. Err if memory ran out.
+fn moment_text<'q>(alloc: Global, moment: &Moment<'q>) -> Result<MomentText<'q>, AllocError>
+    ensures { IfOk result (IsMomentText moment.now) }
 {
     match moment {
-        Moment::Text(text) => Ok(MomentText::Text(part_text(alloc, text)?)),
-        Moment::Seconds(seconds) => Ok(seconds_text(seconds)),
+        Moment::Text(text) => Ok(MomentText::Text(CanonicalText::read(alloc, text)?)),
+        Moment::Seconds(seconds) => Ok(MomentText::Seconds(*seconds)),
     }
 }
 
-/// Returns the date of seconds since 1970-01-01 00:00:00 UTC, or `Dateless` if its year is not from 0 to 9999.
-fn seconds_text(seconds: &i64) -> MomentText<'static>
-    ensures { IsMomentText (Moment.Seconds seconds.now) result }
+impl Texts<'_> {
+    /// Returns the same texts in memory of their own: the question's texts may change afterwards. A text that was made
+    /// is not copied.
+    ///
+    /// # Errors
+    ///
+    /// `AllocError` if memory ran out.
+    pub(crate) fn into_owned(self, alloc: Global) -> Result<Texts<'static>, AllocError>
+        ensures { IfOk result (λ owned. owned ≡ self.entry) }
+    {
+        let Texts {
+            sequence,
+            key,
+            request,
+            moment,
+            octets,
+        } = self;
+        Ok(Texts {
+            sequence: sequence.into_owned(alloc)?,
+            key: key.into_owned(alloc)?,
+            request: request.into_owned(alloc)?,
+            moment: owned_moment(alloc, moment)?,
+            octets,
+        })
+    }
+}
+
+/// Returns the same text in memory of its own, or the same seconds. Err if memory ran out.
+fn owned_moment(alloc: Global, text: MomentText) -> Result<MomentText<'static>, AllocError>
+    ensures { IfOk result (λ owned. owned ≡ text.entry) }
 {
-    let seconds = *seconds;
-    match date_at(seconds) {
-        Some(date) => MomentText::At(date),
-        None => MomentText::Dateless,
+    match text {
+        MomentText::Text(text) => Ok(MomentText::Text(text.into_owned(alloc)?)),
+        MomentText::Seconds(seconds) => Ok(MomentText::Seconds(seconds)),
     }
 }

@@ -1,11 +1,11 @@
 //! The calls for forms of S-expressions that take octets or a tree.
 
-use crate::answers::{Called, Reply, answer, call_on};
+use crate::answers::{Called, Reply, answer, call_on, octets};
 use crate::documents;
 use crate::texts::at;
 use sexpr_core::syntax::{append_verbatim, octets_in_braces, read_base64, wrap_octets};
 use sexpr_core::{Sexp, decode, unwrap_braces, wrap};
-use sexpr_text::{print_advanced, read_advanced, read_any};
+use sexpr_text::{CanonicalText, Form, convert, print_advanced, read_advanced, read_any};
 use std::alloc::Global;
 
 /// Does the call with this name, of this module or of one to which it passes the name on. Returns its answer. None if there is no such call.
@@ -21,6 +21,9 @@ pub(crate) fn call(alloc: Global, name: &str, texts: &[Vec<u8>]) -> Option<Reply
         "wrap_octets" => Some(answer(alloc, wrap_octets(alloc, text))),
         "octets_in_braces" => Some(answer(alloc, octets_in_braces(alloc, text))),
         "read_base64" => Some(base64(alloc, text)),
+        "CanonicalText::read" => Some(canonical(alloc, text)),
+        "CanonicalText::made" => Some(made(alloc, text)),
+        "CanonicalText::into_owned" => Some(owned(alloc, text)),
         "Sexp::clone" => Some(list_of(alloc, text)),
         _ => documents::call(alloc, name, texts),
     }
@@ -46,6 +49,30 @@ fn verbatim(alloc: Global, octets: &[u8]) -> Reply {
 /// The octets of base64 up to a closing brace.
 fn base64(alloc: Global, text: &[u8]) -> Reply {
     Ok(read_base64(alloc, text, 0, b'}')?.octets)
+}
+
+/// The octets of a text in canonical form.
+fn octets_of(alloc: Global, text: &CanonicalText) -> Reply {
+    let document = text.document(alloc)?;
+    octets(alloc, document.top().slice())
+}
+
+/// A text in canonical form, as it is read.
+fn canonical(alloc: Global, text: &[u8]) -> Reply {
+    let read = CanonicalText::read(alloc, text)?;
+    octets_of(alloc, &read)
+}
+
+/// The same, from octets that were made.
+fn made(alloc: Global, text: &[u8]) -> Reply {
+    let made = CanonicalText::made(convert(alloc, Form::Canonical, text)?);
+    octets_of(alloc, &made)
+}
+
+/// The same, in memory of its own.
+fn owned(alloc: Global, text: &[u8]) -> Reply {
+    let owned = CanonicalText::read(alloc, text)?.into_owned(alloc)?;
+    octets_of(alloc, &owned)
 }
 
 /// A copy of the list that has these octets as its only member.

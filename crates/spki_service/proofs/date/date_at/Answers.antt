@@ -1,7 +1,7 @@
-use Rattle.std.proofs.Common.{FitsSigned, w64, arith, true≢false, ◌*ℤ◌, ◌≤ℤ◌, pos, rules, to_z-of_z}
+use Rattle.std.proofs.Common.{FitsSigned, w64, arith, ◌*ℤ◌, ◌≤ℤ◌, pos, to_z-of_z}
 use Rattle.std.specs.Int.{w128}
 use Rattle.jiff_core.proofs.SignedLemmas.{signed_arith}
-use Rattle.spki_service.proofs.DateLaws.{none_beyond, late_year, date_of, dated}
+use Rattle.spki_service.proofs.DateLaws.{late_year, date_of, dated}
 use Rattle.spki_service.proofs.date.date_at.Goals as goal
 
 pub octets_of-requires : goal.octets_of-requires

@@ -7,7 +7,11 @@ pub returns-in_err-sequence-clause-refused : goal.returns-in_err-sequence-clause
 returns-in_err-sequence-clause-refused c = search (rules, lifted, sequence_lacks)
 
 pub returns-in_err-key-clause-refused : goal.returns-in_err-key-clause-refused
-returns-in_err-key-clause-refused c = search (rules, sequence_read, lifted, key_lacks)
+returns-in_err-key-clause-refused c = λ q t.
+    let texts = c.args.texts.now in
+    let sequence = sequence_read q texts t c.in_ok-sequence.sequence.items c.in_ok-sequence.ensures.read in
+    lifted q c.in_err-key.field-0.0 c.from_residual-in_err-key.result c.from_residual-in_err-key.ensures.1
+    (λ found. key_lacks q texts t c.in_err-key.field-0.0 sequence (c.in_err-key.ensures.refused found))
 
 pub returns-in_err-request-clause-refused : goal.returns-in_err-request-clause-refused
 returns-in_err-request-clause-refused c = λ q t.

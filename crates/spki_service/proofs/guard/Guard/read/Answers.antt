@@ -1,14 +1,13 @@
-use Rattle.spki_service.proofs.PartTexts.{canonical_text}
-use Rattle.std.proofs.Common.{rules}
-use Rattle.spki_service.proofs.ListReading.{list_held, list_refused_text}
+use Rattle.sexpr_text.specs.CanonicalTexts.{opened_value}
+use Rattle.spki_service.proofs.ListReading.{list_held, list_refused}
 use Rattle.spki_service.proofs.guard.Guard.read.Goals as goal
 
--- a list that is canonical as it stands
 pub returns-in-Ok-clause-list : goal.returns-in-Ok-clause-list
-returns-in-Ok-clause-list c = search (rules, canonical_text, list_held)
+returns-in-Ok-clause-list c =
+    list_held c.args.list.now c.in_ok-text.text (opened_value c.in-Ok.document) c.top.result c.in_ok-text.ensures.read c.in-Ok.ensures.read
+    c.top.ensures c.of.result c.of.ensures.list
 
 pub returns-in-Ok-clause-refused : goal.returns-in-Ok-clause-refused
 returns-in-Ok-clause-refused c =
-    let read = c.in-Ok.ensures.read in
-    let meant = canonical_text c.args.list.now c.in-Ok.document read.1 read.0 in
-    list_refused_text c.args.list.now c.in-Ok.document c.top.result c.top.ensures meant c.of.result read.1.short c.of.ensures.refused
+    list_refused c.args.list.now c.in_ok-text.text (opened_value c.in-Ok.document) c.top.result c.in_ok-text.ensures.read c.in-Ok.ensures.read
+    c.top.ensures c.of.result c.of.ensures.refused

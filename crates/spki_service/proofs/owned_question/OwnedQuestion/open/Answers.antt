@@ -1,23 +1,23 @@
 use Rattle.std.proofs.Common.{◌<◌, ◌≤◌, subst, sym, arith, ap, ◌∙◌, length}
+use Rattle.spki_service.specs.declared.texts.Texts.{Texts}
 use Rattle.spki_service.specs.AccessLists.{GuardModel}
-use Rattle.spki_service.specs.GuardQuestions.{IsConditionalGrant}
+use Rattle.spki_service.specs.GuardQuestions.{IsConditionalGrant, IsTextsOf}
 use Rattle.spki_service.specs.Questions.{asked_octets}
-use Rattle.spki_service.proofs.PartTexts.{texts_copied, conditional_of_copies}
 use Rattle.spki_service.proofs.owned_question.OwnedQuestion.open.Goals as goal
 
 pub returns-clause-opened : goal.returns-clause-opened
 returns-clause-opened c =
-    let texts = c.in_ok-texts.texts in let copies = c.in_ok-texts-2.texts in let are = c.in_ok-texts-2.ensures in
+    let copied = sym c.in_ok-texts-2.ensures in
     let kept = c.in_ok-signed.field-0 in let held = c.args.guard.now in let q = c.args.question.now in
     let same = c.in_ok-guard.ensures in
     let fits : c.guard.result.now.octets < asked_octets q → ⊥ = λ over. (let refused = c.in_ok-texts.ensures.too_long.1 over in let no : ⊥ = cc in no) in
     record {
       guard_is = same;
-      texts = texts_copied texts copies are q c.in_ok-texts.ensures.texts;
+      texts = subst (λ (t : Texts). IsTextsOf q t) copied c.in_ok-texts.ensures.texts;
       short = subst (λ (h : GuardModel). asked_octets q ≤ h.octets) c.guard.ensures (omega (arith, fits));
       kept =
-          subst (λ (h : GuardModel). IsConditionalGrant h copies kept.signed.items kept.if_valid) (sym same)
-          (conditional_of_copies texts copies are held kept.signed.items kept.if_valid
-          (subst (λ (h : GuardModel). IsConditionalGrant h texts kept.signed.items kept.if_valid) c.guard-2.ensures c.in_ok-signed.ensures.kept));
+          subst (λ (h : GuardModel). IsConditionalGrant h c.in_ok-texts-2.texts kept.signed.items kept.if_valid) (sym same)
+          (subst (λ (t : Texts). IsConditionalGrant held t kept.signed.items kept.if_valid) copied
+          (subst (λ (h : GuardModel). IsConditionalGrant h c.in_ok-texts.texts kept.signed.items kept.if_valid) c.guard-2.ensures c.in_ok-signed.ensures.kept));
       counted = c.in_ok-marks.ensures.counted ∙ ap length c.as_slice.ensures.value;
     }
