@@ -7,6 +7,7 @@ pub mod MeetSizes
 pub mod MeetSteps
 pub mod TagReading
 pub mod Places
+pub mod MeetCosts
 pub mod RequestReading
 pub mod Exact
 pub mod FaultWalk

@@ -68,11 +68,11 @@ meet-by_members a star h k j n = absurd (true≢false k)
 meet-by_members (set ms) b h k j n = refl
 meet-by_members a b h k j n = absurd (true≢false (sym j))
 
-members-le : (a : Tag) → nodes_all (members_of a) ≤ nodes a
+pub members-le : (a : Tag) → nodes_all (members_of a) ≤ nodes a
 members-le (range o l u) = omega arith
 members-le a = omega arith
 
-members-less : (a : Tag) → is_set a ≡ true → nodes_all (members_of a) + 1 ≤ nodes a
+pub members-less : (a : Tag) → is_set a ≡ true → nodes_all (members_of a) + 1 ≤ nodes a
 members-less (set us) h = omega arith
 members-less a h = absurd (true≢false (sym h))
 
@@ -93,7 +93,7 @@ pub members_meet : (a b : Tag) → is_star a ≡ false → is_star b ≡ false �
 members_meet a b h k j n m few = search (rules, fewer, le_trans, mul-le, members-le, meet-by_members, meet-normal_tag)
 
 -- the member at a place, and those behind it
-cut : (ts : List Tag) (i : ℕ) (t : Tag) → i < length ts → t ≡ get_or ts i t → drop i ts ≡ t ∷ drop (i + 1) ts
+pub cut : (ts : List Tag) (i : ℕ) (t : Tag) → i < length ts → t ≡ get_or ts i t → drop i ts ≡ t ∷ drop (i + 1) ts
 cut ts i t h e = drop_more ts i t h ∙ ap (λ (x : Tag). x ∷ drop (i + 1) ts) (sym e)
 
 -- A step of the loop over the members of the one.

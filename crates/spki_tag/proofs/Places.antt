@@ -1,6 +1,6 @@
 -- The places in an index: those of the members that pass a test, two lists of places joined in one, what one more
 -- place changes, and what a tag leaves of the members at such places.
-use Rattle.std.proofs.Common.{◌≡◌, ℕ, ◌<◌, ◌≤◌, List, [], ◌∷◌, ◌++◌, length, take, drop, refl, sym, ap, ◌∙◌, arith, ◌-◌, append-nil, append_assoc, ◌⊎◌, inl, inr, rules, suc, ◌+◌, Bool, true, false, ◌||◌, ◌&&◌, get_or, subst, length-take, Vec, Option, Some, None}
+use Rattle.std.proofs.Common.{◌≡◌, ℕ, ◌*◌, ◌<◌, ◌≤◌, List, [], ◌∷◌, ◌++◌, length, take, drop, refl, sym, ap, ◌∙◌, arith, ◌-◌, append-nil, append_assoc, ◌⊎◌, inl, inr, rules, suc, ◌+◌, Bool, true, false, ◌||◌, ◌&&◌, get_or, subst, length-take, Vec, Option, Some, None}
 use Rattle.std.proofs.lemmas.Bool.{lt-ltb, le-ltb, cond_both}
 use Rattle.std.proofs.lemmas.List.{take_rest, drop_all, take_more}
 use Rattle.spki_tag.specs.Places.{merge, is_any, has_many_strings, is_one, is_lists, has_strings, place_if, ArePlacesOf, IsAdded}
@@ -8,6 +8,7 @@ use Rattle.std.specs.Prelude.{if◌then◌else◌, slice_index_or, All}
 use Rattle.std.specs.Str.{bytes_eq}
 use Rattle.std.proofs.Math.Bool.{and-false, or-false}
 use Rattle.spki_tag.specs.Tag.{Tag, tags, star, string, prefix, range, list}
+use Rattle.spki_tag.specs.Cost.{node_costs}
 use Rattle.spki_tag.specs.Meet.{Kind, one, lists, kind, kinds_share, places_where, nothing, meet, kept, row, listed, each_meet, may_share, tags_at}
 use Rattle.spki_tag.specs.declared.index.PlacesByKind.{PlacesByKind}
 use Rattle.std.specs.Borrow.{Bor}
@@ -233,6 +234,17 @@ row_at_places t (u ∷ us) =
     row_at_places t us ∙ ap (λ vs. row (meet t) (tags vs)) (sym (tags_at-behind u us (may_share t) 2 1 us refl (omega arith))) in
     cond_both (may_share t u) (1 ∷ rest) rest (λ ns. kept (meet t u) (row (meet t) (tags us)) ≡ row (meet t) (tags (tags_at (u ∷ us) ns)))
     (λ e. ap (kept (meet t u)) k) (λ e. ap (λ v. kept v (row (meet t) (tags us))) (meet_apart t u e) ∙ k)
+
+-- the tags at places have no more nodes and weight than all
+pub at_places-le : (p : Tag → Bool) (us : List Tag)
+    → node_costs (tags (tags_at us (places_where p 1 us))) ≤ node_costs (tags us)
+at_places-le p [] = omega arith
+at_places-le p (u ∷ us) =
+    let rest = places_where p 2 us in
+    let k : node_costs (tags (tags_at (u ∷ us) rest)) ≤ node_costs (tags us) =
+    subst (λ (vs : List Tag). node_costs (tags vs) ≤ node_costs (tags us)) (sym (tags_at-behind u us p 2 1 us refl (omega arith))) (at_places-le p us) in
+    cond_both (p u) (1 ∷ rest) rest (λ ns. node_costs (tags (tags_at (u ∷ us) ns)) ≤ node_costs (tags (u ∷ us)))
+    (λ _. omega (arith, k)) (λ _. omega (arith, k))
 
 -- each place is that of a tag
 pub places_where-within : (p : Tag → Bool) (n : ℕ) (ts : List Tag)

@@ -1,6 +1,6 @@
--- How much of a tag is read when a request is looked for in it.
-use Rattle.std.specs.Prelude.{ℕ, ◌+◌, Option, Some, None, length}
-use Rattle.spki_tag.specs.Tag.{Tag, Tags, Limit, star, string, prefix, range, list, set, none, more}
+-- How much of a tag is read when a request is looked for in it, and what the intersection of two tags costs.
+use Rattle.std.specs.Prelude.{ℕ, ◌+◌, ◌*◌, Option, Some, None, length}
+use Rattle.spki_tag.specs.Tag.{Tag, Tags, Limit, star, string, prefix, range, list, set, none, more, nodes, nodes_all}
 
 -- the octets of a limit
 abbrev pub limit_octets : Option Limit → ℕ
@@ -20,3 +20,16 @@ abbrev mutual
   pub weight_all : Tags → ℕ
   weight_all none = 0
   weight_all (more t ts) = weight t + weight_all ts
+
+-- what a node costs that is intersected with a tag: 15 for each node of the tag, one for each of its tags, and one for each octet of
+-- their strings
+abbrev pub node_cost : Tag → ℕ
+node_cost t = 15 * nodes t + weight t
+
+-- the same for some tags
+abbrev pub node_costs : Tags → ℕ
+node_costs ts = 15 * nodes_all ts + weight_all ts
+
+-- the cost of the intersection of two tags: that of each node of the first with the second
+abbrev pub meet_cost : Tag → Tag → ℕ
+meet_cost one other = nodes one * node_cost other

@@ -5,6 +5,7 @@ ghost use Rattle.std.specs.Arc.{arc_slice_items};
 ghost use Rattle.spki_tag.specs.Request.{Request, IsRequest};
 ghost use Rattle.spki_tag.specs.Tag.{IsNormalTag, contains, each_normal, is_nothing, is_set_or_star, most_nodes, nodes, nodes_all, ldepth, list, tags};
 ghost use Rattle.spki_tag.specs.Meet.{meet, each_meet, pairs, row, gather, has_nothing, tags_at};
+ghost use Rattle.spki_tag.specs.Cost.{meet_cost, node_costs};
 
 use crate::fault::MeetFault;
 use crate::form::has_set;
@@ -12,47 +13,69 @@ use crate::index::Index;
 use crate::leaf::SharedOctets;
 use crate::parts::{leaf_or_nothing, push_copies, push_kept};
 use crate::tag::{Node, Tag};
+use crate::ticks::Ticks;
 use std::alloc::{AllocError, Global};
+use std::marker::Brand;
+use std::sync::ledger::{Blank, Ledger};
 
 /// The greatest product of the numbers of nodes of two tags that are intersected.
 const MOST_NODES: usize = 1_000_000;
 
-/// Returns the intersection of two tags, whose numbers of nodes have a product of at most 1,000,000. Err if memory ran
-/// out.
+/// Returns the intersection of two tags, whose numbers of nodes have a product of at most 1,000,000. A tick is a pair of
+/// tags that is looked at, a tag that is copied, or an octet that is compared. Err if memory ran out.
 #[cycle(meet)]
-fn meet_tags(alloc: Global, one: &Tag, other: &Tag) -> Result<Tag, AllocError>
+fn meet_tags<L: Ledger>(
+    alloc: Global,
+    one: &Tag,
+    other: &Tag,
+    ticks: &mut Ticks<L>,
+) -> Result<Tag, AllocError>
     requires { nodes one.now * nodes other.now ≤ most_nodes }
-    ensures { IfOk result (λ c. c ≡ meet one.now other.now) }
+    ensures value { IfOk result (λ c. c ≡ meet one.now other.now) }
+    ensures cost { ticks.new ≤ ticks.old + 3 * meet_cost one.now other.now }
+    ensures grows { ticks.old < ticks.new }
 {
+    ticks.tick();
     if one.is_everything() {
-        other.clone()
+        other.copy_counted(ticks)
     } else if other.is_everything() {
-        one.clone()
+        one.copy_counted(ticks)
     } else if has_set(one, other) {
-        meet_members(alloc, one.members(), other.members())
+        meet_members(alloc, one.members(), other.members(), ticks)
     } else {
-        meet_single(alloc, one, other)
+        meet_single(alloc, one, other, ticks)
     }
 }
 
 /// Returns the intersection of two tags that are neither sets nor `(*)`. It is `(* set)` for a list and a tag without
 /// members. Err if memory ran out.
 #[cycle(meet)]
-fn meet_single(alloc: Global, one: &Tag, other: &Tag) -> Result<Tag, AllocError>
+fn meet_single<L: Ledger>(
+    alloc: Global,
+    one: &Tag,
+    other: &Tag,
+    ticks: &mut Ticks<L>,
+) -> Result<Tag, AllocError>
     requires bound { nodes one.now * nodes other.now ≤ most_nodes }
     requires one { is_set_or_star one.now ≡ false }
     requires other { is_set_or_star other.now ≡ false }
-    ensures { IfOk result (λ c. c ≡ meet one.now other.now) }
+    ensures value { IfOk result (λ c. c ≡ meet one.now other.now) }
+    ensures cost { ticks.new + 1 ≤ ticks.old + 3 * meet_cost one.now other.now }
+    ensures grows { ticks.old ≤ ticks.new }
 {
     match &one.node {
         Node::Leaf(leaf) => match &other.node {
-            Node::Leaf(second) => Ok(leaf_or_nothing(alloc, leaf.meet(alloc, second)?)),
+            Node::Leaf(second) => {
+                Ok(leaf_or_nothing(alloc, leaf.meet_counted(alloc, second, ticks)?))
+            },
             Node::List(_, _, _) => Ok(Tag::nothing(alloc)),
             Node::Set(_, _) => unreachable!(),
         },
         Node::List(head, further, _) => match &other.node {
             Node::Leaf(_) => Ok(Tag::nothing(alloc)),
-            Node::List(second, others, _) => meet_lists(alloc, head, further, second, others),
+            Node::List(second, others, _) => {
+                meet_lists(alloc, head, further, second, others, ticks)
+            }
             Node::Set(_, _) => unreachable!(),
         },
         Node::Set(_, _) => unreachable!(),
@@ -62,23 +85,28 @@ fn meet_single(alloc: Global, one: &Tag, other: &Tag) -> Result<Tag, AllocError>
 /// Returns the intersection of two lists: one of `head` and `further`, and one of `other` and `others`. It is `(* set)`
 /// if their heads differ or the intersection of some members is. Err if memory ran out.
 #[cycle(meet)]
-fn meet_lists(
+fn meet_lists<L: Ledger>(
     alloc: Global,
     head: &SharedOctets,
     further: &[Tag],
     other: &SharedOctets,
     others: &[Tag],
+    ticks: &mut Ticks<L>,
 ) -> Result<Tag, AllocError>
     requires bound { nodes_all (tags further.now) * nodes_all (tags others.now) ≤ most_nodes }
     requires one { each_normal is_nothing (tags further.now) ≡ true }
     requires other { each_normal is_nothing (tags others.now) ≡ true }
     requires met { IsNormalTag (meet (list (arc_slice_items head.now) (tags further.now)) (list (arc_slice_items other.now) (tags others.now))) }
-    ensures { IfOk result (λ c. c ≡ meet (list (arc_slice_items head.now) (tags further.now)) (list (arc_slice_items other.now) (tags others.now))) }
+    ensures value { IfOk result (λ c. c ≡ meet (list (arc_slice_items head.now) (tags further.now)) (list (arc_slice_items other.now) (tags others.now))) }
+    ensures cost { ticks.new ≤ ticks.old + length (arc_slice_items other.now) + nodes_all (tags further.now) + nodes_all (tags others.now)
+        + 3 * (nodes_all (tags further.now) * node_costs (tags others.now)) }
+    ensures read { ticks.old + length (arc_slice_items other.now) ≤ ticks.new }
 {
+    ticks.read(other.as_slice().len());
     if head.as_slice() != other.as_slice() {
         return Ok(Tag::nothing(alloc));
     }
-    match meet_each(alloc, further, others)? {
+    match meet_each(alloc, further, others, ticks)? {
         None => Ok(Tag::nothing(alloc)),
         Some(members) => Ok(Tag::list(head.clone()?, members)),
     }
@@ -87,41 +115,58 @@ fn meet_lists(
 /// Returns the intersections of the members of two lists, place by place. Where only the longer list has a member, that
 /// member is copied. None if some intersection is `(* set)`. Err if memory ran out.
 #[cycle(meet)]
-fn meet_each(alloc: Global, ones: &[Tag], others: &[Tag]) -> Result<Option<Vec<Tag>>, AllocError>
+fn meet_each<L: Ledger>(
+    alloc: Global,
+    ones: &[Tag],
+    others: &[Tag],
+    ticks: &mut Ticks<L>,
+) -> Result<Option<Vec<Tag>>, AllocError>
     requires bound { nodes_all (tags ones.now) * nodes_all (tags others.now) ≤ most_nodes }
     requires one { each_normal is_nothing (tags ones.now) ≡ true }
     requires other { each_normal is_nothing (tags others.now) ≡ true }
-    ensures { IfOk result (λ r. let met = each_meet (tags ones.now) (tags others.now) in
+    ensures value { IfOk result (λ r. let met = each_meet (tags ones.now) (tags others.now) in
         MatchOption r (has_nothing met ≡ true) (λ v. (v.items ≡ met) × (has_nothing met ≡ false))) }
+    ensures cost { ticks.new ≤ ticks.old + nodes_all (tags ones.now) + nodes_all (tags others.now)
+        + 3 * (nodes_all (tags ones.now) * node_costs (tags others.now)) }
+    ensures grows { ticks.old ≤ ticks.new }
+    ensures each { IfOk result (λ r. MatchOption r (Unit {0})
+        (λ v. (ticks.old + length ones.now ≤ ticks.new) × (ticks.old + length others.now ≤ ticks.new))) }
 {
     let common = ones.len().min(others.len());
     let mut met = Vec::with_capacity(alloc, ones.len().max(others.len()))?;
     for i in 0..common {
-        let member = meet_tags(alloc, &ones[i], &others[i])?;
+        let member = meet_tags(alloc, &ones[i], &others[i], ticks)?;
         if member.is_nothing() {
             drop((member, met));
             return Ok(None);
         }
         met.push(member)?;
     }
-    push_copies(&mut met, &ones[common..])?;
-    push_copies(&mut met, &others[common..])?;
+    push_copies(&mut met, &ones[common..], ticks)?;
+    push_copies(&mut met, &others[common..], ticks)?;
     Ok(Some(met))
 }
 
 /// Returns the set of the intersections of each tag of `ones` with each of `others`, without those that are `(* set)`.
 /// The order is that of `ones`, and for each of them that of `others`. Err if memory ran out.
 #[cycle(meet)]
-fn meet_members(alloc: Global, ones: &[Tag], others: &[Tag]) -> Result<Tag, AllocError>
+fn meet_members<L: Ledger>(
+    alloc: Global,
+    ones: &[Tag],
+    others: &[Tag],
+    ticks: &mut Ticks<L>,
+) -> Result<Tag, AllocError>
     requires bound { nodes_all (tags ones.now) * nodes_all (tags others.now) ≤ most_nodes }
     requires met { IsNormalTag (gather (pairs (tags ones.now) (tags others.now))) }
-    ensures { IfOk result (λ c. c ≡ gather (pairs (tags ones.now) (tags others.now))) }
+    ensures value { IfOk result (λ c. c ≡ gather (pairs (tags ones.now) (tags others.now))) }
+    ensures cost { ticks.new ≤ ticks.old + 3 * (nodes_all (tags ones.now) * node_costs (tags others.now)) }
+    ensures grows { ticks.old ≤ ticks.new }
 {
     let index = Index::over(alloc, others)?;
     let mut met = Vec::new(alloc);
     for one in ones {
         let places = index.places(alloc, one)?;
-        let pushed = push_row(alloc, &mut met, one, others, &places);
+        let pushed = push_row(alloc, &mut met, one, others, &places, ticks);
         drop(places);
         pushed?;
     }
@@ -132,19 +177,23 @@ fn meet_members(alloc: Global, ones: &[Tag], others: &[Tag]) -> Result<Tag, Allo
 /// Appends to `met` the intersections of a tag with those of `others` at these places, counted from 1, except `(*
 /// set)`. Err if memory ran out.
 #[cycle(meet)]
-fn push_row(
+fn push_row<L: Ledger>(
     alloc: Global,
     met: &mut Vec<Tag>,
     one: &Tag,
     others: &[Tag],
     places: &[usize],
+    ticks: &mut Ticks<L>,
 ) -> Result<(), AllocError>
     requires bound { nodes one.now * nodes_all (tags others.now) ≤ most_nodes }
     requires places { All (λ n. (1 ≤ n) × (n < 1 + length others.now)) places.now }
-    ensures { OnOk result (met.new.items ≡ met.old.items ++ row (meet one.now) (tags (tags_at others.now places.now))) }
+    ensures value { OnOk result (met.new.items ≡ met.old.items ++ row (meet one.now) (tags (tags_at others.now places.now))) }
+    ensures cost { ticks.new ≤ ticks.old + 3 * (nodes one.now * node_costs (tags (tags_at others.now places.now))) }
+    ensures grows { ticks.old ≤ ticks.new }
+    ensures each { OnOk result (ticks.old + length places.now ≤ ticks.new) }
 {
     for place in places {
-        let member = meet_tags(alloc, one, &others[*place - 1])?;
+        let member = meet_tags(alloc, one, &others[*place - 1], ticks)?;
         push_kept(met, member)?;
     }
     Ok(())
@@ -173,7 +222,6 @@ impl Tag {
     /// # Errors
     ///
     /// `TooLarge` if the product of the numbers of their nodes is over `most`, and `Memory` if memory ran out.
-    #[tactic(auto, using(crate::proofs::Exact::meet_exact, crate::proofs::MeetSizes::meet_le, crate::proofs::NormalForms::meet_ldepth))]
     pub fn meet_within(&self, alloc: Global, other: &Tag, most: usize) -> Result<Tag, MeetFault>
         requires { most ≤ 1000000 }
         ensures value { IfOk result (λ c. c ≡ meet self.now other.now) }
@@ -183,10 +231,55 @@ impl Tag {
             × (ldepth c ≤ max (ldepth self.now) (ldepth other.now))) }
         ensures too_large { IsErrOf result MeetFault.TooLarge ↔ (most < nodes self.now * nodes other.now) }
     {
+        self.meet_from::<Brand>(alloc, other, most, Blank::new(1))
+    }
+
+    /// Like `meet_within`, counted in a ledger of its own.
+    fn meet_from<L: Ledger>(
+        &self,
+        alloc: Global,
+        other: &Tag,
+        most: usize,
+        blank: Blank,
+    ) -> Result<Tag, MeetFault>
+        requires most { most ≤ 1000000 }
+        requires name { blank.name ≡ L.name }
+        requires parts { blank.parts ≡ L.parts }
+        requires some { 0 < blank.parts }
+        ensures value { IfOk result (λ c. c ≡ meet self.now other.now) }
+        ensures exact { IfOk result (λ c. (g : Request) → IsRequest g
+            → contains c g ≡ (contains self.now g && contains other.now g)) }
+        ensures bounds { IfOk result (λ c. (nodes c ≤ nodes self.now * nodes other.now)
+            × (ldepth c ≤ max (ldepth self.now) (ldepth other.now))) }
+        ensures too_large { IsErrOf result MeetFault.TooLarge ↔ (most < nodes self.now * nodes other.now) }
+    {
+        self.meet_counted(alloc, other, most, &mut Ticks::<L>::new(blank))
+    }
+
+    /// Like `meet_within`. A tick is a pair of tags that is looked at, a tag that is copied, or an octet of the other tag's strings that is
+    /// compared. So many ticks as `into_meet_counted` says.
+    #[tactic(auto, using(crate::proofs::Exact::meet_exact, crate::proofs::MeetSizes::meet_le, crate::proofs::NormalForms::meet_ldepth))]
+    fn meet_counted<L: Ledger>(
+        &self,
+        alloc: Global,
+        other: &Tag,
+        most: usize,
+        ticks: &mut Ticks<L>,
+    ) -> Result<Tag, MeetFault>
+        requires { most ≤ 1000000 }
+        ensures value { IfOk result (λ c. c ≡ meet self.now other.now) }
+        ensures exact { IfOk result (λ c. (g : Request) → IsRequest g
+            → contains c g ≡ (contains self.now g && contains other.now g)) }
+        ensures bounds { IfOk result (λ c. (nodes c ≤ nodes self.now * nodes other.now)
+            × (ldepth c ≤ max (ldepth self.now) (ldepth other.now))) }
+        ensures too_large { IsErrOf result MeetFault.TooLarge ↔ (most < nodes self.now * nodes other.now) }
+        ensures cost { ticks.new ≤ ticks.old + 3 * meet_cost self.now other.now }
+        ensures grows { IfOk result (λ c. ticks.old < ticks.new) }
+    {
         if self.nodes() * other.nodes() > most {
             return Err(MeetFault::TooLarge);
         }
-        Ok(meet_tags(alloc, self, other)?)
+        Ok(meet_tags(alloc, self, other, ticks)?)
     }
 
     /// Like `meet_within`, but consumes `self`: if `other` is `(*)`, it is returned, and nothing is copied.
@@ -194,7 +287,6 @@ impl Tag {
     /// # Errors
     ///
     /// Those of `meet_within`.
-    #[tactic(auto, using(crate::proofs::Exact::meet_exact, crate::proofs::MeetSizes::meet_le, crate::proofs::NormalForms::meet_ldepth, crate::proofs::MeetSteps::meet_star))]
     pub fn into_meet(self, alloc: Global, other: &Tag, most: usize) -> Result<Tag, MeetFault>
         requires { most ≤ 1000000 }
         ensures value { IfOk result (λ c. c ≡ meet self other.now) }
@@ -204,10 +296,60 @@ impl Tag {
             × (ldepth c ≤ max (ldepth self) (ldepth other.now))) }
         ensures too_large { IsErrOf result MeetFault.TooLarge ↔ (most < nodes self * nodes other.now) }
     {
+        self.into_meet_from::<Brand>(alloc, other, most, Blank::new(1))
+    }
+
+    /// Like `into_meet`, counted in a ledger of its own.
+    fn into_meet_from<L: Ledger>(
+        self,
+        alloc: Global,
+        other: &Tag,
+        most: usize,
+        blank: Blank,
+    ) -> Result<Tag, MeetFault>
+        requires most { most ≤ 1000000 }
+        requires name { blank.name ≡ L.name }
+        requires parts { blank.parts ≡ L.parts }
+        requires some { 0 < blank.parts }
+        ensures value { IfOk result (λ c. c ≡ meet self other.now) }
+        ensures exact { IfOk result (λ c. (g : Request) → IsRequest g
+            → contains c g ≡ (contains self g && contains other.now g)) }
+        ensures bounds { IfOk result (λ c. (nodes c ≤ nodes self * nodes other.now)
+            × (ldepth c ≤ max (ldepth self) (ldepth other.now))) }
+        ensures too_large { IsErrOf result MeetFault.TooLarge ↔ (most < nodes self * nodes other.now) }
+    {
+        self.into_meet_counted(alloc, other, most, &mut Ticks::<L>::new(blank))
+    }
+
+    /// Does what `into_meet` does. A tick is a pair of tags that is looked at, a tag that is copied, or an octet of the other tag's strings
+    /// that is compared. For each node of this tag there are at most three times 15 for each node of the other, and its weight.
+    ///
+    /// # Errors
+    ///
+    /// Those of `meet_within`.
+    #[tactic(auto, using(crate::proofs::Exact::meet_exact, crate::proofs::MeetSizes::meet_le, crate::proofs::NormalForms::meet_ldepth, crate::proofs::MeetSteps::meet_star))]
+    pub fn into_meet_counted<L: Ledger>(
+        self,
+        alloc: Global,
+        other: &Tag,
+        most: usize,
+        ticks: &mut Ticks<L>,
+    ) -> Result<Tag, MeetFault>
+        requires { most ≤ 1000000 }
+        ensures value { IfOk result (λ c. c ≡ meet self other.now) }
+        ensures exact { IfOk result (λ c. (g : Request) → IsRequest g
+            → contains c g ≡ (contains self g && contains other.now g)) }
+        ensures bounds { IfOk result (λ c. (nodes c ≤ nodes self * nodes other.now)
+            × (ldepth c ≤ max (ldepth self) (ldepth other.now))) }
+        ensures too_large { IsErrOf result MeetFault.TooLarge ↔ (most < nodes self * nodes other.now) }
+        ensures cost { ticks.new ≤ ticks.old + 3 * meet_cost self other.now }
+        ensures grows { IfOk result (λ c. ticks.old < ticks.new) }
+    {
         if other.is_everything() && self.nodes() <= most {
+            ticks.tick();
             return Ok(self);
         }
-        let met = self.meet_within(alloc, other, most);
+        let met = self.meet_counted(alloc, other, most, ticks);
         drop(self);
         met
     }

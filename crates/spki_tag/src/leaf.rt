@@ -136,6 +136,14 @@ impl Leaf {
         ensures answer { result ≡ contains (leaf_tag self.now) (string octets.now) }
         ensures cost { ticks.new + 1 ≡ ticks.old + weight (leaf_tag self.now) }
     {
+        self.read_strings(ticks);
+        self.holds(octets)
+    }
+
+    /// Counts the octets of the tag's strings as read.
+    pub(crate) fn read_strings<L: Ledger>(&self, ticks: &mut Ticks<L>)
+        ensures { ticks.new + 1 ≡ ticks.old + weight (leaf_tag self.now) }
+    {
         match self {
             Leaf::Star => {}
             Leaf::String(wanted) => ticks.read(wanted.as_slice().len()),
@@ -145,7 +153,6 @@ impl Leaf {
                 read_limit(&range.up, ticks);
             }
         }
-        self.holds(octets)
     }
 
     /// Whether the tag contains every request that is a list. If not, it contains none of them.

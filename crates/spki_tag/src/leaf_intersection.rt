@@ -1,6 +1,7 @@
 //! The intersection of tags without members.
 
-ghost use Rattle.std.specs.Prelude.{◌≡◌, IfOk};
+ghost use Rattle.std.specs.Prelude.{◌≡◌, ◌+◌, ◌*◌, IfOk};
+ghost use Rattle.spki_tag.specs.Cost.{weight};
 ghost use Rattle.spki_tag.specs.Leaves.{leaf_tag, leaf_or_nothing, range_tag};
 ghost use Rattle.spki_tag.specs.Meet.{prefixes_meet, string_meet, meet};
 
@@ -8,8 +9,10 @@ use crate::leaf::Leaf;
 use crate::prefix::Prefix;
 use crate::range::Range;
 use crate::string_octets::StringOctets;
+use crate::ticks::Ticks;
 use std::alloc::{AllocError, Global};
 use std::sync::Arc;
+use std::sync::ledger::Ledger;
 
 /// Returns the string as a tag if `other` contains it. None if not. Err if there are too many copies to count.
 fn meet_string(octets: &StringOctets, other: &Leaf) -> Result<Option<Leaf>, AllocError>
@@ -47,10 +50,27 @@ fn meet_ranges(alloc: Global, one: &Range, other: &Range) -> Result<Option<Leaf>
 }
 
 impl Leaf {
+    /// Does what `meet` does. Each octet of the other tag's strings is three ticks: a prefix is compared with two limits, and then one of its
+    /// own limits with a limit again. Nothing else is compared more often.
+    pub(crate) fn meet_counted<L: Ledger>(
+        &self,
+        alloc: Global,
+        other: &Leaf,
+        ticks: &mut Ticks<L>,
+    ) -> Result<Option<Leaf>, AllocError>
+        ensures value { IfOk result (λ r. leaf_or_nothing r ≡ meet (leaf_tag self.now) (leaf_tag other.now)) }
+        ensures cost { ticks.new + 3 ≡ ticks.old + 3 * weight (leaf_tag other.now) }
+    {
+        other.read_strings(ticks);
+        other.read_strings(ticks);
+        other.read_strings(ticks);
+        self.meet(alloc, other)
+    }
+
     /// Returns the intersection of two tags without members. None if it is `(* set)`. With a range, a prefix is treated
-    /// as the range of any strings from itself to below the least string above all that start with it. At most four times the octets of
+    /// as the range of any strings from itself to below the least string above all that start with it. At most three times the octets of
     /// either tag's strings are compared. Err if memory ran out.
-    pub(crate) fn meet(&self, alloc: Global, other: &Leaf) -> Result<Option<Leaf>, AllocError>
+    fn meet(&self, alloc: Global, other: &Leaf) -> Result<Option<Leaf>, AllocError>
         ensures { IfOk result (λ r. leaf_or_nothing r ≡ meet (leaf_tag self.now) (leaf_tag other.now)) }
     {
         match self {

@@ -1,6 +1,6 @@
 //! Tags.
 
-ghost use Rattle.std.specs.Prelude.{◌≡◌, ◌≤◌, IfOk};
+ghost use Rattle.std.specs.Prelude.{◌≡◌, ◌+◌, ◌<◌, ◌≤◌, length, IfOk};
 ghost use Rattle.std.specs.Arc.{arc_slice_items};
 ghost use Rattle.spki_tag.specs.Tag as spec;
 ghost use Rattle.spki_tag.specs.Leaves.{leaf_tag};
@@ -8,8 +8,10 @@ ghost use Rattle.spki_tag.specs.Meet.{gather};
 
 use crate::leaf::{Leaf, SharedOctets};
 use crate::string_octets::StringOctets;
+use crate::ticks::Ticks;
 use std::alloc::{AllocError, Global};
-use std::marker::Model;
+use std::marker::{Brand, Model};
+use std::sync::ledger::{Blank, Ledger};
 
 /// A tag: a set of requests, in normal form and of at most 1,000,000 nodes (RFC 2693, section 6.3.1).
 #[cycle(tag)]
@@ -146,8 +148,31 @@ impl Clone for Tag {
     ghost is_clone = { λ t u. u ≡ t };
 
     /// Returns a copy. Err if memory ran out.
-    #[cycle(copy)]
     fn clone(&self) -> Result<Tag, AllocError> {
+        self.copy_from::<Brand>(Blank::new(1))
+    }
+}
+
+impl Tag {
+    /// A copy, counted in a ledger of its own.
+    fn copy_from<L: Ledger>(&self, blank: Blank) -> Result<Tag, AllocError>
+        requires name { blank.name ≡ L.name }
+        requires parts { blank.parts ≡ L.parts }
+        requires some { 0 < blank.parts }
+        ensures { IfOk result (λ copy. copy ≡ self.now) }
+    {
+        self.copy_counted(&mut Ticks::<L>::new(blank))
+    }
+
+    /// Returns a copy, as `clone`. A tick is a tag that is copied: a list or a set, and each of its members. There are at most as many as
+    /// the tag has nodes. Err if memory ran out.
+    #[cycle(copy)]
+    pub(crate) fn copy_counted<L: Ledger>(&self, ticks: &mut Ticks<L>) -> Result<Tag, AllocError>
+        ensures value { IfOk result (λ copy. copy ≡ self.now) }
+        ensures cost { ticks.new ≤ ticks.old + spec.nodes self.now }
+        ensures grows { ticks.old < ticks.new }
+    {
+        ticks.tick();
         match &self.node {
             Node::Leaf(leaf) => Ok(Tag {
                 node: Node::Leaf(leaf.copy()?),
@@ -155,25 +180,32 @@ impl Clone for Tag {
             Node::List(head, further, nodes) => Ok(Tag {
                 node: Node::List(
                     head.clone()?,
-                    copies_of(*further.allocator(), further)?,
+                    copies_of(*further.allocator(), further, ticks)?,
                     *nodes,
                 ),
             }),
             Node::Set(members, nodes) => Ok(Tag {
-                node: Node::Set(copies_of(*members.allocator(), members)?, *nodes),
+                node: Node::Set(copies_of(*members.allocator(), members, ticks)?, *nodes),
             }),
         }
     }
 }
 
-/// A copy of each tag, in order. Err if memory ran out.
+/// A copy of each tag, in order. A tick is a tag that is copied. Err if memory ran out.
 #[cycle(copy)]
-fn copies_of(alloc: Global, members: &[Tag]) -> Result<Vec<Tag>, AllocError>
-    ensures { IfOk result (λ copies. copies.items ≡ members.now) }
+fn copies_of<L: Ledger>(
+    alloc: Global,
+    members: &[Tag],
+    ticks: &mut Ticks<L>,
+) -> Result<Vec<Tag>, AllocError>
+    ensures copies { IfOk result (λ copies. copies.items ≡ members.now) }
+    ensures cost { ticks.new ≤ ticks.old + spec.nodes_all (spec.tags members.now) }
+    ensures grows { ticks.old ≤ ticks.new }
+    ensures each { IfOk result (λ copies. ticks.old + length members.now ≤ ticks.new) }
 {
     let mut copies = Vec::with_capacity(alloc, members.len())?;
     for member in members {
-        copies.push(member.clone()?)?;
+        copies.push(member.copy_counted(ticks)?)?;
     }
     Ok(copies)
 }

@@ -1,30 +1,33 @@
-use Rattle.std.proofs.Common.{◌≡◌, ℕ, ◌≤◌, length, drop, List, ◌++◌, sym, ap, ◌∙◌, subst, arith, le_trans, length-drop, ◌-◌, rules}
+use Rattle.std.proofs.Common.{◌≡◌, ℕ, ◌+◌, ◌*◌, ◌<◌, ◌≤◌, get_or, length, drop, List, ◌++◌, sym, ap, ◌∙◌, subst, arith, le_trans, length-drop, ◌-◌, rules}
 use Rattle.std.proofs.lemmas.Nat.{mul-le}
 use Rattle.std.proofs.lemmas.List.{take_all}
-use Rattle.spki_tag.specs.Tag.{Tag, tags, nodes, nodes_all}
+use Rattle.spki_tag.specs.Tag.{Tag, tags, nodes, nodes_all, list, most_nodes}
 use Rattle.spki_tag.specs.Meet.{meet, each_meet, pairs, row, may_share, places_where, tags_at}
 use Rattle.spki_tag.proofs.Places.{places_where-within, row_at_places}
 use Rattle.spki_tag.proofs.Members.{nodes_le-of_read}
+use Rattle.std.specs.Prelude.{All}
+use Rattle.std.specs.Arc.{arc_slice_items}
+use Rattle.spki_tag.specs.Nodes.{node_tag}
+use Rattle.std.proofs.lemmas.Grind.{common_steps}
+use Rattle.spki_tag.specs.Cost.{node_cost, node_costs, meet_cost}
+use Rattle.spki_tag.proofs.MeetCosts.{each-step, rest-nodes, place-step, row-step, members-met, lists-met}
 use Rattle.spki_tag.proofs.MeetSteps.{tags-members, members_meet, pairs-step, each_meet-last, meet_steps}
 use Rattle.spki_tag.proofs.intersection.+meet.Goals as goal
 
 pub meet_members-push_row-pushed-requires : goal.meet_members-push_row-pushed-requires
-meet_members-push_row-pushed-requires t c =
+meet_members-push_row-pushed-requires g t c =
     let others = tags c.args.others.now in
     let less : nodes c.one-item.result ≤ nodes_all (tags c.args.ones.now) =
-    nodes_le-of_read c.args.ones.now c.loop-one.one-index c.one-item.result c.loop-one-test.true c.one-item.is in (
-      omega (arith, c.decreases, less),
-      (
-        le_trans (mul-le (nodes c.one-item.result) (nodes_all others) (nodes_all (tags c.args.ones.now)) (nodes_all others) less (omega arith)) c.requires.bound,
-        (
-            rw (c.deref.ensures.value, c.in_ok-places.ensures, c.in_ok-index.ensures)
-            (places_where-within (may_share c.one-item.result) 1 c.args.others.now)
-            ),
-      ),
-    )
+    nodes_le-of_read c.args.ones.now c.loop-one.one-index c.one-item.result c.loop-one-test.true c.one-item.is in
+    let bound : nodes c.one-item.result * nodes_all others ≤ most_nodes =
+    le_trans (mul-le (nodes c.one-item.result) (nodes_all others) (nodes_all (tags c.args.ones.now)) (nodes_all others) less (omega arith)) c.requires.bound in
+    let within : All (λ n. (1 ≤ n) × (n < 1 + length c.args.others.now)) c.deref.result.now =
+    rw (c.deref.ensures.value, c.in_ok-places.ensures, c.in_ok-index.ensures)
+    (places_where-within (may_share c.one-item.result) 1 c.args.others.now) in
+    search (rules, bound, within, less)
 
 pub meet_members-loop-one-preserved : goal.meet_members-loop-one-preserved
-meet_members-loop-one-preserved t c =
+meet_members-loop-one-preserved g t c =
     let one = c.one-item.result in
     let others = c.args.others.now in
     let places = c.in_ok-places.places.items in
@@ -33,16 +36,20 @@ meet_members-loop-one-preserved t c =
     let same : row (meet one) (tags (tags_at others places)) ≡ row (meet one) (tags others) =
     ap (λ (ps : List ℕ). row (meet one) (tags (tags_at others ps))) found ∙ sym (row_at_places one others) in
     let pushed : c.push_row-pushed.new.met.items ≡ c.loop-one.met.items ++ row (meet one) (tags (tags_at others places)) =
-    rw c.deref.ensures.value at c.in_ok-pushed.ensures in
-    pairs-step c.args.ones.now others c.loop-one.met.items c.push_row-pushed.new.met.items
-    (pairs (tags c.args.ones.now) (tags others)) (row (meet one) (tags (tags_at others places)))
-    c.loop-one.one-index one c.loop-one-test.true c.loop-one.invariant c.one-item.is pushed same
+    rw c.deref.ensures.value at c.in_ok-pushed.ensures.value in (
+      pairs-step c.args.ones.now others c.loop-one.met.items c.push_row-pushed.new.met.items
+          (pairs (tags c.args.ones.now) (tags others)) (row (meet one) (tags (tags_at others places)))
+          c.loop-one.one-index one c.loop-one-test.true c.loop-one.invariant.0 c.one-item.is pushed same,
+      row-step c.args.ones.now others c.loop-one.one-index one c.loop-one.ticks c.push_row-pushed.new.ticks _ c.loop-one-test.true c.one-item.is
+          (rw found at (rw c.deref.ensures.value at c.push_row-pushed.ensures.cost)) c.loop-one.invariant.1,
+      omega (arith, c.loop-one.invariant.2, c.push_row-pushed.ensures.grows),
+    )
 
 pub meet_tags-meet_members-requires : goal.meet_tags-meet_members-requires
-meet_tags-meet_members-requires t c = search (rules, tags-members, members_meet c.args.one.now c.args.other.now)
+meet_tags-meet_members-requires g t c = search (rules, tags-members, members_meet c.args.one.now c.args.other.now)
 
-pub meet_each-returns : goal.meet_each-returns
-meet_each-returns t c =
+pub meet_each-returns-clause-value : goal.meet_each-returns-clause-value
+meet_each-returns-clause-value g t c =
     let ones = c.args.ones.now in
     let others = c.args.others.now in
     let met = c.loop-i.met.items in
@@ -52,24 +59,114 @@ meet_each-returns t c =
     (omega (arith, length-drop n ones, length-drop n others, c.min-common.ensures)) c.requires.one c.requires.other
     (subst (λ k. met ++ each_meet (tags (drop k ones)) (tags (drop k others)) ≡ each_meet (tags ones) (tags others)) e c.loop-i.invariant.0)
     c.loop-i.invariant.1
-    (c.in_ok-push_copies-2.ensures
-    ∙ (λ i. c.in_ok-push_copies.ensures i ++ take_all (length others - n) (drop n others) (omega (arith, length-drop n others)) i)
+    (c.in_ok-push_copies-2.ensures.copies
+    ∙ (λ i. c.in_ok-push_copies.ensures.copies i ++ take_all (length others - n) (drop n others) (omega (arith, length-drop n others)) i)
     ∙ ap (λ (ts : List Tag). met ++ ts ++ drop n others) (take_all (length ones - n) (drop n ones) (omega (arith, length-drop n ones))))
 
 pub meet_each-meet_tags-requires : goal.meet_each-meet_tags-requires
-meet_each-meet_tags-requires t c = grind (arith, meet_steps)
+meet_each-meet_tags-requires g t c = grind (arith, meet_steps)
 
-pub meet_each-returns-then-is_nothing : goal.meet_each-returns-then-is_nothing
-meet_each-returns-then-is_nothing t c = search (rules, meet_steps)
+pub meet_each-returns-then-is_nothing-clause-value : goal.meet_each-returns-then-is_nothing-clause-value
+meet_each-returns-then-is_nothing-clause-value g t c = search (rules, meet_steps)
 
 pub meet_each-loop-i-preserved : goal.meet_each-loop-i-preserved
-meet_each-loop-i-preserved t c = search (rules, meet_steps)
+meet_each-loop-i-preserved g t c =
+    let cost = each-step c.args.ones.now c.args.others.now c.loop-i.i c.index-ones-i.result c.index-others-i.result c.loop-i.ticks
+    c.meet_tags.new.ticks _ (omega (arith, c.loop-i-test.true, c.min-common.ensures)) (omega (arith, c.loop-i-test.true, c.min-common.ensures))
+    c.index-ones-i.is c.index-others-i.is c.meet_tags.ensures.cost c.loop-i.invariant.2 in (
+      search (rules, meet_steps),
+      search (rules, meet_steps),
+      cost,
+      omega (arith, c.loop-i.invariant.3, c.meet_tags.ensures.grows),
+    )
 
 pub meet_single-meet_lists-requires : goal.meet_single-meet_lists-requires
-meet_single-meet_lists-requires t c = grind (arith, meet_steps)
+meet_single-meet_lists-requires g t c = grind (arith, meet_steps)
 
-pub meet_tags-returns-then-has_set : goal.meet_tags-returns-then-has_set
-meet_tags-returns-then-has_set t c = search (rules, meet_steps)
+pub meet_tags-returns-then-has_set-clause-value : goal.meet_tags-returns-then-has_set-clause-value
+meet_tags-returns-then-has_set-clause-value g t c = search (rules, meet_steps)
 
 pub push_row-meet_tags-requires : goal.push_row-meet_tags-requires
-push_row-meet_tags-requires t c = grind (arith, meet_steps)
+push_row-meet_tags-requires g t c = grind (arith, meet_steps)
+
+pub meet_each-returns-in_err-member-clause-cost : goal.meet_each-returns-in_err-member-clause-cost
+meet_each-returns-in_err-member-clause-cost g t c =
+    omega (
+      arith,
+      each-step c.args.ones.now c.args.others.now c.loop-i.i c.index-ones-i.result c.index-others-i.result c.loop-i.ticks
+          c.meet_tags.new.ticks _ (omega (arith, c.loop-i-test.true, c.min-common.ensures)) (omega (arith, c.loop-i-test.true, c.min-common.ensures))
+          c.index-ones-i.is c.index-others-i.is c.meet_tags.ensures.cost c.loop-i.invariant.2,
+    )
+
+pub meet_each-returns-then-is_nothing-clause-cost : goal.meet_each-returns-then-is_nothing-clause-cost
+meet_each-returns-then-is_nothing-clause-cost g t c =
+    omega (
+      arith,
+      each-step c.args.ones.now c.args.others.now c.loop-i.i c.index-ones-i.result c.index-others-i.result c.loop-i.ticks
+          c.meet_tags.new.ticks _ (omega (arith, c.loop-i-test.true, c.min-common.ensures)) (omega (arith, c.loop-i-test.true, c.min-common.ensures))
+          c.index-ones-i.is c.index-others-i.is c.meet_tags.ensures.cost c.loop-i.invariant.2,
+    )
+
+pub meet_each-returns-in_err-push-clause-cost : goal.meet_each-returns-in_err-push-clause-cost
+meet_each-returns-in_err-push-clause-cost g t c =
+    omega (
+      arith,
+      each-step c.args.ones.now c.args.others.now c.loop-i.i c.index-ones-i.result c.index-others-i.result c.loop-i.ticks
+          c.meet_tags.new.ticks _ (omega (arith, c.loop-i-test.true, c.min-common.ensures)) (omega (arith, c.loop-i-test.true, c.min-common.ensures))
+          c.index-ones-i.is c.index-others-i.is c.meet_tags.ensures.cost c.loop-i.invariant.2,
+    )
+
+pub meet_each-returns-in_err-push_copies-clause-cost : goal.meet_each-returns-in_err-push_copies-clause-cost
+meet_each-returns-in_err-push_copies-clause-cost g t c =
+    let ones = c.args.ones.now in
+    let others = c.args.others.now in
+    let n = c.min-common.result in
+    omega (arith, rest-nodes ones n (length ones - n), rest-nodes others n (length others - n), c.loop-i.invariant.2, c.push_copies.ensures.cost)
+
+pub meet_each-returns-in_err-push_copies-2-clause-cost : goal.meet_each-returns-in_err-push_copies-2-clause-cost
+meet_each-returns-in_err-push_copies-2-clause-cost g t c =
+    let ones = c.args.ones.now in
+    let others = c.args.others.now in
+    let n = c.min-common.result in
+    omega (arith, rest-nodes ones n (length ones - n), rest-nodes others n (length others - n), c.loop-i.invariant.2, c.push_copies.ensures.cost, c.push_copies-2.ensures.cost)
+
+pub meet_each-returns-clause-cost : goal.meet_each-returns-clause-cost
+meet_each-returns-clause-cost g t c =
+    let ones = c.args.ones.now in
+    let others = c.args.others.now in
+    let n = c.min-common.result in
+    omega (arith, rest-nodes ones n (length ones - n), rest-nodes others n (length others - n), c.loop-i.invariant.2, c.push_copies.ensures.cost, c.push_copies-2.ensures.cost)
+
+pub meet_members-returns-in_err-pushed-clause-cost : goal.meet_members-returns-in_err-pushed-clause-cost
+meet_members-returns-in_err-pushed-clause-cost g t c =
+    let places = c.in_ok-places.places.items in
+    let found : places ≡ places_where (may_share c.one-item.result) 1 c.args.others.now =
+    c.in_ok-places.ensures ∙ ap (places_where (may_share c.one-item.result) 1) c.in_ok-index.ensures in
+    omega (
+      arith,
+      row-step c.args.ones.now c.args.others.now c.loop-one.one-index c.one-item.result c.loop-one.ticks c.push_row-pushed.new.ticks _
+          c.loop-one-test.true c.one-item.is (rw found at (rw c.deref.ensures.value at c.push_row-pushed.ensures.cost)) c.loop-one.invariant.1,
+    )
+
+pub meet_single-returns-in-List-node-2-clause-cost : goal.meet_single-returns-in-List-node-2-clause-cost
+meet_single-returns-in-List-node-2-clause-cost g t c =
+    let ts = c.in-List.further.items in
+    let us = c.in-List-node-2.others.items in
+    let one : c.args.one.now ≡ list (arc_slice_items c.in-List.head) (tags ts) =
+    sym c.one.view_is ∙ ap node_tag c.in-List.is in
+    let other : c.args.other.now ≡ list (arc_slice_items c.in-List-node-2.second) (tags us) =
+    sym c.other.view_is ∙ ap node_tag c.in-List-node-2.is in
+    lists-met c.args.one.now c.args.other.now _ _ ts us _ _ one other
+    (rw (c.deref.ensures.value, c.deref-in-List-node-2.ensures.value) at c.meet_lists.ensures.cost)
+
+pub meet_tags-returns-then-has_set-clause-cost : goal.meet_tags-returns-then-has_set-clause-cost
+meet_tags-returns-then-has_set-clause-cost g t c =
+    search (rules, members-met c.args.one.now c.args.other.now c.members.result.now c.members-then-has_set.result.now c.args.ticks.now c.tick.new.self c.meet_members.new.ticks)
+
+pub push_row-loop-place-preserved : goal.push_row-loop-place-preserved
+push_row-loop-place-preserved g t c = (
+  grind (arith, common_steps),
+  place-step c.args.one.now c.args.others.now c.args.places.now c.loop-place.place-index c.index-others-place.result c.loop-place.ticks
+      c.meet_tags.new.ticks _ c.loop-place-test.true c.requires.places c.index-others-place.is c.meet_tags.ensures.cost c.loop-place.invariant.1,
+  omega (arith, c.loop-place.invariant.2, c.meet_tags.ensures.grows),
+)
