@@ -1,5 +1,5 @@
 -- What a step costs, as it is counted.
-use Rattle.std.proofs.Common.{◌≡◌, ℕ, ◌+◌, ◌*◌, ◌<◌, ◌≤◌, ◌^◌, List, [], ◌∷◌, length, arith, le_trans, mul-le-mul_left, mul-le-mul_right, Option, Some, None, ◌∙◌, ap, sym, inr, refl, subst, false, Result, Ok, Err, IfErr}
+use Rattle.std.proofs.Common.{◌≡◌, ℕ, ◌+◌, ◌*◌, ◌<◌, ◌≤◌, ◌^◌, List, length, arith, inl, mul-le-mul_right, Option, Some, None, ◌∙◌, ap, sym, inr, refl, subst, false, Result, Ok, Err, IfErr}
 use Rattle.std.specs.Option.{SomeIff}
 use Rattle.std.specs.Result.{is_ok}
 use Rattle.spki_cert.specs.declared.principal.Policy.{Policy}
@@ -7,12 +7,12 @@ use Rattle.spki_cert.specs.declared.window.Window.{Window}
 use Rattle.spki_reduce.specs.declared.fold.Cause.{Cause}
 use Rattle.spki_reduce.specs.declared.tuple.Step.{Step}
 use Rattle.spki_tag.specs.Tag.{Tag, nodes}
-use Rattle.spki_tag.specs.Cost.{weight}
+use Rattle.spki_tag.specs.Cost.{weight, meet_cost}
 use Rattle.spki_tag.proofs.MeetSizes.{nodes-some}
 use Rattle.spki_reduce.specs.declared.tuple.Five.{Five}
 use Rattle.spki_reduce.specs.declared.tuple.Four.{Four}
-use Rattle.spki_reduce.specs.Reduction.{five, four, five_tuple, four_tuple, step_tuple}
-use Rattle.spki_reduce.specs.Chain.{node_cost, step_cost, IsNumber, Reaches, IsCostOf}
+use Rattle.spki_reduce.specs.Reduction.{Tuple, FiveTuple, five, four, five_tuple, four_tuple, step_tuple}
+use Rattle.spki_reduce.specs.Chain.{meet_costs, step_cost, IsNumber, Reaches, IsCostOf}
 
 module _ (tag : Tag) (next : Five) (path : List (List ℕ)) where
   -- the cost of one node of the tag
@@ -20,7 +20,7 @@ module _ (tag : Tag) (next : Five) (path : List (List ℕ)) where
   each = 15 * nodes next.tag + weight next.tag
 
   pub cost_is : step_cost tag path (five (five_tuple next)) ≡ nodes tag * each + length next.subject.names
-  unfolding step_cost node_cost
+  unfolding step_cost meet_costs
   cost_is = omega arith
 
   pub costs_over : (limit : ℕ) → limit ≤ each → limit ≤ step_cost tag path (five (five_tuple next))
@@ -55,3 +55,36 @@ pub unjoined : (r : Result Window Cause) (Q R : Cause → Type 0) (J : Type 0) �
     → IfErr r (λ cause. Q cause × R cause × (J → ⊥)) → J → ⊥
 unjoined (Ok window) Q R J e h = absurd cc
 unjoined (Err cause) Q R J e h = h.2
+
+-- what a step costs that joins, and that does not
+pub costs_step : (policy : Policy) (left : FiveTuple) (tag : Tag) (right : Tuple) (n : ℕ) → Reaches policy left right
+    → IsCostOf policy left tag right n → n ≡ step_cost tag left.names right
+costs_step policy left tag right n joins (inl h) = h.1
+costs_step policy left tag right n joins (inr h) = absurd (h.0 joins)
+
+pub costs_none : (policy : Policy) (left : FiveTuple) (tag : Tag) (right : Tuple) (n : ℕ) → (Reaches policy left right → ⊥)
+    → IsCostOf policy left tag right n → n ≡ 0
+costs_none policy left tag right n apart (inl h) = absurd (apart h.0)
+costs_none policy left tag right n apart (inr h) = h.1
+
+-- a step that joins costs something
+pub cost-some : (tag : Tag) (path : List (List ℕ)) (next : Five) → 0 < step_cost tag path (five (five_tuple next))
+cost-some tag path next =
+    let weighty : 1 ≤ 15 * nodes next.tag + weight next.tag = omega (arith, nodes-some next.tag) in
+    omega (arith, costs_over tag next path 1 weighty)
+
+-- what it costs to join an authorization with the next one
+pub joined-cost : (policy : Policy) (f next : Five) (n : ℕ) → Reaches policy (five_tuple f) (five (five_tuple next))
+    → IsCostOf policy (five_tuple f) f.tag (five (five_tuple next)) n
+    → (n ≡ meet_cost f.tag next.tag + length next.subject.names) × (0 < n)
+joined-cost policy f next n joins h =
+    let is : n ≡ step_cost f.tag f.subject.names (five (five_tuple next)) =
+    costs_step policy (five_tuple f) f.tag (five (five_tuple next)) n joins h in
+    (is ∙ cost_is f.tag next f.subject.names, omega (arith, is, cost-some f.tag f.subject.names next))
+
+-- and to resolve its first name by a definition
+pub resolved-cost : (policy : Policy) (f : Five) (definition : Four) (n : ℕ) → Reaches policy (five_tuple f) (four (four_tuple definition))
+    → IsCostOf policy (five_tuple f) f.tag (four (four_tuple definition)) n
+    → n ≡ 1 + length f.subject.names + length definition.subject.names
+resolved-cost policy f definition n joins h =
+    costs_step policy (five_tuple f) f.tag (four (four_tuple definition)) n joins h ∙ resolution_is f.tag f.subject.names definition

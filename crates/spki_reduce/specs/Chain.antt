@@ -3,8 +3,8 @@
 use Rattle.std.specs.Prelude.{◌≡◌, ◌≢◌, ℕ, ◌<◌, suc, List, [], ◌∷◌, Some, map, take, flat_map, slice_get, ◌⊎◌, zero, ◌+◌, ◌≤◌, ◌++◌, length, Option, None, ◌*◌, ◌^◌}
 use Rattle.spki_cert.specs.declared.principal.Policy.{Policy}
 use Rattle.spki_tag.specs.Request.{Request, IsRequest}
-use Rattle.spki_tag.specs.Tag.{Tag, nodes, set, none}
-use Rattle.spki_tag.specs.Cost.{weight}
+use Rattle.spki_tag.specs.Tag.{Tag, set, none}
+use Rattle.spki_tag.specs.Cost.{meet_cost}
 use Rattle.spki_cert.specs.declared.window.Window.{Window}
 use Rattle.spki_reduce.specs.declared.fold.Cause.{Cause}
 use Rattle.spki_reduce.specs.declared.fold.Cause.TheVariants.{NotIssuer, NotTheName, NoDelegation, NoValidity, NoTag}
@@ -105,16 +105,15 @@ MatchFold (Stopped step cause) P Q = Q step cause
 -- The work of folding a chain: for each step that is reached, its cost. It covers what the step compares and copies: nodes and
 -- octets of tags, and names of subjects (RFC 2693, sections 6.3.1 and 6.4).
 
--- Each node that is intersected with a tag costs 15 for each node of the tag, one for each of its tags, and one for each octet of
--- their strings.
-unfoldable pub node_cost : List Tag → ℕ
-node_cost [] = 0
-node_cost (tag ∷ tags) = 15 * nodes tag + weight tag + node_cost tags
+-- what it costs to intersect a tag with each of these
+unfoldable pub meet_costs : Tag → List Tag → ℕ
+meet_costs tag [] = 0
+meet_costs tag (other ∷ others) = meet_cost tag other + meet_costs tag others
 
 -- The cost of a step: of joining an authorization with this tag, and with these names in its subject, with a tuple. The names of the
 -- next subject are copied. A definition has no tag; it puts its subject's names before those that are left.
 unfoldable pub step_cost : Tag → List (List ℕ) → Tuple → ℕ
-step_cost tag path (five right) = nodes tag * node_cost right.tags + length right.names
+step_cost tag path (five right) = meet_costs tag right.tags + length right.names
 step_cost tag path (four right) = 1 + length path + length right.names
 
 -- A definition resolves the first name of an authorization's subject, and some moment is within all their windows.
@@ -191,3 +190,15 @@ abbrev pub IsCostOf : Policy → FiveTuple → Tag → Tuple → ℕ → Type 0
 IsCostOf policy left tag right n =
     (Reaches policy left right × (n ≡ step_cost tag left.names right))
     ⊎ ((Reaches policy left right → ⊥) × (n ≡ 0))
+
+-- ---- ticks
+
+-- The ticks of a chain, from the number before it to that after it: at most four for each unit of the work of some of its steps, which
+-- is what was taken, and one.
+pub record AreTicksOfSteps (before after : Option ℕ) (old new : ℕ) (policy : Policy) (first : Tuple) (others : List Tuple) : Type 0 where
+  pub steps : ℕ
+  pub within : steps ≤ length others
+  pub work : ℕ
+  pub is : IsWorkOf policy first others steps work
+  pub taken : Takes before after work
+  pub ticks : new ≤ old + 4 * work + 1

@@ -1,11 +1,11 @@
 //! Joins chains of tuples from the left (RFC 2693, section 6.3).
 
-ghost use Rattle.std.specs.Prelude.{◌≡◌, ◌∷◌, [], ◌<◌, ◌≤◌, ◌⊎◌, ℕ, IfOk, OnOk, IsErrOf};
+ghost use Rattle.std.specs.Prelude.{◌≡◌, ◌∷◌, [], ◌+◌, ◌*◌, ◌<◌, ◌≤◌, ◌⊎◌, ℕ, length, IfOk, OnOk, IsErrOf};
 ghost use Rattle.spki_tag.specs.Tag.{set, none};
 ghost use Rattle.spki_reduce.specs.declared.fold.Cause.{Cause};
 ghost use Rattle.spki_reduce.specs.Reduction.{five, tags_of, issuer_of, five_tuple, step_tuple, nodes_product, met};
 ghost use Rattle.spki_reduce.specs.Joining.{Stops, TooLargeFor, BecomesFive, MatchJoined};
-ghost use Rattle.spki_reduce.specs.Chain.{tuples_of, all_tags, FoldsTo, StopsAt, HasMet, TooLargeAt, Excludes, SupportsNothing, MatchFold, left_of, Takes, IsWork, IsOverworked, IsCostOf, IsNumber};
+ghost use Rattle.spki_reduce.specs.Chain.{tuples_of, all_tags, FoldsTo, StopsAt, HasMet, TooLargeAt, Excludes, SupportsNothing, MatchFold, left_of, Takes, IsWork, IsOverworked, IsCostOf, IsNumber, AreTicksOfSteps};
 
 use crate::fault::ReduceFault;
 use crate::fold::{Fold, Joined};
@@ -13,7 +13,10 @@ use crate::joins::MOST_NODES;
 use crate::tuple::{Five, Step};
 use crate::work::{Work, intersection_cost, resolution_cost};
 use spki_cert::Policy;
+use spki_tag::Ticks;
 use std::alloc::{AllocError, Global};
+use std::marker::Brand;
+use std::sync::ledger::{Blank, Ledger};
 
 /// Joins the authorization `first` with the steps after it, one after another from the left (RFC 2693, sections 6.3 and
 /// 6.4). Each authorization is joined by `Five::then`, and each definition by `Five::resolve`. Without steps the result
@@ -101,13 +104,107 @@ pub fn fold_owned<'a>(
     ensures worked { OnOk result ((n : ℕ) × IsWork policy (five (five_tuple first.entry)) (tuples_of steps.now) n
         × Takes (left_of work.old) (left_of work.new) n) }
 {
+    fold_from::<Brand>(alloc, first, steps, policy, most, work, Blank::new(1))
+}
+
+/// Like `fold_owned`, counted in a ledger of its own.
+fn fold_from<'a, L: Ledger>(
+    alloc: Global,
+    first: Five<'a>,
+    steps: &[Step<'a>],
+    policy: Policy,
+    most: usize,
+    work: &mut Work,
+    blank: Blank,
+) -> Result<Fold<'a>, ReduceFault>
+    requires most { most ≤ 1000000 }
+    requires name { blank.name ≡ L.name }
+    requires parts { blank.parts ≡ L.parts }
+    requires some { 0 < blank.parts }
+    ensures fold { IfOk result (λ fold. MatchFold fold
+        (FoldsTo policy (five (five_tuple first.entry)) (tuples_of steps.now))
+        (StopsAt policy (five (five_tuple first.entry)) (tuples_of steps.now))) }
+    ensures alone { steps.now ≡ [] → IfOk result (λ fold. MatchFold fold
+        (λ f. five_tuple f ≡ five_tuple first.entry) (λ step cause. ⊥)) }
+    ensures issuer { IfOk result (λ fold. MatchFold fold
+        (λ f. issuer_of f.issuer ≡ issuer_of first.entry.issuer) (λ step cause. Unit {0})) }
+    // The tag of the result: the intersection of all tags, one after another.
+    ensures value { IfOk result (λ fold. MatchFold fold
+        (HasMet (five (five_tuple first.entry)) (tuples_of steps.now)) (λ step cause. Unit {0})) }
+    // What a stop means for the same tuples in any bracketing.
+    ensures excluded { IfOk result (λ fold. MatchFold fold (λ f. Unit {0})
+        (Excludes policy (five (five_tuple first.entry)) (tuples_of steps.now))) }
+    ensures unsupported { IfOk result (λ fold. MatchFold fold (λ f. Unit {0})
+        (λ step cause. SupportsNothing policy (five (five_tuple first.entry) ∷ tuples_of steps.now))) }
+    // When it is refused: the chain joins up to a step that is too large for the result so far, or its work is over the bound.
+    ensures too_large { IsErrOf result ReduceFault.TooLarge →
+        TooLargeAt most policy (five (five_tuple first.entry)) (tuples_of steps.now)
+        ⊎ IsOverworked (left_of work.old) policy (five (five_tuple first.entry)) (tuples_of steps.now) }
+    ensures within_limit { IfOk result (λ fold. ¬ TooLargeAt most policy (five (five_tuple first.entry)) (tuples_of steps.now)) }
+    ensures worked { OnOk result ((n : ℕ) × IsWork policy (five (five_tuple first.entry)) (tuples_of steps.now) n
+        × Takes (left_of work.old) (left_of work.new) n) }
+{
+    fold_owned_counted(
+        alloc,
+        first,
+        steps,
+        policy,
+        most,
+        work,
+        &mut Ticks::<L>::new(blank),
+    )
+}
+
+/// Does what `fold_owned` does. A step that is looked at is a tick. One that joins, whatever the tags are, takes at most three more for
+/// each unit of what it costs. So there are at most four for each unit of the work that is taken, and one.
+///
+/// # Errors
+///
+/// Those of `fold_owned`.
+pub fn fold_owned_counted<'a, L: Ledger>(
+    alloc: Global,
+    first: Five<'a>,
+    steps: &[Step<'a>],
+    policy: Policy,
+    most: usize,
+    work: &mut Work,
+    ticks: &mut Ticks<L>,
+) -> Result<Fold<'a>, ReduceFault>
+    requires { most ≤ 1000000 }
+    ensures fold { IfOk result (λ fold. MatchFold fold
+        (FoldsTo policy (five (five_tuple first.entry)) (tuples_of steps.now))
+        (StopsAt policy (five (five_tuple first.entry)) (tuples_of steps.now))) }
+    ensures alone { steps.now ≡ [] → IfOk result (λ fold. MatchFold fold
+        (λ f. five_tuple f ≡ five_tuple first.entry) (λ step cause. ⊥)) }
+    ensures issuer { IfOk result (λ fold. MatchFold fold
+        (λ f. issuer_of f.issuer ≡ issuer_of first.entry.issuer) (λ step cause. Unit {0})) }
+    // The tag of the result: the intersection of all tags, one after another.
+    ensures value { IfOk result (λ fold. MatchFold fold
+        (HasMet (five (five_tuple first.entry)) (tuples_of steps.now)) (λ step cause. Unit {0})) }
+    // What a stop means for the same tuples in any bracketing.
+    ensures excluded { IfOk result (λ fold. MatchFold fold (λ f. Unit {0})
+        (Excludes policy (five (five_tuple first.entry)) (tuples_of steps.now))) }
+    ensures unsupported { IfOk result (λ fold. MatchFold fold (λ f. Unit {0})
+        (λ step cause. SupportsNothing policy (five (five_tuple first.entry) ∷ tuples_of steps.now))) }
+    // When it is refused: the chain joins up to a step that is too large for the result so far, or its work is over the bound.
+    ensures too_large { IsErrOf result ReduceFault.TooLarge →
+        TooLargeAt most policy (five (five_tuple first.entry)) (tuples_of steps.now)
+        ⊎ IsOverworked (left_of work.old) policy (five (five_tuple first.entry)) (tuples_of steps.now) }
+    ensures within_limit { IfOk result (λ fold. ¬ TooLargeAt most policy (five (five_tuple first.entry)) (tuples_of steps.now)) }
+    ensures worked { OnOk result ((n : ℕ) × IsWork policy (five (five_tuple first.entry)) (tuples_of steps.now) n
+        × Takes (left_of work.old) (left_of work.new) n) }
+    ensures cost { AreTicksOfSteps (left_of work.old) (left_of work.new) ticks.old ticks.new policy (five (five_tuple first.entry)) (tuples_of steps.now) }
+    ensures each { IfOk result (λ fold. MatchFold fold (λ f. ticks.old + length steps.now ≤ ticks.new)
+        (λ step cause. ticks.old + step ≤ ticks.new)) }
+{
     let mut folded = first;
     for (place, step) in steps.iter().enumerate() {
+        ticks.tick();
         if let Err(fault) = work.take(folded.cost_with(step, policy)) {
             drop(folded);
             return Err(fault);
         }
-        match folded.joined(alloc, step, policy, most)? {
+        match folded.joined(alloc, step, policy, most, ticks)? {
             Joined::Done(next) => folded = next,
             Joined::Stopped(cause) => {
                 return Ok(Fold::Stopped {
@@ -159,14 +256,16 @@ impl<'a> Five<'a> {
 
     /// Joins this authorization with a step: an authorization by `into_then`, a definition by `into_resolve`. `most`,
     /// which is at most 1,000,000, is the greatest product of the numbers of nodes of two tags that are intersected.
-    /// Err is `TooLarge`, only for an authorization, or `Memory`.
+    /// Err is `TooLarge`, only for an authorization, or `Memory`. There are at most three ticks for each unit of what the step costs, and
+    /// none if they do not join, whatever their tags are.
     #[tactic(auto, using(crate::proofs::ReducedForms::unrefused))]
-    fn joined(
+    fn joined<L: Ledger>(
         self,
         alloc: Global,
         step: &Step<'a>,
         policy: Policy,
         most: usize,
+        ticks: &mut Ticks<L>,
     ) -> Result<Joined<Five<'a>>, ReduceFault>
         requires { most ≤ 1000000 }
         ensures joined { IfOk result (λ joined. MatchJoined joined
@@ -179,10 +278,15 @@ impl<'a> Five<'a> {
         ensures too_large { IsErrOf result ReduceFault.TooLarge →
             TooLargeFor most policy (five_tuple self.entry) (step_tuple step.now) }
         ensures within_limit { IfOk result (λ joined. ¬ TooLargeFor most policy (five_tuple self.entry) (step_tuple step.now)) }
+        ensures cost { (n : ℕ) → IsCostOf policy (five_tuple self.entry) self.entry.tag (step_tuple step.now) n
+            → ticks.new ≤ ticks.old + 3 * n }
+        ensures some { (n : ℕ) → IsCostOf policy (five_tuple self.entry) self.entry.tag (step_tuple step.now) n
+            → IfOk result (λ joined. MatchJoined joined (λ f. 0 < n) (λ cause. Unit {0})) }
+        ensures grows { IfOk result (λ joined. ticks.old ≤ ticks.new) }
     {
         match step {
-            Step::Auth(next) => self.into_then(alloc, next, policy, most),
-            Step::Name(definition) => self.into_resolve(definition, policy),
+            Step::Auth(next) => self.into_then(alloc, next, policy, most, ticks),
+            Step::Name(definition) => self.into_resolve_counted(definition, policy, ticks),
         }
     }
 }

@@ -1,20 +1,22 @@
 //! The rules by which two tuples become one (RFC 2693, sections 6.3 and 6.4).
 
-ghost use Rattle.std.specs.Prelude.{◌≡◌, ◌≢◌, ◌↔◌, true, [], ◌∷◌, ◌++◌, ◌*◌, ◌<◌, ◌≤◌, IsTrue, IfOk, IfErr, drop, IsFalse, IsErrOf};
+ghost use Rattle.std.specs.Prelude.{◌≡◌, ◌≢◌, ◌↔◌, true, [], ◌∷◌, ◌++◌, ◌+◌, ◌*◌, ◌<◌, ◌≤◌, ℕ, length, IsTrue, IfOk, IfErr, drop, IsFalse, IsErrOf};
 ghost use Rattle.spki_cert.specs.Naming.{names};
 ghost use Rattle.spki_cert.specs.Time.{IsMeet, Overlap};
 ghost use Rattle.spki_tag.specs.Tag.{nodes, set, none};
 ghost use Rattle.spki_tag.specs.Meet.{meet};
 ghost use Rattle.spki_reduce.specs.Reduction.{five, four, five_tuple, four_tuple, IsFor, Issues, Begins};
 ghost use Rattle.spki_reduce.specs.Joining.{Stops, JoinButForTags, BecomesFive, BecomesFour, IsHandedOn, MatchJoined};
-ghost use Rattle.spki_reduce.specs.Chain.{ResolvesTimely};
+ghost use Rattle.spki_reduce.specs.Chain.{ResolvesTimely, IsCostOf};
 
 use crate::fault::ReduceFault;
 use crate::fold::{Cause, Joined};
 use crate::tuple::{Five, Four, Issuer};
 use spki_cert::{Key, Names, Policy, Subject, Window};
-use spki_tag::Tag;
+use spki_tag::{Tag, Ticks};
 use std::alloc::{AllocError, Global};
+use std::marker::Brand;
+use std::sync::ledger::{Blank, Ledger};
 
 /// The greatest product of the numbers of nodes of two tags that are intersected.
 pub(crate) const MOST_NODES: usize = 1_000_000;
@@ -59,13 +61,15 @@ impl<'a> Five<'a> {
     }
 
     /// Like `then`, but consumes `self`, so its tag is not copied if that of `next` is `(*)`. And with `most`, which must be
-    /// at most 1,000,000, as the greatest product of the nodes of both tags.
-    pub(crate) fn into_then(
+    /// at most 1,000,000, as the greatest product of the nodes of both tags. A tick is one of the intersection, or a name that is copied.
+    /// There are at most three for each unit of what the step costs, and none if they do not join, whatever their tags are.
+    pub(crate) fn into_then<L: Ledger>(
         self,
         alloc: Global,
         next: &Five<'a>,
         policy: Policy,
         most: usize,
+        ticks: &mut Ticks<L>,
     ) -> Result<Joined<Five<'a>>, ReduceFault>
         requires { most ≤ 1000000 }
         ensures joined { IfOk result (λ joined. MatchJoined joined
@@ -77,6 +81,13 @@ impl<'a> Five<'a> {
         ensures too_large { IsErrOf result ReduceFault.TooLarge ↔
             (JoinButForTags policy (five_tuple self.entry) (five_tuple next.now)
             × (most < nodes self.entry.tag * nodes next.now.tag)) }
+        ensures cost { (n : ℕ) → IsCostOf policy (five_tuple self.entry) self.entry.tag (five (five_tuple next.now)) n
+            → ticks.new ≤ ticks.old + 3 * n }
+        ensures some { (n : ℕ) → IsCostOf policy (five_tuple self.entry) self.entry.tag (five (five_tuple next.now)) n
+            → IfOk result (λ joined. MatchJoined joined (λ f. 0 < n) (λ cause. Unit {0})) }
+        ensures grows { IfOk result (λ joined. ticks.old ≤ ticks.new) }
+        ensures each { IfOk result (λ joined. MatchJoined joined
+            (λ f. ticks.old + length next.now.subject.names < ticks.new) (λ cause. Unit {0})) }
     {
         let window = match self.window_with(next, policy) {
             Ok(window) => window,
@@ -86,7 +97,8 @@ impl<'a> Five<'a> {
             }
         };
         let Five { issuer, tag, .. } = self;
-        let tag = tag.into_meet(alloc, &next.tag, most)?;
+        let tag = tag.into_meet_counted(alloc, &next.tag, most, ticks)?;
+        ticks.read(next.subject.names.len());
         Ok(narrowed(issuer, tag, next, window)?)
     }
 
@@ -120,7 +132,6 @@ impl<'a> Five<'a> {
     /// # Errors
     ///
     /// Only `Memory`, if memory ran out.
-    #[tactic(auto, using(crate::proofs::ReducedForms::resolves))]
     pub fn into_resolve(
         self,
         definition: &Four<'a>,
@@ -131,6 +142,47 @@ impl<'a> Five<'a> {
             × (f.tag ≡ self.entry.tag))
             (λ cause. Stops policy (five (five_tuple self.entry)) (four (four_tuple definition.now)) cause)) }
         ensures refused { IfErr result (λ fault. fault ≡ ReduceFault.Memory) }
+    {
+        self.resolve_from::<Brand>(definition, policy, Blank::new(1))
+    }
+
+    /// Like `into_resolve`, counted in a ledger of its own.
+    fn resolve_from<L: Ledger>(
+        self,
+        definition: &Four<'a>,
+        policy: Policy,
+        blank: Blank,
+    ) -> Result<Joined<Five<'a>>, ReduceFault>
+        requires name { blank.name ≡ L.name }
+        requires parts { blank.parts ≡ L.parts }
+        requires some { 0 < blank.parts }
+        ensures joined { IfOk result (λ joined. MatchJoined joined
+            (λ f. BecomesFive policy (five (five_tuple self.entry)) (four (four_tuple definition.now)) f
+            × (f.tag ≡ self.entry.tag))
+            (λ cause. Stops policy (five (five_tuple self.entry)) (four (four_tuple definition.now)) cause)) }
+        ensures refused { IfErr result (λ fault. fault ≡ ReduceFault.Memory) }
+    {
+        self.into_resolve_counted(definition, policy, &mut Ticks::<L>::new(blank))
+    }
+
+    /// Does what `into_resolve` does. If they join, the definition is a tick, and each name of both subjects. Otherwise there is none.
+    #[tactic(auto, using(crate::proofs::ReducedForms::resolves))]
+    pub(crate) fn into_resolve_counted<L: Ledger>(
+        self,
+        definition: &Four<'a>,
+        policy: Policy,
+        ticks: &mut Ticks<L>,
+    ) -> Result<Joined<Five<'a>>, ReduceFault>
+        ensures joined { IfOk result (λ joined. MatchJoined joined
+            (λ f. BecomesFive policy (five (five_tuple self.entry)) (four (four_tuple definition.now)) f
+            × (f.tag ≡ self.entry.tag))
+            (λ cause. Stops policy (five (five_tuple self.entry)) (four (four_tuple definition.now)) cause)) }
+        ensures refused { IfErr result (λ fault. fault ≡ ReduceFault.Memory) }
+        ensures cost { (n : ℕ) → IsCostOf policy (five_tuple self.entry) self.entry.tag (four (four_tuple definition.now)) n
+            → ticks.new ≡ ticks.old + n }
+        ensures some { (n : ℕ) → IsCostOf policy (five_tuple self.entry) self.entry.tag (four (four_tuple definition.now)) n
+            → IfOk result (λ joined. MatchJoined joined (λ f. 0 < n) (λ cause. Unit {0})) }
+        ensures grows { ticks.old ≤ ticks.new }
     {
         if !begins(&self.subject, definition, policy) {
             drop(self);
@@ -147,6 +199,9 @@ impl<'a> Five<'a> {
             tag,
             ..
         } = self;
+        ticks.tick();
+        ticks.read(subject.names.len());
+        ticks.read(definition.subject.names.len());
         match followed(&definition.subject, subject.names) {
             Ok(subject) => Ok(Joined::Done(Five {
                 issuer,

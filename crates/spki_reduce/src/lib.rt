@@ -14,7 +14,7 @@ mod tuple;
 mod work;
 mod writer;
 
-pub use chain::{fold_chain, fold_owned};
+pub use chain::{fold_chain, fold_owned, fold_owned_counted};
 pub use fault::ReduceFault;
 pub use fold::{Cause, Fold, Joined};
 pub use last_tests::MissingGrant;

@@ -34,6 +34,7 @@ impl Work {
     pub(crate) fn take(&mut self, work: Option<usize>) -> Result<(), ReduceFault>
         ensures taken { OnOk result ((n : ℕ) → IsNumber work n → Takes (left_of self.old) (left_of self.new) n) }
         ensures over { OnErr result ((n : ℕ) → IsNumber work n → IsOver (left_of self.old) n) }
+        ensures kept { OnErr result (left_of self.new ≡ left_of self.old) }
         ensures only { IfErr result (λ fault. fault ≡ ReduceFault.TooLarge) }
     {
         let Some(left) = self.left else {

@@ -1,13 +1,13 @@
-use Rattle.std.proofs.Common.{◌≡◌, inl, inr, sym, ◌∙◌, ap, ◌+◌, ◌<◌, length, arith, Result, Ok, Err, IsErrAnd, rules}
+use Rattle.std.proofs.Common.{◌≡◌, inl, inr, sym, ◌∙◌, ap, subst, ◌+◌, ◌<◌, length, arith, Result, Ok, Err, IsErrAnd, rules}
 use Rattle.spki_reduce.specs.declared.fault.ReduceFault.TheVariants.{TooLarge}
 use Rattle.spki_reduce.specs.Reduction.{five, five_tuple, step_tuple}
-use Rattle.spki_reduce.specs.Chain.{tuples_of}
+use Rattle.spki_reduce.specs.Chain.{tuples_of, left_of, Takes}
 use Rattle.spki_reduce.proofs.ReducedForms.{same_issuer}
 use Rattle.spki_reduce.proofs.Chains.{stops_here, goes_on, met_here, too_large_here, excluded, unsupported}
 use Rattle.std.proofs.lemmas.List.{length-map}
 use Rattle.spki_reduce.proofs.Through.{small_here, small_stopped, steps_tagged}
 use Rattle.spki_reduce.proofs.Working.{work_here, work_stopped, taken, over}
-use Rattle.spki_reduce.proofs.chain.fold_owned.Goals as goal
+use Rattle.spki_reduce.proofs.chain.fold_owned_counted.Goals as goal
 
 -- what the exit of a `?` returns
 same_fault : {T E : Type 0} (r : Result T E) (inner fault : E) → IsErrAnd r (λ y. y ≡ inner) → r ≡ Err fault → inner ≡ fault
@@ -15,13 +15,13 @@ same_fault (Ok x) inner fault h k = absurd h
 same_fault (Err y) inner fault h k = let same : y ≡ fault = cc in sym h ∙ same
 
 pub returns-in_err-next-clause-too_large : goal.returns-in_err-next-clause-too_large
-returns-in_err-next-clause-too_large c e =
+returns-in_err-next-clause-too_large g c e =
     let same = same_fault c.from_residual.result c.in_err-next.field-0.0 TooLarge c.from_residual.ensures.1 e in
     inl (too_large_here c.args.steps.now c.loop-place.place (omega arith) c.index-steps-place.is c.loop-place.invariant.folds
     c.loop-place.invariant.value c.args.most (c.in_err-next.ensures.too_large (ap Err same)))
 
 pub returns-in-Err-clause-too_large : goal.returns-in-Err-clause-too_large
-returns-in-Err-clause-too_large c e =
+returns-in-Err-clause-too_large g c e =
     let so_far = c.loop-place.invariant.worked in
     let place : c.loop-place.place < length c.args.steps.now = omega arith in
     inr (record {
@@ -34,40 +34,40 @@ returns-in-Err-clause-too_large c e =
     })
 
 pub returns-in-Stopped-clause-fold : goal.returns-in-Stopped-clause-fold
-returns-in-Stopped-clause-fold c =
+returns-in-Stopped-clause-fold g c =
     stops_here c.args.steps.now c.loop-place.place (omega arith) c.index-steps-place.is c.loop-place.invariant.folds
     c.loop-place.invariant.value c.in-Stopped.cause (rw c.in-Stopped.is at c.in_ok-next.ensures.joined)
     (rw c.in-Stopped.is at c.in_ok-next.ensures.value)
 
 pub returns-in-Stopped-clause-excluded : goal.returns-in-Stopped-clause-excluded
-returns-in-Stopped-clause-excluded c = search (rules, excluded, returns-in-Stopped-clause-fold)
+returns-in-Stopped-clause-excluded g c = search (rules, excluded, returns-in-Stopped-clause-fold)
 
 pub returns-in-Stopped-clause-unsupported : goal.returns-in-Stopped-clause-unsupported
-returns-in-Stopped-clause-unsupported c =
+returns-in-Stopped-clause-unsupported g c =
     unsupported c.args.policy (five (five_tuple c.args.first)) (tuples_of c.args.steps.now) (c.loop-place.place + 1)
-    c.in-Stopped.cause (returns-in-Stopped-clause-fold c)
+    c.in-Stopped.cause (returns-in-Stopped-clause-fold g c)
 
 pub returns-in-Stopped-clause-within_limit : goal.returns-in-Stopped-clause-within_limit
-returns-in-Stopped-clause-within_limit c =
+returns-in-Stopped-clause-within_limit g c =
     small_stopped c.args.steps.now c.loop-place.place (omega arith) c.index-steps-place.is c.loop-place.invariant.folds
     c.loop-place.invariant.value c.loop-place.invariant.within_limit c.in_ok-next.ensures.within_limit c.in-Stopped.cause
-    (returns-in-Stopped-clause-fold c)
+    (returns-in-Stopped-clause-fold g c)
 
 pub returns-in-Stopped-clause-worked : goal.returns-in-Stopped-clause-worked
-returns-in-Stopped-clause-worked c =
+returns-in-Stopped-clause-worked g c =
     let so_far = c.loop-place.invariant.worked in
     let place : c.loop-place.place < length c.args.steps.now = omega arith in
     let here = work_here c.args.steps.now c.loop-place.place place c.index-steps-place.is c.loop-place.invariant.folds
     c.loop-place.invariant.value so_far.0 c.cost_with.ensures.0 so_far.1 c.cost_with.ensures.2 in (
       so_far.0 + c.cost_with.ensures.0,
       work_stopped c.args.policy (five (five_tuple c.args.first)) (tuples_of c.args.steps.now) (steps_tagged c.args.steps.now)
-          (c.loop-place.place + 1) c.in-Stopped.cause (returns-in-Stopped-clause-fold c) (so_far.0 + c.cost_with.ensures.0)
+          (c.loop-place.place + 1) c.in-Stopped.cause (returns-in-Stopped-clause-fold g c) (so_far.0 + c.cost_with.ensures.0)
           (omega (arith, place, length-map c.args.steps.now step_tuple)) here,
       taken _ _ _ so_far.0 c.cost_with.ensures.0 so_far.2 (c.in_default.ensures.taken c.cost_with.ensures.0 c.cost_with.ensures.1),
     )
 
 pub loop-place-preserved : goal.loop-place-preserved
-loop-place-preserved c =
+loop-place-preserved g c =
     let made = rw c.in-Done.is at c.in_ok-next.ensures.joined in
     let so_far = c.loop-place.invariant.worked in
     record {
@@ -82,8 +82,65 @@ loop-place-preserved c =
         work_here c.args.steps.now c.loop-place.place (omega arith) c.index-steps-place.is c.loop-place.invariant.folds
             c.loop-place.invariant.value so_far.0 c.cost_with.ensures.0 so_far.1 c.cost_with.ensures.2,
         taken _ _ _ so_far.0 c.cost_with.ensures.0 so_far.2 (c.in_default.ensures.taken c.cost_with.ensures.0 c.cost_with.ensures.1),
+        omega (
+          arith,
+          so_far.3,
+          c.in_ok-next.ensures.cost c.cost_with.ensures.0 c.cost_with.ensures.2,
+          rw c.in-Done.is at (c.in_ok-next.ensures.some c.cost_with.ensures.0 c.cost_with.ensures.2),
+        ),
       );
+      each = omega (arith, c.loop-place.invariant.each, c.in_ok-next.ensures.grows);
       issuer = same_issuer c.args.policy c.loop-place.folded c.in-Done.next (step_tuple c.index-steps-place.result) made.0
           ∙ c.loop-place.invariant.issuer;
       alone = λ e. absurd (omega arith);
+    }
+
+pub returns-in-Err-clause-cost : goal.returns-in-Err-clause-cost
+returns-in-Err-clause-cost g c =
+    let so_far = c.loop-place.invariant.worked in
+    record {
+      steps = c.loop-place.place;
+      within = omega (arith, length-map c.args.steps.now step_tuple);
+      work = so_far.0;
+      is = so_far.1;
+      taken = subst (λ left. Takes (left_of c.args.work.now) left so_far.0) (sym c.in-Err.ensures.kept) so_far.2;
+      ticks = omega (arith, so_far.3);
+    }
+
+pub returns-in_err-next-clause-cost : goal.returns-in_err-next-clause-cost
+returns-in_err-next-clause-cost g c =
+    let so_far = c.loop-place.invariant.worked in
+    record {
+      steps = c.loop-place.place + 1;
+      within = omega (arith, length-map c.args.steps.now step_tuple);
+      work = so_far.0 + c.cost_with.ensures.0;
+      is = work_here c.args.steps.now c.loop-place.place (omega arith) c.index-steps-place.is c.loop-place.invariant.folds
+          c.loop-place.invariant.value so_far.0 c.cost_with.ensures.0 so_far.1 c.cost_with.ensures.2;
+      taken = taken _ _ _ so_far.0 c.cost_with.ensures.0 so_far.2 (c.in_default.ensures.taken c.cost_with.ensures.0 c.cost_with.ensures.1);
+      ticks = omega (arith, so_far.3, c.in_err-next.ensures.cost c.cost_with.ensures.0 c.cost_with.ensures.2);
+    }
+
+pub returns-in-Stopped-clause-cost : goal.returns-in-Stopped-clause-cost
+returns-in-Stopped-clause-cost g c =
+    let so_far = c.loop-place.invariant.worked in
+    record {
+      steps = c.loop-place.place + 1;
+      within = omega (arith, length-map c.args.steps.now step_tuple);
+      work = so_far.0 + c.cost_with.ensures.0;
+      is = work_here c.args.steps.now c.loop-place.place (omega arith) c.index-steps-place.is c.loop-place.invariant.folds
+          c.loop-place.invariant.value so_far.0 c.cost_with.ensures.0 so_far.1 c.cost_with.ensures.2;
+      taken = taken _ _ _ so_far.0 c.cost_with.ensures.0 so_far.2 (c.in_default.ensures.taken c.cost_with.ensures.0 c.cost_with.ensures.1);
+      ticks = omega (arith, so_far.3, c.in_ok-next.ensures.cost c.cost_with.ensures.0 c.cost_with.ensures.2);
+    }
+
+pub returns-clause-cost : goal.returns-clause-cost
+returns-clause-cost g c =
+    let so_far = c.loop-place.invariant.worked in
+    record {
+      steps = c.loop-place.place;
+      within = omega (arith, length-map c.args.steps.now step_tuple);
+      work = so_far.0;
+      is = so_far.1;
+      taken = so_far.2;
+      ticks = omega (arith, so_far.3);
     }
