@@ -57,14 +57,17 @@ class Sources:
         return wanted in left
 
     def faults_of(self, cell: str, default: list[str]) -> Iterator[str]:
-        """A line for each name of a cell that is not where the cell says. `default` are the contracts of the crates of its section. Behind the word
-        `calls` or `readers` a phrase is about all of these."""
+        """A line for each name of a cell that is not where the cell says. A phrase, up to a semicolon, has functions and then names of their clauses;
+        the definitions in parentheses are those to which these contracts lead. `default` are the contracts of the crates of its section: those of a
+        phrase without a function. Behind the word `calls` or `readers` each name is a clause."""
+        # (is_closed: a clause was named, so the next function begins a new list)
         contracts, is_closed, is_inside, is_of_all = default, True, False, False
         for mark, word, name in re.findall(r"([();])|\b(calls?|readers)\b|`([\w:-]+)`", cell):
             called = None if is_of_all else self.contracts_of(name)
             if mark:
                 is_inside = mark == "(" or is_inside and mark == ";"
-                contracts, is_of_all = (default, False) if mark == ";" and not is_inside else (contracts, is_of_all)
+                if mark == ";" and not is_inside:
+                    contracts, is_closed, is_of_all = default, True, False
             elif word:
                 is_of_all = True
             elif is_inside:

@@ -16,9 +16,10 @@ from model.values import Atom
 ROOM = 64
 # so many structures have more octets than an array can have
 MANY = 2**60
-# as a place: what -255 is as an unsigned number
+# a place near the end of what a number can be: as a negative one it is -271
 FAR = 2**64 - 255 - 16
-At = tuple[Any, Any]
+# What stands for the signatures of a question that the library lists wrongly: no question has it.
+LISTED_WRONGLY: list[Signed] = [(b"", b"", b"")]
 
 
 class Text(Structure):
@@ -200,18 +201,18 @@ class GuardDoor:
         return status, line.raw[:needed.value]
 
     def listed(self, asked: c_void_p) -> list[Signed]:
-        """The signatures of an opened question, or an empty list if the library lists them wrongly."""
+        """The signatures of an opened question, or LISTED_WRONGLY."""
         found = []
         for place in range(self.count(asked)):
             signature = Listed()
             if self.signature(asked, place, byref(signature)) != DONE:
-                return []
+                return LISTED_WRONGLY
             found.append(signed_at(signature))
             # (of a value that is one string its octets are listed too)
             octets = ctypes.string_at(signature.octets, signature.octets_length) if signature.octets else None
             if octets != octets_of_value(found[-1][2]):
-                return []
-        return [] if self.signature(asked, len(found), byref(Listed())) == DONE else found
+                return LISTED_WRONGLY
+        return LISTED_WRONGLY if self.signature(asked, len(found), byref(Listed())) == DONE else found
 
     def answer(self, question: GuardQuestion, asked: c_void_p | None) -> Answer:
         """What a call answers to an opened question by its marks. It asks for the length first, and then with a buffer of that length."""

@@ -41,7 +41,7 @@ def octet_at(text: bytes, at: int) -> int:
 
 
 def written_length(digits: bytes) -> int:
-    """The number that the digits of a length mean. Every number that is larger than a text counts as one."""
+    """The number that the digits of a length mean. More than nine digits mean 10**9 here: that is longer than every text too."""
     return int(digits) if len(digits) <= 9 else 10**9
 
 
