@@ -56,7 +56,7 @@ CACHES = (0, 7, 16, 64)
 MOST = {"10,000 keys, no certificate": 1.5, "10,000 keys, three certificates": 1.5, "10,000 hashes, no certificate": 1.5,
         "10,000 hashes, three certificates": 1.5, "opening 1 MiB": 1.2, "instructions of a case": 96_000, "three caveats": 1.0,
         "three caveats, opened before": 0.05, "by the digests": 5.0, "Rust": 1.01, "blocks more through Rust": 0.0, "Python, µs more": 11.0,
-        "memory kept of a question by its octets": 3.0, "memory while it is opened": 40.0, "memory while sets of empty strings are opened": 80.0,
+        "memory kept of a question by its octets": 3.0, "memory while it is opened": 40.0, "memory while sets of empty strings are opened": 62.0,
         "opening a question of 1 MiB, ms": 500.0, "a decision, ms": 100.0, "a decision, MiB": 16.0, "a decision by default, ms": 100.0,
         "an explanation or a reduction, ms": 200.0, "an explanation or a reduction, MiB": 16.0,
         "waits of 1,000 decisions": 1.0}

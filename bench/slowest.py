@@ -66,7 +66,7 @@ class Call(NamedTuple):
 # The table of docs/PERFORMANCE.md.
 CALLS = [
     Call("a guard opens a list", "list", "usual", MIB, 1 * KIB, 16, 0.15, 40),
-    Call("opens a question by the highest limits", "question", "highest", 1 * KIB, MIB, MANY, 0.15, 80),
+    Call("opens a question by the highest limits", "question", "highest", 1 * KIB, MIB, MANY, 0.15, 64),
     Call("a guard decides", "decide", "usual", MIB, 64 * KIB, 16, 0.06, 16),
     Call("decides by the highest limits", "decide", "highest", MIB, MIB, MANY, 0.3, 80, "half"),
     Call("a guard explains", "explain", "usual", MIB, 64 * KIB, 16, 0.2, 20),
