@@ -56,8 +56,14 @@ type kept struct {
 // The most octets of all sequences in a folder.
 const mostLeft = 32 << 20
 
-// What the name of a sequence's file ends with until it is whole, and such a name.
-const ofBegun = ".new"
+// What the name of a sequence's file ends with until it is whole, and after how long nobody writes it any more: a daemon that is started by mistake
+// beside another one takes nothing from it.
+const (
+	ofBegun  = ".new"
+	begunFor = time.Minute
+)
+
+// begunName is the name of a file that is not whole.
 
 var begunName = regexp.MustCompile(`^[0-9a-f]{64}\.new$`)
 
@@ -133,15 +139,15 @@ func openKept(c *chains, now time.Time, mayRemove bool) (*kept, error) {
 // the daemon has not written it, it is left out.
 func (k *kept) read(path string, now time.Time) (isOver bool) {
 	key, name := filepath.Base(filepath.Dir(path)), filepath.Base(path)
+	about, err := os.Stat(path)
+	if err != nil {
+		return false
+	}
 	if begunName.MatchString(name) {
-		return true
+		return now.Sub(about.ModTime()) > begunFor
 	}
 	octets, err := readFile(path, mostShownOctets)
 	if err != nil || name != hexDigest(octets) {
-		return false
-	}
-	about, err := os.Stat(path)
-	if err != nil {
 		return false
 	}
 	made := k.chainOf(string(octets), about.ModTime())

@@ -411,9 +411,16 @@ func TestKeptFiles(t *testing.T) {
 	if status := s.statusFor(s.bob, "/web/docs/b", ""); status != 401 {
 		t.Error(status)
 	}
-	// (a file that was begun is removed, and others stay)
-	if files := s.filesOfChains(); len(files) != 3 {
+	// (a file that was begun long ago is removed, and others stay)
+	if files := s.filesOfChains(); len(files) != 4 {
 		t.Error(files)
+	}
+	long := s.now().Add(-time.Hour)
+	if err := os.Chtimes(filepath.Join(folder, hexDigest([]byte(bobs))+".new"), long, long); err != nil {
+		t.Fatal(err)
+	}
+	if s.reopenChains(t); len(s.filesOfChains()) != 3 {
+		t.Error(s.filesOfChains())
 	}
 	ofStore := &storeOf{Host: "/run", Database: "d", User: "u"}
 	for _, wrong := range []chains{{Folder: "x"}, {Folder: "/x", Days: -1}, {}, {Folder: "/x", Path: "x"}, {Folder: "/x", Path: "/a%2fb"},
