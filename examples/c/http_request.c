@@ -34,7 +34,7 @@ static struct spki_text literal(const char *text)
 }
 
 /* Whether a text is a C string. */
-static bool is(struct spki_text text, const char *wanted)
+static bool is_text(struct spki_text text, const char *wanted)
 {
     return text.length == strlen(wanted) && (text.length == 0 || memcmp(text.octets, wanted, text.length) == 0);
 }
@@ -74,7 +74,7 @@ static struct spki_text trimmed(struct spki_text value)
 static bool covers(const struct input *input, const char *name)
 {
     for (size_t i = 0; i < input->count; i++)
-        if (is(input->components[i], name))
+        if (is_text(input->components[i], name))
             return true;
     return false;
 }
@@ -172,7 +172,7 @@ static const char *read_label(struct spki_text value, struct cursor *in)
     struct spki_text name = read_name(in);
     if (value.length > MOST_INPUT || name.length == 0 || !try_skip(in, "="))
         return malformed;
-    return is(name, "spki") ? NULL : "other-label";
+    return is_text(name, "spki") ? NULL : "other-label";
 }
 
 /* The refusal of what follows the first member, or null if nothing does. */
@@ -196,12 +196,12 @@ static bool is_component(struct spki_text name)
 {
     const unsigned char *octets = name.octets;
     for (size_t i = 0; i < sizeof derived / sizeof *derived; i++)
-        if (is(name, derived[i]))
+        if (is_text(name, derived[i]))
             return true;
     for (size_t i = 0; i < name.length; i++)
         if (!is_token_octet(octets[i]) || octets[i] != lower_case(octets[i]))
             return false;
-    return name.length > 0 && !is(name, "signature") && !is(name, "signature-input");
+    return name.length > 0 && !is_text(name, "signature") && !is_text(name, "signature-input");
 }
 
 /* Reads the list of the names of components, in parentheses. */
@@ -230,7 +230,7 @@ static const char *read_parameters(struct cursor *in, struct input *input)
     while (try_skip(in, ";")) {
         struct spki_text name = read_name(in);
         unsigned place = 0;
-        while (place < PARAMETERS && !is(name, parameter_names[place]))
+        while (place < PARAMETERS && !is_text(name, parameter_names[place]))
             place++;
         if (name.length == 0 || place == PARAMETERS)
             return name.length == 0 ? malformed : "unknown-parameter";
@@ -348,9 +348,9 @@ static const struct spki_text *authority_of(const struct http_service *service, 
 static bool may_have_body(const struct http_request *request)
 {
     for (size_t i = 0; i < request->field_count; i++)
-        if (equals_ignoring_case(request->fields[i].name, literal("content-length")) && !is(trimmed(request->fields[i].value), "0"))
+        if (equals_ignoring_case(request->fields[i].name, literal("content-length")) && !is_text(trimmed(request->fields[i].value), "0"))
             return true;
-    return !(is(request->method, "GET") || is(request->method, "HEAD")) || count_lines(request, "transfer-encoding", NULL) > 0;
+    return !(is_text(request->method, "GET") || is_text(request->method, "HEAD")) || count_lines(request, "transfer-encoding", NULL) > 0;
 }
 
 /* ---- the signed text */
@@ -375,15 +375,15 @@ static const char *put_value(struct writer *out, const struct http_request *requ
     struct spki_text target = request->target, value;
     const unsigned char *first = target.octets, *mark = memchr(first, '?', target.length), *end = first + target.length;
     const char *why = NULL;
-    if (is(name, "@method")) {
+    if (is_text(name, "@method")) {
         put(out, request->method);
-    } else if (is(name, "@authority")) {
+    } else if (is_text(name, "@authority")) {
         put(out, authority);
-    } else if (is(name, "@path")) {
+    } else if (is_text(name, "@path")) {
         put(out, between(first, mark ? mark : end));
-    } else if (is(name, "@query")) {
+    } else if (is_text(name, "@query")) {
         put(out, mark ? between(mark, end) : literal("?"));
-    } else if (is(name, "@target-uri")) {
+    } else if (is_text(name, "@target-uri")) {
         put(out, literal("https://"));
         put(out, authority);
         put(out, target);
@@ -451,11 +451,11 @@ static void put_string(struct writer *out, struct spki_text string)
 static void put_signature(struct writer *out, struct spki_text algorithm, struct spki_text octets)
 {
     const unsigned char *first = octets.octets, *half = first + octets.length / 2;
-    if (is(algorithm, "rsa-v1_5-sha256")) {
+    if (is_text(algorithm, "rsa-v1_5-sha256")) {
         put(out, literal("(7:sig-val(3:rsa(1:s"));
         put_string(out, octets);
     } else {
-        put(out, literal(is(algorithm, "ed25519") ? "(7:sig-val(5:eddsa(1:r" : "(7:sig-val(5:ecdsa(1:r"));
+        put(out, literal(is_text(algorithm, "ed25519") ? "(7:sig-val(5:eddsa(1:r" : "(7:sig-val(5:ecdsa(1:r"));
         put_string(out, between(first, half));
         put(out, literal(")(1:s"));
         put_string(out, between(half, first + octets.length));
@@ -468,7 +468,7 @@ static void put_signature(struct writer *out, struct spki_text algorithm, struct
 /* Checks the tag, the length of the nonce, and the times. */
 static const char *check_parameters(const struct http_service *service, const struct input *input, long long now)
 {
-    if (!is(input->strings[TAG], "spki"))
+    if (!is_text(input->strings[TAG], "spki"))
         return "other-tag";
     if (input->strings[NONCE].length < LEAST_NONCE || input->strings[NONCE].length > MOST_NONCE)
         return "bad-nonce";
@@ -515,7 +515,7 @@ static bool is_hash(struct spki_text text, const unsigned char hash[VERIFY_HASH]
         written[2 * i] = digits[hash[i] >> 4];
         written[2 * i + 1] = digits[hash[i] & 15];
     }
-    return is(text, written);
+    return is_text(text, written);
 }
 
 /* Reads the key of the request, which must be that of `keyid` and `alg`. Sets the length of its signatures. */
@@ -533,7 +533,7 @@ static const char *check_key(const struct http_request *request, const struct in
         return "memory";
     if (!is_hash(input->strings[KEYID], hash))
         return "other-key";
-    return is(input->strings[ALG], algorithm) ? NULL : "other-algorithm";
+    return is_text(input->strings[ALG], algorithm) ? NULL : "other-algorithm";
 }
 
 /* Verifies the octets of a signature, whose message is the signature base. */
@@ -603,7 +603,7 @@ bool http_request_read(char *head, struct http_field *fields, size_t most, struc
 {
     *request = (struct http_request){.method = cut(&head, " "), .fields = fields};
     request->target = cut(&head, " ");
-    if (!is_token(request->method) || !is_target(request->target) || !is(cut(&head, "\r\n"), "HTTP/1.1"))
+    if (!is_token(request->method) || !is_target(request->target) || !is_text(cut(&head, "\r\n"), "HTTP/1.1"))
         return false;
     for (; *head && *head != '\r'; request->field_count++) {
         if (request->field_count == most)

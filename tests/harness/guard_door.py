@@ -17,7 +17,7 @@ ROOM = 64
 # so many structures have more octets than an array can have
 MANY = 2**60
 # a place near the end of what a number can be: as a negative one it is -271
-FAR = 2**64 - 255 - 16
+NEAR_MOST = 2**64 - 255 - 16
 # What stands for the signatures of a question that the library lists wrongly: no question has it.
 LISTED_WRONGLY: list[Signed] = [(b"", b"", b"")]
 
@@ -167,7 +167,7 @@ class GuardDoor:
         listed = self.listed(asked)
         if odd in guard.MARKED:
             past, far, _ = guard.MARKED
-            return (self.mark(None if odd not in (past, far) else asked, len(listed) if odd == past else FAR + len(listed)), b""), listed
+            return (self.mark(None if odd not in (past, far) else asked, len(listed) if odd == past else NEAR_MOST + len(listed)), b""), listed
         self.mark_all(question, asked, listed)
         said = self.answer(question, None if odd == "no opened question" else asked)
         if question.command == "guard decide" and odd not in guard.ANSWERED:

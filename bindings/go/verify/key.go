@@ -59,7 +59,7 @@ var ErrKey = errors.New("no key of Ed25519, of RSA with at least 2048 bits, or o
 func KeyOf(public crypto.PublicKey) ([]byte, error) {
 	switch public := public.(type) {
 	case ed25519.PublicKey:
-		if isOfLargeOrder(public) {
+		if isUsablePoint(public) {
 			return canonicalText(beforeEd25519, []byte(public), afterKey), nil
 		}
 	case *rsa.PublicKey:
@@ -96,7 +96,7 @@ func PublicOf(key []byte) (crypto.PublicKey, error) {
 func publicOf(text *reader) crypto.PublicKey {
 	switch {
 	case text.trySkip(beforeEd25519):
-		if octets, ok := text.string(ed25519.PublicKeySize); ok && isOfLargeOrder(octets) && text.restIs(afterKey) {
+		if octets, ok := text.string(ed25519.PublicKeySize); ok && isUsablePoint(octets) && text.restIs(afterKey) {
 			return ed25519.PublicKey(octets)
 		}
 	case text.trySkip(beforeModulus):
@@ -130,8 +130,8 @@ func numberOf(digits string) *big.Int {
 	return number
 }
 
-// isOfLargeOrder says whether a point of Ed25519 has no small order and one text only, as far as its y says that.
-func isOfLargeOrder(q []byte) bool {
+// isUsablePoint says whether a point of Ed25519 has no small order and one text only, as far as its y says that.
+func isUsablePoint(q []byte) bool {
 	if len(q) != ed25519.PublicKeySize {
 		return false
 	}

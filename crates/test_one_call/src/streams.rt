@@ -27,9 +27,9 @@ pub(crate) fn call(alloc: Global, name: &str, texts: &[Vec<u8>]) -> Option<Reply
     }
 }
 
-/// What an `End` returns when it has no room left.
+/// What a `TestStream` returns when it has no room left.
 #[derive(Clone, Copy)]
-enum Past {
+enum WithoutRoom {
     /// An error.
     Fails,
     /// That it was interrupted.
@@ -38,13 +38,13 @@ enum Past {
     Stops,
 }
 
-impl Past {
+impl WithoutRoom {
     /// What a word names. Any other word means `Stops`.
-    fn of(word: &[u8]) -> Past {
+    fn of(word: &[u8]) -> WithoutRoom {
         match word_of(word) {
-            "fails" => Past::Fails,
-            "interrupted" => Past::IsInterrupted,
-            _ => Past::Stops,
+            "fails" => WithoutRoom::Fails,
+            "interrupted" => WithoutRoom::IsInterrupted,
+            _ => WithoutRoom::Stops,
         }
     }
 
@@ -53,16 +53,16 @@ impl Past {
         ensures { IfOk result (λ count. count ≡ 0) }
     {
         match self {
-            Past::Fails => Err(Error::from(ErrorKind::Other)),
-            Past::IsInterrupted => Err(Error::from(ErrorKind::Interrupted)),
-            Past::Stops => Ok(0),
+            WithoutRoom::Fails => Err(Error::from(ErrorKind::Other)),
+            WithoutRoom::IsInterrupted => Err(Error::from(ErrorKind::Interrupted)),
+            WithoutRoom::Stops => Ok(0),
         }
     }
 }
 
 /// A reader of a text, or a writer, for tests. It passes on a few octets in each call, counts its calls, and may fail.
 #[derive(Drop)]
-struct End<'a> {
+struct TestStream<'a> {
     /// The rest of the text.
     text: &'a [u8],
     /// What was written.
@@ -71,7 +71,7 @@ struct End<'a> {
     step: usize,
     room: usize,
     /// What it answers without room.
-    past: Past,
+    without_room: WithoutRoom,
     /// The number of reads and writes, and the length of the last one's buffer, `last`.
     calls: usize,
     last: usize,
@@ -79,16 +79,16 @@ struct End<'a> {
     flush_fails: bool,
 }
 
-impl<'a> End<'a> {
-    /// Makes an end from three texts: the most octets of a call, the room, and what a call without room returns. A fourth, `fails`, means that a
+impl<'a> TestStream<'a> {
+    /// Makes a stream from three texts: the most octets of a call, the room, and what a call without room returns. A fourth, `fails`, means that a
     /// flush fails.
-    fn new(alloc: Global, text: &'a [u8], texts: &[Vec<u8>]) -> End<'a> {
-        End {
+    fn new(alloc: Global, text: &'a [u8], texts: &[Vec<u8>]) -> TestStream<'a> {
+        TestStream {
             text,
             taken: Vec::new(alloc),
             step: number(at(texts, 0)),
             room: number(at(texts, 1)),
-            past: Past::of(at(texts, 2)),
+            without_room: WithoutRoom::of(at(texts, 2)),
             calls: 0,
             last: 0,
             flushes: 0,
@@ -104,13 +104,13 @@ impl<'a> End<'a> {
     }
 }
 
-impl Read for End<'_> {
+impl Read for TestStream<'_> {
     /// Reads some octets of the text, within the step, the room and the buffer.
     fn read(&mut self, buf: &mut [u8]) -> io::Result<usize> {
         self.calls = self.calls.saturating_add(1);
         self.last = buf.len();
         if self.room == 0 {
-            return self.past.answer();
+            return self.without_room.answer();
         }
         let count = self.count(buf.len().min(self.text.len()));
         let (given, rest) = self.text.split_at(count);
@@ -121,13 +121,13 @@ impl Read for End<'_> {
     }
 }
 
-impl Write for End<'_> {
+impl Write for TestStream<'_> {
     /// Takes some of the octets, within the step and the room.
     fn write(&mut self, buf: &[u8]) -> io::Result<usize> {
         self.calls = self.calls.saturating_add(1);
         self.last = buf.len();
         if self.room == 0 {
-            return self.past.answer();
+            return self.without_room.answer();
         }
         let count = self.count(buf.len());
         self.taken.extend_from_slice(&buf[..count])?;
@@ -160,11 +160,11 @@ fn command(word: &[u8]) -> Command {
 }
 
 /// Runs a command. The first text is its word, the second what the reader gives, and then there are three texts for the reader and three or four for
-/// the writer, as for `End::new`. The answer is the exit status; the reader's calls, its faults, whether it ended, how many octets it has left; the
+/// the writer, as for `TestStream::new`. The answer is the exit status; the reader's calls, its faults, whether it ended, how many octets are left; the
 /// writer's calls, its faults, whether it was flushed; and what was written.
 fn run(alloc: Global, texts: &[Vec<u8>]) -> Reply {
-    let mut reader = Metered::new(End::new(alloc, at(texts, 1), behind(texts, 2)));
-    let mut writer = Metered::new(End::new(alloc, b"", behind(texts, 5)));
+    let mut reader = Metered::new(TestStream::new(alloc, at(texts, 1), behind(texts, 2)));
+    let mut writer = Metered::new(TestStream::new(alloc, b"", behind(texts, 5)));
     let status = spki_guard::run(alloc, command(at(texts, 0)), &mut reader, &mut writer).code();
     let (reads, read_faults, ended) = (reader.asks(), reader.faults(), reader.ended());
     let (writes, write_faults, flushed) = (writer.asks(), writer.faults(), writer.flushed());
@@ -185,7 +185,7 @@ fn written(alloc: Global, counts: &[u8], taken: &[u8]) -> Reply {
 
 /// Reads once through a meter, into a buffer of three octets. The answer is as for `passed_on`.
 fn read_once(alloc: Global, text: &[u8]) -> Reply {
-    let mut meter = Metered::new(End::new(alloc, text, &[]));
+    let mut meter = Metered::new(TestStream::new(alloc, text, &[]));
     let mut buffer = [0; 3];
     let count = meter.read(&mut buffer)?;
     let (asks, faults) = (meter.asks(), meter.faults());
@@ -194,7 +194,7 @@ fn read_once(alloc: Global, text: &[u8]) -> Reply {
 
 /// Writes once through a meter, and flushes. The answer is as for `passed_on`, with what was written as the octets.
 fn write_once(alloc: Global, octets: &[u8]) -> Reply {
-    let mut meter = Metered::new(End::new(alloc, b"", &[]));
+    let mut meter = Metered::new(TestStream::new(alloc, b"", &[]));
     let count = meter.write(octets)?;
     meter.flush()?;
     let (asks, faults) = (meter.asks(), meter.faults());
@@ -203,16 +203,16 @@ fn write_once(alloc: Global, octets: &[u8]) -> Reply {
 }
 
 /// How many octets were passed on, and which; the meter's counts of calls and faults; and the calls, the last buffer's length and the flushes of
-/// `end`.
+/// `stream`.
 fn passed_on(
     alloc: Global,
     count: usize,
     octets: &[u8],
     asks: u64,
     faults: u64,
-    end: &End,
+    stream: &TestStream,
 ) -> Reply {
-    let (calls, last, flushes) = (end.calls, end.last, end.flushes);
+    let (calls, last, flushes) = (stream.calls, stream.last, stream.flushes);
     let line = format!(in alloc; "{count} {octets:?}, {asks} {faults}, {calls} {last} {flushes}")?;
     Ok(line.into_bytes())
 }
