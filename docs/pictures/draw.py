@@ -80,7 +80,7 @@ def crates():
 
 STEPS = [
     ("standard input", "any of the three forms", "box"), ("read_whole", "the octets", "box"), ("convert", "the canonical text", "box"),
-    ("Doc::open", "a table of its nodes", "box"), ("Case::read", "the case", "box"),
+    ("Doc::open", "a table of its nodes", "box"), ("Case::of", "the case", "box"),
     ("judge", "the evidence", "box"), ("ChainRequirement", "what an entry needs", "box"),
     ("grants", "whether an entry has it", "box"), ("decide", "the first yes, or no", "own"), ("run", "the line", "good")]
 

@@ -96,8 +96,7 @@ impl<'a> Case<'a> {
     /// # Errors
     ///
     /// `Form` if the text is no canonical form within the limits; `Form(TooLong)` exactly if it has more than 1,048,576
-    /// octets. `Shape` if the value does not have the outer structure of a case. Otherwise the fault of the first part, in
-    /// the order of `CaseFault`, that cannot be read. `Memory` if memory ran out.
+    /// octets. Otherwise the faults of `of`. `Memory` if memory ran out.
     pub fn read(alloc: Global, text: &'a [u8]) -> Result<Case<'a>, CaseFault>
         ensures read { IfOk result (λ c. IsCaseText text.entry.now (model c)) }
         ensures too_long { IsErrOf result (CaseFault.Form FormFault.TooLong) ↔ (1048576 < length text.entry.now) }
@@ -110,8 +109,13 @@ impl<'a> Case<'a> {
         }
     }
 
-    /// Reads a case from its node. The faults are those of `read`, without `Form`.
-    fn of(alloc: Global, node: &Node<'_, 'a>) -> Result<Case<'a>, CaseFault>
+    /// Reads a case from its node. Its limits are those of `read`.
+    ///
+    /// # Errors
+    ///
+    /// `Shape` if the value does not have the outer structure of a case. Otherwise the fault of the first part, in the
+    /// order of `CaseFault`, that cannot be read. `Memory` if memory ran out.
+    pub fn of(alloc: Global, node: &Node<'_, 'a>) -> Result<Case<'a>, CaseFault>
         ensures read { IfOk result (λ c. CaseOf node.now (model c)) }
         ensures refused { IfErr result (λ fault. fault ≢ CaseFault.Memory → ValueRefused node.now fault) }
     {

@@ -37,8 +37,7 @@ impl<'a> AcceptedTable<'a> {
     /// # Errors
     ///
     /// `Form` if the text is no canonical form within the limits; `Form(TooLong)` exactly if it has more than 1,048,576
-    /// octets. `Shape` if the value is no list with the head `accepted`. Otherwise `Row` with the fault of the first row
-    /// that cannot be read. `Memory` if memory ran out.
+    /// octets. Otherwise the faults of `of`. `Memory` if memory ran out.
     pub fn read(alloc: Global, text: &'a [u8]) -> Result<AcceptedTable<'a>, RowsFault>
         ensures read { IfOk result (λ table. IsRowsText text.entry.now (rows_of table)) }
         ensures too_long { IsErrOf result (RowsFault.Form FormFault.TooLong) ↔ (1048576 < length text.entry.now) }
@@ -51,8 +50,13 @@ impl<'a> AcceptedTable<'a> {
         }
     }
 
-    /// Reads an accepted list from its node. Err is `Shape`, `Row` with the first fault, or `Memory`.
-    fn of(alloc: Global, node: &Node<'_, 'a>) -> Result<AcceptedTable<'a>, RowsFault>
+    /// Reads a separate accepted list from its node.
+    ///
+    /// # Errors
+    ///
+    /// `Shape` if the value is no list with the head `accepted`. Otherwise `Row` with the fault of the first row that
+    /// cannot be read. `Memory` if memory ran out.
+    pub fn of(alloc: Global, node: &Node<'_, 'a>) -> Result<AcceptedTable<'a>, RowsFault>
         ensures read { IfOk result (λ table. RowsOf node.now (rows_of table)) }
         ensures refused { IfErr result (λ fault. fault ≢ RowsFault.Memory → NoRows node.now fault) }
     {

@@ -1,31 +1,30 @@
--- The answers and refusals that results become: those for the operands of an intersection, and for cases whose tags
--- are too large or whose text is canonical.
-use Rattle.std.proofs.Common.{◌≡◌, ◌≢◌, inl, inr, List, [], ◌∷◌, Option, Some, None, MatchOption, sym, ap, ◌∙◌, rules, ℕ, refl, Result, Ok, Err, IfErr, length, subst, IfOk}
+-- The answers and refusals that results become: those for the operands of an intersection, for cases whose tags are too
+-- large, and for cases and accepted lists that are read from canonical texts.
+use Rattle.std.proofs.Common.{◌≡◌, ◌≢◌, inl, inr, List, [], ◌∷◌, Option, Some, None, MatchOption, sym, ap, ◌∙◌, rules, ℕ, refl, Result, Ok, Err, IfErr, subst, IfOk}
 use Rattle.std.specs.Prelude.{codes, IsErrAnd}
-use Rattle.sexpr_core.specs.Value.{Value, canon, octet_limit, IsWithinLimits}
+use Rattle.sexpr_core.specs.Value.{Value, canon}
 use Rattle.spki_tag.specs.declared.fault.TagFault.{TagFault}
 use Rattle.spki_tag.specs.declared.fault.TagFault.TheVariants as tag_faults
 use Rattle.spki_tag.specs.Faults.{IsNamed, tag_fault}
 use Rattle.spki_tag.specs.Reading.{ReadsAs, IsNoTag}
 use Rattle.spki_tag.specs.Tag.{Tag}
 use Rattle.spki_tag.proofs.Named.{named-sure}
-use Rattle.spki_case.specs.Case.{headed, IsOuter, Case, accepted_by, IsCaseText, TextRefused, ValueRefused, IsTextOf}
+use Rattle.spki_case.specs.Case.{headed, IsOuter, Case, accepted_by, IsCaseText, IsTextOf}
 use Rattle.spki_guard.specs.Intersect.{intersect_value, ValueNotMet}
 use Rattle.spki_guard.specs.declared.intersection.IntersectFault.{IntersectFault}
 use Rattle.spki_guard.specs.declared.intersection.IntersectFault.TheVariants as intersect
 use Rattle.spki_guard.specs.declared.intersection.Operands.{Operands}
 use Rattle.spki_case.proofs.Building.{behind_head}
+use Rattle.spki_case.proofs.OneCase.{one_text}
 use Rattle.spki_decision.specs.declared.fault.GuardFault.{GuardFault}
 use Rattle.spki_decision.specs.declared.fault.GuardFault.TheVariants as guard
 use Rattle.spki_words.specs.declared.commands.Command.{Command}
 use Rattle.spki_guard.specs.declared.refusals.Refusal.{Refusal}
 use Rattle.spki_guard.specs.declared.refusals.Refusal.TheVariants as refusals
-use Rattle.spki_guard.specs.TextAnswers.{RefusesValue, HasTooLarge, form_of, IsOnCase, AnswersValue, AnswersRead, RefusesAnswer, ReadsCase, DecidesApart, DecidesBy, RefusesApart, RefusesBy}
+use Rattle.spki_guard.specs.TextAnswers.{RefusesValue, HasTooLarge, IsOnCase, AnswersValue, AnswersRead, RefusesAnswer, ReadsCase, DecidesApart, DecidesBy, RefusesApart, RefusesBy}
 use Rattle.sexpr_core.specs.declared.fault.FormFault.{FormFault}
-use Rattle.sexpr_text.specs.AdvancedForm.{IsTextWithin, written}
-use Rattle.sexpr_text.proofs.Printed.{canonical_spelled}
-use Rattle.spki_case.specs.declared.cases.CaseFault.{CaseFault}
-use Rattle.spki_case.specs.declared.cases.CaseFault.TheVariants as faults
+use Rattle.sexpr_text.specs.AdvancedForm.{IsTextWithin}
+use Rattle.sexpr_text.specs.CanonicalTexts.{IsReadAs, RefusesForm}
 use Rattle.spki_guard.specs.declared.queries.Query.{Query}
 use Rattle.spki_guard.specs.declared.queries.Query.TheVariants as query
 use Rattle.spki_guard.specs.declared.answers.Answer.{Answer}
@@ -74,18 +73,25 @@ pub err_lifted : {T E : Type 0} (r : Result T E) (P Q : E → Type 0) → IsErrA
 err_lifted (Ok v) P Q h f = tt
 err_lifted (Err x) P Q h f = f x h
 
--- ---- cases that are read where they stand, since their text is canonical
+-- ---- what is read of a canonical text
 
-canonical_text : (text : List ℕ) (v : Value) → IsWithinLimits v → text ≡ canon v → IsTextWithin text v
-canonical_text text v within e = search (rules, canonical_spelled, length, octet_limit)
+module _ (text : List ℕ) (said : Value → Type 0) where
+  -- The text spells or braces a value, and its canonical form is that of a value for which the statement is true.
+  abbrev Says : Type 0
+  Says = (v : Value) × IsTextWithin text v × IsTextOf said (canon v)
 
--- a fault that isn't of the form is one of the value
-pub of_value : (text : List ℕ) (fault : CaseFault) → TextRefused text fault → ((form : FormFault) × (fault ≡ faults.Form form) → ⊥)
-    → IsTextOf (λ v. ValueRefused v fault) text
-of_value text fault (inl m) other = absurd (other (m.form, m.is))
-of_value text fault (inr t) other = t
+  -- of the node of its document, which has this value
+  pub says : (read : Result (List ℕ) FormFault) (v w : Value) → IsReadAs (IsTextWithin text) (RefusesForm text) read → read ≡ Ok (canon v)
+      → w ≡ v → said w → Says
+  says (Ok octets) v w (u, meant, within, written) e same is =
+      let given : octets ≡ canon v = cc e in
+      let one : u ≡ w = one_text octets u v written given ∙ sym same in
+      (u, meant, record { value = u; within = within; written = refl; is = subst said (sym one) is })
+  says (Err fault) v w r e same is = let no : ⊥ = cc e in absurd no
 
-answered_by : (command : Command) (text : List ℕ) (v : Value) (r : Result Answer Refusal) → IsTextWithin text v
+-- ---- the answer to a text, from that to its value
+
+pub answered_by : (command : Command) (text : List ℕ) (v : Value) (r : Result Answer Refusal) → IsTextWithin text v
     → IfOk r (PrintsAs (AnswersValue command v))
     → IfOk r (PrintsAs (AnswersRead command text))
 answered_by command text v (Ok x) t h = λ output printed. record { value = v; read = t; answer = h output printed }
@@ -100,91 +106,31 @@ refused_by command text v (refusals.Question fault) t h = absurd h
 refused_by command text v refusals.Memory t h = tt
 refused_by command text v refusal t h = record { value = v; read = t; refused = h }
 
-err_by : (command : Command) (text : List ℕ) (v : Value) (r : Result Answer Refusal) → IsTextWithin text v
+pub err_by : (command : Command) (text : List ℕ) (v : Value) (r : Result Answer Refusal) → IsTextWithin text v
     → IfErr r (λ refusal. RefusesValue command v refusal) → IfErr r (λ refusal. RefusesAnswer command text refusal)
 err_by command text v (Ok a) t h = tt
 err_by command text v (Err refusal) t h = refused_by command text v refusal t h
-
--- what is answered to the value is answered to the canonical text
-pub canonical_answered : (command : Command) (text : List ℕ) (c : Case) (r : Result Answer Refusal) → IsCaseText text c
-    → ((v : Value) → IsCaseText (canon v) c → IfOk r (PrintsAs (AnswersValue command v)))
-    → IfOk r (PrintsAs (AnswersRead command text))
-canonical_answered command text c r t f =
-    answered_by command text t.value r (canonical_text text t.value t.within t.written)
-    (f t.value (subst (λ s. IsCaseText s c) t.written t))
-
-pub canonical_refused : (command : Command) (text : List ℕ) (c : Case) (r : Result Answer Refusal) → IsCaseText text c
-    → ((v : Value) → IsCaseText (canon v) c → IfErr r (λ refusal. RefusesValue command v refusal))
-    → IfErr r (λ refusal. RefusesAnswer command text refusal)
-canonical_refused command text c r t f =
-    err_by command text t.value r (canonical_text text t.value t.within t.written)
-    (f t.value (subst (λ s. IsCaseText s c) t.written t))
-
--- the same of the octets of a value that is converted
-pub converted_answered : (command : Command) (text octets : List ℕ) (r : Result Answer Refusal)
-    → (v : Value) × IsTextWithin text v × (octets ≡ written (form_of command) v)
-    → ((v : Value) → octets ≡ written (form_of command) v → IfOk r (PrintsAs (AnswersValue command v)))
-    → IfOk r (PrintsAs (AnswersRead command text))
-converted_answered command text octets r (v, t, e) f = answered_by command text v r t (f v e)
-
-pub converted_refused : (command : Command) (text octets : List ℕ) (r : Result Answer Refusal)
-    → (v : Value) × IsTextWithin text v × (octets ≡ written (form_of command) v)
-    → ((v : Value) → octets ≡ written (form_of command) v → IfErr r (λ refusal. RefusesValue command v refusal))
-    → IfErr r (λ refusal. RefusesAnswer command text refusal)
-converted_refused command text octets r (v, t, e) f = err_by command text v r t (f v e)
 
 pub on_case : (command : Command) (own : Query) → command ≡ command_of own → IsOnCase command
 on_case command query.Reduce e = subst IsOnCase (sym e) tt
 on_case command query.Decide e = subst IsOnCase (sym e) tt
 on_case command query.Explain e = subst IsOnCase (sym e) tt
 
--- a case that has no reading, as the refusal
-pub no_case : (command : Command) (text : List ℕ) (fault : CaseFault) (outer : Refusal) → IsOnCase command
-    → (fault ≢ faults.Memory → IsTextOf (λ v. ValueRefused v fault) text)
-    → IsOuter (fault ≡ faults.Memory) refusals.Memory (refusals.Case fault) outer → RefusesAnswer command text outer
-no_case command text fault outer on f (inl h) = let is = h.1 in rw is tt
-no_case command text fault outer on f (inr h) =
-    let is = h.1 in
-    let t = f h.0 in
-    rw is
-    (record {
-      value = t.value;
-      read = canonical_text text t.value t.within t.written;
-      refused = (on, inr (subst (λ s. IsTextOf (λ v. ValueRefused v fault) s) t.written t));
-    })
-
 -- ---- with an accepted list that stands apart
 
-reads_case : (text : List ℕ) (c : Case) → IsCaseText text c → ReadsCase text c
-reads_case text c t = search (rules, canonical_text, written)
-
-pub apart_answered : (text rows : List ℕ) (c : Case) (r : Result Answer Refusal) → IsCaseText text c
+pub apart_answered : (text rows : List ℕ) (c : Case) (r : Result Answer Refusal) → ReadsCase text c
     → IfOk r (PrintsAs (DecidesBy c rows)) → IfOk r (PrintsAs (DecidesApart text rows))
-apart_answered text rows c (Ok a) t h = λ printed is. record { case_read = c; text_is = reads_case text c t; is = h printed is }
+apart_answered text rows c (Ok a) t h = λ printed is. record { case_read = c; text_is = t; is = h printed is }
 apart_answered text rows c (Err refusal) t h = tt
 
-apart_refusal : (text rows : List ℕ) (c : Case) (refusal : Refusal) → IsCaseText text c → RefusesBy c rows refusal
+apart_refusal : (text rows : List ℕ) (c : Case) (refusal : Refusal) → ReadsCase text c → RefusesBy c rows refusal
     → RefusesApart text rows refusal
-apart_refusal text rows c (refusals.Decision fault) t h = record { case_read = c; text_is = reads_case text c t; is = h }
-apart_refusal text rows c (refusals.Rows fault) t h = record { case_read = c; text_is = reads_case text c t; is = h }
+apart_refusal text rows c (refusals.Decision fault) t h = record { case_read = c; text_is = t; is = h }
+apart_refusal text rows c (refusals.Rows fault) t h = record { case_read = c; text_is = t; is = h }
 apart_refusal text rows c refusals.Memory t h = tt
 apart_refusal text rows c refusal t h = absurd h
 
-pub apart_refused : (text rows : List ℕ) (c : Case) (r : Result Answer Refusal) → IsCaseText text c
+pub apart_refused : (text rows : List ℕ) (c : Case) (r : Result Answer Refusal) → ReadsCase text c
     → IfErr r (λ refusal. RefusesBy c rows refusal) → IfErr r (λ refusal. RefusesApart text rows refusal)
 apart_refused text rows c (Ok a) t h = tt
 apart_refused text rows c (Err refusal) t h = apart_refusal text rows c refusal t h
-
-pub no_case_apart : (text rows : List ℕ) (fault : CaseFault) (outer : Refusal)
-    → (fault ≢ faults.Memory → IsTextOf (λ v. ValueRefused v fault) text)
-    → IsOuter (fault ≡ faults.Memory) refusals.Memory (refusals.Case fault) outer → RefusesApart text rows outer
-no_case_apart text rows fault outer f (inl h) = let is = h.1 in rw is tt
-no_case_apart text rows fault outer f (inr h) =
-    let is = h.1 in
-    let t = f h.0 in
-    rw is
-    (record {
-      value = t.value;
-      read = canonical_text text t.value t.within t.written;
-      refused = inr (subst (λ s. IsTextOf (λ v. ValueRefused v fault) s) t.written t);
-    })

@@ -5,8 +5,8 @@ ghost use Rattle.sexpr_core.specs.Value.{Value, canon};
 ghost use Rattle.sexpr_text.specs.AdvancedForm.{written};
 ghost use Rattle.spki_case.specs.Case.{IsCaseText};
 ghost use Rattle.spki_case.specs.View.{model};
-ghost use Rattle.spki_guard.specs.TextAnswers.{form_of, IsAnswer, AnswersValue, RefusesValue, AnswersRead, RefusesAnswer, RefusesAsLong, Decides, Reduces, Explains, written_by};
-ghost use Rattle.spki_guard.specs.Inner.Prints.{PrintsAs, command_of, IsSourceOf};
+ghost use Rattle.spki_guard.specs.TextAnswers.{form_of, IsAnswer, IsOnCase, AnswersValue, RefusesValue, AnswersRead, RefusesAnswer, RefusesAsLong, Decides, Reduces, Explains, written_by};
+ghost use Rattle.spki_guard.specs.Inner.Prints.{PrintsAs, command_of, IsShortText, IsSourceOf};
 
 use crate::answers::{
     Answer, Output, answer_of_decision, answer_of_explanation, answer_of_reduction,
@@ -15,8 +15,9 @@ use crate::intersection::intersect;
 use crate::printed::Printed;
 use crate::queries::Query;
 use crate::refusals::Refusal;
-use crate::sources::{Source, source_of};
+use crate::sources::{Source, case_in, source_of};
 use sexpr_core::syntax::wrap_octets;
+use sexpr_text::CanonicalText;
 use spki_case::Case;
 use spki_decision::{decide, explain, reduce_case};
 use spki_words::Command;
@@ -36,48 +37,53 @@ pub fn answer_text(alloc: Global, command: Command, text: &[u8]) -> Printed
     printed
 }
 
-/// Answers a command from the source that `source_of` returned for it. Nothing is printed yet.
+/// Answers a command from what `source_of` returned for it. Nothing is printed yet.
 pub(crate) fn answer_source<'s, 't: 's>(
     alloc: Global,
     command: Command,
-    source: &'s Source<'t>,
+    source: &'s Result<Source<'t>, Refusal>,
 ) -> Answer<'s>
-    ensures answer { (text : List ℕ) → IsSourceOf command text source.entry.now → PrintsAs (IsAnswer command text) result }
-    ensures refused { (refusal : Refusal) → source.entry.now ≡ Source.Refused refusal → result ≡ Answer.Refused refusal }
+    requires { (text : List ℕ) × IfOk source.now (IsSourceOf command text) }
+    ensures answer { (text : List ℕ) → IfOk source.entry.now (IsSourceOf command text)
+        → IfErr source.entry.now (λ refusal. RefusesAnswer command text refusal) → PrintsAs (IsAnswer command text) result }
+    ensures refused { (refusal : Refusal) → IsErrOf source.entry.now refusal → result ≡ Answer.Refused refusal }
 {
-    match try_answer(alloc, command, source) {
-        Ok(answer) => answer,
-        Err(refusal) => Answer::Refused(refusal),
+    match source {
+        Ok(source) => match try_answer(alloc, command, source) {
+            Ok(answer) => answer,
+            Err(refusal) => Answer::Refused(refusal),
+        },
+        Err(refusal) => Answer::Refused(*refusal),
     }
 }
 
-/// The answer of a command to the source that `source_of` returned for it. Err says why the text is refused, or that
-/// memory ran out.
+/// The answer of a command to the source that was read for it. Err says why the text is refused, or that memory ran
+/// out.
 fn try_answer<'s, 't: 's>(
     alloc: Global,
     command: Command,
     source: &'s Source<'t>,
 ) -> Result<Answer<'s>, Refusal>
+    requires { (text : List ℕ) × IsSourceOf command text source.now }
     ensures answered { (text : List ℕ) → IsSourceOf command text source.entry.now
         → IfOk result (PrintsAs (AnswersRead command text)) }
     ensures refused { (text : List ℕ) → IsSourceOf command text source.entry.now
         → IfErr result (λ refusal. RefusesAnswer command text refusal) }
-    ensures unread { (refusal : Refusal) → source.entry.now ≡ Source.Refused refusal → IsErrOf result refusal }
 {
     match source {
-        Source::CanonicalCase(query, case) => answer_case(alloc, *query, case),
+        Source::Case(query, text) => answer_query(alloc, *query, text),
         Source::Converted(octets) => answer_octets(alloc, command, octets),
-        Source::Refused(refusal) => Err(*refusal),
     }
 }
 
-/// The answer of a command to a value. `octets` are its text in the form that the command needs (`form_of`). Err says why the value is refused, or
-/// that memory ran out.
+/// The answer of a command to a value. `octets` are its text in the form that the command needs (`form_of`). The command must not be for a case, so
+/// `unreachable!()` is not reached. Err says why the value is refused, or that memory ran out.
 fn answer_octets<'o>(
     alloc: Global,
     command: Command,
     octets: &'o [u8],
 ) -> Result<Answer<'o>, Refusal>
+    requires { IsOnCase command → ⊥ }
     ensures answered { (v : Value) → octets.entry.now ≡ written (form_of command) v
         → IfOk result (PrintsAs (AnswersValue command v)) }
     ensures refused { (v : Value) → octets.entry.now ≡ written (form_of command) v
@@ -88,20 +94,23 @@ fn answer_octets<'o>(
         Command::Advanced => Ok(Answer::Done(Output::Line(octets))),
         Command::Transport => Ok(Answer::Done(Output::Made(wrap_octets(alloc, octets)?))),
         Command::Intersect => Ok(Answer::Done(Output::Tag(intersect(alloc, octets)?))),
-        Command::Reduce => answer_canonical(alloc, Query::Reduce, octets),
-        Command::Check => answer_canonical(alloc, Query::Decide, octets),
-        Command::Explain => answer_canonical(alloc, Query::Explain, octets),
+        Command::Reduce | Command::Check | Command::Explain => unreachable!(),
     }
 }
 
-/// The answer of `reduce`, `check` or `explain` to the canonical text of a case. Err says why the text is refused, or
-/// that memory ran out.
-fn answer_canonical<'o>(alloc: Global, query: Query, text: &'o [u8]) -> Result<Answer<'o>, Refusal>
-    ensures answered { (v : Value) → text.entry.now ≡ canon v
-        → IfOk result (PrintsAs (AnswersValue (command_of query) v)) }
-    ensures refused { (v : Value) → text.entry.now ≡ canon v → IfErr result (λ refusal. RefusesValue (command_of query) v refusal) }
+/// The answer of `reduce`, `check` or `explain` to the text of a case, which `short_text` returned. Err says why the text is refused, or that
+/// memory ran out.
+fn answer_query<'s>(
+    alloc: Global,
+    query: Query,
+    text: &'s CanonicalText<'_>,
+) -> Result<Answer<'s>, Refusal>
+    ensures answered { (given : List ℕ) → IsShortText given text.entry.now
+        → IfOk result (PrintsAs (AnswersRead (command_of query) given)) }
+    ensures refused { (given : List ℕ) → IsShortText given text.entry.now
+        → IfErr result (λ refusal. RefusesAnswer (command_of query) given refusal) }
 {
-    let case = Case::read(alloc, text)?;
+    let case = case_in(alloc, text)?;
     let answer = answer_case(alloc, query, &case);
     drop(case);
     answer

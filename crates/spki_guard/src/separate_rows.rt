@@ -1,9 +1,9 @@
 //! Decisions on cases by separate accepted lists.
 ghost use Rattle.std.specs.Prelude.{◌≡◌, ◌≢◌, ◌<◌, ℕ, List, length, IfOk, IfErr, IsErrOf};
-ghost use Rattle.sexpr_core.specs.Value.{Value, canon};
 ghost use Rattle.sexpr_text.specs.AdvancedForm.{IsTextWithin};
-ghost use Rattle.spki_case.specs.View.{model};
-ghost use Rattle.spki_guard.specs.TextAnswers.{RefusesAsLong, written_by, IsAnswerApart, DecidesApart, DecidesBy, RefusesApart, RefusesBy, RefusesRowsForm};
+ghost use Rattle.sexpr_text.specs.CanonicalTexts.{IsReadAs, RefusesForm};
+ghost use Rattle.spki_case.specs.View.{model, rows_of};
+ghost use Rattle.spki_guard.specs.TextAnswers.{RefusesAsLong, written_by, IsAnswerApart, DecidesApart, DecidesBy, ReadsRows, RefusesApart, RefusesBy, RefusesRows};
 ghost use Rattle.spki_guard.specs.Inner.Prints.{PrintsAs};
 ghost use Rattle.spki_guard.specs.declared.refusals.Refusal.{Refusal};
 ghost use Rattle.spki_guard.specs.declared.answers.Verdict.{Verdict};
@@ -11,9 +11,9 @@ ghost use Rattle.spki_guard.specs.declared.answers.Verdict.{Verdict};
 use crate::answers::{Answer, answer_of_decision};
 use crate::printed::Printed;
 use crate::refusals::Refusal;
-use crate::sources::canonical_case;
+use crate::sources::{case_in, short_text};
 use sexpr_core::FormFault;
-use sexpr_text::{Form, convert};
+use sexpr_text::CanonicalText;
 use spki_case::{AcceptedTable, Case, RowsFault};
 use spki_decision::decide;
 use std::alloc::Global;
@@ -44,27 +44,15 @@ fn answer_apart(alloc: Global, text: &[u8], rows: &[u8]) -> Answer<'static>
     }
 }
 
-/// As `answer_apart`. Err if one of the texts is refused, the case is too large, or memory ran out. If the
-/// case's text is canonical, it is not converted.
+/// As `answer_apart`. Err if one of the texts is refused, the case is too large, or memory ran out. A canonical text is
+/// neither copied nor converted.
 fn checked(alloc: Global, text: &[u8], rows: &[u8]) -> Result<Answer<'static>, Refusal>
     ensures answered { IfOk result (PrintsAs (DecidesApart text.now rows.now)) }
     ensures refused { IfErr result (λ refusal. RefusesApart text.now rows.now refusal) }
     ensures too_long { 1048576 < length text.now → IsErrOf result (Refusal.Form FormFault.TooLong) }
 {
-    match canonical_case(alloc, text)? {
-        Some(case) => decide_by_rows(alloc, &case, rows),
-        None => checked_converted(alloc, text, rows),
-    }
-}
-
-/// As `checked`, if the case's text is not canonical: it is converted to canonical form first.
-fn checked_converted(alloc: Global, text: &[u8], rows: &[u8]) -> Result<Answer<'static>, Refusal>
-    ensures answered { IfOk result (PrintsAs (DecidesApart text.now rows.now)) }
-    ensures refused { IfErr result (λ refusal. RefusesApart text.now rows.now refusal) }
-    ensures too_long { 1048576 < length text.now → IsErrOf result (Refusal.Form FormFault.TooLong) }
-{
-    let octets = convert(alloc, Form::Canonical, text)?;
-    let case = Case::read(alloc, &octets)?;
+    let text = short_text(alloc, text)?;
+    let case = case_in(alloc, &text)?;
     decide_by_rows(alloc, &case, rows)
 }
 
@@ -74,21 +62,23 @@ fn decide_by_rows(alloc: Global, case: &Case, rows: &[u8]) -> Result<Answer<'sta
     ensures answered { IfOk result (PrintsAs (DecidesBy (model case.now) rows.now)) }
     ensures refused { IfErr result (λ refusal. RefusesBy (model case.now) rows.now refusal) }
 {
-    let octets = canonical_rows(alloc, rows)?;
-    let accepted = AcceptedTable::read(alloc, &octets)?;
+    let text = CanonicalText::read(alloc, rows)?;
+    let accepted = rows_in(alloc, &text)?;
     let decided = decide(alloc, case, &accepted);
     drop(accepted);
     Ok(answer_of_decision(decided?))
 }
 
-/// Returns the canonical form of `rows`, a text in any form. Err if it has no value within the limits, or memory ran
-/// out. Whether the value is an accepted list is not tested.
-fn canonical_rows(alloc: Global, rows: &[u8]) -> Result<Vec<u8>, RowsFault>
-    ensures read { IfOk result (λ octets. (w : Value) × IsTextWithin rows.now w × (octets.items ≡ canon w)) }
-    ensures refused { IfErr result (λ fault. fault ≢ RowsFault.Memory → RefusesRowsForm rows.now fault) }
+/// Reads the accepted list of a text. Err is `Form` if the text has no value within the limits, or its canonical form
+/// has more than 1,048,576 octets. Otherwise it is the fault of its value, or `Memory`.
+fn rows_in<'a>(alloc: Global, text: &'a CanonicalText<'_>) -> Result<AcceptedTable<'a>, RowsFault>
+    ensures read { (given : List ℕ) → IsReadAs (IsTextWithin given) (RefusesForm given) text.entry.now
+        → IfOk result (λ table. ReadsRows given (rows_of table)) }
+    ensures refused { (given : List ℕ) → IsReadAs (IsTextWithin given) (RefusesForm given) text.entry.now
+        → IfErr result (λ fault. fault ≢ RowsFault.Memory → RefusesRows given fault) }
 {
-    match convert(alloc, Form::Canonical, rows) {
-        Ok(octets) => Ok(octets),
+    match text.document(alloc) {
+        Ok(document) => AcceptedTable::of(alloc, &document.top()),
         Err(FormFault::Memory) => Err(RowsFault::Memory),
         Err(fault) => Err(RowsFault::Form(fault)),
     }

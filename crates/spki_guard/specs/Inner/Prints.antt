@@ -7,11 +7,11 @@ use Rattle.std.specs.Prelude.{◌⊎◌, ◌≤◌, ◌∷◌, ◌++◌, Option,
 use Rattle.std.specs.declared.alloc.Global.{Global}
 use Rattle.metered_io.specs.declared.meters.Metered.{Metered}
 use Rattle.metered_io.specs.MeteredCalls.{faults_of}
+use Rattle.sexpr_core.specs.declared.fault.FormFault.{FormFault}
 use Rattle.sexpr_core.specs.Value.{Value}
 use Rattle.sexpr_text.specs.AdvancedForm.{adv, IsTextWithin, written}
+use Rattle.sexpr_text.specs.CanonicalTexts.{IsReadAs, RefusesForm}
 use Rattle.spki_tag.specs.Tag.{tag_value}
-use Rattle.spki_case.specs.Case.{IsCaseText}
-use Rattle.spki_case.specs.View.{model}
 use Rattle.spki_words.specs.declared.commands.Command.{Command}
 use Rattle.spki_words.specs.declared.commands.Command.TheVariants.{Reduce, Check, Explain}
 use Rattle.spki_guard.specs.declared.answers.Verdict.{Verdict}
@@ -28,7 +28,7 @@ use Rattle.spki_guard.specs.declared.sources.Source.{Source}
 use Rattle.spki_guard.specs.declared.sources.Source.TheVariants as source
 use Rattle.spki_guard.specs.declared.statuses.Status.{Status}
 use Rattle.spki_guard.specs.declared.statuses.Status.TheVariants.{Answered, WriteFault}
-use Rattle.spki_guard.specs.TextAnswers.{form_of, RefusesAnswer, RefusesLong, IsWritten, IsCutOff}
+use Rattle.spki_guard.specs.TextAnswers.{form_of, IsOnCase, RefusesAnswer, RefusesApart, RefusesLong, IsWritten, IsCutOff}
 
 -- ---- what a printer of folds has printed
 
@@ -117,11 +117,21 @@ command_of query.Decide = Check
 command_of query.Explain = Explain
 command_of query.Reduce = Reduce
 
--- the case of a text that is canonical, or a text's value in the form that the command needs, or why the text is refused
+-- The text has at most 1,048,576 octets, and this is its canonical text, or the fault of its form.
+pub record IsShortText (text : List ℕ) (read : Result (List ℕ) FormFault) : Type 0 where
+  pub short : length text ≤ 1048576
+  pub is : IsReadAs (IsTextWithin text) (RefusesForm text) read
+
+-- the canonical text of a case, or a text's value in the form that a command needs that is not for a case
 abbrev pub IsSourceOf : Command → List ℕ → Source → Type 0
-IsSourceOf command text (source.CanonicalCase own case) = (command ≡ command_of own) × IsCaseText text (model case)
-IsSourceOf command text (source.Converted octets) = (v : Value) × IsTextWithin text v × (octets.items ≡ written (form_of command) v)
-IsSourceOf command text (source.Refused refusal) = RefusesAnswer command text refusal
+IsSourceOf command text (source.Case own read) = (command ≡ command_of own) × IsShortText text read
+IsSourceOf command text (source.Converted octets) =
+    (IsOnCase command → ⊥) × (v : Value) × IsTextWithin text v × (octets.items ≡ written (form_of command) v)
+
+-- what a refusal means for the text of a case: for each command on a case, and with each accepted list that stands apart
+abbrev pub RefusesCase : List ℕ → Refusal → Type 0
+RefusesCase text refusal =
+    ((command : Command) → IsOnCase command → RefusesAnswer command text refusal) × ((rows : List ℕ) → RefusesApart text rows refusal)
 
 -- ---- reading
 

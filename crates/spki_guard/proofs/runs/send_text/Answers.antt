@@ -5,5 +5,5 @@ pub returns : goal.returns
 returns g c =
     sends_also g.W.Write.contents _ _ _ _ _
     (printed_answers c.args.command c.args.text.now c.answer_source-answer.result
-    (c.answer_source-answer.ensures.answer c.args.text.now c.source_of-source.ensures.read))
+    (c.answer_source-answer.ensures.answer c.args.text.now c.source_of-source.ensures.read c.source_of-source.ensures.refused))
     c.send-status.ensures
