@@ -6,12 +6,13 @@ use Rattle.std.proofs.lemmas.Option.{none-some, same_Some, slice_get_within, get
 use Rattle.spki_cert.specs.declared.entry.Entry.{Entry}
 use Rattle.spki_cert.specs.declared.principal.Policy.{Policy}
 use Rattle.spki_reduce.specs.Reduction.{Tuple, five, entry_tuple}
-use Rattle.spki_reduce.specs.Chain.{IsWork, IsWorkOf, ReachedAt, IsCost, Takes, IsOver, IsOverworked}
+use Rattle.spki_reduce.specs.Chain.{IsWork, IsWorkOf, ReachedAt, IsCost, Takes, IsOver, IsOverworked, AreTicksOfSteps}
 use Rattle.spki_reduce.proofs.Working.{one_work, grows, over, none_taken, taken}
 use Rattle.spki_case.specs.Case.{Case}
 use Rattle.spki_decision.specs.Spared.{is_spared}
 use Rattle.spki_decision.specs.Granted.{IsCharge, IsOvercharged, IsSumOf, IsEntryWork, IsWithinWork, IsOverspent}
 use Rattle.spki_decision.specs.Requirements.{AreKept, second}
+use Rattle.spki_decision.specs.Cost.{AreTicksOfEntry}
 
 -- ---- sums
 
@@ -105,10 +106,40 @@ module _ (policy : Policy) (uncounted : ℕ) (tuples : List Tuple) where
   pub no_charge : (e : Entry) → ((place : ℕ) → ReachedAt policy (five (entry_tuple e)) tuples place → ⊥) → IsCharge policy uncounted tuples e 0
   no_charge e none = no_charge_by e none (is_spared uncounted tuples e.tag) refl
 
+-- ---- ticks
+
+no_steps : (before : Option ℕ) (now : ℕ) (policy : Policy) (first : Tuple) (tuples : List Tuple)
+    → AreTicksOfSteps before before now now policy first tuples
+no_steps before now policy first tuples = record {
+  steps = 0;
+  within = omega arith;
+  work = 0;
+  is = refl;
+  taken = none_taken before before refl;
+  ticks = omega arith;
+}
+
+none_joined_by : (policy : Policy) (uncounted : ℕ) (tuples : List Tuple) (e : Entry) (before : Option ℕ) (now : ℕ) (b : Bool)
+    → is_spared uncounted tuples e.tag ≡ b → AreTicksOfEntry before before now now policy uncounted tuples e
+none_joined_by policy uncounted tuples e before now true is = inl (is, refl, no_steps None now policy (five (entry_tuple e)) tuples)
+none_joined_by policy uncounted tuples e before now false is = inr (is, no_steps before now policy (five (entry_tuple e)) tuples)
+
+-- if nothing is joined, nothing is counted
+pub none_joined : (policy : Policy) (uncounted : ℕ) (tuples : List Tuple) (e : Entry) (before : Option ℕ) (now : ℕ)
+    → AreTicksOfEntry before before now now policy uncounted tuples e
+none_joined policy uncounted tuples e before now = none_joined_by policy uncounted tuples e before now (is_spared uncounted tuples e.tag) refl
+
+-- what is taken where there is no bound
+pub unbounded : (before after : Option ℕ) (old new : ℕ) (policy : Policy) (first : Tuple) (tuples : List Tuple) → before ≡ None
+    → AreTicksOfSteps before after old new policy first tuples → AreTicksOfSteps None None old new policy first tuples
+unbounded None None old new policy first tuples same h = h
+unbounded None (Some left) old new policy first tuples same h = absurd h.taken
+unbounded (Some left) after old new policy first tuples same h = absurd (let clash : Some left ≡ None = same in cc)
+
 -- ---- the work of a case
 
 -- work that could be taken is within the limit
-within_limit : (limit : ℕ) (left : Option ℕ) (n : ℕ) → Takes (Some limit) left n → n ≤ limit
+pub within_limit : (limit : ℕ) (left : Option ℕ) (n : ℕ) → Takes (Some limit) left n → n ≤ limit
 within_limit limit None n h = absurd h
 within_limit limit (Some left) n h = omega (arith, h)
 

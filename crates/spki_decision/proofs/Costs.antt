@@ -1,18 +1,22 @@
--- The weights of names and of tuples, one after the other, and those of the certificates of a sequence.
+-- The weights of names and of tuples, one after the other, and those of the certificates of a sequence; the ticks of an entry that is not spared.
 use native.Mathlib.Numerals.{unary_clauses}
-use Rattle.std.proofs.Common.{◌≡◌, ℕ, zero, suc, ◌+◌, ◌*◌, ◌≤◌, ◌<◌, ◌-◌, List, [], ◌∷◌, ◌++◌, length, drop, take, get_or, slice_get, Option, Some, None, arith, rules, ap, ◌∙◌, refl, sym}
+use Rattle.std.proofs.Common.{◌≡◌, ℕ, zero, suc, ◌+◌, ◌*◌, ◌≤◌, ◌<◌, ◌-◌, List, [], ◌∷◌, ◌++◌, length, drop, take, get_or, slice_get, Option, Some, None, inl, inr, arith, rules, ap, ◌∙◌, refl, sym}
+use Rattle.std.proofs.lemmas.Bool.{both_ways}
 use Rattle.std.specs.List.{AllZip}
 use Rattle.spki_cert.specs.Cost.{names_weight, item_weight, items_weight}
+use Rattle.spki_cert.specs.declared.entry.Entry.{Entry}
 use Rattle.spki_cert.specs.declared.principal.Policy.{Policy}
 use Rattle.spki_cert.specs.declared.certificate.SeqItem.{SeqItem}
 use Rattle.spki_cert.specs.declared.certificate.SeqItem.TheVariants.{Key, DoHash, Auth, Name, Signature}
 use Rattle.spki_reduce.specs.Reduction.{Tuple, five, four, step_tuple}
-use Rattle.spki_reduce.specs.Chain.{tuples_of}
+use Rattle.spki_reduce.specs.Chain.{tuples_of, Takes}
 use Rattle.spki_reduce.specs.declared.tuple.Step.{Step}
 use Rattle.spki_case.specs.Case.{Case, Verified, Shown, certificates_from, certificates, keys_of}
 use Rattle.spki_decision.specs.CertificateTests.{PassesTestsAs, AreShown, Signed, asked_of, asked_in, asked, before_all, every}
-use Rattle.spki_decision.specs.Cost.{content_weight, path_weight, contents_weight, paths_weight, tuples_weight}
+use Rattle.spki_decision.specs.Cost.{content_weight, path_weight, contents_weight, paths_weight, tuples_weight, AreTicksOfEntry}
+use Rattle.spki_decision.specs.Spared.{is_spared}
 use Rattle.spki_decision.proofs.ChainRequirements.{last_of}
+use Rattle.spki_decision.proofs.StepNodes.{unspared}
 
 -- ---- names
 
@@ -94,3 +98,11 @@ pub shown_and_asked_ge : (c : Case) (verified : Verified) (ts : List Tuple) → 
     → tuples_weight ts + length (asked c) ≤ items_weight c.items
 shown_and_asked_ge c verified ts are =
     omega (arith, asked_le c.policy (keys_of c.items) verified (certificates c.items), shown_ge c.policy (keys_of c.items) verified c.items 1 ts are)
+
+-- ---- an entry that is not spared
+
+-- the work that it takes, and its ticks
+pub ticks_taken : (before after : Option ℕ) (old new : ℕ) (policy : Policy) (tuples : List Tuple) (e : Entry)
+    → AreTicksOfEntry before after old new policy 0 tuples e → (n : ℕ) × Takes before after n × (new ≤ old + 4 * n + 1)
+ticks_taken before after old new policy tuples e (inl h) = absurd (both_ways (is_spared 0 tuples e.tag) (unspared tuples e.tag) h.0)
+ticks_taken before after old new policy tuples e (inr h) = (h.1.work, h.1.taken, h.1.ticks)

@@ -123,11 +123,11 @@ module _ (most : ℕ) (tag : Tag) (tuples : List Tuple) (no_set : nests_set tag 
       small_with most (met (tag ∷ all_tags (take place tuples))) (nodes tag + nodes_together tuples) (most_of_one tuples) tuple (left_few place)
       (at_most tuples place tuple there) few)
 
-one_at_least : (ts : List Tuple) → 1 ≤ most_of_one ts
+pub one_at_least : (ts : List Tuple) → 1 ≤ most_of_one ts
 one_at_least [] = omega arith
 one_at_least (t ∷ ts) = omega (arith, one_at_least ts)
 
-and_false : (x : Bool) → (x && false) ≡ false
+pub and_false : (x : Bool) → (x && false) ≡ false
 and_false true = refl
 and_false false = refl
 

@@ -1,17 +1,18 @@
 -- The numbers of nodes of steps, counted one step after another.
-use Rattle.std.proofs.Common.{◌≡◌, ℕ, ◌+◌, ◌*◌, ◌<◌, ◌≤◌, max, ◌||◌, true, List, [], ◌∷◌, ◌++◌, length, take, drop, get_or, map, sym, ap, ◌∙◌, arith, mul-le-mul_left, mul-le-mul_right}
-use Rattle.std.proofs.lemmas.Bool.{or_right}
+use Rattle.std.proofs.Common.{◌≡◌, ℕ, ◌+◌, ◌*◌, ◌<◌, ◌≤◌, max, ◌||◌, true, false, Bool, List, [], ◌∷◌, ◌++◌, length, take, drop, get_or, map, sym, ap, ◌∙◌, arith, mul-le-mul_left, mul-le-mul_right}
+use Rattle.std.proofs.lemmas.Bool.{or_right, or_from, lt-leb}
+use Rattle.std.specs.Prelude.{nat_le, not, ◌&&◌}
 use Rattle.std.proofs.lemmas.List.{take-append-drop, map-append}
 use Rattle.std.proofs.lemmas.Grind.{flat_map-append}
-use Rattle.spki_tag.specs.Tag.{Tag, nodes, tags, some_nests_set}
+use Rattle.spki_tag.specs.Tag.{Tag, nodes, tags, nests_set, some_nests_set}
 use Rattle.spki_tag.proofs.MeetSizes.{nodes-some}
 use Rattle.spki_reduce.specs.declared.tuple.Step.{Step}
 use Rattle.spki_reduce.specs.Reduction.{Tuple, tags_of, step_tuple, nodes_product}
 use Rattle.spki_reduce.specs.Chain.{tuples_of, all_tags}
 use Rattle.spki_reduce.proofs.ReducedForms.{nodes_product-append}
-use Rattle.spki_decision.specs.Spared.{nodes_in, nodes_together, most_of_one}
+use Rattle.spki_decision.specs.Spared.{nodes_in, nodes_together, most_of_one, has_small_product, is_plain, is_spared}
 use Rattle.spki_decision.proofs.ChainRequirements.{more_tuples, more_tags}
-use Rattle.spki_decision.proofs.EntryChains.{append-sets}
+use Rattle.spki_decision.proofs.EntryChains.{append-sets, one_at_least, and_false}
 
 together-append : (ts us : List Tuple) → nodes_together (ts ++ us) ≡ nodes_together ts + nodes_together us
 together-append [] us = omega arith
@@ -27,6 +28,19 @@ most-more (u ∷ ts) t = omega (arith, most-more ts t)
 product-some : (ts : List Tag) → 1 ≤ nodes_product ts
 product-some [] = omega arith
 product-some (t ∷ ts) = omega (arith, mul-le-mul_right (nodes_product ts) (nodes-some t), product-some ts)
+
+-- no entry is spared if nothing may go uncounted: each tag has a node
+pub unspared : (tuples : List Tuple) (tag : Tag) → is_spared 0 tuples tag ≡ false
+unfolding is_spared
+unspared tuples tag =
+    let product = nodes_product (all_tags tuples) in
+    let all = nodes tag + nodes_together tuples in
+    let some : 1 * product ≤ nodes tag * product = mul-le-mul_right product (nodes-some tag) in
+    let many : all * 1 ≤ all * most_of_one tuples = mul-le-mul_left all (one_at_least tuples) in
+    let small : has_small_product 0 tuples tag ≡ false = lt-leb (nodes tag * product) 0 (omega (arith, some, product-some (all_tags tuples))) in
+    let over : nat_le (all * most_of_one tuples) 0 ≡ false = lt-leb (all * most_of_one tuples) 0 (omega (arith, many, nodes-some tag)) in
+    let sets = not (nests_set tag) && not (some_nests_set (tags (all_tags tuples))) in
+    or_from (has_small_product 0 tuples tag) (is_plain 0 tuples tag) small (ap (λ (b : Bool). sets && b) over ∙ and_false sets)
 
 -- steps up to one, and those behind it
 module _ (steps : List Step) (i : ℕ) (step : Step) (below : i < length steps) (here : step ≡ get_or steps i step) where

@@ -1,9 +1,15 @@
--- How much is read of the tuples of certificates when they are tested.
-use Rattle.std.specs.Prelude.{ℕ, ◌+◌, List, [], ◌∷◌}
+-- How much is read of the tuples of certificates when they are tested, and the ticks of an entry's chain.
+use Rattle.std.specs.Prelude.{◌≡◌, ℕ, ◌+◌, ◌<◌, ◌≤◌, ◌⊎◌, List, [], ◌∷◌, Option, None, true, false}
+use Rattle.spki_cert.specs.declared.entry.Entry.{Entry}
+use Rattle.spki_cert.specs.declared.principal.Policy.{Policy}
 use Rattle.spki_tag.specs.Tag.{tags}
 use Rattle.spki_tag.specs.Cost.{weight_all}
 use Rattle.spki_cert.specs.Cost.{names_weight, principal_weight}
-use Rattle.spki_reduce.specs.Reduction.{Tuple, five, four, tags_of}
+use Rattle.spki_reduce.specs.Reduction.{Tuple, five, four, tags_of, entry_tuple}
+use Rattle.spki_reduce.specs.Chain.{AreTicksOfSteps}
+use Rattle.spki_decision.specs.Spared.{is_spared}
+use Rattle.spki_decision.specs.declared.reduction.EntryFold.{EntryFold}
+use Rattle.spki_decision.specs.declared.reduction.EntryFold.TheVariants.{Done, Stopped}
 
 -- one for the tuple, and its tags
 abbrev pub content_weight : Tuple → ℕ
@@ -25,3 +31,17 @@ paths_weight (t ∷ ts) = path_weight t + paths_weight ts
 
 abbrev pub tuples_weight : List Tuple → ℕ
 tuples_weight ts = contents_weight ts + paths_weight ts
+
+-- ---- ticks
+
+-- The ticks of the chain of an entry and all certificates, from the number before it to that after it: at most four for each unit of the work of
+-- some of its steps, and one. This work is what was taken of the work that may be done. Nothing was, if the entry is spared.
+abbrev pub AreTicksOfEntry : Option ℕ → Option ℕ → ℕ → ℕ → Policy → ℕ → List Tuple → Entry → Type 0
+AreTicksOfEntry before after old new policy uncounted tuples e =
+    ((is_spared uncounted tuples e.tag ≡ true) × (after ≡ before) × AreTicksOfSteps None None old new policy (five (entry_tuple e)) tuples)
+    ⊎ ((is_spared uncounted tuples e.tag ≡ false) × AreTicksOfSteps before after old new policy (five (entry_tuple e)) tuples)
+
+-- at least one for each step of a chain that goes through, and one for a chain that stops
+abbrev pub CountsSteps : ℕ → ℕ → ℕ → EntryFold → Type 0
+CountsSteps old new steps (Done f) = old + steps ≤ new
+CountsSteps old new steps (Stopped item cause) = old < new

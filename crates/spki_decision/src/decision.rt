@@ -1,6 +1,6 @@
 //! Deciding a case (RFC 2693, section 6).
 
-ghost use Rattle.std.specs.Prelude.{◌↔◌, ◌⊎◌, ℕ, IfOk, OnOk, IsErrOf, IsTrue};
+ghost use Rattle.std.specs.Prelude.{◌≡◌, ◌<◌, ◌↔◌, ◌⊎◌, ℕ, IfOk, OnOk, IsErrOf, IsTrue};
 ghost use Rattle.spki_case.specs.View.{model};
 ghost use Rattle.spki_reduce.specs.Reduction.{five, entry_tuple};
 ghost use Rattle.spki_reduce.specs.Chain.{tuples_of, TooLargeAt, Takes};
@@ -15,7 +15,10 @@ use crate::fault::GuardFault;
 use spki_case::{Case, Verifier};
 use spki_cert::Entry;
 use spki_reduce::{ReduceFault, Step};
+use spki_tag::Ticks;
 use std::alloc::Global;
+use std::marker::Brand;
+use std::sync::ledger::{Blank, Ledger};
 
 /// The answer of a case's access list.
 #[derive(Clone, Copy, Debug, PartialEq, Eq)]
@@ -57,29 +60,37 @@ pub fn decide<V: Verifier>(alloc: Global, case: &Case, verifier: &V) -> Result<D
 {
     match judge(alloc, &case.sequence, case.policy, verifier)? {
         Evidence::Fails { .. } => Ok(Decision::No),
-        Evidence::Verified(steps) => first_within_limit(alloc, case, &steps),
+        Evidence::Verified(steps) => {
+            first_within_limit::<Brand>(alloc, case, &steps, Blank::new(1))
+        }
     }
 }
 
 /// The first entry, from 1, of a case's access list that grants the request with certificates whose tuples are `steps`.
-/// `No` if there is none. Each entry up to it, and no later one, is tested for tags that are too large.
+/// `No` if there is none. Each entry up to it, and no later one, is tested for tags that are too large. `blank` opens a count, which exists only in
+/// contracts and is dropped afterwards.
 ///
 /// # Errors
 ///
 /// Those of `decide`.
-fn first_within_limit<'a>(
+fn first_within_limit<'a, L: Ledger>(
     alloc: Global,
     case: &Case<'a>,
     steps: &[Step<'a>],
+    blank: Blank,
 ) -> Result<Decision, GuardFault>
+    requires name { blank.name ≡ L.name }
+    requires parts { blank.parts ≡ L.parts }
+    requires some { 0 < blank.parts }
     ensures named { IfOk result (Names (model case.now) (tuples_of steps.now)) }
     ensures too_large { IsErrOf result GuardFault.TooLarge → HasLarge (model case.now) (tuples_of steps.now) }
     ensures within_limit { IfOk result (SmallUpTo (model case.now) (tuples_of steps.now)) }
 {
     let requirement = ChainRequirement::of(alloc, case, steps)?;
     let mut budget = Budget::of(case, steps);
+    let mut ticks = Ticks::<L>::new(blank);
     for (index, entry) in case.acl.iter().enumerate() {
-        require_small(alloc, entry, steps, case, &mut budget)?;
+        require_small(alloc, entry, steps, case, &mut budget, &mut ticks)?;
         if requirement.grants(entry, case) {
             return Ok(Decision::Yes(index + 1));
         }
@@ -90,12 +101,13 @@ fn first_within_limit<'a>(
 /// Checks that the intersections of this entry's tag with the tags of the steps are within the limits of nodes and work. An entry that is spared
 /// (`Sizes::are_small`) passes. Any other is joined with the steps only to check this, which takes its work from the budget. Err is `TooLarge`, or
 /// `Memory`.
-fn require_small<'a>(
+fn require_small<'a, L: Ledger>(
     alloc: Global,
     entry: &Entry<'a>,
     steps: &[Step<'a>],
     case: &Case<'a>,
     budget: &mut Budget,
+    ticks: &mut Ticks<L>,
 ) -> Result<(), ReduceFault>
     requires { IsBudgetFor (tuples_of steps.now) budget.old }
     ensures too_large { IsErrOf result ReduceFault.TooLarge →
@@ -109,6 +121,6 @@ fn require_small<'a>(
     if budget.sizes.are_small(&entry.tag, steps, case.uncounted) {
         return Ok(());
     }
-    fold_entry(alloc, entry, steps, case, budget)?;
+    fold_entry(alloc, entry, steps, case, budget, ticks)?;
     Ok(())
 }

@@ -1,26 +1,30 @@
 //! Joins an entry and the steps after it (RFC 2693, section 6.3).
 
-ghost use Rattle.std.specs.Prelude.{◌≡◌, ◌⊎◌, ℕ, [], IfOk, OnOk, IsErrOf};
+ghost use Rattle.std.specs.Prelude.{◌≡◌, ◌⊎◌, ◌≤◌, ◌+◌, ℕ, [], length, IfOk, OnOk, IsErrOf};
 ghost use Rattle.spki_reduce.specs.Reduction.{five, own, entry_tuple, five_tuple, issuer_of};
 ghost use Rattle.spki_reduce.specs.Chain.{tuples_of, FoldsTo, StopsAt, HasMet, TooLargeAt, Excludes, MatchFold, Takes};
 ghost use Rattle.spki_decision.specs.Granted.{IsCharge, IsOvercharged};
+ghost use Rattle.spki_decision.specs.Cost.{AreTicksOfEntry};
 ghost use Rattle.spki_decision.specs.Requirements.{work_left, IsBudgetFor};
 
 use crate::budget::Budget;
 use spki_case::Case;
 use spki_cert::Entry;
-use spki_reduce::{Five, Fold, Issuer, ReduceFault, Step, Work, fold_owned};
+use spki_reduce::{Five, Fold, Issuer, ReduceFault, Step, Work, fold_owned_counted};
+use spki_tag::Ticks;
 use std::alloc::{AllocError, Global};
+use std::sync::ledger::Ledger;
 
-/// Joins an entry's 5-tuple with the steps after it, as `fold_owned` does, under the policy and the limits of the case. The work of the steps is
+/// Joins an entry's 5-tuple with the steps after it, as `fold_owned_counted` does, under the policy and the limits of the case. The work of the steps is
 /// taken from the budget, which must be one for these steps, unless the entry is spared (`Sizes::are_small`). Err is `TooLarge` if a tag is too
 /// large, or the budget too little, or `Memory`.
-pub(crate) fn fold_entry<'a>(
+pub(crate) fn fold_entry<'a, L: Ledger>(
     alloc: Global,
     entry: &Entry<'a>,
     steps: &[Step<'a>],
     case: &Case<'a>,
     budget: &mut Budget,
+    ticks: &mut Ticks<L>,
 ) -> Result<Fold<'a>, ReduceFault>
     requires { IsBudgetFor (tuples_of steps.now) budget.old }
     ensures fold { IfOk result (λ fold. MatchFold fold
@@ -40,19 +44,32 @@ pub(crate) fn fold_entry<'a>(
     ensures charged { OnOk result ((n : ℕ) × IsCharge case.now.policy case.now.uncounted (tuples_of steps.now) entry.now n
         × Takes (work_left budget.old) (work_left budget.new) n) }
     ensures sizes { IsBudgetFor (tuples_of steps.now) budget.new }
+    ensures cost { AreTicksOfEntry (work_left budget.old) (work_left budget.new) ticks.old ticks.new
+        case.now.policy case.now.uncounted (tuples_of steps.now) entry.now }
+    ensures each { IfOk result (λ fold. MatchFold fold (λ f. ticks.old + length steps.now ≤ ticks.new)
+        (λ step cause. ticks.old + step ≤ ticks.new)) }
 {
     let own = own_five(entry)?;
     if budget.sizes.are_small(&entry.tag, steps, case.uncounted) {
         let mut any = Work::new(None);
-        fold_owned(alloc, own, steps, case.policy, case.most_nodes, &mut any)
+        fold_owned_counted(
+            alloc,
+            own,
+            steps,
+            case.policy,
+            case.most_nodes,
+            &mut any,
+            ticks,
+        )
     } else {
-        fold_owned(
+        fold_owned_counted(
             alloc,
             own,
             steps,
             case.policy,
             case.most_nodes,
             &mut budget.work,
+            ticks,
         )
     }
 }

@@ -32,5 +32,5 @@ pub use fault::GuardFault;
 pub use fold_sink::FoldSink;
 pub use grant::Grant;
 pub use named_key::{first_named, keys_of};
-pub use reduction::{EntryFold, Reduction, entry_fold, reduce_case};
+pub use reduction::{EntryFold, Reduction, entry_fold, entry_fold_counted, reduce_case};
 pub use signed::Signed;

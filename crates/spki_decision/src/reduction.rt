@@ -1,6 +1,6 @@
 //! What the entries of a case become (RFC 2693, section 6.3).
 
-ghost use Rattle.std.specs.Prelude.{◌≡◌, List, map, length, IfOk, OnOk, IsErrOf, ◌⊎◌, ℕ};
+ghost use Rattle.std.specs.Prelude.{◌≡◌, ◌<◌, List, map, length, IfOk, OnOk, IsErrOf, ◌⊎◌, ℕ};
 ghost use Rattle.std.specs.List.{AllByRecursion};
 ghost use Rattle.spki_case.specs.View.{model};
 ghost use Rattle.spki_decision.specs.CertificateTests.{shown_of, with_entries};
@@ -11,6 +11,7 @@ ghost use Rattle.spki_reduce.specs.Chain.{tuples_of, TooLargeAt, Takes};
 ghost use Rattle.spki_decision.specs.declared.reduction.EntryFold.{EntryFold};
 ghost use Rattle.spki_decision.specs.Granted.{IsEntryFold, IsOwn, IsReduction, IsDated, EndsAtDate, AreDated, EndAtDates, AreFoldsOf, HasLargeTags, HasMuchWork, SomeTooLarge, IsCharge, IsOvercharged};
 ghost use Rattle.spki_decision.specs.Requirements.{work_left, IsBudgetFor};
+ghost use Rattle.spki_decision.specs.Cost.{AreTicksOfEntry, CountsSteps};
 
 use crate::budget::Budget;
 use crate::certificates::{ShownCert, certificates_of};
@@ -21,7 +22,10 @@ use crate::fold_sink::FoldSink;
 use spki_case::{Case, Verifier};
 use spki_cert::Entry;
 use spki_reduce::{Cause, Five, Fold, Step};
+use spki_tag::Ticks;
 use std::alloc::Global;
+use std::marker::Brand;
+use std::sync::ledger::{Blank, Ledger};
 
 /// What an entry and all certificates become when they are joined, one after another.
 #[derive(Drop)]
@@ -139,7 +143,84 @@ pub fn entry_fold<'a>(
     ensures same_sizes { IsBudgetFor (tuples_of steps.now) budget.new }
     ensures within_limit { IfOk result (λ fold. ¬ TooLargeAt case.now.most_nodes case.now.policy (five (entry_tuple entry.now)) (tuples_of steps.now)) }
 {
-    match fold_entry(alloc, entry, steps, case, budget)? {
+    entry_fold_from::<Brand>(alloc, case, entry, shown, steps, budget, Blank::new(1))
+}
+
+/// Calls `entry_fold_counted` with a new count, which `blank` opens. The count exists only in contracts, and is dropped afterwards.
+fn entry_fold_from<'a, L: Ledger>(
+    alloc: Global,
+    case: &Case<'a>,
+    entry: &Entry<'a>,
+    shown: &[ShownCert<'_, 'a>],
+    steps: &[Step<'a>],
+    budget: &mut Budget,
+    blank: Blank,
+) -> Result<EntryFold<'a>, GuardFault>
+    requires whole { map shown_of shown.now ≡ certificates case.now.sequence.items }
+    requires as_many { length steps.now ≡ length (certificates case.now.sequence.items) }
+    requires sizes { IsBudgetFor (tuples_of steps.now) budget.old }
+    requires name { blank.name ≡ L.name }
+    requires parts { blank.parts ≡ L.parts }
+    requires some { 0 < blank.parts }
+    ensures exact { (es : List Entry) →
+        IfOk result (IsEntryFold (with_entries (model case.now) es) (tuples_of steps.now) entry.now) }
+    ensures issuer { IfOk result IsOwn }
+    ensures dated { IfOk result IsDated }
+    ensures end { IfOk result EndsAtDate }
+    ensures too_large { IsErrOf result GuardFault.TooLarge →
+        TooLargeAt case.now.most_nodes case.now.policy (five (entry_tuple entry.now)) (tuples_of steps.now)
+        ⊎ IsOvercharged case.now.policy case.now.uncounted (tuples_of steps.now) entry.now (work_left budget.old) }
+    ensures charged { OnOk result ((n : ℕ) × IsCharge case.now.policy case.now.uncounted (tuples_of steps.now) entry.now n
+        × Takes (work_left budget.old) (work_left budget.new) n) }
+    ensures same_sizes { IsBudgetFor (tuples_of steps.now) budget.new }
+    ensures within_limit { IfOk result (λ fold. ¬ TooLargeAt case.now.most_nodes case.now.policy (five (entry_tuple entry.now)) (tuples_of steps.now)) }
+{
+    entry_fold_counted(
+        alloc,
+        case,
+        entry,
+        shown,
+        steps,
+        budget,
+        &mut Ticks::<L>::new(blank),
+    )
+}
+
+/// Does what `entry_fold` does. A step that is looked at is a tick, and so is what is compared or copied where it joins. There are at most four
+/// for each unit of the work of the steps, and one.
+///
+/// # Errors
+///
+/// Those of `entry_fold`.
+pub fn entry_fold_counted<'a, L: Ledger>(
+    alloc: Global,
+    case: &Case<'a>,
+    entry: &Entry<'a>,
+    shown: &[ShownCert<'_, 'a>],
+    steps: &[Step<'a>],
+    budget: &mut Budget,
+    ticks: &mut Ticks<L>,
+) -> Result<EntryFold<'a>, GuardFault>
+    requires whole { map shown_of shown.now ≡ certificates case.now.sequence.items }
+    requires as_many { length steps.now ≡ length (certificates case.now.sequence.items) }
+    requires sizes { IsBudgetFor (tuples_of steps.now) budget.old }
+    ensures exact { (es : List Entry) →
+        IfOk result (IsEntryFold (with_entries (model case.now) es) (tuples_of steps.now) entry.now) }
+    ensures issuer { IfOk result IsOwn }
+    ensures dated { IfOk result IsDated }
+    ensures end { IfOk result EndsAtDate }
+    ensures too_large { IsErrOf result GuardFault.TooLarge →
+        TooLargeAt case.now.most_nodes case.now.policy (five (entry_tuple entry.now)) (tuples_of steps.now)
+        ⊎ IsOvercharged case.now.policy case.now.uncounted (tuples_of steps.now) entry.now (work_left budget.old) }
+    ensures charged { OnOk result ((n : ℕ) × IsCharge case.now.policy case.now.uncounted (tuples_of steps.now) entry.now n
+        × Takes (work_left budget.old) (work_left budget.new) n) }
+    ensures same_sizes { IsBudgetFor (tuples_of steps.now) budget.new }
+    ensures within_limit { IfOk result (λ fold. ¬ TooLargeAt case.now.most_nodes case.now.policy (five (entry_tuple entry.now)) (tuples_of steps.now)) }
+    ensures cost { AreTicksOfEntry (work_left budget.old) (work_left budget.new) ticks.old ticks.new
+        case.now.policy case.now.uncounted (tuples_of steps.now) entry.now }
+    ensures each { IfOk result (CountsSteps ticks.old ticks.new (length steps.now)) }
+{
+    match fold_entry(alloc, entry, steps, case, budget, ticks)? {
         Fold::Done(five) => {
             five.window.prove_limits();
             Ok(EntryFold::Done(five))

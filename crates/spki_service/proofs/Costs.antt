@@ -1,15 +1,22 @@
--- The octets of entries that are found, by their numbers and by the test, and the weights of what is read from them.
-use Rattle.std.proofs.Common.{◌≡◌, ℕ, zero, suc, ◌+◌, ◌*◌, ◌-◌, ◌<◌, ◌≤◌, Bool, true, false, cond, List, [], ◌∷◌, map, length, drop, get_or, add-one, refl, ap, arith}
+-- The octets of entries that are found, by their numbers and by the test, and the weights of what is read from them; the ticks of all entries.
+use Rattle.std.proofs.Common.{◌≡◌, ℕ, zero, suc, ◌+◌, ◌*◌, ◌-◌, ◌<◌, ◌≤◌, Bool, true, false, cond, List, [], ◌∷◌, Option, Some, map, length, take, drop, get_or, add-one, refl, ap, subst, take_all, arith}
+use Rattle.std.proofs.lemmas.List.Sums.{sum_by_more, sum_by_more_le, sum_by-take-le}
 use Rattle.spki_cert.specs.declared.entry.Entry.{Entry}
 use Rattle.spki_cert.specs.Cost.{entry_weight}
 use Rattle.spki_cert.proofs.Costs.{entry_ge, sequence_ge}
 use Rattle.spki_service.specs.AccessLists.{IsEntryText, AreEntries, AreNumbers, kept_from, first, numbers_from}
-use Rattle.spki_service.specs.Cost.{octets_at, octets_of, found_octets, HasOctets}
+use Rattle.spki_service.specs.Cost.{octets_at, octets_of, found_octets, HasOctets, all_octets}
 use Rattle.spki_service.specs.GuardQuestions.{PreparedModel}
+use Rattle.spki_cert.specs.declared.principal.Policy.{Policy}
 use Rattle.spki_reduce.specs.Reduction.{Tuple}
-use Rattle.spki_decision.specs.Cost.{tuples_weight}
+use Rattle.spki_reduce.specs.Chain.{Takes}
+use Rattle.spki_reduce.proofs.Working.{none_taken, taken}
+use Rattle.spki_decision.specs.Cost.{tuples_weight, AreTicksOfEntry, CountsSteps}
+use Rattle.spki_decision.specs.declared.reduction.EntryFold.{EntryFold}
+use Rattle.spki_decision.specs.declared.reduction.EntryFold.TheVariants.{Done, Stopped}
 use Rattle.spki_decision.specs.CertificateTests.{AreShown, asked, every}
-use Rattle.spki_decision.proofs.Costs.{asked_ge, shown_and_asked_ge}
+use Rattle.spki_decision.proofs.Charges.{within_limit}
+use Rattle.spki_decision.proofs.Costs.{asked_ge, shown_and_asked_ge, ticks_taken}
 use Rattle.spki_service.proofs.SelectedEntries.{entry_there, number_at, as_many}
 
 -- ---- by their numbers
@@ -90,3 +97,66 @@ module _ (a : PreparedModel) (shown found : ℕ) (has : HasOctets a shown found)
       → tuples_weight tuples + length (asked a.case) + 2 * found_octets a.case tuples a.texts es ≤ 4 * shown + 2 * found
   found_cost tuples es shows are =
       omega (arith, shown_and_asked_ge a.case every tuples shows, sequence_ge has.value a.case.items has.sequence, has.long, has.entries tuples es shows are)
+
+-- ---- all entries, one after another
+
+pub none_read : (texts : List (List ℕ)) → all_octets (take 0 texts) ≡ 0
+none_read [] = refl
+none_read (t ∷ ts) = refl
+
+module _ (most : ℕ) (texts : List (List ℕ)) (old : ℕ) where
+  -- The ticks of the entries before a place: at most four for each unit of the work that they took, one for each octet and two for each entry. So
+  -- much work may still be done.
+  pub record TicksTo (place : ℕ) (left : Option ℕ) (now : ℕ) : Type 0 where
+    pub work : ℕ
+    pub took : Takes (Some most) left work
+    pub ticks : now ≤ old + 4 * work + all_octets (take place texts) + 2 * place
+
+  pub none_counted : (left : Option ℕ) → left ≡ Some most → TicksTo 0 left old
+  none_counted left same = record { work = 0; took = none_taken (Some most) left same; ticks = omega (arith, none_read texts) }
+
+  pub ticks_within : (place : ℕ) (left : Option ℕ) (now : ℕ) → place ≤ length texts → TicksTo place left now
+      → now ≤ old + 4 * most + all_octets texts + 2 * length texts
+  ticks_within place left now few h =
+      omega (arith, few, h.ticks, within_limit most left h.work h.took, sum_by-take-le length texts place)
+
+  module _ (place : ℕ) (below : place < length texts) (left : Option ℕ) (now : ℕ) (before : TicksTo place left now) (read : ℕ)
+      (reads : read ≡ now + 1 + length (get_or texts place [])) where
+    -- an entry more is read
+    pub read_within : read ≤ old + 4 * most + all_octets texts + 2 * length texts
+    read_within =
+        omega (
+          arith,
+          below,
+          before.ticks,
+          within_limit most left before.work before.took,
+          reads,
+          sum_by_more_le length texts place [] below,
+        )
+
+    -- and joined
+    pub one_joined : (after : Option ℕ) (new : ℕ) (policy : Policy) (uncounted : ℕ) (tuples : List Tuple) (e : Entry) → uncounted ≡ 0
+        → AreTicksOfEntry left after read new policy uncounted tuples e → TicksTo (place + 1) after new
+    one_joined after new policy uncounted tuples e counted h =
+        let (n, takes, few) = ticks_taken left after read new policy tuples e
+        (subst (λ (u : ℕ). AreTicksOfEntry left after read new policy u tuples e) counted h) in
+        record {
+          work = before.work + n;
+          took = taken (Some most) left after before.work n before.took takes;
+          ticks = omega (arith, before.ticks, reads, few, sum_by_more length texts place [] below);
+        }
+
+counts : (old new steps : ℕ) (fold : EntryFold) → CountsSteps old new steps fold → old ≤ new
+counts old new steps (Done f) h = omega (arith, h)
+counts old new steps (Stopped item cause) h = omega (arith, h)
+
+-- each octet is counted
+pub one_read : (texts : List (List ℕ)) (place old now read new steps : ℕ) (fold : EntryFold) → place < length texts
+    → old + all_octets (take place texts) + place ≤ now → read ≡ now + 1 + length (get_or texts place []) → CountsSteps read new steps fold
+    → old + all_octets (take (place + 1) texts) + (place + 1) ≤ new
+one_read texts place old now read new steps fold below before reads h =
+    omega (arith, before, reads, counts read new steps fold h, sum_by_more length texts place [] below)
+
+pub all_read : (texts : List (List ℕ)) (place old now : ℕ) → place ≡ length texts → old + all_octets (take place texts) + place ≤ now
+    → old + all_octets texts + length texts ≤ now
+all_read texts place old now whole h = omega (arith, h, whole, ap all_octets (take_all place texts (omega (arith, whole))))

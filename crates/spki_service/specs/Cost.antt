@@ -1,5 +1,6 @@
--- How many octets a question is about: those of its sequence, and those of the entries that the index finds for it.
-use Rattle.std.specs.Prelude.{◌≡◌, ◌≤◌, ℕ, ◌+◌, ◌-◌, List, [], ◌∷◌, length, Bool, slice_index_or, if◌then◌else◌}
+-- How many octets a question is about: those of its sequence, and those of the entries that the index finds for it; the ticks of all entries.
+use Rattle.std.specs.Prelude.{◌≡◌, ◌≤◌, ℕ, ◌+◌, ◌*◌, ◌-◌, List, [], ◌∷◌, length, Bool, slice_index_or, if◌then◌else◌}
+use Rattle.std.specs.List.{sum_by}
 use Rattle.sexpr_core.specs.Value.{Value, canon}
 use Rattle.spki_cert.specs.declared.entry.Entry.{Entry}
 use Rattle.spki_cert.specs.Structures.{SeqOf}
@@ -33,3 +34,14 @@ pub record HasOctets (a : PreparedModel) (shown found : ℕ) : Type 0 where
   pub long : shown ≡ length (canon value)
   pub entries : (tuples : List Tuple) (es : List Entry) → AreShown a.case.policy every a.case.items tuples → AreEntries a.texts es
       → found_octets a.case tuples a.texts es ≤ found
+
+-- ---- all entries
+
+-- the octets of texts
+abbrev pub all_octets : List (List ℕ) → ℕ
+all_octets texts = sum_by length texts
+
+-- The most ticks of reading all entries and joining each with all certificates: four for each unit of the work that the case allows, one for each
+-- octet of the entries' texts, and two for each entry.
+abbrev pub fold_ticks : PreparedModel → ℕ
+fold_ticks a = 4 * a.case.most_work + all_octets a.texts + 2 * length a.texts

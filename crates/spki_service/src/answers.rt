@@ -15,8 +15,8 @@ use crate::text_folds::fold_texts;
 use spki_case::Verifier;
 use spki_cert::Key;
 use spki_decision::{
-    Decision, Explanation, FoldSink, Grant, GuardFault, ReasonSink, Reduction, Signed, Stop,
-    Unverified, first_refused,
+    Decision, Explanation, FoldSink, Grant, GuardFault, Reduction, Signed, Stop, Unverified,
+    first_refused,
 };
 use spki_reduce::{Issuer, Step};
 use std::alloc::{AllocError, Global};
@@ -138,7 +138,7 @@ impl<'a> PreparedQuestion<'a> {
         ensures { Answers (λ c answer. IsExplained c (V.accepted verifier.now) answer) self.now result }
     {
         match first_refused(alloc, &self.examined.signed, verifier)? {
-            None => self.explained(alloc),
+            None => self.explained_from::<Brand>(alloc, Blank::new(1)),
             Some(place) => Ok(Explanation::Evidence {
                 item: self.examined.signed[place].item,
                 stop: Stop::NotAccepted,
@@ -154,13 +154,7 @@ impl<'a> PreparedQuestion<'a> {
     pub fn explain_by(&self, alloc: Global) -> Result<Explanation, GuardFault>
         ensures { ExplainsMarked self.now result }
     {
-        match self.unmarked() {
-            None => self.explained(alloc),
-            Some(one) => Ok(Explanation::Evidence {
-                item: one.item,
-                stop: Stop::NotAccepted,
-            }),
-        }
+        self.explain_by_from::<Brand>(alloc, Blank::new(1))
     }
 
     /// Reduces the question, as `spki_decision::reduce_case` reduces the case of the question's parts and the guard's
@@ -180,7 +174,7 @@ impl<'a> PreparedQuestion<'a> {
         ensures end { IfOk result EndAtDates }
     {
         match first_refused(alloc, &self.examined.signed, verifier)? {
-            None => self.reduced(alloc),
+            None => self.reduced_from::<Brand>(alloc, Blank::new(1)),
             Some(place) => Ok(Reduction::Evidence {
                 item: self.examined.signed[place].item,
                 stop: Stop::NotAccepted,
@@ -197,13 +191,7 @@ impl<'a> PreparedQuestion<'a> {
         ensures reduced { ReducesMarked self.now result }
         ensures end { IfOk result EndAtDates }
     {
-        match self.unmarked() {
-            None => self.reduced(alloc),
-            Some(one) => Ok(Reduction::Evidence {
-                item: one.item,
-                stop: Stop::NotAccepted,
-            }),
-        }
+        self.reduce_by_from::<Brand>(alloc, Blank::new(1))
     }
 
     /// Reduces the question as `reduce_by` does, and puts what each entry becomes into `sink` as soon as it is found. So no more
@@ -229,36 +217,6 @@ impl<'a> PreparedQuestion<'a> {
                 item: one.item,
                 stop: Stop::NotAccepted,
             })),
-        }
-    }
-
-    /// The explanation if the verifier accepts every signature. Err is `TooLarge` or `Memory`, as for `explain`. `prove_well_formed` is only for the
-    /// prover.
-    fn explained(&self, alloc: Global) -> Result<Explanation, GuardFault>
-        ensures { Answers (λ c answer. IsExplained c every answer) self.now result }
-    {
-        self.case.request.prove_well_formed();
-        let guard = self.guard;
-        let mut sink = ReasonSink {
-            case: &self.case,
-            reasons: Vec::with_capacity(alloc, guard.texts.len())?,
-        };
-        match self.put_folds(alloc, &mut sink)? {
-            Some(Failure { item, stop }) => Ok(Explanation::Evidence { item, stop }),
-            None => Ok(Explanation::Entries(sink.reasons)),
-        }
-    }
-
-    /// The reduction if the verifier accepts every signature. Err is `TooLarge` or `Memory`, as for `reduce`.
-    fn reduced(&self, alloc: Global) -> Result<Reduction<'a>, GuardFault>
-        ensures reduced { Answers (λ c answer. IsReduced c every answer) self.now result }
-        ensures end { IfOk result EndAtDates }
-    {
-        let guard = self.guard;
-        let mut folds = Vec::with_capacity(alloc, guard.texts.len())?;
-        match self.put_folds(alloc, &mut folds)? {
-            Some(Failure { item, stop }) => Ok(Reduction::Evidence { item, stop }),
-            None => Ok(Reduction::Entries(folds)),
         }
     }
 

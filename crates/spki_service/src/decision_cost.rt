@@ -119,7 +119,7 @@ impl<'a> PreparedQuestion<'a> {
     }
 
     /// The first listed signature without a mark at its place. None if each has one. Each that is looked at is a tick.
-    fn unmarked_counted<L: Ledger>(&self, ticks: &mut Ticks<L>) -> Option<&Signed<'a>>
+    pub(crate) fn unmarked_counted<L: Ledger>(&self, ticks: &mut Ticks<L>) -> Option<&Signed<'a>>
         ensures answer { MatchOption result (AllMarked (asked self.now.case) self.now.marks)
             (λ one. IsUnmarked (asked self.now.case) self.now.marks (signed_of one.now)) }
         ensures cost { ticks.new ≤ ticks.old + length (asked self.now.case) }

@@ -7,6 +7,7 @@ mod date;
 mod decision_cost;
 mod entry_texts;
 mod failure;
+mod fold_cost;
 mod granted_entry;
 mod guard;
 mod index;

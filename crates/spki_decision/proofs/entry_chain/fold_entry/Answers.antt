@@ -1,5 +1,6 @@
 use Rattle.std.proofs.Common.{refl, sym, ◌∙◌, inl, inr, ℕ, Result, Ok, Err, OnOk}
 use Rattle.spki_reduce.proofs.Working.{none_taken}
+use Rattle.spki_decision.proofs.Charges.{none_joined, unbounded}
 use Rattle.spki_decision.proofs.entry_chain.fold_entry.Goals as goal
 
 always : {T E P : Type 0} (r : Result T E) → P → OnOk r P
@@ -10,11 +11,27 @@ along : {T E P Q : Type 0} (r : Result T E) → (P → Q) → OnOk r P → OnOk 
 along (Ok x) f p = f p
 along (Err e) f p = tt
 
+pub returns-in_err-own-clause-cost : goal.returns-in_err-own-clause-cost
+returns-in_err-own-clause-cost g c = none_joined _ _ _ _ _ _
+
 pub returns-then-are_small-clause-charged : goal.returns-then-are_small-clause-charged
-returns-then-are_small-clause-charged c =
-    always c.fold_owned.result (0, inl (sym c.are_small.ensures ∙ c.if-are_small.true, refl), none_taken _ _ refl)
+returns-then-are_small-clause-charged g c =
+    always c.fold_owned_counted.result (0, inl (sym c.are_small.ensures ∙ c.if-are_small.true, refl), none_taken _ _ refl)
+
+pub returns-then-are_small-clause-cost : goal.returns-then-are_small-clause-cost
+returns-then-are_small-clause-cost g c =
+    inl (
+      sym c.are_small.ensures ∙ c.if-are_small.true,
+      refl,
+      rw c.in_ok-own.ensures at (unbounded _ _ _ _ _ _ _ c.new-any.ensures c.fold_owned_counted.ensures.cost),
+    )
 
 pub returns-else-are_small-clause-charged : goal.returns-else-are_small-clause-charged
-returns-else-are_small-clause-charged c =
-    along c.fold_owned-else-are_small.result (λ w. (w.0, inr (sym c.are_small.ensures ∙ c.if-are_small.false, rw c.in_ok-own.ensures at w.1), w.2))
-    c.fold_owned-else-are_small.ensures.worked
+returns-else-are_small-clause-charged g c =
+    along c.fold_owned_counted-else-are_small.result
+    (λ w. (w.0, inr (sym c.are_small.ensures ∙ c.if-are_small.false, rw c.in_ok-own.ensures at w.1), w.2))
+    c.fold_owned_counted-else-are_small.ensures.worked
+
+pub returns-else-are_small-clause-cost : goal.returns-else-are_small-clause-cost
+returns-else-are_small-clause-cost g c =
+    inr (sym c.are_small.ensures ∙ c.if-are_small.false, rw c.in_ok-own.ensures at c.fold_owned_counted-else-are_small.ensures.cost)

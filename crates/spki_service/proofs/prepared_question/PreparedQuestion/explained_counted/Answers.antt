@@ -6,13 +6,13 @@ use Rattle.spki_case.specs.View.{model}
 use Rattle.spki_decision.specs.CertificateTests.{every}
 use Rattle.spki_decision.specs.Explained.{IsReasonFor}
 use Rattle.spki_decision.proofs.Explanations.{reasons_for}
-use Rattle.spki_service.proofs.prepared_question.PreparedQuestion.explained.Goals as goal
+use Rattle.spki_service.proofs.prepared_question.PreparedQuestion.explained_counted.Goals as goal
 
-pub returns-in-None : goal.returns-in-None
-returns-in-None c es are =
+pub returns-in-None-clause-answer : goal.returns-in-None-clause-answer
+returns-in-None-clause-answer g c es are =
     let (folds, taken, reduced) = c.in_ok-item.ensures.folds in
     let all = rw c.in-None.is at reduced in
-    let reasons = c.put_folds.new.sink.reasons.items in
+    let reasons = c.put_folds_counted.new.sink.reasons.items in
     let same : model c.self.inside.case ≡ c.args.self.now.case = ap (λ a. a.case) c.self.view_is in
     reasons_for c.args.self.now.case es every folds reasons (subst (λ (m : Case). IsRequest m.request) same c.prove_well_formed.ensures)
     (all.0 es are) (subst (λ (m : Case). AllZip (IsReasonFor m) folds reasons) same (taken c.in_ok-with_capacity.ensures.items).1)

@@ -2,10 +2,10 @@ use Rattle.std.proofs.Common.{rules}
 use Rattle.spki_case.specs.View.{model}
 use Rattle.spki_decision.specs.CertificateTests.{with_entries}
 use Rattle.spki_decision.proofs.EntryChains.{stops_at_item}
-use Rattle.spki_decision.proofs.reduction.entry_fold.Goals as goal
+use Rattle.spki_decision.proofs.reduction.entry_fold_counted.Goals as goal
 
 pub returns-in-Stopped-clause-exact : goal.returns-in-Stopped-clause-exact
-returns-in-Stopped-clause-exact c = λ es.
+returns-in-Stopped-clause-exact g c = λ es.
     stops_at_item (with_entries (model c.args.case.now) es) c.args.entry.now c.args.steps.now c.args.shown.now c.requires.whole c.requires.as_many
     c.in-Stopped.step c.in-Stopped.cause (rw c.in-Stopped.is at c.in_ok-five.ensures.fold) c.index-shown-step.result c.index-shown-step.is
     (rw c.in-Stopped.is at c.in_ok-five.ensures.excluded)

@@ -1,0 +1,16 @@
+use Rattle.std.proofs.Common.{inr, refl, arith}
+use Rattle.spki_decision.specs.CertificateTests.{signed_of}
+use Rattle.spki_decision.specs.Answered.{IsReduced}
+use Rattle.spki_service.proofs.AnswerLaws.{marked_whole}
+use Rattle.spki_service.proofs.prepared_question.PreparedQuestion.reduce_by_counted.Goals as goal
+
+pub returns-in-None-clause-reduced : goal.returns-in-None-clause-reduced
+returns-in-None-clause-reduced g c =
+    marked_whole IsReduced _ c.args.self.now c.reduced_counted.result (rw c.in-None.is at c.unmarked_counted.ensures.answer)
+    c.reduced_counted.ensures.reduced
+
+pub returns-in-None-clause-cost : goal.returns-in-None-clause-cost
+returns-in-None-clause-cost g c counted = omega (arith, c.unmarked_counted.ensures.cost, c.reduced_counted.ensures.cost counted)
+
+pub returns-in-Some-clause-reduced : goal.returns-in-Some-clause-reduced
+returns-in-Some-clause-reduced g c = inr (signed_of c.in-Some.one.now, rw c.in-Some.is at c.unmarked_counted.ensures.answer, refl)

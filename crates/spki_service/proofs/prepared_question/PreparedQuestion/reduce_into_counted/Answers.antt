@@ -1,0 +1,19 @@
+use Rattle.std.proofs.Common.{[], inl, inr, refl, rules, arith}
+use Rattle.spki_decision.specs.CertificateTests.{signed_of}
+use Rattle.spki_service.proofs.AnswerLaws.{folded_marked}
+use Rattle.spki_service.proofs.prepared_question.PreparedQuestion.reduce_into_counted.Goals as goal
+
+pub returns-in-None-clause-folds : goal.returns-in-None-clause-folds
+returns-in-None-clause-folds g c =
+    folded_marked c.args.self.now (rw c.in-None.is at c.unmarked_counted.ensures.answer)
+    (λ folds. g.S.FoldSink.takes c.args.sink.now folds c.put_folds_counted.new.sink) c.put_folds_counted.result c.put_folds_counted.ensures.folds
+
+pub returns-in-None-clause-too_large : goal.returns-in-None-clause-too_large
+returns-in-None-clause-too_large g c e = inl (rw c.in-None.is at c.unmarked_counted.ensures.answer, c.put_folds_counted.ensures.too_large e)
+
+pub returns-in-None-clause-cost : goal.returns-in-None-clause-cost
+returns-in-None-clause-cost g c counted = omega (arith, c.unmarked_counted.ensures.cost, c.put_folds_counted.ensures.cost counted)
+
+pub returns-in-Some-clause-folds : goal.returns-in-Some-clause-folds
+returns-in-Some-clause-folds g c =
+    ([], search rules, inr (signed_of c.in-Some.one.now, rw c.in-Some.is at c.unmarked_counted.ensures.answer, (refl, refl)))

@@ -1,0 +1,266 @@
+//! Explanations and reductions whose work is counted, in contracts only: see `Ticks`.
+//! A value with many parts is freed by a call of `drop`, so that the proof does not go through its parts at each exit.
+
+ghost use Rattle.std.specs.Prelude.{◌≡◌, ◌≤◌, ◌<◌, ◌⊎◌, ◌+◌, ◌*◌, List, length, IfOk, OnOk, IsErrOf};
+ghost use Rattle.spki_cert.specs.declared.entry.Entry.{Entry};
+ghost use Rattle.spki_reduce.specs.Chain.{tuples_of};
+ghost use Rattle.spki_case.specs.Case.{certificates};
+ghost use Rattle.spki_case.specs.View.{model};
+ghost use Rattle.spki_decision.specs.CertificateTests.{asked, every, with_entries};
+ghost use Rattle.spki_decision.specs.Answered.{IsExplained, IsReduced};
+ghost use Rattle.spki_decision.specs.declared.reduction.EntryFold.{EntryFold};
+ghost use Rattle.spki_decision.specs.Granted.{EndAtDates, SomeTooLarge, HasLargeTags, HasMuchWork};
+ghost use Rattle.spki_service.specs.AccessLists.{AreEntries};
+ghost use Rattle.spki_service.specs.Cost.{all_octets, fold_ticks};
+ghost use Rattle.spki_service.specs.GuardQuestions.{Answers, OfCase, AreReduced, ByMarks, ExplainsMarked, ReducesMarked, AreReducedMarked, AreTextFolds};
+
+use crate::entry_texts::entry_counted;
+use crate::failure::Failure;
+use crate::prepared_question::PreparedQuestion;
+use crate::text_list::TextList;
+use spki_case::Case;
+use spki_decision::{
+    Budget, Explanation, FoldSink, GuardFault, ReasonSink, Reduction, Stop, Unverified,
+    certificates_of, entry_fold_counted,
+};
+use spki_reduce::Step;
+use spki_tag::Ticks;
+use std::alloc::Global;
+use std::sync::ledger::{Blank, Ledger};
+
+impl<'a> PreparedQuestion<'a> {
+    /// Explains the question by the marks, as `explain_by`. A tick is a signature, an entry or a step of a chain that is looked at, an octet of an
+    /// entry that is read, or what an intersection compares or copies. There are at most four for each unit of the guard's limit of work, one
+    /// for each octet of the access list's entries, two for each entry, and one for each listed signature, also if the answer is an error.
+    /// `docs/PERFORMANCE.md` says what is not counted.
+    ///
+    /// # Errors
+    ///
+    /// Those of `explain`.
+    pub fn explain_by_counted<L: Ledger>(
+        &self,
+        alloc: Global,
+        ticks: &mut Ticks<L>,
+    ) -> Result<Explanation, GuardFault>
+        ensures answer { ExplainsMarked self.now result }
+        ensures cost { self.now.case.uncounted ≡ 0 → ticks.new ≤ ticks.old + length (asked self.now.case) + fold_ticks self.now }
+    {
+        match self.unmarked_counted(ticks) {
+            None => self.explained_counted(alloc, ticks),
+            Some(one) => Ok(Explanation::Evidence {
+                item: one.item,
+                stop: Stop::NotAccepted,
+            }),
+        }
+    }
+
+    /// Calls `explain_by_counted` with a new count, which `blank` opens. The count exists only in contracts, and is dropped afterwards.
+    pub(crate) fn explain_by_from<L: Ledger>(
+        &self,
+        alloc: Global,
+        blank: Blank,
+    ) -> Result<Explanation, GuardFault>
+        requires name { blank.name ≡ L.name }
+        requires parts { blank.parts ≡ L.parts }
+        requires some { 0 < blank.parts }
+        ensures { ExplainsMarked self.now result }
+    {
+        self.explain_by_counted(alloc, &mut Ticks::<L>::new(blank))
+    }
+
+    /// Reduces the question by the marks, as `reduce_by`, in as many ticks as `explain_by_counted`.
+    ///
+    /// # Errors
+    ///
+    /// Those of `explain`.
+    pub fn reduce_by_counted<L: Ledger>(
+        &self,
+        alloc: Global,
+        ticks: &mut Ticks<L>,
+    ) -> Result<Reduction<'a>, GuardFault>
+        ensures reduced { ReducesMarked self.now result }
+        ensures end { IfOk result EndAtDates }
+        ensures cost { self.now.case.uncounted ≡ 0 → ticks.new ≤ ticks.old + length (asked self.now.case) + fold_ticks self.now }
+    {
+        match self.unmarked_counted(ticks) {
+            None => self.reduced_counted(alloc, ticks),
+            Some(one) => Ok(Reduction::Evidence {
+                item: one.item,
+                stop: Stop::NotAccepted,
+            }),
+        }
+    }
+
+    /// Calls `reduce_by_counted` with a new count, which `blank` opens. The count exists only in contracts, and is dropped afterwards.
+    pub(crate) fn reduce_by_from<L: Ledger>(
+        &self,
+        alloc: Global,
+        blank: Blank,
+    ) -> Result<Reduction<'a>, GuardFault>
+        requires name { blank.name ≡ L.name }
+        requires parts { blank.parts ≡ L.parts }
+        requires some { 0 < blank.parts }
+        ensures reduced { ReducesMarked self.now result }
+        ensures end { IfOk result EndAtDates }
+    {
+        self.reduce_by_counted(alloc, &mut Ticks::<L>::new(blank))
+    }
+
+    /// Reduces the question by the marks, and puts what each entry becomes into `sink`, as `reduce_into`, in as many ticks as
+    /// `explain_by_counted`. What the sink does is not counted.
+    ///
+    /// # Errors
+    ///
+    /// Those of `explain`. After an error, `sink` may have taken what some of the entries become.
+    pub fn reduce_into_counted<L: Ledger, S: FoldSink<'a>>(
+        &self,
+        alloc: Global,
+        sink: &mut S,
+        ticks: &mut Ticks<L>,
+    ) -> Result<Option<Failure>, GuardFault>
+        ensures folds { IfOk result (λ failure. (folds : List EntryFold) × S.takes sink.old folds sink.new
+            × AreReducedMarked self.now failure folds) }
+        ensures too_large { IsErrOf result GuardFault.TooLarge →
+            ByMarks self.now (OfCase self.now (λ c. SomeTooLarge c every)) (λ one. ⊥) }
+        ensures cost { self.now.case.uncounted ≡ 0 → ticks.new ≤ ticks.old + length (asked self.now.case) + fold_ticks self.now }
+    {
+        match self.unmarked_counted(ticks) {
+            None => self.put_folds_counted(alloc, sink, ticks),
+            Some(one) => Ok(Some(Failure {
+                item: one.item,
+                stop: Stop::NotAccepted,
+            })),
+        }
+    }
+
+    /// The explanation if the verifier accepts every signature. Err is `TooLarge` or `Memory`, as for `explain`. `prove_well_formed` is only for the
+    /// prover.
+    fn explained_counted<L: Ledger>(
+        &self,
+        alloc: Global,
+        ticks: &mut Ticks<L>,
+    ) -> Result<Explanation, GuardFault>
+        ensures answer { Answers (λ c answer. IsExplained c every answer) self.now result }
+        ensures cost { self.now.case.uncounted ≡ 0 → ticks.new ≤ ticks.old + fold_ticks self.now }
+    {
+        self.case.request.prove_well_formed();
+        let guard = self.guard;
+        let mut sink = ReasonSink {
+            case: &self.case,
+            reasons: Vec::with_capacity(alloc, guard.texts.len())?,
+        };
+        match self.put_folds_counted(alloc, &mut sink, ticks)? {
+            Some(Failure { item, stop }) => Ok(Explanation::Evidence { item, stop }),
+            None => Ok(Explanation::Entries(sink.reasons)),
+        }
+    }
+
+    /// Calls `explained_counted` with a new count, which `blank` opens. The count exists only in contracts, and is dropped afterwards.
+    pub(crate) fn explained_from<L: Ledger>(
+        &self,
+        alloc: Global,
+        blank: Blank,
+    ) -> Result<Explanation, GuardFault>
+        requires name { blank.name ≡ L.name }
+        requires parts { blank.parts ≡ L.parts }
+        requires some { 0 < blank.parts }
+        ensures { Answers (λ c answer. IsExplained c every answer) self.now result }
+    {
+        self.explained_counted(alloc, &mut Ticks::<L>::new(blank))
+    }
+
+    /// The reduction if the verifier accepts every signature. Err is `TooLarge` or `Memory`, as for `reduce`.
+    fn reduced_counted<L: Ledger>(
+        &self,
+        alloc: Global,
+        ticks: &mut Ticks<L>,
+    ) -> Result<Reduction<'a>, GuardFault>
+        ensures reduced { Answers (λ c answer. IsReduced c every answer) self.now result }
+        ensures end { IfOk result EndAtDates }
+        ensures cost { self.now.case.uncounted ≡ 0 → ticks.new ≤ ticks.old + fold_ticks self.now }
+    {
+        let guard = self.guard;
+        let mut folds = Vec::with_capacity(alloc, guard.texts.len())?;
+        match self.put_folds_counted(alloc, &mut folds, ticks)? {
+            Some(Failure { item, stop }) => Ok(Reduction::Evidence { item, stop }),
+            None => Ok(Reduction::Entries(folds)),
+        }
+    }
+
+    /// Calls `reduced_counted` with a new count, which `blank` opens. The count exists only in contracts, and is dropped afterwards.
+    pub(crate) fn reduced_from<L: Ledger>(
+        &self,
+        alloc: Global,
+        blank: Blank,
+    ) -> Result<Reduction<'a>, GuardFault>
+        requires name { blank.name ≡ L.name }
+        requires parts { blank.parts ≡ L.parts }
+        requires some { 0 < blank.parts }
+        ensures reduced { Answers (λ c answer. IsReduced c every answer) self.now result }
+        ensures end { IfOk result EndAtDates }
+    {
+        self.reduced_counted(alloc, &mut Ticks::<L>::new(blank))
+    }
+
+    /// Does what `put_folds` does.
+    fn put_folds_counted<L: Ledger, S: FoldSink<'a>>(
+        &self,
+        alloc: Global,
+        sink: &mut S,
+        ticks: &mut Ticks<L>,
+    ) -> Result<Option<Failure>, GuardFault>
+        ensures folds { IfOk result (λ failure. (folds : List EntryFold) × S.takes sink.old folds sink.new
+            × AreReduced self.now every failure folds) }
+        ensures too_large { IsErrOf result GuardFault.TooLarge → OfCase self.now (λ c. SomeTooLarge c every) }
+        ensures cost { self.now.case.uncounted ≡ 0 → ticks.new ≤ ticks.old + fold_ticks self.now }
+    {
+        match &self.examined.unverified {
+            Unverified::Fails { item, stop } => Ok(Some(Failure {
+                item: *item,
+                stop: *stop,
+            })),
+            Unverified::Passes(steps) => {
+                let guard = self.guard;
+                fold_texts_counted(alloc, &guard.texts, &self.case, steps, sink, ticks)?;
+                Ok(None)
+            }
+        }
+    }
+}
+
+/// Does what `fold_texts` does. An entry is a tick, and so is each octet of its text, once. Then its chain takes those of `entry_fold_counted`.
+/// What the sink does is not counted.
+///
+/// # Errors
+///
+/// Those of `PreparedQuestion::reduce`.
+fn fold_texts_counted<'a, L: Ledger, S: FoldSink<'a>>(
+    alloc: Global,
+    texts: &'a TextList,
+    case: &Case<'a>,
+    steps: &[Step<'a>],
+    sink: &mut S,
+    ticks: &mut Ticks<L>,
+) -> Result<(), GuardFault>
+    requires { length steps.now ≡ length (certificates case.now.sequence.items) }
+    ensures folds { OnOk result ((folds : List EntryFold) × S.takes sink.old folds sink.new
+        × AreTextFolds texts.entry.now (model case.now) (tuples_of steps.now) folds) }
+    ensures too_large { (es : List Entry) → AreEntries texts.entry.now es → IsErrOf result GuardFault.TooLarge →
+        HasLargeTags (with_entries (model case.now) es) (tuples_of steps.now)
+        ⊎ HasMuchWork (with_entries (model case.now) es) (tuples_of steps.now) }
+    // If no entry is spared, the work of all is within the case's limit, also if they are refused.
+    ensures cost { case.now.uncounted ≡ 0
+        → ticks.new ≤ ticks.old + 4 * case.now.most_work + all_octets texts.entry.now + 2 * length texts.entry.now }
+    ensures each { OnOk result (ticks.old + all_octets texts.entry.now + length texts.entry.now ≤ ticks.new) }
+{
+    let shown = certificates_of(alloc, &case.sequence)?;
+    let mut budget = Budget::of(case, steps);
+    for place in 0..texts.len() {
+        let entry = entry_counted(alloc, texts.text(place), ticks)?;
+        let folded = entry_fold_counted(alloc, case, &entry, &shown, steps, &mut budget, ticks);
+        drop(entry);
+        let fold = folded?;
+        sink.put(alloc, place + 1, fold)?;
+    }
+    Ok(())
+}
