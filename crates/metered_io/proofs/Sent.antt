@@ -1,8 +1,7 @@
 -- What goes out of some octets, write by write.
 use Rattle.std.proofs.Common.{◌≡◌, ℕ, List, [], ◌++◌, Option, Result, Ok, Err, OnErr, take, drop, ◌∙◌, sym, ap, append_assoc, append-nil, take-append-drop}
 use Rattle.std.proofs.KnownBytes.{Appends-trans, Appends-kept}
-use Rattle.metered_io.specs.declared.meters.Metered.{Metered}
-use Rattle.metered_io.specs.MeteredCalls.{Takes, TakesNone, inner_of, SendsFront}
+use Rattle.metered_io.specs.{declared.meters.Metered.{Metered}, MeteredCalls.{Takes, TakesNone, inner_of, SendsFront}}
 
 -- one more write took n octets
 pub SendsFront-more : {W : Type 0} {contents : W → Option (List ℕ)} {a b c : Metered W} {octets rest left : List ℕ} (n : ℕ)

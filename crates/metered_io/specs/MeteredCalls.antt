@@ -1,9 +1,7 @@
 -- What a meter counts of the calls that it passes on, and what is written of some octets.
 use Rattle.std.specs.Prelude.{◌≡◌, ◌≢◌, ℕ, ◌+◌, ◌-◌, ◌^◌, ◌<◌, min, List, length, Bool, Option, Result, MatchResult, ◌++◌}
-use Rattle.std.specs.Io.KnownBytes.{Appends, Consumes, IsAtEnd, Keeps}
-use Rattle.std.specs.IoError.{error_kind}
-use Rattle.std.specs.declared.io.Error.{Error}
-use Rattle.std.specs.declared.io.ErrorKind.TheVariants.{Interrupted}
+use Rattle.std.specs.{Io.KnownBytes.{Appends, Consumes, IsAtEnd, Keeps}, IoError.{error_kind}}
+use Rattle.std.specs.declared.io.{Error.{Error}, ErrorKind.TheVariants.{Interrupted}}
 use Rattle.metered_io.specs.declared.meters.Metered.{Metered}
 
 -- ---- what a meter counts of the calls that it passes on

@@ -1,8 +1,6 @@
 //! Counts the calls of a reader or a writer.
-ghost use Rattle.std.specs.Prelude.{◌≡◌, ◌↔◌, ◌<◌, length, IsTrue, IsOk, false};
-ghost use Rattle.std.specs.IoError.{error_kind};
-ghost use Rattle.std.specs.Io.{ReadsAtMost, WritesAtMost};
-ghost use Rattle.std.specs.Io.KnownBytes.{Keeps, ReadConsumes, WriteAppends};
+ghost use Rattle.std.specs.{Prelude.{◌≡◌, ◌↔◌, ◌<◌, length, IsTrue, IsOk, false}, IoError.{error_kind}};
+ghost use Rattle.std.specs.Io.{ReadsAtMost, WritesAtMost, KnownBytes.{Keeps, ReadConsumes, WriteAppends}};
 ghost use Rattle.metered_io.specs.MeteredCalls.{counted, inner_of, asks_of, faults_of, ended_of, flushed_of, CountsIf, IsFault, CountsErrors, CountsWrite};
 
 use std::io;

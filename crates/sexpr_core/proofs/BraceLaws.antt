@@ -1,26 +1,17 @@
 -- Base64 in the standard alphabet: how long it is, and which octets it has. What stands in braces stands there in one
 -- way.
 use Rattle.std.proofs.Common.{◌≡◌, ℕ, zero, suc, ◌+◌, ◌-◌, ◌*◌, ◌/◌, ◌%◌, ◌<◌, true, List, [], ◌∷◌, ◌++◌, length, get_or, replicate, refl, ap, subst, arith, length-append, append-nil, Bool, ◌&&◌, Ok, rules, ◌≤◌, false, take, drop, sym, ◌∙◌, append_assoc, length-drop}
-use Rattle.std.proofs.lemmas.Bool.{cases_Bool, and_parts}
-use Rattle.std.proofs.lemmas.List.{length-replicate, length-take-le}
+use Rattle.std.proofs.lemmas.{Bool.{cases_Bool, and_parts}, List.{length-replicate, length-take-le, Sums.{length-filter, count_by-le-length}}}
 use Rattle.std.specs.List.{AllByRecursion}
-use Rattle.base64.specs.Rfc4648.{encode_symbols}
-use Rattle.base64.specs.Engines.{standard}
+use Rattle.base64.specs.{Rfc4648.{encode_symbols}, Engines.{standard}}
 use Rattle.base64.specs.GeneralPurpose.{encode_of, engine_symbols, IsBytes, decode_of, IsDecodeFailure}
-use Rattle.base64.specs.declared.decode.DecodeError.{DecodeError}
-use Rattle.base64.specs.declared.decode.DecodeAllocError.{DecodeAllocError}
-use Rattle.base64.specs.declared.decode.DecodeAllocError.TheVariants.{DecodeError as Failed}
-use Rattle.base64.proofs.RoundTrip.{length-encode_symbols}
+use Rattle.base64.specs.declared.decode.{DecodeError.{DecodeError}, DecodeAllocError.{DecodeAllocError, TheVariants.{DecodeError as Failed}}}
+use Rattle.base64.proofs.{RoundTrip.{length-encode_symbols}, EngineFacts.{decode_of-encode_of}}
 use Rattle.sexpr_core.specs.Reading.{visible, is_symbol, is_body_octet, AreBodyOctets, IsBase64, StandsAt, AreSpaces, Skips, Braced, IsBraced, IsBracedWithin, ReadsBase64, PackedAt, transport, IsFaultAt, RefusesBody, IsTrailingBehind, RefusesPart, BracesDeep, IsShallowBraced, Begins, StopsAt}
+use Rattle.sexpr_core.specs.declared.fault.FormFault.{FormFault, TheVariants.{TooLong, TooDeep, Bad, Trailing, Memory}}
+use Rattle.sexpr_core.specs.{Value.{Value, canon, plain, verbatim, decimal, IsWithinLimits, octet_limit}, Inner.Gathering.{GathersTo, BodyAt}}
 use Rattle.sexpr_core.proofs.Spans.{no_space, stops_here, stops_later, Agree, spelled_too, stands_too, skips_too, long_too, front_is, one_body, same_body, gathers_to_too, one_end}
-use Rattle.sexpr_core.proofs.Texts.{all-append, all_front}
-use Rattle.std.proofs.lemmas.List.Sums.{length-filter, count_by-le-length}
-use Rattle.base64.proofs.EngineFacts.{decode_of-encode_of}
-use Rattle.sexpr_core.specs.declared.fault.FormFault.{FormFault}
-use Rattle.sexpr_core.specs.declared.fault.FormFault.TheVariants.{TooLong, TooDeep, Bad, Trailing, Memory}
-use Rattle.sexpr_core.specs.Value.{Value, canon, plain, verbatim, decimal, IsWithinLimits, octet_limit}
-use Rattle.sexpr_core.specs.Inner.Gathering.{GathersTo, BodyAt}
-use Rattle.sexpr_core.proofs.Prefix.{RefusesPart-less}
+use Rattle.sexpr_core.proofs.{Texts.{all-append, all_front}, Prefix.{RefusesPart-less}}
 
 -- ---- base64 in the standard alphabet: how long it is, and which octets it has
 

@@ -1,18 +1,14 @@
 -- The refusals of a text in braces: it has at most one that speaks of its form, and where the reader meets a fault,
 -- its refusal holds.
 use Rattle.std.proofs.Common.{◌≡◌, ℕ, ◌+◌, ◌-◌, ◌<◌, ◌≤◌, false, ◌⊎◌, inl, inr, List, [], ◌∷◌, ◌++◌, length, take, refl, sym, ◌∙◌, ap, subst, arith, append-nil, append_assoc, length-append, rules, drop, length-drop}
-use Rattle.std.proofs.lemmas.List.{take_at, take-append-drop, drop_at, drop-drop, take_all}
-use Rattle.std.proofs.Math.Seq.{take-append-add}
-use Rattle.std.proofs.lemmas.Bool.{cases_order}
-use Rattle.sexpr_core.specs.declared.fault.FormFault.{FormFault}
-use Rattle.sexpr_core.specs.declared.fault.FormFault.TheVariants.{Bad, Trailing, TooDeep, Short, Memory}
+use Rattle.std.proofs.{lemmas.{List.{take_at, take-append-drop, drop_at, drop-drop, take_all}, Bool.{cases_order}}, Math.Seq.{take-append-add}}
 use Rattle.sexpr_core.specs.Reading.{IsBase64, Braced, IsBraced, IsBracedWithin, BracesDeep, IsShallowBraced, OpensBraces, BracesGoOn, RefusesBraces, is_body_octet, AreBodyOctets, IsOfForm, AreSpaces, IsSpace, visible, RefusesBody, IsTrailingBehind, RefusesPart, ReadsBase64, PackedAt, Passed, IsBodyEnd, Begins, StandsAt, Refused, is_whitespace, StartsVisible, Skips}
-use Rattle.sexpr_core.specs.Value.{Value, canon, IsShallow}
+use Rattle.sexpr_core.specs.declared.fault.FormFault.{FormFault, TheVariants.{Bad, Trailing, TooDeep, Short, Memory}}
+use Rattle.sexpr_core.specs.{Value.{Value, canon, IsShallow}, Inner.Gathering.{GathersTo}}
 use Rattle.sexpr_core.proofs.BraceLaws.{body_octets, one_packed, spaces_begin_shallow, BraceFault}
 use Rattle.sexpr_core.proofs.Spans.{one_body, one_end, front_is, unpacked_end}
 use Rattle.sexpr_core.proofs.Refusals.{HasFronts, begins_front, goes_less, StopsThere, AreApart, one_fault, no_fault, shallow_text}
 use Rattle.sexpr_core.proofs.Texts.{head_is, tail_is, all_front, fails_among}
-use Rattle.sexpr_core.specs.Inner.Gathering.{GathersTo}
 
 -- ---- refusals of a text in braces
 

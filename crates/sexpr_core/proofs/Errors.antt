@@ -1,6 +1,5 @@
 -- An error that a `?` returns as it is.
-use Rattle.std.proofs.Common.{◌≡◌, Result, Ok, Err, IfErr, sym, subst}
-use Rattle.std.specs.Prelude.{IsErrAnd, MatchResult}
+use Rattle.std.{proofs.Common.{◌≡◌, Result, Ok, Err, IfErr, sym, subst}, specs.Prelude.{IsErrAnd, MatchResult}}
 
 pub err_kept : {T E : Type 0} (r : Result T E) (e : E) (Q : E → Type 0) → IsErrAnd r (λ y. y ≡ e) → Q e → IfErr r Q
 err_kept (Ok x) e Q h q = tt

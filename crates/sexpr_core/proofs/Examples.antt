@@ -1,13 +1,8 @@
 -- The definitions tried on small texts.
-use Rattle.std.proofs.Common.{◌≡◌, [], ◌∷◌, Some, refl, arith}
-use Rattle.std.specs.Prelude.{codes}
-use Rattle.sexpr_core.specs.declared.fault.FormFault.TheVariants.{Short, Bad, Trailing}
-use Rattle.sexpr_core.specs.declared.layout.Shape.TheVariants.{Plain, Hinted, List as Group}
-use Rattle.sexpr_core.specs.Value.{Value, string, plain, group, decimal, verbatim, canon, depth, size}
-use Rattle.sexpr_core.specs.Nodes.{records}
-use Rattle.sexpr_core.specs.Reading.{Refused}
-use Rattle.sexpr_core.proofs.Faults.{length_zero, verbatim_fault, plain_fault}
-use Rattle.sexpr_core.proofs.Refusals.{refused}
+use Rattle.std.{proofs.Common.{◌≡◌, [], ◌∷◌, Some, refl, arith}, specs.Prelude.{codes}}
+use Rattle.sexpr_core.specs.declared.{fault.FormFault.TheVariants.{Short, Bad, Trailing}, layout.Shape.TheVariants.{Plain, Hinted, List as Group}}
+use Rattle.sexpr_core.specs.{Value.{Value, string, plain, group, decimal, verbatim, canon, depth, size}, Nodes.{records}, Reading.{Refused}}
+use Rattle.sexpr_core.proofs.{Faults.{length_zero, verbatim_fault, plain_fault}, Refusals.{refused}}
 
 -- the examples of RFC 9804, section 6.2
 issuer : canon (group (plain (codes "issuer") ∷ plain (codes "bob") ∷ [])) ≡ codes "(6:issuer3:bob)"

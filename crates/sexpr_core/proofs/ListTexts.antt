@@ -3,8 +3,7 @@ use Rattle.std.proofs.Common.{◌≡◌, ℕ, suc, ◌≤◌, max, List, [], ◌
 use Rattle.std.proofs.lemmas.List.{append-nil}
 use Rattle.sexpr_core.specs.Value.{Value, Values, string, list, none, more, canon, canons, depth, depths}
 use Rattle.sexpr_core.specs.Reading.{IsCanon, IsCanonWithin, IsMembers, IsMembersWithin}
-use Rattle.sexpr_core.proofs.Prefix.{Opens, Behind, From}
-use Rattle.sexpr_core.proofs.Texts.{IsFilled, IsFilledWithin, verbatim_differs, no_open, canon_differs, canon_one}
+use Rattle.sexpr_core.proofs.{Prefix.{Opens, Behind, From}, Texts.{IsFilled, IsFilledWithin, verbatim_differs, no_open, canon_differs, canon_one}}
 
 -- ---- lists
 

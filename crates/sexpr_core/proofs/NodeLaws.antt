@@ -1,15 +1,12 @@
 -- The nodes of a value in a table of records: what a record says of its node, where the node's text lies, and that
 -- the members of a list are the siblings behind its node.
 use Rattle.std.proofs.Common.{◌≡◌, ℕ, zero, suc, ◌+◌, ◌<◌, ◌≤◌, List, [], ◌∷◌, ◌++◌, length, get_or, map, Some, None, refl, sym, ap, ◌∙◌, append_assoc, length-append, arith, inr, rules, Option, subst, inl, ◌≢◌, ◌-◌, take, drop, add-one}
-use Rattle.std.specs.Prelude.{slice_range, slice_get}
 use Rattle.std.proofs.lemmas.List.{take_at, drop_at, append-nil, map-append, length-map, get_or_append_left, get_or-append_right, get_or-append-add, length-take, length-take-le, drop-drop, drop-take, length-drop, get_or-drop, get_or-take}
-use Rattle.std.proofs.lemmas.Option.{slice_get_past, slice_get-get_or}
-use Rattle.sexpr_core.specs.declared.layout.Record.{Record}
+use Rattle.std.proofs.lemmas.{Option.{slice_get_past, slice_get-get_or}, Bool.{cases_lt}}
+use Rattle.std.specs.Prelude.{slice_range, slice_get}
 use Rattle.sexpr_core.specs.Value.{Value, string, list, Values, none, more, canon, canons, verbatim, decimal, size, nodes, nodes_all, plain, members, values, group, size_all, node}
 use Rattle.sexpr_core.specs.Nodes.{label, tree-labels, head, records, records_all, record_of, label_in, table_value, IsTable, IsPlace, node_at, starts, starts_all, start_of, Label, shape_of, label_as, IsList, values-members, members-values, siblings, siblings_between, AreSiblings, members_of, member_number, part_at, of_node}
-use Rattle.sexpr_core.specs.declared.layout.Shape.{Shape}
-use Rattle.sexpr_core.specs.declared.layout.Shape.TheVariants.{Plain, Hinted, List as Group}
-use Rattle.std.proofs.lemmas.Bool.{cases_lt}
+use Rattle.sexpr_core.specs.declared.layout.{Record.{Record}, Shape.{Shape, TheVariants.{Plain, Hinted, List as Group}}}
 
 -- ---- each record of a table is that of its node, and the node's text lies where the record says
 

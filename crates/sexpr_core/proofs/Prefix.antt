@@ -1,10 +1,7 @@
 -- How a fault in a part of a text is a fault of the whole.
 use Rattle.std.proofs.Common.{◌≡◌, ℕ, suc, ◌+◌, ◌<◌, List, [], ◌∷◌, ◌++◌, length, take, sym, ◌∙◌, ap, subst, arith, append_assoc, length-append, add-suc, rules}
-use Rattle.std.proofs.lemmas.List.{append_cancel_left}
-use Rattle.std.proofs.Math.Seq.{take-append-add}
-use Rattle.sexpr_core.specs.declared.fault.FormFault.{FormFault}
-use Rattle.sexpr_core.specs.declared.fault.FormFault.TheVariants.{TooDeep, Short, Bad}
-use Rattle.sexpr_core.specs.Reading.{Begins, Front, RefusesPart}
+use Rattle.std.proofs.{lemmas.List.{append_cancel_left}, Math.Seq.{take-append-add}}
+use Rattle.sexpr_core.specs.{declared.fault.FormFault.{FormFault, TheVariants.{TooDeep, Short, Bad}}, Reading.{Begins, Front, RefusesPart}}
 use Rattle.sexpr_core.specs.Inner.PartFaults.{Barred, FaultAt}
 
 -- a text that begins with one of U

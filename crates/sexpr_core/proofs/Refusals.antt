@@ -1,16 +1,12 @@
 -- The refusals of a whole text: it has at most one that speaks of its form, and what the reader of canonical form
 -- meets at a value is a refusal of the whole text.
 use Rattle.std.proofs.Common.{◌≡◌, ℕ, ◌+◌, ◌<◌, ◌≤◌, inl, inr, List, ◌++◌, take, drop, refl, sym, ap, subst, arith, append_assoc, rules, ◌≢◌, [], length, ◌∙◌, append-nil, length-drop, length-append, suc}
-use Rattle.std.proofs.lemmas.List.{take-append-drop, take-take, length-take-le, take_at}
-use Rattle.std.proofs.lemmas.Bool.{cases_order}
-use Rattle.sexpr_core.specs.declared.fault.FormFault.{FormFault}
-use Rattle.sexpr_core.specs.declared.fault.FormFault.TheVariants.{TooLong, TooDeep, Short, Bad, Trailing, Memory}
-use Rattle.sexpr_core.specs.Reading.{Begins, Front, IsOfForm, IsCanon, IsShallowText, Refused, IsBodyFault, RefusesBody, IsCanonWithin, ReadsValue}
-use Rattle.sexpr_core.specs.Value.{Value, canon, IsShallow, IsWithinLimits}
-use Rattle.sexpr_core.proofs.Texts.{canon_one}
+use Rattle.std.proofs.lemmas.{List.{take-append-drop, take-take, length-take-le, take_at}, Bool.{cases_order}}
+use Rattle.sexpr_core.specs.declared.fault.FormFault.{FormFault, TheVariants.{TooLong, TooDeep, Short, Bad, Trailing, Memory}}
 use Rattle.sexpr_core.specs.declared.layout.Record.{Record}
-use Rattle.sexpr_core.specs.Inner.PartFaults.{Barred, FaultAt}
-use Rattle.sexpr_core.proofs.Steps.{read_length}
+use Rattle.sexpr_core.specs.Reading.{Begins, Front, IsOfForm, IsCanon, IsShallowText, Refused, IsBodyFault, RefusesBody, IsCanonWithin, ReadsValue}
+use Rattle.sexpr_core.specs.{Value.{Value, canon, IsShallow, IsWithinLimits}, Inner.PartFaults.{Barred, FaultAt}}
+use Rattle.sexpr_core.proofs.{Texts.{canon_one}, Steps.{read_length}}
 
 -- ---- why a text has at most one refusal that speaks of its form, whichever form that is
 

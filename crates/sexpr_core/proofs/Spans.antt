@@ -2,16 +2,12 @@
 -- each other text that begins with the same octets.
 use Rattle.std.proofs.Common.{◌≡◌, ℕ, ◌+◌, ◌<◌, ◌≤◌, List, [], ◌∷◌, ◌++◌, length, take, drop, refl, sym, ap, subst, ◌∙◌, arith, append_assoc, length-append, length-drop, rules, zero, suc, Bool, true, false, ◌-◌, append-nil}
 use Rattle.std.proofs.lemmas.List.{append_cancel_right, drop-append-le, take-append-drop, take_at, length-take-le, drop-drop, drop_at}
-use Rattle.sexpr_core.specs.Reading.{StandsAt, StartsVisible, Skips, StopsAt, RefusesPart, is_whitespace, AreSpaces, IsFaultAt, visible, is_symbol, is_body_octet, AreBodyOctets, Passed, IsBodyEnd}
-use Rattle.sexpr_core.specs.declared.fault.FormFault.{FormFault}
-use Rattle.sexpr_core.specs.declared.fault.FormFault.TheVariants.{Bad}
-use Rattle.sexpr_core.proofs.Texts.{all-append, one_front, head_is, tail_is, fails_among}
-use Rattle.std.specs.Prelude.{slice_range}
-use Rattle.std.specs.List.{AllByRecursion}
-use Rattle.std.proofs.lemmas.Bool.Decides.{nat_tests}
 use Rattle.std.proofs.lemmas.List.Elements.{filter-append}
-use Rattle.sexpr_core.specs.Inner.Gathering.{SkipsSymbols, GathersTo, BodyAt}
-use Rattle.sexpr_core.proofs.Steps.{slice_read}
+use Rattle.std.proofs.lemmas.Bool.Decides.{nat_tests}
+use Rattle.std.specs.{Prelude.{slice_range}, List.{AllByRecursion}}
+use Rattle.sexpr_core.specs.Reading.{StandsAt, StartsVisible, Skips, StopsAt, RefusesPart, is_whitespace, AreSpaces, IsFaultAt, visible, is_symbol, is_body_octet, AreBodyOctets, Passed, IsBodyEnd}
+use Rattle.sexpr_core.specs.{declared.fault.FormFault.{FormFault, TheVariants.{Bad}}, Inner.Gathering.{SkipsSymbols, GathersTo, BodyAt}}
+use Rattle.sexpr_core.proofs.{Texts.{all-append, one_front, head_is, tail_is, fails_among}, Steps.{slice_read}}
 
 -- ---- what is read of the first octets of a text is read of each other text that begins with them
 

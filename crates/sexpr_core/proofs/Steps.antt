@@ -1,16 +1,10 @@
 -- Each step of the reader of lengths and strings, over the text and its offsets.
 use Rattle.std.proofs.Common.{◌≡◌, ℕ, ◌+◌, ◌-◌, ◌*◌, ◌<◌, ◌≤◌, min, ◌⊎◌, inl, inr, List, [], ◌∷◌, ◌++◌, length, take, drop, Some, sym, ◌∙◌, ap, subst, arith, append_assoc, length-append, length-drop, rules}
-use Rattle.std.proofs.lemmas.List.{take-append-drop, length-take-le, drop-drop}
+use Rattle.std.proofs.{lemmas.List.{take-append-drop, length-take-le, drop-drop}, Math.Seq.{take-append_seam}}
 use Rattle.std.specs.Prelude.{slice_range}
-use Rattle.std.proofs.Math.Seq.{take-append_seam}
-use Rattle.sexpr_core.specs.declared.fault.FormFault.{FormFault}
-use Rattle.sexpr_core.specs.declared.layout.Record.{Record}
-use Rattle.sexpr_core.specs.declared.layout.Shape.{Shape}
-use Rattle.sexpr_core.specs.declared.layout.Shape.TheVariants.{Plain, Hinted}
-use Rattle.sexpr_core.specs.Value.{string, decimal, verbatim, canon}
-use Rattle.sexpr_core.specs.Nodes.{head, shape}
+use Rattle.sexpr_core.specs.declared.{fault.FormFault.{FormFault}, layout.{Record.{Record}, Shape.{Shape, TheVariants.{Plain, Hinted}}}}
 use Rattle.sexpr_core.specs.Reading.{Front, IsCanon, IsCanonWithin, IsVerbatim, IsClosing, IsLength, StandsAt, ReadsLength, ReadsVerbatim, ReadsString}
-use Rattle.sexpr_core.specs.Inner.PartFaults.{IsBad, FaultAt}
+use Rattle.sexpr_core.specs.{Value.{string, decimal, verbatim, canon}, Nodes.{head, shape}, Inner.PartFaults.{IsBad, FaultAt}}
 use Rattle.sexpr_core.proofs.Texts.{IsDigit, decimal_digit, decimal_more, verbatim_is}
 use Rattle.sexpr_core.proofs.Faults.{length_bad, length_zero, verbatim_short, hint_fault, hinted_fault, bracket_fault}
 

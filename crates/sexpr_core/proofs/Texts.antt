@@ -1,10 +1,8 @@
 -- Where octets of one sort, numbers in decimal, strings and values end: no canonical text is a prefix of another's.
 use Rattle.std.proofs.Common.{◌≡◌, ℕ, false, true, Bool, List, [], ◌∷◌, ◌++◌, length, refl, ◌∙◌, ap, arith, rules, zero, suc, ◌+◌, ◌*◌, ◌<◌, ◌≤◌, map, get_or, cond, ◌==◌, sym, subst, Some, None, append_assoc, replicate}
-use Rattle.std.specs.List.{AllByRecursion}
-use Rattle.std.specs.Int.Digits.{digits_of, AllBelowBase}
-use Rattle.std.proofs.lemmas.List.{map-append, length-map, length-replicate}
-use Rattle.std.proofs.lemmas.Bool.Decides.{nat_tests}
+use Rattle.std.proofs.lemmas.{List.{map-append, length-map, length-replicate}, Bool.Decides.{nat_tests}}
 use Rattle.std.proofs.lemmas.Int.Digits.{digits_of_step, length-digits_of_step, all_below_base_digits_of, first_digits_of, same_from_digits_of}
+use Rattle.std.specs.{List.{AllByRecursion}, Int.Digits.{digits_of, AllBelowBase}}
 use Rattle.sexpr_core.specs.Value.{decimal, Value, Values, string, list, none, more, verbatim, canon, canons, depths}
 use Rattle.sexpr_core.specs.Reading.{IsCanon, IsCanonWithin, IsVerbatim, IsClosing, IsLength}
 use Rattle.sexpr_core.proofs.Prefix.{Tailed, Opens, Behind, From}

@@ -1,18 +1,12 @@
 -- Values and owned trees, member by member: how many nodes they have, what is written of them behind other octets,
 -- their octets, and when two are the same.
 use Rattle.std.proofs.Common.{◌≡◌, suc, ◌+◌, List, [], ◌∷◌, ◌++◌, length, ap, arith, refl, ℕ, ◌*◌, ◌/◌, ◌%◌, ◌<◌, ◌≤◌, sym, ◌∙◌, append_assoc, map, take, get_or, Vec, Global, append-nil, rules, subst, ◌↔◌, Bool, false, IsTrue}
-use Rattle.sexpr_core.specs.Value.{Value, values, group, size, size_all, sexp_value, level_value, decimal, verbatim, canon, canons, HasOctets, HaveOctets, members, is_same}
-use Rattle.std.proofs.lemmas.List.{map-append, take_more, take_all, get_or-map}
-use Rattle.sexpr_core.specs.declared.tree.Sexp.{Sexp}
-use Rattle.sexpr_core.specs.declared.tree.Sexp.TheVariants.{List as Branch, rolls-List}
-use Rattle.sexpr_core.specs.declared.tree.Sexp.TheOpen.{List as Layer}
-use Rattle.sexpr_core.specs.declared.tree.Sexp.TheFolds.{fold-roll-Sexp}
-use Rattle.sexpr_core.proofs.Texts.{decimal_digit, decimal_more, verbatim_is, canon_one}
+use Rattle.std.proofs.lemmas.{List.{map-append, take_more, take_all, get_or-map}, Slice.Eq.{bytes_eq-Decides}, Bool.Decides.{same_from_decides}}
 use Rattle.std.specs.Bool.{Decides}
-use Rattle.std.proofs.lemmas.Slice.Eq.{bytes_eq-Decides}
-use Rattle.std.proofs.lemmas.Bool.Decides.{same_from_decides}
+use Rattle.sexpr_core.specs.Value.{Value, values, group, size, size_all, sexp_value, level_value, decimal, verbatim, canon, canons, HasOctets, HaveOctets, members, is_same}
+use Rattle.sexpr_core.specs.declared.tree.Sexp.{Sexp, TheVariants.{List as Branch, rolls-List}, TheOpen.{List as Layer}, TheFolds.{fold-roll-Sexp}}
 use Rattle.sexpr_core.specs.Nodes.{members-values}
-use Rattle.sexpr_core.proofs.NodeLaws.{length-nodes_all}
+use Rattle.sexpr_core.proofs.{Texts.{decimal_digit, decimal_more, verbatim_is, canon_one}, NodeLaws.{length-nodes_all}}
 
 -- ---- how many nodes there are in a list's members
 

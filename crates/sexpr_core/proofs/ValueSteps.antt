@@ -1,18 +1,12 @@
 -- Each step of the reader of values and members, over the text and its offsets.
 use Rattle.std.proofs.Common.{◌≡◌, ℕ, suc, ◌+◌, ◌-◌, ◌<◌, ◌≤◌, List, [], ◌∷◌, ◌++◌, length, drop, None, refl, sym, ◌∙◌, ap, arith, append_assoc, length-append, append-nil, set, replicate, rules}
-use Rattle.std.proofs.Math.Seq.{set-append_seam}
-use Rattle.sexpr_core.specs.declared.fault.FormFault.{FormFault}
-use Rattle.sexpr_core.specs.declared.layout.Record.{Record}
-use Rattle.sexpr_core.specs.declared.layout.Shape.TheVariants.{List as Group}
+use Rattle.std.proofs.{Math.Seq.{set-append_seam}, lemmas.List.{length-replicate}}
+use Rattle.sexpr_core.specs.declared.{fault.FormFault.{FormFault}, layout.{Record.{Record}, Shape.TheVariants.{List as Group}}}
 use Rattle.sexpr_core.specs.Value.{Value, Values, string, list, none, more, members, canon, canons, depth, depths, nodes, nodes_all, size}
-use Rattle.sexpr_core.specs.Nodes.{records_all}
 use Rattle.sexpr_core.specs.Reading.{Front, IsCanon, IsCanonWithin, IsMembers, IsMembersWithin, StandsAt, ReadsString, ReadsValue, ReadsMembers, PassesValue, PassesMembers}
-use Rattle.sexpr_core.specs.Inner.PartFaults.{FaultAt}
-use Rattle.std.proofs.lemmas.List.{length-replicate}
-use Rattle.sexpr_core.proofs.NodeLaws.{as_many, places_all}
-use Rattle.sexpr_core.proofs.ListTexts.{join, canons-join, depths-join}
-use Rattle.sexpr_core.proofs.Faults.{verbatim_none, members_short, member_fault}
-use Rattle.sexpr_core.proofs.Steps.{read_length}
+use Rattle.sexpr_core.specs.{Nodes.{records_all}, Inner.PartFaults.{FaultAt}}
+use Rattle.sexpr_core.proofs.{NodeLaws.{as_many, places_all}, ListTexts.{join, canons-join, depths-join}}
+use Rattle.sexpr_core.proofs.{Faults.{verbatim_none, members_short, member_fault}, Steps.{read_length}}
 
 -- ---- values
 

@@ -1,8 +1,6 @@
 -- The value that a reader of a node returns.
 use Rattle.std.specs.Option.{option_copied}
-use Rattle.sexpr_core.specs.declared.handle.NodeKind.{NodeKind}
-use Rattle.sexpr_core.specs.declared.handle.NodeKind.TheVariants.{String, List as Group}
-use Rattle.sexpr_core.specs.Value.{Value, string, group}
+use Rattle.sexpr_core.specs.{declared.handle.NodeKind.{NodeKind, TheVariants.{String, List as Group}}, Value.{Value, string, group}}
 
 abbrev pub kind_value : NodeKind → Value
 kind_value (String hint body) = string (option_copied hint) body.now

@@ -2,12 +2,9 @@
 -- records that describes them.
 use Rattle.std.specs.Prelude.{◌≡◌, ℕ, List, [], ◌∷◌, ◌++◌, length, take, drop, map, Option, ◌⊎◌, refl, ◌+◌, Some, None, option_and_then, nat_lt, slice_get, if◌then◌else◌, zero, suc, ◌-◌, ◌≤◌, slice_range, slice_index_or}
 use Rattle.std.specs.Coded.{Coded, code_by, coded×, coded⊎, coded_ℕ, coded_list, coded_option}
-use Rattle.std.proofs.Common.{sym, ap, ◌∙◌, append_assoc, inl, inr}
-use Rattle.std.proofs.lemmas.List.{map-append, take_at, drop_at, append-nil}
+use Rattle.std.proofs.{Common.{sym, ap, ◌∙◌, append_assoc, inl, inr}, lemmas.List.{map-append, take_at, drop_at, append-nil}}
 use Rattle.sexpr_core.specs.Value.{Value, string, list, Values, none, more, members, values, plain, group, nodes, nodes_all, node, size_all, size, canon, decimal}
-use Rattle.sexpr_core.specs.declared.layout.Record.{Record}
-use Rattle.sexpr_core.specs.declared.layout.Shape.{Shape}
-use Rattle.sexpr_core.specs.declared.layout.Shape.TheVariants.{Plain, Hinted, List as Group}
+use Rattle.sexpr_core.specs.declared.layout.{Record.{Record}, Shape.{Shape, TheVariants.{Plain, Hinted, List as Group}}}
 
 -- ---- a value as the list of its nodes' labels
 

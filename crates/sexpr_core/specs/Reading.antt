@@ -1,15 +1,12 @@
 -- Canonical form and the transport form (RFC 9804, sections 6.1 to 6.3): which texts have them, what a step of their
 -- readers has read of a text, and why a text is refused.
 use Rattle.std.specs.Prelude.{ℕ, ◌+◌, ◌<◌, ◌≤◌, List, ◌++◌, length, take, ◌≡◌, [], ◌∷◌, min, drop, Option, ◌==◌, ◌&&◌, ◌||◌, nat_le, Bool, not, true, false, replicate, ◌≢◌, ◌⊎◌}
-use Rattle.sexpr_core.specs.Characters.{char}
-use Rattle.sexpr_core.specs.Value.{Value, Values, decimal, verbatim, canon, canons, depth, depths, octet_limit, string, members, depth_limit, IsShallow}
-use Rattle.sexpr_core.specs.Nodes.{head, records, records_all}
-use Rattle.sexpr_core.specs.declared.layout.Record.{Record}
-use Rattle.sexpr_core.specs.declared.fault.FormFault.{FormFault}
-use Rattle.sexpr_core.specs.declared.fault.FormFault.TheVariants.{TooLong, TooDeep, Short, Bad, Trailing, Memory}
 use Rattle.std.specs.List.{AllByRecursion, filter}
-use Rattle.base64.specs.Engines.{standard}
-use Rattle.base64.specs.GeneralPurpose.{encode_of, IsBytes}
+use Rattle.sexpr_core.specs.Value.{Value, Values, decimal, verbatim, canon, canons, depth, depths, octet_limit, string, members, depth_limit, IsShallow}
+use Rattle.sexpr_core.specs.declared.layout.Record.{Record}
+use Rattle.sexpr_core.specs.declared.fault.FormFault.{FormFault, TheVariants.{TooLong, TooDeep, Short, Bad, Trailing, Memory}}
+use Rattle.sexpr_core.specs.{Characters.{char}, Nodes.{head, records, records_all}}
+use Rattle.base64.specs.{Engines.{standard}, GeneralPurpose.{encode_of, IsBytes}}
 
 -- ---- beginnings of texts
 

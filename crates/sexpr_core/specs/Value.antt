@@ -1,14 +1,10 @@
 -- S-expressions as values, and their canonical text (RFC 9804): the limits on what is read, values of octets, what a
 -- value is not, the equality of values, and the value of an owned tree.
 use Rattle.std.specs.Prelude.{ℕ, suc, ◌+◌, ◌≤◌, max, List, [], ◌∷◌, ◌++◌, length, map, Option, Some, None, ◌==◌, slice_get, if◌then◌else◌, ◌≢◌, Bool, option_map}
-use Rattle.std.specs.Int.Digits.{digits_of}
+use Rattle.std.specs.{Int.Digits.{digits_of}, Str.{bytes_eq}}
 use Rattle.sexpr_core.specs.Characters.{char}
+use Rattle.sexpr_core.specs.declared.tree.{Atom.{Atom}, Sexp.{Sexp, TheOpen.{Sexp-F, Atom as Leaf, List as Branch}, TheFolds.{fold-Sexp}}}
 use Rattle.base64.specs.GeneralPurpose.{IsBytes}
-use Rattle.std.specs.Str.{bytes_eq}
-use Rattle.sexpr_core.specs.declared.tree.Atom.{Atom}
-use Rattle.sexpr_core.specs.declared.tree.Sexp.{Sexp}
-use Rattle.sexpr_core.specs.declared.tree.Sexp.TheOpen.{Sexp-F, Atom as Leaf, List as Branch}
-use Rattle.sexpr_core.specs.declared.tree.Sexp.TheFolds.{fold-Sexp}
 
 -- ---- the limits of what is read
 

@@ -1,9 +1,8 @@
 //! The transport form: base64 of the canonical form, in braces (RFC 9804, sections 6.1 and 6.3).
 
 ghost use Rattle.std.specs.Prelude.{◌≡◌, ℕ, List, ◌+◌, ◌<◌, ◌≤◌, ◌≢◌, ◌↔◌, [], ◌∷◌, ◌++◌, length, drop, replicate, true, false, IfOk, IfErr, OnOk, IsErrOf, IsOkUnless};
-ghost use Rattle.sexpr_core.specs.Value.{Value, canon, IsWithinLimits, sexp_value};
 ghost use Rattle.sexpr_core.specs.Reading.{AreSpaces, visible, in_braces, transport, IsBase64, IsBracedWithin, ReadsBase64, PackedAt, IsFaultAt, IsBodyFault, RefusesBody, RefusesPart, RefusesBraces, is_symbol, is_body_octet, AreBodyOctets, IsBodyEnd};
-ghost use Rattle.sexpr_core.specs.Inner.Gathering.{SkipsSymbols, GathersTo, BodyAt};
+ghost use Rattle.sexpr_core.specs.{Value.{Value, canon, IsWithinLimits, sexp_value}, Inner.Gathering.{SkipsSymbols, GathersTo, BodyAt}};
 
 use crate::checker::check_canonical;
 use crate::fault::FormFault;

@@ -1,9 +1,7 @@
 //! A canonical text with a table of its nodes.
 
 ghost use Rattle.std.specs.Prelude.{◌≡◌, ◌<◌, ◌^◌, ◌↔◌, length, Some, IfOk, IfErr, IsErrOf, IsOkUnless};
-ghost use Rattle.sexpr_core.specs.Value.{Value, canon, size, node, IsWithinLimits};
-ghost use Rattle.sexpr_core.specs.Reading.{Refused};
-ghost use Rattle.sexpr_core.specs.Nodes.{IsPlace, node_at, start_of};
+ghost use Rattle.sexpr_core.specs.{Value.{Value, canon, size, node, IsWithinLimits}, Reading.{Refused}, Nodes.{IsPlace, node_at, start_of}};
 
 use crate::fault::FormFault;
 use crate::handle::Node;

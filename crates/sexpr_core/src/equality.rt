@@ -1,8 +1,6 @@
 //! Equality of trees.
 
-ghost use Rattle.std.specs.Prelude.{◌≡◌, ◌↔◌, map, option_map, IsTrue};
-ghost use Rattle.std.specs.Cmp.{on_equiv, partial_equiv_from_equiv};
-ghost use Rattle.std.specs.Cmp.Lexicographic.{nat_list_eq_equiv};
+ghost use Rattle.std.specs.{Prelude.{◌≡◌, ◌↔◌, map, option_map, IsTrue}, Cmp.{on_equiv, partial_equiv_from_equiv, Lexicographic.{nat_list_eq_equiv}}};
 ghost use Rattle.sexpr_core.specs.Value.{canon, is_same, atom_value, sexp_value};
 
 use crate::tree::{Atom, Sexp};

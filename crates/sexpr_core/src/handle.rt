@@ -1,8 +1,7 @@
 //! Handles to the nodes of a document.
 
 ghost use Rattle.std.specs.Prelude.{◌≡◌, ◌<◌, ◌≤◌, ◌∷◌, length, slice_range, MatchOption};
-ghost use Rattle.sexpr_core.specs.Value.{canon, size, plain, group, IsNoString, IsNoList, IsNotHeaded};
-ghost use Rattle.sexpr_core.specs.Nodes.{node_at, part_count};
+ghost use Rattle.sexpr_core.specs.{Value.{canon, size, plain, group, IsNoString, IsNoList, IsNotHeaded}, Nodes.{node_at, part_count}};
 ghost use Rattle.sexpr_core.specs.KindValue.{kind_value};
 
 use crate::document::Doc;
@@ -19,8 +18,8 @@ pub struct Node<'d, 'a> {
 
 impl<'d, 'a> Model for Node<'d, 'a> {
     ghost use Rattle.std.specs.Prelude.{◌<◌};
-    ghost use Rattle.sexpr_core.specs.Value as sexpr;
     ghost use Rattle.sexpr_core.specs.Nodes.{value_code};
+    ghost use Rattle.sexpr_core.specs.Value as sexpr;
 
     ghost Value = { sexpr.Value };
 

@@ -1,9 +1,8 @@
 //! The properties of a document's nodes, by their numbers. For a number that the document does not have the result is None.
 
-ghost use Rattle.std.specs.Prelude.{◌≡◌, ◌<◌, ◌^◌, length, option_map, IfSome};
-ghost use Rattle.std.specs.Option.{option_copied};
-ghost use Rattle.sexpr_core.specs.Value.{canon, node, size};
+ghost use Rattle.std.specs.{Prelude.{◌≡◌, ◌<◌, ◌^◌, length, option_map, IfSome}, Option.{option_copied}};
 ghost use Rattle.sexpr_core.specs.Nodes.{node_at, start_of, LiesAt, of_node, part_count, part_number, part_at, member_number, members_of, body_of, hint_of};
+ghost use Rattle.sexpr_core.specs.Value.{canon, node, size};
 
 use crate::document::{Doc, NodeId};
 use crate::handle::NodeKind;

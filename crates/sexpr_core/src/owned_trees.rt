@@ -1,9 +1,7 @@
 //! Owned trees, read from canonical texts.
 
-ghost use Rattle.std.specs.Prelude.{◌≡◌, ◌<◌, ◌↔◌, length, map, IfOk, IfErr, IsErrOf, IsOkUnless};
-ghost use Rattle.std.specs.Option.{option_copied};
-ghost use Rattle.sexpr_core.specs.Value.{Value, string, canon, IsWithinLimits, atom_value, sexp_value};
-ghost use Rattle.sexpr_core.specs.Reading.{Refused};
+ghost use Rattle.std.specs.{Prelude.{◌≡◌, ◌<◌, ◌↔◌, length, map, IfOk, IfErr, IsErrOf, IsOkUnless}, Option.{option_copied}};
+ghost use Rattle.sexpr_core.specs.{Value.{Value, string, canon, IsWithinLimits, atom_value, sexp_value}, Reading.{Refused}};
 
 use crate::document::Doc;
 use crate::fault::FormFault;

@@ -1,10 +1,8 @@
 //! The reader of canonical form (RFC 9804, section 6.2).
 
 ghost use Rattle.std.specs.Prelude.{◌≡◌, ℕ, ◌+◌, ◌<◌, ◌≤◌, ◌≢◌, ◌↔◌, [], ◌∷◌, length, drop, MatchOption, MatchResult, IfOk, IfErr, IsErrOf, IsOkUnless};
-ghost use Rattle.sexpr_core.specs.Value.{Value, canon, IsWithinLimits};
-ghost use Rattle.sexpr_core.specs.Nodes.{records};
 ghost use Rattle.sexpr_core.specs.Reading.{Refused, IsCanon, IsCanonWithin, IsMembers, IsMembersWithin, IsLength, IsVerbatim, IsClosing, StandsAt, ReadsLength, ReadsVerbatim, ReadsString, ReadsValue, ReadsMembers};
-ghost use Rattle.sexpr_core.specs.Inner.PartFaults.{FaultAt};
+ghost use Rattle.sexpr_core.specs.{Value.{Value, canon, IsWithinLimits}, Nodes.{records}, Inner.PartFaults.{FaultAt}};
 
 use crate::fault::FormFault;
 use crate::layout::{Record, Shape};

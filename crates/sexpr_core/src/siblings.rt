@@ -1,9 +1,7 @@
 //! The members of a list, one after another.
 
-ghost use Rattle.std.specs.Prelude.{◌≡◌, ◌<◌, ◌∷◌, [], length, MatchOption, IsTrue, ◌↔◌};
-ghost use Rattle.std.specs.Iterator.{YieldsFirst, item_count};
-ghost use Rattle.sexpr_core.specs.Value.{list, size, values};
-ghost use Rattle.sexpr_core.specs.Nodes.{IsList, node_at};
+ghost use Rattle.std.specs.{Prelude.{◌≡◌, ◌<◌, ◌∷◌, [], length, MatchOption, IsTrue, ◌↔◌}, Iterator.{YieldsFirst, item_count}};
+ghost use Rattle.sexpr_core.specs.{Value.{list, size, values}, Nodes.{IsList, node_at}};
 
 use crate::document::Doc;
 use crate::handle::Node;
@@ -19,10 +17,9 @@ pub struct Members<'d, 'a> {
 }
 
 impl<'d, 'a> Model for Members<'d, 'a> {
-    ghost use Rattle.std.specs.Prelude.{List};
-    ghost use Rattle.std.specs.Coded.{coded_list};
-    ghost use Rattle.sexpr_core.specs.Value as sexpr;
+    ghost use Rattle.std.specs.{Prelude.{List}, Coded.{coded_list}};
     ghost use Rattle.sexpr_core.specs.Nodes.{value_code};
+    ghost use Rattle.sexpr_core.specs.Value as sexpr;
 
     ghost Value = { List sexpr.Value };
 

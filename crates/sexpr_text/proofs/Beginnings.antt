@@ -1,14 +1,12 @@
 -- What begins a value or the members of a list, and what of these is not closed.
 use Rattle.std.proofs.Common.{◌≡◌, ℕ, suc, ◌≤◌, Bool, true, false, inl, inr, List, [], ◌∷◌, ◌++◌, length, replicate, Some, None, refl, sym, ap, subst, ◌∙◌, append_assoc, append-nil, arith, rules}
 use Rattle.std.proofs.lemmas.List.{length-replicate}
-use Rattle.sexpr_core.specs.Reading.{Begins, AreSpaces}
-use Rattle.sexpr_core.specs.Value.{Value, Values, string, list, none, more, decimal, depth, depths}
+use Rattle.sexpr_core.specs.{Reading.{Begins, AreSpaces}, Value.{Value, Values, string, list, none, more, decimal, depth, depths}}
 use Rattle.sexpr_core.proofs.Texts.{verbatim_is}
 use Rattle.sexpr_text.specs.AdvancedForm.{is_token_octet, IsCount, Simple, IsApart, SpellsAs, SpellsMembers}
-use Rattle.sexpr_text.specs.Refusal.{IsUnclosedString, IsUnclosedHinted, UnclosedMembers, depth_open}
 use Rattle.sexpr_text.specs.Inner.Begun.{IsStringPart, GoesString, IsValuePart, IsUnclosedValue, GoesValue, IsMembersPart, AreUnclosedMembers, GoesMembers}
-use Rattle.sexpr_text.proofs.Printed.{end_apart, hinted_is}
-use Rattle.sexpr_text.proofs.OneValue.{apart_front, spaces_members}
+use Rattle.sexpr_text.specs.Refusal.{IsUnclosedString, IsUnclosedHinted, UnclosedMembers, depth_open}
+use Rattle.sexpr_text.proofs.{Printed.{end_apart, hinted_is}, OneValue.{apart_front, spaces_members}}
 
 -- digits of a length begin a string, as nothing does
 pub count_begins : (count : List ℕ) (n : ℕ) → IsCount count n → Begins IsStringPart count

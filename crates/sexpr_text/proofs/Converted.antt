@@ -1,17 +1,14 @@
 -- What is written of a value while its text, in canonical or in advanced form, is read.
 use Rattle.std.proofs.Common.{◌≡◌, ◌≢◌, ℕ, zero, suc, ◌+◌, ◌*◌, ◌-◌, ◌<◌, ◌≤◌, List, [], ◌∷◌, ◌++◌, length, map, take, drop, Some, None, refl, sym, ap, ◌∙◌, append_assoc, append-nil, length-append, arith, subst, rules}
+use Rattle.std.proofs.lemmas.{List.{take_all, take_at, drop_at}, Int.Digits.{number_after_ge, number_digits_of, all_below_base_digits_of}}
 use Rattle.std.specs.Int.Digits.{digits_of, number_from_digits, number_from_digits_after, AllBelowBase}
-use Rattle.std.proofs.lemmas.List.{take_all, take_at, drop_at}
-use Rattle.std.proofs.lemmas.Int.Digits.{number_after_ge, number_digits_of, all_below_base_digits_of}
 use Rattle.sexpr_core.specs.Value.{Value, Values, string, list, none, more, decimal, verbatim, canon, canons, values, IsWithinLimits}
-use Rattle.sexpr_core.proofs.Texts.{no_bracket, digit_of, decimal_zero, decimal_suc, verbatim_is, verbatim_differs, no_open, canon_differs}
-use Rattle.sexpr_text.specs.AdvancedForm.{gap, adv, adv_all, written, written_all, written_string, gap_of, IsSpelledWithin}
-use Rattle.sexpr_text.proofs.Printed.{gap_suc, past_first, canonical_spelled, adv_all-append}
 use Rattle.sexpr_core.specs.Reading.{StandsAt, Skips}
-use Rattle.sexpr_text.specs.declared.converter.Form.{Form}
-use Rattle.sexpr_text.specs.declared.converter.Form.TheVariants.{Canonical, Advanced}
-use Rattle.sexpr_text.specs.Reads.{ReadsString, ReadsValue, ReadsMembers}
+use Rattle.sexpr_core.proofs.Texts.{no_bracket, digit_of, decimal_zero, decimal_suc, verbatim_is, verbatim_differs, no_open, canon_differs}
 use Rattle.sexpr_core.proofs.TreeLaws.{canons-append}
+use Rattle.sexpr_text.specs.AdvancedForm.{gap, adv, adv_all, written, written_all, written_string, gap_of, IsSpelledWithin}
+use Rattle.sexpr_text.specs.{declared.converter.Form.{Form, TheVariants.{Canonical, Advanced}}, Reads.{ReadsString, ReadsValue, ReadsMembers}}
+use Rattle.sexpr_text.proofs.Printed.{gap_suc, past_first, canonical_spelled, adv_all-append}
 use Rattle.sexpr_text.proofs.Trees.{HasMembers, no_members, more_members, members_end, list_read}
 
 -- ---- what a printer of canonical texts has passed, and what is left before it

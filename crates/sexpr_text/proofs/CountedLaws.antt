@@ -1,13 +1,11 @@
 -- A string with or without its length in front, as the reader meets it.
 use Rattle.std.proofs.Common.{◌≡◌, ◌≢◌, ℕ, ◌+◌, ◌≤◌, min, Bool, true, false, ◌⊎◌, inl, inr, List, [], ◌∷◌, ◌++◌, length, drop, refl, sym, ap, subst, ◌∙◌, append_assoc, length-append, length-drop, arith, rules}
 use Rattle.std.proofs.lemmas.Bool.Decides.{nat_tests}
-use Rattle.sexpr_core.specs.Value.{decimal}
-use Rattle.sexpr_core.specs.Reading.{StandsAt}
+use Rattle.sexpr_core.specs.{Value.{decimal}, Reading.{StandsAt}}
 use Rattle.sexpr_core.proofs.Texts.{IsDigit, zero_once, AreDigits, AreDigits-decimal, decimal_same, decimal_starts, verbatim_is, Passes, one_front}
 use Rattle.sexpr_text.specs.AdvancedForm.{is_digit, is_token_octet, IsToken, IsQuoted, IsMarked, Simple}
 use Rattle.sexpr_text.specs.Reads.{Reads, ReadsCount, ReadsOctets, ReadsString, StringAt, Stops}
-use Rattle.sexpr_text.proofs.Marked.{is_mark, marked_first, one_marked, marked_few}
-use Rattle.sexpr_text.proofs.OneValue.{Cut, cut, IsBehind, simple_first}
+use Rattle.sexpr_text.proofs.{Marked.{is_mark, marked_first, one_marked, marked_few}, OneValue.{Cut, cut, IsBehind, simple_first}}
 
 -- ---- a length ends in one way
 

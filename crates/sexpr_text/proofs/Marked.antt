@@ -1,23 +1,15 @@
 -- Strings between marks: these, and the pieces of a quoted string, stand in one way; what is read of a hexadecimal
 -- body.
 use Rattle.std.proofs.Common.{◌≡◌, ◌≢◌, ℕ, zero, suc, ◌+◌, ◌-◌, ◌<◌, ◌≤◌, ◌==◌, ◌&&◌, ◌||◌, false, Some, None, List, [], ◌∷◌, ◌++◌, length, refl, sym, ap, subst, ◌∙◌, append_assoc, length-append, arith, inl, inr, ◌⊎◌, rules, Bool, true, Ok, drop, append-nil, Err}
-use Rattle.std.specs.Prelude.{nat_le, if◌then◌else◌}
-use Rattle.std.proofs.lemmas.Bool.Decides.{nat_tests}
-use Rattle.hex.specs.Hex.{hex_digit_value, is_hex_digit, decode_of}
-use Rattle.sexpr_text.specs.AdvancedForm.{escape_value, Piece, raw, escaped, octal, hexadecimal, line, line_pair, piece_text, piece_octets, StartsOther, IsPiece, pieces_text, pieces_octets, ArePieces, IsQuoted, IsHexadecimal, IsPacked, IsMarked}
-use Rattle.std.specs.List.{AllPass}
-use Rattle.std.proofs.lemmas.Bool.{cases_Bool}
-use Rattle.std.proofs.lemmas.List.Elements.{All-head, All-tail}
+use Rattle.std.proofs.lemmas.{Bool.{cases_Bool, Decides.{nat_tests}}, List.Elements.{All-head, All-tail}}
+use Rattle.std.specs.{Prelude.{nat_le, if◌then◌else◌}, List.{AllPass}}
+use Rattle.hex.specs.{Hex.{hex_digit_value, is_hex_digit, decode_of}, declared.error.FromHexError.{FromHexError, TheVariants.{OutOfMemory}}}
 use Rattle.hex.proofs.HexLemmas.{decode_of-ok}
-use Rattle.sexpr_core.specs.Reading.{StandsAt, is_whitespace, visible, IsBase64}
-use Rattle.sexpr_core.proofs.BraceLaws.{body_octets, one_packed, visible_le, packed_short}
-use Rattle.sexpr_core.proofs.Spans.{one_body, visible-append}
+use Rattle.sexpr_text.specs.AdvancedForm.{escape_value, Piece, raw, escaped, octal, hexadecimal, line, line_pair, piece_text, piece_octets, StartsOther, IsPiece, pieces_text, pieces_octets, ArePieces, IsQuoted, IsHexadecimal, IsPacked, IsMarked}
 use Rattle.sexpr_text.specs.Reads.{is_hexadecimal_octet, Reads, Keeps, IsNoHexadecimalOctet, IsDigitsFault, Stops}
+use Rattle.sexpr_core.proofs.{BraceLaws.{body_octets, one_packed, visible_le, packed_short}, Spans.{one_body, visible-append}}
 use Rattle.sexpr_core.proofs.Texts.{Passes, one_front, tail_is, all-append}
-use Rattle.hex.specs.declared.error.FromHexError.{FromHexError}
-use Rattle.hex.specs.declared.error.FromHexError.TheVariants.{OutOfMemory}
-use Rattle.sexpr_core.specs.declared.fault.FormFault.{FormFault}
-use Rattle.sexpr_core.specs.declared.fault.FormFault.TheVariants.{Bad, Memory}
+use Rattle.sexpr_core.specs.{Reading.{StandsAt, is_whitespace, visible, IsBase64}, declared.fault.FormFault.{FormFault, TheVariants.{Bad, Memory}}}
 
 -- ---- the pieces of a quoted string stand in one way
 

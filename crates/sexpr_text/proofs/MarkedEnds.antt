@@ -2,24 +2,17 @@
 use Rattle.std.proofs.Common.{◌≡◌, ◌≢◌, ℕ, ◌+◌, ◌-◌, ◌<◌, ◌≤◌, Bool, true, false, ◌⊎◌, inl, inr, List, [], ◌∷◌, ◌++◌, length, take, drop, replicate, refl, sym, ap, subst, ◌∙◌, append_assoc, append-nil, length-append, length-drop, arith, rules}
 use Rattle.std.proofs.lemmas.List.{length-replicate, drop-append-le, drop-drop, drop_at, drop_all}
 use Rattle.std.specs.List.{AllByRecursion}
-use Rattle.sexpr_core.specs.declared.fault.FormFault.{FormFault}
-use Rattle.sexpr_core.specs.declared.fault.FormFault.TheVariants.{Short, Bad}
-use Rattle.sexpr_core.specs.Reading.{Passed, IsBodyEnd, is_body_octet, Begins, RefusesPart, StandsAt}
-use Rattle.sexpr_core.specs.Value.{decimal}
-use Rattle.sexpr_core.proofs.Spans.{Agree, agree, stands_too, long_too, stops_here, end_is}
-use Rattle.sexpr_core.proofs.BraceLaws.{body_octets}
-use Rattle.sexpr_core.proofs.Texts.{IsDigit, decimal_starts, verbatim_is}
+use Rattle.sexpr_core.specs.declared.fault.FormFault.{FormFault, TheVariants.{Short, Bad}}
+use Rattle.sexpr_core.specs.{Reading.{Passed, IsBodyEnd, is_body_octet, Begins, RefusesPart, StandsAt}, Value.{decimal}}
+use Rattle.sexpr_core.proofs.{Spans.{Agree, agree, stands_too, long_too, stops_here, end_is}, BraceLaws.{body_octets}}
+use Rattle.sexpr_core.proofs.{Texts.{IsDigit, decimal_starts, verbatim_is}, Refusals.{begins_front}}
 use Rattle.sexpr_text.specs.AdvancedForm.{is_digit, IsCount, pieces_text, IsQuoted, IsMarked}
 use Rattle.sexpr_text.specs.Reads.{Reads, ReadsCount, is_hexadecimal_octet, Stops, IsTooFew, Stands}
 use Rattle.sexpr_text.specs.Refusal.{OpensQuoted, IsUnclosed, IsUnclosedString}
 use Rattle.sexpr_text.specs.Inner.Begun.{Begun, From, IsPartEnd, IsFrontEnd, GoesMarked, IsStringPart, GoesString}
-use Rattle.sexpr_text.proofs.Beginnings.{count_begins}
-use Rattle.sexpr_text.proofs.CountedLaws.{count_once, ends_written}
-use Rattle.sexpr_text.proofs.Marked.{is_mark, hexadecimal_octets}
-use Rattle.sexpr_text.proofs.RefusedParts.{marked_too, count_too, ends_too, no_mark}
-use Rattle.sexpr_text.proofs.UnclosedStrings.{unclosed_marked, unclosed_first, cut_open}
+use Rattle.sexpr_text.proofs.{Beginnings.{count_begins}, CountedLaws.{count_once, ends_written}, Marked.{is_mark, hexadecimal_octets}}
+use Rattle.sexpr_text.proofs.{RefusedParts.{marked_too, count_too, ends_too, no_mark}, UnclosedStrings.{unclosed_marked, unclosed_first, cut_open}}
 use Rattle.sexpr_text.proofs.OneValue.{mark_no_digit}
-use Rattle.sexpr_core.proofs.Refusals.{begins_front}
 use Rattle.sexpr_text.proofs.StringEnds.{nothing_begun, part_later, pieces_open, body_fails, quoted_is, digits_are, symbols_are}
 
 -- ---- between marks

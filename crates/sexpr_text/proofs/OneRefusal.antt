@@ -1,20 +1,15 @@
 -- The refusals of a text in advanced form, and of a text in either form. A text has at most one that speaks of its
 -- form.
 use Rattle.std.proofs.Common.{◌≡◌, ℕ, List, take, append-nil, rules, ◌+◌, ◌<◌, ◌≤◌, true, inl, inr, [], ◌∷◌, ◌++◌, length, drop, refl, sym, ap, ◌∙◌, arith, length-append, length-drop}
-use Rattle.sexpr_core.specs.declared.fault.FormFault.{FormFault}
-use Rattle.sexpr_core.specs.declared.fault.FormFault.TheVariants.{TooDeep, Bad, Trailing}
-use Rattle.sexpr_core.specs.Value.{Value, plain}
+use Rattle.std.proofs.lemmas.{Bool.{cases_lt, cases_Bool}, List.{drop-drop, take-append-le}}
+use Rattle.sexpr_core.specs.{declared.fault.FormFault.{FormFault, TheVariants.{TooDeep, Bad, Trailing}}, Value.{Value, plain}}
 use Rattle.sexpr_core.specs.Reading.{IsOfForm, StandsAt, Passed, is_whitespace, AreSpaces, Skips, Begins, Braced, IsBraced, RefusesBraces}
+use Rattle.sexpr_core.proofs.Refusals.{goes_part, StopsThere, no_deep, AreApart, one_fault, no_fault}
+use Rattle.sexpr_core.proofs.Spans.{Agree, agree, same_head, skips_too, nothing_passed, one_passed, spaces_front, one_end}
+use Rattle.sexpr_core.proofs.{BraceLaws.{opening, spaces_begin}, BraceRefusals.{one_brace_refusal, no_brace_refusal}}
 use Rattle.sexpr_text.specs.AdvancedForm.{IsSpelledWithin, Spells, IsText, IsTextWithin}
 use Rattle.sexpr_text.specs.Refusal.{GoesOn, GoesOnWithin, RefusesSpelling, IsSpelling, OpensBrace, RefusesText, IsSomeText}
-use Rattle.sexpr_core.proofs.Refusals.{goes_part, StopsThere, no_deep, AreApart, one_fault, no_fault}
-use Rattle.sexpr_text.proofs.UnclosedStrings.{goes_front, goes_on_front, goes_anyhow}
-use Rattle.std.proofs.lemmas.Bool.{cases_lt, cases_Bool}
-use Rattle.std.proofs.lemmas.List.{drop-drop, take-append-le}
-use Rattle.sexpr_core.proofs.Spans.{Agree, agree, same_head, skips_too, nothing_passed, one_passed, spaces_front, one_end}
-use Rattle.sexpr_core.proofs.BraceLaws.{opening, spaces_begin}
-use Rattle.sexpr_core.proofs.BraceRefusals.{one_brace_refusal, no_brace_refusal}
-use Rattle.sexpr_text.proofs.WholeTexts.{brace_unspelled}
+use Rattle.sexpr_text.proofs.{UnclosedStrings.{goes_front, goes_on_front, goes_anyhow}, WholeTexts.{brace_unspelled}}
 
 -- ---- a text in advanced form has at most one refusal that speaks of its form
 

@@ -1,15 +1,13 @@
 -- What spells a string or a value spells it alone, and ends in one place.
 use Rattle.std.proofs.Common.{◌≡◌, ℕ, ◌==◌, ◌||◌, Bool, true, false, ◌⊎◌, inl, inr, List, [], ◌∷◌, ◌++◌, length, refl, sym, ap, subst, ◌∙◌, append_assoc, arith, rules, ◌<◌, nat_le, Some, None}
-use Rattle.std.proofs.lemmas.Bool.Decides.{nat_tests}
+use Rattle.std.proofs.lemmas.Bool.{or_cases, and_parts, eqb-true, leb-true, cases_Bool, agree_below_at, Decides.{nat_tests}}
 use Rattle.sexpr_core.specs.Value.{decimal, Value, Values, string, list, none, more, canon}
+use Rattle.sexpr_core.specs.Reading.{is_whitespace, AreSpaces, IsSpace, StartsVisible, IsBase64, Braced, visible}
 use Rattle.sexpr_core.proofs.Texts.{IsDigit, AreDigits, AreDigits-decimal, decimal_starts, decimal_same, parts_agree, verbatim_is, same_length, one_front, Passes, canon_one, all-append, tail_is}
+use Rattle.sexpr_core.proofs.{BraceLaws.{body_octets, one_packed}, Spans.{one_body, one_end}}
 use Rattle.sexpr_text.specs.AdvancedForm.{is_digit, is_token_octet, IsToken, IsApart, IsCount, IsMarked, Simple, IsHinted, SpellsAs, SpellsMembers, Spells, IsText}
 use Rattle.sexpr_text.specs.Reads.{Stops}
 use Rattle.sexpr_text.proofs.Marked.{is_mark, marked_first, one_marked}
-use Rattle.std.proofs.lemmas.Bool.{or_cases, and_parts, eqb-true, leb-true, cases_Bool, agree_below_at}
-use Rattle.sexpr_core.specs.Reading.{is_whitespace, AreSpaces, IsSpace, StartsVisible, IsBase64, Braced, visible}
-use Rattle.sexpr_core.proofs.BraceLaws.{body_octets, one_packed}
-use Rattle.sexpr_core.proofs.Spans.{one_body, one_end}
 
 -- ---- a string without display hint is spelled in one way only
 

@@ -1,21 +1,14 @@
 -- What is printed for a value: what a sink takes in several calls, what is printed behind other octets, and that the
 -- printed text spells the value, as the canonical text does.
 use Rattle.std.proofs.Common.{◌≡◌, ℕ, List, ◌++◌, suc, ◌+◌, ◌%◌, ◌<◌, ◌≤◌, ◌==◌, ◌||◌, Bool, true, false, [], ◌∷◌, length, map, take, drop, take-append-drop, get_or, cond, Vec, Global, Some, refl, sym, ap, ◌∙◌, append_assoc, append-nil, arith, rules, not, None, subst, if◌then◌else◌, inl}
-use Rattle.std.proofs.lemmas.Bool.{cases_Bool, and_parts, or_cases, or_parts, not-true, eqb-true, eqb-false}
-use Rattle.std.proofs.lemmas.Bool.Decides.{nat_tests}
+use Rattle.std.proofs.lemmas.Bool.{cases_Bool, and_parts, or_cases, or_parts, not-true, eqb-true, eqb-false, Decides.{nat_tests}}
 use Rattle.std.proofs.lemmas.List.{map-append, take_more, take_all, length-take-le, length-map}
 use Rattle.std.specs.List.{AllByRecursion}
-use Rattle.base64.specs.Engines.{standard}
-use Rattle.base64.specs.GeneralPurpose.{encode_of, IsBytes}
-use Rattle.base64.proofs.EngineFacts.{encode_of-append}
-use Rattle.sexpr_core.specs.declared.tree.Atom.{Atom}
-use Rattle.sexpr_core.specs.declared.tree.Sexp.{Sexp}
-use Rattle.sexpr_core.specs.declared.tree.Sexp.TheVariants.{List as Branch}
+use Rattle.base64.{specs.{Engines.{standard}, GeneralPurpose.{encode_of, IsBytes}}, proofs.EngineFacts.{encode_of-append}}
 use Rattle.sexpr_core.specs.Value.{Value, Values, none, more, values, atom_value, sexp_value, string, list, HasOctets, HaveOctets, verbatim, canon, canons}
-use Rattle.sexpr_core.proofs.TreeLaws.{sexp_list}
+use Rattle.sexpr_core.specs.{declared.tree.{Atom.{Atom}, Sexp.{Sexp, TheVariants.{List as Branch}}}, Reading.{AreSpaces}}
+use Rattle.sexpr_core.proofs.{TreeLaws.{sexp_list}, BraceLaws.{packed_encoded}}
 use Rattle.sexpr_text.specs.AdvancedForm.{IsToken, every, is_token, is_printable, quoted_body, printed_string, gap, adv, adv_all, is_digit, is_token_octet, IsApart, Piece, raw, escaped, IsPiece, pieces_text, pieces_octets, ArePieces, escape_value, IsQuoted, IsPacked, Simple, IsHinted, SpellsAs, SpellsMembers, Spells}
-use Rattle.sexpr_core.specs.Reading.{AreSpaces}
-use Rattle.sexpr_core.proofs.BraceLaws.{packed_encoded}
 
 -- ---- what a sink takes in several calls
 

@@ -1,19 +1,15 @@
 -- A string or a value that is refused at an octet is refused so in each text that goes on up to it in the same way.
 use Rattle.std.proofs.Common.{◌≡◌, ℕ, ◌+◌, ◌≤◌, Err, ◌⊎◌, List, refl, sym, subst, arith, rules, ◌≢◌, ◌<◌, inl, inr, Some, None, [], ◌∷◌, ◌++◌, drop, ap, ◌∙◌, append_assoc, ◌-◌, true, false, length}
-use Rattle.hex.specs.declared.error.FromHexError.{FromHexError}
-use Rattle.hex.specs.declared.error.FromHexError.TheVariants.{OutOfMemory}
-use Rattle.hex.specs.Hex.{decode_of, hex_digit_value}
-use Rattle.sexpr_core.specs.declared.fault.FormFault.{FormFault}
-use Rattle.sexpr_core.specs.declared.fault.FormFault.TheVariants.{Bad, Memory, TooDeep}
-use Rattle.sexpr_core.specs.Reading.{StandsAt, IsFaultAt, RefusesPart, StopsAt, IsShort, PackedAt, Skips}
+use Rattle.std.proofs.lemmas.Bool.Decides.{nat_tests}
+use Rattle.hex.specs.{declared.error.FromHexError.{FromHexError, TheVariants.{OutOfMemory}}, Hex.{decode_of, hex_digit_value}}
+use Rattle.sexpr_core.specs.declared.fault.FormFault.{FormFault, TheVariants.{Bad, Memory, TooDeep}}
+use Rattle.sexpr_core.specs.{Reading.{StandsAt, IsFaultAt, RefusesPart, StopsAt, IsShort, PackedAt, Skips}, Value.{decimal, Values}}
 use Rattle.sexpr_core.proofs.Spans.{Agree, spelled_too, stands_too, long_too, stops_here, refused_later, SameHead, same_head, skips_too, stops_later}
-use Rattle.sexpr_text.specs.AdvancedForm.{IsHexadecimal, escape_value, StartsOther, pieces_text, IsQuoted, is_digit, is_token_octet, IsMarked}
+use Rattle.sexpr_core.proofs.Texts.{IsDigit}
 use Rattle.sexpr_text.specs.Reads.{Keeps, IsNoHexadecimalOctet, IsDigitsFault, Stands, DigitsStand, ReadsDigit, IsNoLetter, PieceStands, DigitStands, OctalStands, Reads, ReadsCount, ReadsString, Stops, StringStands, ValueStands, IsValueFault, MembersStand}
+use Rattle.sexpr_text.specs.AdvancedForm.{IsHexadecimal, escape_value, StartsOther, pieces_text, IsQuoted, is_digit, is_token_octet, IsMarked}
 use Rattle.sexpr_text.proofs.Marked.{are_on, behind_opening, hexadecimal_octets, kept_refused, digits_refused, hexadecimal_piece, octal_piece, letter_piece, is_mark, marked_first, quoted_of, hexadecimal_of, packed_of}
 use Rattle.sexpr_text.proofs.StringLaws.{ReadsPieces, second_octet, third_octet, octal_behind, quoted_left, left_next}
-use Rattle.std.proofs.lemmas.Bool.Decides.{nat_tests}
-use Rattle.sexpr_core.specs.Value.{decimal, Values}
-use Rattle.sexpr_core.proofs.Texts.{IsDigit}
 use Rattle.sexpr_text.proofs.Trees.{string_too, octet_is, HasMembers, filled_at, visible_too, string_at, inside_list}
 use Rattle.sexpr_text.proofs.CountedLaws.{marked_stands, counted_elsewhere, octets_few, uncounted_stands}
 use Rattle.sexpr_text.proofs.WholeTexts.{hinted_at, behind_hint, hint_at, closing_at, body_at}

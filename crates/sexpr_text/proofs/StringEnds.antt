@@ -1,17 +1,12 @@
 -- Where an escape or a quoted string is refused, and what stands of it up to there.
 use Rattle.std.proofs.Common.{◌≡◌, Result, Ok, Err, IfErr, ℕ, ◌+◌, ◌<◌, ◌≤◌, Bool, true, false, inl, inr, List, [], ◌∷◌, ◌++◌, length, drop, refl, sym, ap, subst, ◌∙◌, append_assoc, append-nil, length-append, arith, rules}
 use Rattle.std.specs.List.{AllByRecursion}
-use Rattle.sexpr_core.specs.declared.fault.FormFault.{FormFault}
-use Rattle.sexpr_core.specs.declared.fault.FormFault.TheVariants.{Short, Bad}
-use Rattle.sexpr_core.specs.Reading.{Passed, is_body_octet, StandsAt, StopsAt}
-use Rattle.sexpr_core.proofs.Spans.{Agree, spelled_too, stands_too, stops_later, end_is}
+use Rattle.sexpr_core.specs.{declared.fault.FormFault.{FormFault, TheVariants.{Short, Bad}}, Reading.{Passed, is_body_octet, StandsAt, StopsAt}}
+use Rattle.sexpr_core.proofs.{Spans.{Agree, spelled_too, stands_too, stops_later, end_is}, Texts.{fails_among, head_is, tail_is}}
 use Rattle.sexpr_text.specs.AdvancedForm.{Piece, octal, hexadecimal, escaped, piece_text, pieces_text, pieces_octets, IsPiece, ArePieces}
-use Rattle.sexpr_text.specs.Reads.{ReadsDigit, is_hexadecimal_octet}
-use Rattle.sexpr_text.specs.Refusal.{OpensQuoted, IsUnclosed}
+use Rattle.sexpr_text.specs.{Reads.{ReadsDigit, is_hexadecimal_octet}, Refusal.{OpensQuoted, IsUnclosed}}
 use Rattle.sexpr_text.specs.Inner.Begun.{Begun, From, IsPartEnd, IsFrontEnd, GoesPiece, GoesDigit}
-use Rattle.sexpr_core.proofs.Texts.{fails_among, head_is, tail_is}
-use Rattle.sexpr_text.proofs.Marked.{are_on}
-use Rattle.sexpr_text.proofs.StringLaws.{ReadsPieces, last_text, are_more}
+use Rattle.sexpr_text.proofs.{Marked.{are_on}, StringLaws.{ReadsPieces, last_text, are_more}}
 
 -- what two clauses say of one fault
 pub IfErr-both : {A B : Type 0} (r : Result A B) (P Q R : B → Type 0) → ((e : B) → P e → Q e → R e) → IfErr r P → IfErr r Q → IfErr r R

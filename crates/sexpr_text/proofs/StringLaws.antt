@@ -1,9 +1,7 @@
 -- What the reader of strings without display hint has read, octet by octet, and of quoted strings piece by piece.
 use Rattle.std.proofs.Common.{◌≡◌, ◌≢◌, ℕ, ◌+◌, ◌-◌, ◌*◌, ◌<◌, ◌≤◌, min, true, false, List, [], ◌∷◌, ◌++◌, length, drop, map, refl, sym, ap, subst, ◌∙◌, append_assoc, append-nil, arith, inl, inr, rules, Some, None, Option}
 use Rattle.std.specs.List.{AllByRecursion}
-use Rattle.sexpr_core.specs.Reading.{StandsAt, ReadsBase64}
-use Rattle.sexpr_core.proofs.Texts.{decimal_digit, all-append}
-use Rattle.sexpr_core.proofs.Steps.{more_capped, more_spelled}
+use Rattle.sexpr_core.{specs.Reading.{StandsAt, ReadsBase64}, proofs.{Texts.{decimal_digit, all-append}, Steps.{more_capped, more_spelled}}}
 use Rattle.sexpr_text.specs.AdvancedForm.{is_digit, is_token_octet, IsToken, Piece, raw, escaped, octal, hexadecimal, line, line_pair, piece_text, piece_octets, StartsOther, IsPiece, pieces_text, pieces_octets, ArePieces, IsQuoted, IsPacked, IsMarked, escape_value}
 use Rattle.sexpr_text.specs.Reads.{Reads, ReadsPlain, ReadsPiece, ReadsToken, ReadsCount, ReadsEscape, ReadsDigit, IsLineEnd, escape_octets}
 use Rattle.sexpr_text.proofs.Marked.{Left, left_pieces, are_followed, behind_opening}

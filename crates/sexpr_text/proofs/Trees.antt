@@ -1,21 +1,15 @@
 -- Values and lists, from one offset of a text to another. They are read in the same way of each other text that goes
 -- on so far, and one octet further, in the same way.
 use Rattle.std.proofs.Common.{ℕ, ◌≤◌, Bool, true, false, List, drop, sym, subst, arith, ◌≡◌, suc, ◌+◌, ◌<◌, max, [], ◌∷◌, ◌++◌, length, map, Some, None, Vec, Global, refl, ap, ◌∙◌, append_assoc, rules}
-use Rattle.sexpr_core.specs.Value.{Value, sexp_value, Values, string, list, none, more, values, depth, depths}
-use Rattle.sexpr_core.proofs.Spans.{Agree, SameHead, spelled_too, same_head, long_too, one_end, stands_too, skips_too}
-use Rattle.sexpr_text.specs.AdvancedForm.{IsApart, SpellsMembers}
-use Rattle.sexpr_text.specs.Reads.{ReadsString, ReadsValue, StringAt, ValueAt, MembersAt, ReadsMembers}
 use Rattle.std.proofs.lemmas.List.{map-append}
-use Rattle.sexpr_core.specs.declared.tree.Sexp.{Sexp}
-use Rattle.sexpr_core.specs.declared.tree.Sexp.TheVariants.{List as Branch}
-use Rattle.sexpr_core.proofs.TreeLaws.{sexp_list}
-use Rattle.sexpr_core.specs.Reading.{StandsAt, StartsVisible, Skips}
+use Rattle.sexpr_core.specs.Value.{Value, sexp_value, Values, string, list, none, more, values, depth, depths}
+use Rattle.sexpr_core.specs.{declared.tree.Sexp.{Sexp, TheVariants.{List as Branch}}, Reading.{StandsAt, StartsVisible, Skips}}
+use Rattle.sexpr_core.proofs.{Spans.{Agree, SameHead, spelled_too, same_head, long_too, one_end, stands_too, skips_too}, TreeLaws.{sexp_list}}
 use Rattle.sexpr_core.proofs.ListTexts.{join}
-use Rattle.sexpr_text.specs.Refusal.{UnclosedMembers, UnclosedValue}
-use Rattle.sexpr_text.specs.Inner.Begun.{AreUnclosedMembers, GoesMembers}
-use Rattle.sexpr_text.proofs.Beginnings.{goes_spaces, goes_first}
+use Rattle.sexpr_text.specs.{AdvancedForm.{IsApart, SpellsMembers}, Reads.{ReadsString, ReadsValue, StringAt, ValueAt, MembersAt, ReadsMembers}}
+use Rattle.sexpr_text.specs.{Refusal.{UnclosedMembers, UnclosedValue}, Inner.Begun.{AreUnclosedMembers, GoesMembers}}
 use Rattle.sexpr_text.proofs.OneValue.{value_first, value_visible, simple_differs, hinted_text, list_text, member_text, apart_append, apart_front, one_spelling, spaces_members}
-use Rattle.sexpr_text.proofs.UnclosedStrings.{unclosed_value, unclosed_value_visible}
+use Rattle.sexpr_text.proofs.{Beginnings.{goes_spaces, goes_first}, UnclosedStrings.{unclosed_value, unclosed_value_visible}}
 
 -- ---- strings and values, read of longer texts
 

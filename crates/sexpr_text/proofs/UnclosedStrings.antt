@@ -1,20 +1,17 @@
 -- Strings and values that end inside a string between marks: none stands where a whole one stands, and what goes on
 -- goes on at each octet before.
 use Rattle.std.proofs.Common.{◌≡◌, ℕ, ◌<◌, Bool, true, false, ◌⊎◌, inl, inr, List, [], ◌∷◌, ◌++◌, length, Some, None, refl, sym, ap, subst, ◌∙◌, append_assoc, append-nil, length-append, arith, rules, ◌≤◌, max}
-use Rattle.sexpr_core.specs.Value.{Value, Values, string, list, none, more, depths}
-use Rattle.sexpr_core.specs.Reading.{is_body_octet, StartsVisible, Begins, AreSpaces}
-use Rattle.sexpr_core.proofs.Texts.{IsDigit, parts_agree, head_is, fails_among, tail_is, all_front}
-use Rattle.sexpr_core.proofs.Spans.{one_end}
-use Rattle.sexpr_text.specs.Reads.{is_hexadecimal_octet}
-use Rattle.sexpr_text.specs.AdvancedForm.{IsToken, IsCount, IsMarked, Simple, IsHinted, SpellsAs, SpellsMembers, is_token_octet, IsApart, IsQuoted}
-use Rattle.sexpr_text.specs.Refusal.{IsUnclosed, IsUnclosedString, IsUnclosedAtom, UnclosedMembers, UnclosedValue, depth_open, IsUnclosedText, IsSpelling, IsSpellingWithin, GoesOn, GoesOnWithin}
-use Rattle.sexpr_text.proofs.Marked.{is_mark, one_quoted, closed}
-use Rattle.sexpr_text.proofs.OneValue.{is_string_start, IsBehind, Cut, cut, one_simple, count_digits, either_starts, token_other, string_first, mark_no_digit, is_value_start, value_differs, value_visible, simple_visible, simple_differs, hinted_text, list_text, member_text, apart_append, spaces_apart, one_spelling, start_visible, string_start}
 use Rattle.std.proofs.lemmas.Bool.Decides.{nat_tests}
-use Rattle.sexpr_text.specs.Inner.Begun.{IsStringPart, IsValuePart, IsMembersPart}
-use Rattle.sexpr_core.proofs.BraceRefusals.{two_cuts}
+use Rattle.sexpr_core.proofs.{Texts.{IsDigit, parts_agree, head_is, fails_among, tail_is, all_front}, Spans.{one_end}, BraceRefusals.{two_cuts}}
 use Rattle.sexpr_core.proofs.Refusals.{begins_front}
+use Rattle.sexpr_core.specs.{Value.{Value, Values, string, list, none, more, depths}, Reading.{is_body_octet, StartsVisible, Begins, AreSpaces}}
+use Rattle.sexpr_text.specs.Reads.{is_hexadecimal_octet}
+use Rattle.sexpr_text.specs.Refusal.{IsUnclosed, IsUnclosedString, IsUnclosedAtom, UnclosedMembers, UnclosedValue, depth_open, IsUnclosedText, IsSpelling, IsSpellingWithin, GoesOn, GoesOnWithin}
+use Rattle.sexpr_text.specs.AdvancedForm.{IsToken, IsCount, IsMarked, Simple, IsHinted, SpellsAs, SpellsMembers, is_token_octet, IsApart, IsQuoted}
+use Rattle.sexpr_text.specs.Inner.Begun.{IsStringPart, IsValuePart, IsMembersPart}
+use Rattle.sexpr_text.proofs.OneValue.{is_string_start, IsBehind, Cut, cut, one_simple, count_digits, either_starts, token_other, string_first, mark_no_digit, is_value_start, value_differs, value_visible, simple_visible, simple_differs, hinted_text, list_text, member_text, apart_append, spaces_apart, one_spelling, start_visible, string_start}
 use Rattle.sexpr_text.proofs.Beginnings.{count_begins, string_part, hint_part, body_part, list_part, member_part, spaces_part, first_part, hinted_unclosed}
+use Rattle.sexpr_text.proofs.Marked.{is_mark, one_quoted, closed}
 
 -- ---- where a string or a value stands whole, none stands that ends inside a string between marks
 

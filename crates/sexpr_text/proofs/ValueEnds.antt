@@ -1,21 +1,16 @@
 -- Where a value is refused, and what stands of it up to there.
 use Rattle.std.proofs.Common.{◌≡◌, ◌≢◌, ℕ, suc, ◌+◌, ◌-◌, ◌<◌, ◌≤◌, max, Bool, true, ◌⊎◌, inl, inr, List, [], ◌∷◌, ◌++◌, length, drop, refl, sym, ap, subst, ◌∙◌, append_assoc, append-nil, arith, rules}
 use Rattle.std.proofs.lemmas.List.{take_at}
-use Rattle.sexpr_core.specs.declared.fault.FormFault.{FormFault}
-use Rattle.sexpr_core.specs.declared.fault.FormFault.TheVariants.{TooDeep, Short, Bad, Memory}
-use Rattle.sexpr_core.specs.Reading.{StopsAt, RefusesPart, StandsAt, Skips, AreSpaces, StartsVisible}
-use Rattle.sexpr_core.specs.Value.{Values, none, more, depth, depths}
-use Rattle.sexpr_core.proofs.Spans.{Agree, stands_too, skips_too, stops_here, stops_later, end_is, one_end}
-use Rattle.sexpr_text.specs.AdvancedForm.{Simple}
-use Rattle.sexpr_text.specs.Reads.{ReadsString, StringAt, IsValueFault, StringStands, ValueStands}
-use Rattle.sexpr_text.specs.Refusal.{IsUnclosedString, IsUnclosedHint, IsUnclosedHinted, UnclosedMembers, UnclosedValue, depth_open}
+use Rattle.sexpr_core.specs.declared.fault.FormFault.{FormFault, TheVariants.{TooDeep, Short, Bad, Memory}}
+use Rattle.sexpr_core.specs.{Reading.{StopsAt, RefusesPart, StandsAt, Skips, AreSpaces, StartsVisible}, Value.{Values, none, more, depth, depths}}
+use Rattle.sexpr_core.proofs.{Spans.{Agree, stands_too, skips_too, stops_here, stops_later, end_is, one_end}, Texts.{head_is, tail_is}}
+use Rattle.sexpr_text.specs.{AdvancedForm.{Simple}, Reads.{ReadsString, StringAt, IsValueFault, StringStands, ValueStands}}
 use Rattle.sexpr_text.specs.Inner.Begun.{Begun, From, IsPartEnd, GoesString, GoesValue, GoesMembers, IsUnclosedValue, AreUnclosedMembers, ValueStandsIn, MembersStandIn, Anywhere, IsDeepAt, IsValueEnd, IsValuePart}
+use Rattle.sexpr_text.specs.Refusal.{IsUnclosedString, IsUnclosedHint, IsUnclosedHinted, UnclosedMembers, UnclosedValue, depth_open}
 use Rattle.sexpr_text.proofs.Beginnings.{goes_string, goes_hint, goes_body, goes_list, goes_member, no_member, hinted_value}
 use Rattle.sexpr_text.proofs.Trees.{string_too, HasMembers, inside_list, filled_at, visible_too}
-use Rattle.sexpr_text.proofs.OneValue.{one_simple, simple_visible, apart_append, spaces_apart, value_visible}
-use Rattle.sexpr_text.proofs.StringEnds.{begun_later, end_later}
+use Rattle.sexpr_text.proofs.{OneValue.{one_simple, simple_visible, apart_append, spaces_apart, value_visible}, StringEnds.{begun_later, end_later}}
 use Rattle.sexpr_text.proofs.MarkedEnds.{none_string}
-use Rattle.sexpr_core.proofs.Texts.{head_is, tail_is}
 use Rattle.sexpr_text.proofs.UnclosedStrings.{unclosed_simple, unclosed_visible, unclosed_string_differs, unclosed_value_visible}
 
 -- a text that goes on so far in the same way has no such part

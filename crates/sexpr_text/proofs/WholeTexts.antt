@@ -1,25 +1,20 @@
 -- Hinted strings, and whole texts in either form: from a value that is read, that is refused, or that has octets
 -- behind it, to what is said of the whole text.
 use Rattle.std.proofs.Common.{◌≡◌, ℕ, ◌+◌, ◌≤◌, Bool, List, ◌∷◌, ◌++◌, length, drop, take, Some, None, refl, sym, ap, ◌∙◌, append_assoc, arith, inl, inr, length-append, length-drop, rules, ◌<◌, true, false, [], subst, append-nil}
-use Rattle.std.proofs.lemmas.List.{take_at, take-append-drop, take_all}
+use Rattle.std.proofs.lemmas.{List.{take_at, take-append-drop, take_all}, Bool.{cases_Bool}}
 use Rattle.sexpr_core.specs.Value.{Value, string, list, depth}
 use Rattle.sexpr_core.specs.Reading.{StandsAt, Skips, IsBracedWithin, IsTrailingBehind, Begins, StopsAt, is_whitespace, AreSpaces, StartsVisible}
-use Rattle.sexpr_core.proofs.Spans.{one_end, Agree, agree, same_head, skips_too, front_is, stops_later}
-use Rattle.sexpr_core.proofs.BraceLaws.{opening}
+use Rattle.sexpr_core.specs.declared.fault.FormFault.{FormFault, TheVariants.{TooDeep, Short, Bad, Trailing, Memory}}
+use Rattle.sexpr_core.proofs.{Spans.{one_end, Agree, agree, same_head, skips_too, front_is, stops_later}, BraceLaws.{opening}, Texts.{fails_among}}
+use Rattle.sexpr_core.proofs.BraceRefusals.{one_more, stands_there}
 use Rattle.sexpr_text.specs.AdvancedForm.{IsApart, IsHinted, Spells, IsSpelledWithin, IsTextWithin, is_token_octet, SpellsAs}
 use Rattle.sexpr_text.specs.Reads.{StringAt, ReadsString, ValueAt, ReadsValue, IsValueFault, ValueStands}
-use Rattle.sexpr_text.proofs.OneValue.{one_simple, value_differs, value_visible, simple_visible, simple_differs, hinted_text, list_text, apart_append, spaces_apart}
-use Rattle.sexpr_text.proofs.Trees.{octet_is, value_too, same_value}
-use Rattle.std.proofs.lemmas.Bool.{cases_Bool}
-use Rattle.sexpr_core.specs.declared.fault.FormFault.{FormFault}
-use Rattle.sexpr_core.specs.declared.fault.FormFault.TheVariants.{TooDeep, Short, Bad, Trailing, Memory}
 use Rattle.sexpr_text.specs.Refusal.{IsUnclosedText, IsSpelling, IsSpellingWithin, GoesOn, GoesOnWithin, RefusesSpelling}
 use Rattle.sexpr_text.specs.Inner.Begun.{Begun, From, Anywhere, GoesValue, IsUnclosedValue, ValueStandsIn, IsValueEnd}
-use Rattle.sexpr_text.proofs.UnclosedStrings.{value_begins, goes_anyhow, unclosed_value, unclosed_value_visible}
-use Rattle.sexpr_text.proofs.StringLaws.{token_grows}
+use Rattle.sexpr_text.proofs.OneValue.{one_simple, value_differs, value_visible, simple_visible, simple_differs, hinted_text, list_text, apart_append, spaces_apart}
+use Rattle.sexpr_text.proofs.Trees.{octet_is, value_too, same_value}
+use Rattle.sexpr_text.proofs.{UnclosedStrings.{value_begins, goes_anyhow, unclosed_value, unclosed_value_visible}, StringLaws.{token_grows}}
 use Rattle.sexpr_text.proofs.Printed.{hinted_is}
-use Rattle.sexpr_core.proofs.Texts.{fails_among}
-use Rattle.sexpr_core.proofs.BraceRefusals.{one_more, stands_there}
 
 -- ---- hinted strings, and whole texts in either form
 

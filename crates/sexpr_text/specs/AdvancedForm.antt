@@ -4,12 +4,9 @@ use Rattle.std.specs.Prelude.{◌≡◌, ◌≢◌, ℕ, ◌+◌, ◌*◌, ◌<�
 use Rattle.std.specs.List.{AllByRecursion}
 use Rattle.hex.specs.Hex.{hex_digit_value, decode_of}
 use Rattle.sexpr_core.specs.Value.{decimal, verbatim, octet_limit, Value, Values, string, list, none, more, IsShallow, canon, canons}
-use Rattle.sexpr_core.specs.Characters.{char}
-use Rattle.sexpr_core.specs.Reading.{visible, IsBase64, AreSpaces, Braced, IsBracedWithin}
-use Rattle.base64.specs.Engines.{standard}
-use Rattle.base64.specs.GeneralPurpose.{encode_of}
-use Rattle.sexpr_text.specs.declared.converter.Form.{Form}
-use Rattle.sexpr_text.specs.declared.converter.Form.TheVariants.{Canonical, Advanced}
+use Rattle.sexpr_core.specs.{Characters.{char}, Reading.{visible, IsBase64, AreSpaces, Braced, IsBracedWithin}}
+use Rattle.base64.specs.{Engines.{standard}, GeneralPurpose.{encode_of}}
+use Rattle.sexpr_text.specs.declared.converter.Form.{Form, TheVariants.{Canonical, Advanced}}
 
 -- ---- which texts spell a string without a display hint in advanced form (RFC 9804, sections 4.1 to 4.5)
 

@@ -1,13 +1,9 @@
 -- Texts of values in canonical form, and why a text in any of the three forms has none.
 use Rattle.std.specs.Prelude.{◌≡◌, ◌≢◌, ◌⊎◌, ◌↔◌, ◌<◌, ℕ, List, length, Result, Ok, Err}
-use Rattle.sexpr_core.specs.declared.fault.FormFault.{FormFault}
+use Rattle.sexpr_core.specs.{declared.fault.FormFault.{FormFault}, Value.{Value, canon, IsWithinLimits}}
+use Rattle.sexpr_text.specs.{AdvancedForm.{IsTextWithin}, Refusal.{RefusesText}}
+use Rattle.sexpr_text.specs.declared.canonical_text.{HeldText.{HeldText, TheVariants.{Given, Made, Malformed}}, OpenText.{OpenText}}
 use Rattle.sexpr_core.specs.declared.fault.FormFault.TheVariants as form
-use Rattle.sexpr_core.specs.Value.{Value, canon, IsWithinLimits}
-use Rattle.sexpr_text.specs.AdvancedForm.{IsTextWithin}
-use Rattle.sexpr_text.specs.Refusal.{RefusesText}
-use Rattle.sexpr_text.specs.declared.canonical_text.HeldText.{HeldText}
-use Rattle.sexpr_text.specs.declared.canonical_text.HeldText.TheVariants.{Given, Made, Malformed}
-use Rattle.sexpr_text.specs.declared.canonical_text.OpenText.{OpenText}
 use Rattle.sexpr_text.specs.declared.canonical_text.OpenText.TheVariants as open_texts
 
 -- ---- why a text has no canonical text

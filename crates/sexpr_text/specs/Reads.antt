@@ -2,13 +2,9 @@
 -- stands there whatever follows it.
 use Rattle.std.specs.Prelude.{◌≡◌, ◌≢◌, ℕ, ◌+◌, ◌<◌, ◌≤◌, min, Bool, true, false, ◌||◌, List, [], ◌∷◌, ◌++◌, length, drop, Option, Some, None, ◌⊎◌, Ok}
 use Rattle.std.specs.List.{AllByRecursion}
-use Rattle.hex.specs.declared.error.FromHexError.{FromHexError}
-use Rattle.hex.specs.declared.error.FromHexError.TheVariants.{OutOfMemory}
-use Rattle.hex.specs.Hex.{hex_digit_value, is_hex_digit, decode_of}
-use Rattle.sexpr_core.specs.Characters.{char}
-use Rattle.sexpr_core.specs.Reading.{StandsAt, StopsAt, is_whitespace, visible}
-use Rattle.sexpr_core.specs.declared.fault.FormFault.{FormFault}
-use Rattle.sexpr_core.specs.declared.fault.FormFault.TheVariants.{TooLong, Short, Bad, Trailing, Memory}
+use Rattle.hex.specs.{declared.error.FromHexError.{FromHexError, TheVariants.{OutOfMemory}}, Hex.{hex_digit_value, is_hex_digit, decode_of}}
+use Rattle.sexpr_core.specs.{Characters.{char}, Reading.{StandsAt, StopsAt, is_whitespace, visible}}
+use Rattle.sexpr_core.specs.declared.fault.FormFault.{FormFault, TheVariants.{TooLong, Short, Bad, Trailing, Memory}}
 use Rattle.sexpr_core.specs.Value.{octet_limit, Value, Values, decimal, depth, depths}
 use Rattle.sexpr_text.specs.AdvancedForm.{IsToken, escape_value, Piece, piece_text, piece_octets, IsPiece, Simple, IsApart, SpellsAs, SpellsMembers}
 

@@ -1,14 +1,11 @@
 -- What a refusal means for a text, and which texts end inside a string between marks (RFC 9804, sections 4.2 to 4.5).
 -- A text has at most one refusal.
-use Rattle.std.specs.Prelude.{◌≡◌, ℕ, suc, ◌<◌, ◌≤◌, max, Bool, true, ◌⊎◌, List, [], ◌∷◌, ◌++◌, length, ◌+◌, take}
-use Rattle.std.specs.List.{AllByRecursion}
-use Rattle.sexpr_core.specs.Characters.{char}
-use Rattle.sexpr_core.specs.Reading.{AreBodyOctets, AreSpaces, Begins, RefusesBraces}
+use Rattle.std.specs.{Prelude.{◌≡◌, ℕ, suc, ◌<◌, ◌≤◌, max, Bool, true, ◌⊎◌, List, [], ◌∷◌, ◌++◌, length, ◌+◌, take}, List.{AllByRecursion}}
+use Rattle.sexpr_core.specs.{Characters.{char}, Reading.{AreBodyOctets, AreSpaces, Begins, RefusesBraces}}
 use Rattle.sexpr_core.specs.Value.{Values, none, more, depths, octet_limit, depth_limit, Value, depth}
+use Rattle.sexpr_core.specs.declared.fault.FormFault.{FormFault, TheVariants.{TooLong, TooDeep, Short, Bad, Trailing, Memory}}
 use Rattle.sexpr_text.specs.Reads.{is_hexadecimal_octet}
 use Rattle.sexpr_text.specs.AdvancedForm.{Simple, IsApart, IsCount, IsQuoted, SpellsAs, Spells, IsSpelledWithin, IsText}
-use Rattle.sexpr_core.specs.declared.fault.FormFault.{FormFault}
-use Rattle.sexpr_core.specs.declared.fault.FormFault.TheVariants.{TooLong, TooDeep, Short, Bad, Trailing, Memory}
 
 -- ---- texts that end inside a string between marks
 

@@ -1,10 +1,8 @@
 -- What sinks have taken, in one call and in several.
-use Rattle.std.specs.Prelude.{◌+◌, ◌-◌, ◌^◌, ◌==◌, ◌<◌, ◌≤◌, length, Bool, false}
-use Rattle.std.specs.Borrow.{GName}
-use Rattle.sexpr_text.specs.declared.sinks.VectorSink.{VectorSink}
-use Rattle.sexpr_text.specs.declared.sinks.Counter.{Counter}
 use Rattle.std.proofs.Common.{◌≡◌, ℕ, true, true≢false, List, [], ◌++◌, refl, sym, ap, ◌∙◌, append_assoc, append-nil, arith}
 use Rattle.std.proofs.lemmas.List.{length-append}
+use Rattle.std.specs.{Prelude.{◌+◌, ◌-◌, ◌^◌, ◌==◌, ◌<◌, ◌≤◌, length, Bool, false}, Borrow.{GName}}
+use Rattle.sexpr_text.specs.declared.sinks.{VectorSink.{VectorSink}, Counter.{Counter}}
 
 -- ---- what sinks have taken
 

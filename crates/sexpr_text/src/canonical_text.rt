@@ -1,10 +1,8 @@
 //! Texts in canonical form, which are read from texts in any form.
 
 ghost use Rattle.std.specs.Prelude.{◌≡◌, ◌≢◌, ◌<◌, ◌≤◌, length, IfOk, IfErr, IsErrOf, IsOkAnd};
-ghost use Rattle.sexpr_core.specs.declared.fault.FormFault.{FormFault};
-ghost use Rattle.sexpr_core.specs.Value.{Value, canon, IsShallow};
-ghost use Rattle.sexpr_text.specs.AdvancedForm.{IsTextWithin};
-ghost use Rattle.sexpr_text.specs.CanonicalTexts.{IsReadAs, RefusesForm, opened_value};
+ghost use Rattle.sexpr_core.specs.{declared.fault.FormFault.{FormFault}, Value.{Value, canon, IsShallow}};
+ghost use Rattle.sexpr_text.specs.{AdvancedForm.{IsTextWithin}, CanonicalTexts.{IsReadAs, RefusesForm, opened_value}};
 
 use crate::converter::{Form, convert};
 use sexpr_core::syntax::Node;

@@ -2,8 +2,7 @@
 
 ghost use Rattle.std.specs.Prelude.{◌≡◌, ℕ, List, ◌<◌, ◌≤◌, ◌↔◌, [], ◌∷◌, ◌++◌, true, false, length, drop, IfOk, IfErr, OnOk, IsErrOf, IsOkUnless};
 ghost use Rattle.std.specs.Option.{option_to_list};
-ghost use Rattle.sexpr_core.specs.Reading.{RefusesBraces, RefusesPart, IsBracedWithin, StandsAt};
-ghost use Rattle.sexpr_core.specs.Value.{Value, Values, canon, IsWithinLimits};
+ghost use Rattle.sexpr_core.specs.{Reading.{RefusesBraces, RefusesPart, IsBracedWithin, StandsAt}, Value.{Value, Values, canon, IsWithinLimits}};
 ghost use Rattle.sexpr_text.specs.AdvancedForm.{adv, is_digit, is_token_octet, IsToken, IsSpelledWithin, IsTextWithin, written, written_all, written_string, gap_of};
 ghost use Rattle.sexpr_text.specs.Reads.{ReadsString, StringAt, ReadsValue, ValueAt, ReadsMembers, MembersAt, IsValueFault, StringStands, ValueStands, MembersStand};
 ghost use Rattle.sexpr_text.specs.Inner.Begun.{IsPartEnd, GoesString, GoesValue, GoesMembers, Anywhere, IsUnclosedValue, AreUnclosedMembers, IsValueEnd, ValueStandsIn, MembersStandIn};

@@ -1,11 +1,8 @@
 //! Reads strings with a display hint (RFC 9804, section 4.6).
 
-ghost use Rattle.std.specs.Prelude.{◌≡◌, ℕ, List, Some, ◌≤◌, length, IfOk, IfErr, IsOkUnless};
-ghost use Rattle.std.specs.Cow.{cow_slice_items};
-ghost use Rattle.sexpr_core.specs.Reading.{RefusesPart, StandsAt};
-ghost use Rattle.sexpr_core.specs.Value.{Value, string};
-ghost use Rattle.sexpr_text.specs.Reads.{ReadsValue, ValueAt, ValueStands};
-ghost use Rattle.sexpr_text.specs.Inner.Begun.{IsPartEnd, GoesValue, Anywhere, IsUnclosedValue};
+ghost use Rattle.std.specs.{Prelude.{◌≡◌, ℕ, List, Some, ◌≤◌, length, IfOk, IfErr, IsOkUnless}, Cow.{cow_slice_items}};
+ghost use Rattle.sexpr_core.specs.{Reading.{RefusesPart, StandsAt}, Value.{Value, string}};
+ghost use Rattle.sexpr_text.specs.{Reads.{ReadsValue, ValueAt, ValueStands}, Inner.Begun.{IsPartEnd, GoesValue, Anywhere, IsUnclosedValue}};
 
 use crate::strings::read_string;
 use sexpr_core::FormFault;

@@ -2,11 +2,9 @@
 //! Each function is a law: it does nothing, and its contract is the fact.
 
 ghost use Rattle.std.specs.Prelude.{◌≡◌, ℕ, List, ◌+◌, ◌<◌, length, take};
-ghost use Rattle.sexpr_core.specs.declared.fault.FormFault.{FormFault};
-ghost use Rattle.sexpr_core.specs.Reading.{IsOfForm, Begins};
-ghost use Rattle.sexpr_core.specs.declared.fault.FormFault.TheVariants.{Bad};
-ghost use Rattle.sexpr_text.specs.Refusal.{RefusesSpelling, RefusesText, IsSomeText};
+ghost use Rattle.sexpr_core.specs.{declared.fault.FormFault.{FormFault, TheVariants.{Bad}}, Reading.{IsOfForm, Begins}};
 ghost use Rattle.sexpr_core.specs.Value.{Value, canon, HasOctets};
+ghost use Rattle.sexpr_text.specs.Refusal.{RefusesSpelling, RefusesText, IsSomeText};
 ghost use Rattle.sexpr_text.specs.AdvancedForm.{Spells, IsText, IsSpelledWithin, IsTextWithin, adv};
 
 /// A text has at most one value: it spells at most one (in advanced form), or braces at most one (in transport form).

@@ -2,8 +2,7 @@
 
 ghost use Rattle.std.specs.Prelude.{◌≡◌, ◌≤◌, ◌==◌, ◌||◌, [], ◌++◌, ◌∷◌, length, IfOk};
 ghost use Rattle.sexpr_core.specs.Value.{HasOctets, atom_value, sexp_value};
-ghost use Rattle.base64.specs.Engines.{standard};
-ghost use Rattle.base64.specs.GeneralPurpose.{IsBytes, encode_of};
+ghost use Rattle.base64.specs.{Engines.{standard}, GeneralPurpose.{IsBytes, encode_of}};
 ghost use Rattle.sexpr_text.specs.AdvancedForm.{is_token_octet, Spells, every, is_token, is_printable, quoted_body, printed_string, adv, gap};
 
 use crate::sinks::{Sink, VectorSink};

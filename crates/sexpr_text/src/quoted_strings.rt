@@ -4,9 +4,8 @@ ghost use Rattle.std.specs.Prelude.{◌≡◌, ◌≢◌, ◌≤◌, ◌<◌, �
 ghost use Rattle.std.specs.Cow.{cow_slice_items};
 ghost use Rattle.hex.specs.Hex.{hex_digit_value};
 ghost use Rattle.sexpr_core.specs.Reading.{StandsAt, RefusesPart};
-ghost use Rattle.sexpr_text.specs.AdvancedForm.{escape_value, Piece, piece_text, IsPiece, IsQuoted};
 ghost use Rattle.sexpr_text.specs.Reads.{Reads, ReadsPlain, ReadsPiece, ReadsEscape, ReadsDigit, IsLineEnd, IsNoLetter, Stands, PieceStands, DigitStands, OctalStands};
-ghost use Rattle.sexpr_text.specs.Inner.Begun.{IsFrontEnd, GoesPiece, GoesDigit};
+ghost use Rattle.sexpr_text.specs.{AdvancedForm.{escape_value, Piece, piece_text, IsPiece, IsQuoted}, Inner.Begun.{IsFrontEnd, GoesPiece, GoesDigit}};
 ghost use Rattle.sexpr_text.specs.Refusal.{OpensQuoted};
 
 use crate::strings::{MarkedString, ReadString};

@@ -1,12 +1,10 @@
 //! The reader of advanced form (RFC 9804, section 6.4).
 
 ghost use Rattle.std.specs.Prelude.{◌≡◌, ℕ, List, ◌<◌, ◌≤◌, ◌↔◌, ◌∷◌, length, drop, map, IfOk, IfErr, IsErrOf, IsOkUnless, IsTrue};
-ghost use Rattle.sexpr_core.specs.Reading.{RefusesPart, StandsAt, AreSpaces};
-ghost use Rattle.sexpr_core.specs.Value.{sexp_value, Value, Values, values};
-ghost use Rattle.sexpr_text.specs.Reads.{ReadsValue, ValueAt, ReadsMembers, MembersAt, IsValueFault, ValueStands, MembersStand};
+ghost use Rattle.sexpr_core.specs.{Reading.{RefusesPart, StandsAt, AreSpaces}, Value.{sexp_value, Value, Values, values}};
 ghost use Rattle.sexpr_text.specs.Inner.Begun.{IsPartEnd, GoesValue, GoesMembers, Anywhere, IsUnclosedValue, AreUnclosedMembers, IsValueEnd, ValueStandsIn, MembersStandIn};
-ghost use Rattle.sexpr_text.specs.Refusal.{RefusesSpelling, RefusesText};
-ghost use Rattle.sexpr_text.specs.AdvancedForm.{IsSpelledWithin, IsTextWithin};
+ghost use Rattle.sexpr_text.specs.Reads.{ReadsValue, ValueAt, ReadsMembers, MembersAt, IsValueFault, ValueStands, MembersStand};
+ghost use Rattle.sexpr_text.specs.{Refusal.{RefusesSpelling, RefusesText}, AdvancedForm.{IsSpelledWithin, IsTextWithin}};
 
 use crate::hinted_strings::{HintedString, read_hinted_string};
 use crate::opening_brace::opens_braces;

@@ -4,8 +4,7 @@ ghost use Rattle.std.specs.Prelude.{◌≡◌, ℕ, List, ◌++◌, true, false,
 ghost use Rattle.std.specs.Cow.{cow_slice_items};
 ghost use Rattle.sexpr_core.specs.Reading.{IsShort, RefusesPart, StandsAt};
 ghost use Rattle.sexpr_text.specs.Reads.{Reads, ReadsToken, ReadsCount, ReadsOctets, ReadsString, StringAt, Stops, IsTooFew, Stands, StringStands};
-ghost use Rattle.sexpr_text.specs.Inner.Begun.{IsPartEnd, GoesMarked, GoesString};
-ghost use Rattle.sexpr_text.specs.Refusal.{IsUnclosed, IsUnclosedString};
+ghost use Rattle.sexpr_text.specs.{Inner.Begun.{IsPartEnd, GoesMarked, GoesString}, Refusal.{IsUnclosed, IsUnclosedString}};
 ghost use Rattle.sexpr_text.specs.AdvancedForm.{is_digit, is_token_octet, IsApart, IsMarked};
 
 use crate::hexadecimal_strings::read_hexadecimal;

@@ -1,22 +1,13 @@
 -- Questions of a C program: their parts, also if there is no memory for the strings, and the status of an answer.
 use Rattle.std.proofs.Common.{◌≡◌, ◌⊎◌, ℕ, List, [], ◌∷◌, Bool, Some, slice_get, refl, sym, ap, ◌∙◌, subst, inl, inr, rules, map, true, false, Bor}
-use Rattle.spki_service.specs.AccessLists.{GuardModel}
-use Rattle.spki_service.specs.declared.question.Question.{Question}
-use Rattle.spki_guard.specs.declared.answers.Verdict.{Verdict}
-use Rattle.spki_guard.specs.declared.answers.Verdict.TheVariants.{Refused}
-use Rattle.spki_guard.specs.declared.queries.Query.{Query}
-use Rattle.spki_guard.specs.declared.queries.Query.TheVariants.{Decide, Explain, Reduce}
-use Rattle.spki_guard.specs.HeldQuestions.{IsAnswerHeld}
-use Rattle.spki_guard.specs.Lines.{refused_memory}
-use Rattle.spki_c.specs.Guards.{query_number, status_for, IsAnswered}
-use Rattle.spki_c.specs.Results.{IsHanded}
 use Rattle.std.specs.Prelude.{ℤ}
-use Rattle.spki_service.specs.declared.question.RequestInput.{RequestInput}
-use Rattle.spki_service.specs.declared.question.RequestInput.TheVariants as wanted
-use Rattle.spki_service.specs.declared.question.Moment.{Moment}
-use Rattle.spki_service.specs.declared.question.Moment.TheVariants as moments
-use Rattle.spki_c.specs.declared.parts.Parts.{Parts}
+use Rattle.spki_service.specs.{AccessLists.{GuardModel}, declared.question.{Question.{Question}, RequestInput.{RequestInput}, Moment.{Moment}}}
+use Rattle.spki_guard.specs.declared.{answers.Verdict.{Verdict, TheVariants.{Refused}}, queries.Query.{Query, TheVariants.{Decide, Explain, Reduce}}}
+use Rattle.spki_guard.specs.{HeldQuestions.{IsAnswerHeld}, Lines.{refused_memory}}
+use Rattle.spki_c.specs.{Guards.{query_number, status_for, IsAnswered}, Results.{IsHanded}, declared.parts.Parts.{Parts}}
 use Rattle.spki_c.specs.Asking.{IsQuestionBy, IsRequestBy, IsMomentBy}
+use Rattle.spki_service.specs.declared.question.RequestInput.TheVariants as wanted
+use Rattle.spki_service.specs.declared.question.Moment.TheVariants as moments
 
 -- ---- the answer to a question has the status of its query
 

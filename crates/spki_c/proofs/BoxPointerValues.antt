@@ -1,5 +1,7 @@
 -- The machine value of a box as its pointer.
-use Rattle.std.proofs.Common.{◌≡◌, ℕ, List, [], ◌∷◌, ◌++◌, refl, subst}
+use Rattle.std.proofs.{Common.{◌≡◌, ℕ, List, [], ◌∷◌, ◌++◌, refl, subst}, alloc.Calls.{Al, handle_tells}, cell.Inside.{Good}}
+use Rattle.std.specs.declared.alloc.Allocator.{Ghosts}
+use Rattle.std_alloc.{specs.Box.Ownership.{box_owns}, proofs.ResultValues.{and_tt}}
 use mathlib.Core.Bool.{Bool, true, false, ◌&&◌}
 use lib.Dec.{T}
 use seplogic.Ra.Ura.{Ura}
@@ -18,11 +20,6 @@ use denote.Param.{layout}
 use denote.Param.Laws.{Laws}
 use denote.Struct.Struct.{within}
 use denote.Struct.Owning.{shape}
-use Rattle.std.specs.declared.alloc.Allocator.{Ghosts}
-use Rattle.std.proofs.alloc.Calls.{Al, handle_tells}
-use Rattle.std.proofs.cell.Inside.{Good}
-use Rattle.std_alloc.specs.Box.Ownership.{box_owns}
-use Rattle.std_alloc.proofs.ResultValues.{and_tt}
 use Rattle.spki_c.specs.contracts.box_pointer.BoxPointer as box_pointer
 
 abbrev pub both : Val → Val → Val

@@ -1,10 +1,10 @@
 -- What a text owns says how many octets are lent.
 use Rattle.std.proofs.Common.{◌≡◌, ℕ, ◌<◌, ◌≤◌, ◌^◌, List, length, Bool, true, false, refl, sym, subst, arith, ◌∙◌}
+use Rattle.spki_c.specs.Pointers.{if_low, lent_count, IsCounted, lent_there, text_owns}
 use lib.Dec.{T, ltb, ltb→lt, lit<}
 use mir.Syntax.{ty_ptr}
 use mir.Val.{Val, has_ty, WT}
 use denote.RawPtr.{Ptr, InBlock, block_ptr, null_ptr, ptr_val}
-use Rattle.spki_c.specs.Pointers.{if_low, lent_count, IsCounted, lent_there, text_owns}
 
 pub pointer_typed : (p : Ptr) → T (has_ty ty_ptr (ptr_val p)) × WT (ptr_val p)
 pointer_typed (block_ptr b o) = (tt, tt)

@@ -1,5 +1,6 @@
 -- A value that is lent for a lifetime, with a share of that lifetime's token under a borrow, is lent for the borrow's lifetime.
 use Rattle.std.proofs.Common.{ℕ, List, [], ◌∷◌, ◌++◌}
+use Rattle.spki_c.specs.Pointers.{held_lent, lent_for}
 use seplogic.Ra.Ura.{Ura}
 use mir.Val.{Val}
 use base.Fraction.{full_share}
@@ -19,7 +20,6 @@ use denote.Shares.{closes_cut}
 use denote.Struct.Lending.{lent_at, lent_at_shr_laws}
 use denote.Struct.Owning.{Owning, row, shape, to}
 use denote.Struct.Struct.{Struct}
-use Rattle.spki_c.specs.Pointers.{held_lent, lent_for}
 
 module _ {M : Type 1} {𝓤 : Ura M} (𝓛 : Logic 𝓤) (X : RattleType) (L : RowLaws X) where
   open 𝓛 use {H, A}

@@ -1,8 +1,6 @@
 -- A number is that of one command.
-use Rattle.std.proofs.Common.{◌≡◌, List, [], ◌∷◌, Some, refl, sym, ap, ◌∙◌, rules}
-use Rattle.std.specs.Prelude.{slice_get}
-use Rattle.spki_words.specs.declared.commands.Command.{Command}
-use Rattle.spki_words.specs.declared.commands.Command.TheVariants.{Canonical, Advanced, Transport, Intersect, Reduce, Check, Explain}
+use Rattle.std.{proofs.Common.{◌≡◌, List, [], ◌∷◌, Some, refl, sym, ap, ◌∙◌, rules}, specs.Prelude.{slice_get}}
+use Rattle.spki_words.specs.declared.commands.Command.{Command, TheVariants.{Canonical, Advanced, Transport, Intersect, Reduce, Check, Explain}}
 use Rattle.spki_c.specs.Results.{number_of}
 
 abbrev all : List Command

@@ -1,7 +1,6 @@
 -- Where the members of a list and the octets of a string stand in canonical text.
 use Rattle.std.proofs.Common.{◌≡◌, ℕ, zero, suc, ◌+◌, ◌-◌, ◌≤◌, ◌<◌, List, [], ◌∷◌, ◌++◌, length, Some, None, slice_get, get_or, take, drop, refl, sym, ap, ◌∙◌, subst, arith, rules, Option, append_assoc}
-use Rattle.std.proofs.lemmas.List.{length-append}
-use Rattle.std.proofs.Math.Seq.{take-length, drop-append_seam, take-append_seam}
+use Rattle.std.proofs.{lemmas.List.{length-append}, Math.Seq.{take-length, drop-append_seam, take-append_seam}}
 use Rattle.sexpr_core.specs.Characters.{char}
 use Rattle.sexpr_core.specs.Value.{Value, Values, string, list, none, more, canon, canons, members, values, group, decimal, verbatim}
 use Rattle.sexpr_core.specs.Nodes.{LiesAt}

@@ -1,10 +1,7 @@
 -- The texts of an array, one after the other.
 use Rattle.std.proofs.Common.{◌≡◌, ℕ, ◌<◌, ◌≤◌, List, [], ◌∷◌, ◌++◌, ◌+◌, length, map, take, drop, zero, suc, All, slice_index_or, refl, sym, ap, ◌∙◌, subst, arith}
-use Rattle.spki_c.specs.declared.text.Text.{Text}
-use Rattle.spki_c.specs.declared.readable.TextPlace.{TextPlace}
-use Rattle.spki_c.specs.Readables.{place_of}
-use Rattle.spki_c.specs.Asking.{IsLent}
 use Rattle.std.proofs.lemmas.List.Elements.{All-more, All-get_or}
+use Rattle.spki_c.specs.{declared.{text.Text.{Text}, readable.TextPlace.{TextPlace}}, Readables.{place_of}, Asking.{IsLent}}
 
 abbrev IsNext : List Text → List TextPlace → ℕ → TextPlace → Type 0
 IsNext left places k d = (t : Text) × (ts : List Text) × (left ≡ t ∷ ts) × (slice_index_or places k d ≡ place_of t)

@@ -1,18 +1,11 @@
 -- A status of a yes is that of a grant.
-use Rattle.std.proofs.Common.{◌≡◌, ℕ, List, length, Bool, Option, Some, None, ℤ, inl, inr, refl, sym, ◌∙◌, subst, arith}
-use Rattle.std.proofs.lemmas.Bool.{cases_lt}
+use Rattle.std.proofs.{Common.{◌≡◌, ℕ, List, length, Bool, Option, Some, None, ℤ, inl, inr, refl, sym, ◌∙◌, subst, arith}, lemmas.Bool.{cases_lt}}
 use Rattle.spki_decision.specs.declared.grant.Grant.{Grant}
-use Rattle.spki_service.specs.AccessLists.{GuardModel}
-use Rattle.spki_service.specs.declared.owned_question.OwnedQuestion.{OwnedQuestion}
-use Rattle.spki_service.specs.declared.question.Question.{Question}
-use Rattle.spki_guard.specs.declared.answers.Verdict.{Verdict}
-use Rattle.spki_guard.specs.declared.answers.Verdict.TheVariants.{Done, No, Refused}
-use Rattle.spki_guard.specs.declared.queries.Query.{Query}
-use Rattle.spki_guard.specs.declared.queries.Query.TheVariants.{Decide, Explain, Reduce}
+use Rattle.spki_service.specs.{AccessLists.{GuardModel}, declared.{owned_question.OwnedQuestion.{OwnedQuestion}, question.Question.{Question}}}
+use Rattle.spki_guard.specs.declared.answers.Verdict.{Verdict, TheVariants.{Done, No, Refused}}
+use Rattle.spki_guard.specs.declared.queries.Query.{Query, TheVariants.{Decide, Explain, Reduce}}
 use Rattle.spki_guard.specs.HeldQuestions.{HasGrant, IsGrantFor}
-use Rattle.spki_c.specs.Guards.{status_for}
-use Rattle.spki_c.specs.Results.{IsHanded}
-use Rattle.spki_c.specs.Until.{number_of, IsHeldUntil}
+use Rattle.spki_c.specs.{Guards.{status_for}, Results.{IsHanded}, Until.{number_of, IsHeldUntil}}
 
 -- a yes that is handed over is that of the answer
 answered_yes : (old new : List ℕ) (needed status given : ℕ) (output : List ℕ) → IsHanded old new needed status given output → status ≡ 9 → given ≡ 9

@@ -1,25 +1,17 @@
 -- Questions of a C program: the texts that it lends, what it receives, and the signatures that it reads.
-use Rattle.std.specs.Prelude.{◌≡◌, List, length, All, ◌≢◌, ◌⊎◌, ℕ, ℤ, [], ◌∷◌, map, Bool, true, false, Option, Some, None}
-use Rattle.spki_c.specs.declared.handle_value.HandleValue.{HandleValue}
-use Rattle.spki_c.specs.declared.handle_value.HandleValue.TheVariants as contents
-use Rattle.spki_c.specs.declared.text.Text.{Text}
-use Rattle.spki_c.specs.declared.parts.Parts.{Parts}
-use Rattle.spki_service.specs.AccessLists.{GuardModel}
-use Rattle.spki_service.specs.GuardQuestions.{IsOpened, NoneMarked}
+use Rattle.std.specs.{Prelude.{◌≡◌, List, length, All, ◌≢◌, ◌⊎◌, ℕ, ℤ, [], ◌∷◌, map, Bool, true, false, Option, Some, None}, Borrow.{Bor}}
+use Rattle.spki_c.specs.declared.{handle_value.HandleValue.{HandleValue}, text.Text.{Text}, parts.Parts.{Parts}}
+use Rattle.spki_c.specs.declared.signatures.SignatureTexts.{SignatureTexts}
+use Rattle.spki_c.specs.{Results.{IsHanded}, Strings.{octets_of}}
 use Rattle.spki_service.specs.declared.owned_question.OwnedQuestion.{OwnedQuestion}
-use Rattle.spki_service.specs.declared.question.Question.{Question}
-use Rattle.spki_service.specs.declared.question.RequestInput.{RequestInput}
-use Rattle.spki_service.specs.declared.question.RequestInput.TheVariants as wanted
-use Rattle.spki_service.specs.declared.question.Moment.{Moment}
-use Rattle.spki_service.specs.declared.question.Moment.TheVariants as moments
-use Rattle.spki_guard.specs.declared.answers.Verdict.{Verdict}
-use Rattle.spki_guard.specs.HeldQuestions.{IsUnreadQuestion}
-use Rattle.spki_c.specs.Results.{IsHanded}
-use Rattle.std.specs.Borrow.{Bor}
+use Rattle.spki_service.specs.declared.question.{Question.{Question}, RequestInput.{RequestInput}, Moment.{Moment}}
+use Rattle.spki_service.specs.{AccessLists.{GuardModel}, GuardQuestions.{IsOpened, NoneMarked}}
+use Rattle.spki_guard.specs.{declared.answers.Verdict.{Verdict}, HeldQuestions.{IsUnreadQuestion}}
 use Rattle.sexpr_core.specs.Value.{Value, canon, IsWithinLimits}
 use Rattle.spki_decision.specs.CertificateTests.{Signed}
-use Rattle.spki_c.specs.Strings.{octets_of}
-use Rattle.spki_c.specs.declared.signatures.SignatureTexts.{SignatureTexts}
+use Rattle.spki_c.specs.declared.handle_value.HandleValue.TheVariants as contents
+use Rattle.spki_service.specs.declared.question.RequestInput.TheVariants as wanted
+use Rattle.spki_service.specs.declared.question.Moment.TheVariants as moments
 
 -- ---- texts that are lent whole
 

@@ -1,20 +1,12 @@
 -- What a C program receives from the guards that it holds.
 use Rattle.std.specs.Prelude.{◌≡◌, ◌⊎◌, ℕ, zero, suc, ◌≤◌, List, [], ◌∷◌, Bool, Option, Some}
-use Rattle.spki_cert.specs.declared.principal.Policy.{Policy}
-use Rattle.spki_cert.specs.declared.principal.Policy.TheVariants.{Open, Strict}
+use Rattle.spki_cert.specs.declared.principal.Policy.{Policy, TheVariants.{Open, Strict}}
 use Rattle.spki_service.specs.AccessLists.{GuardModel, HoldsList, IsNoAccessList}
-use Rattle.spki_service.specs.declared.limits.Limits.{Limits}
-use Rattle.spki_service.specs.declared.list_fault.AclFault.{AclFault}
-use Rattle.spki_service.specs.declared.question.Question.{Question}
-use Rattle.spki_guard.specs.declared.answers.Verdict.{Verdict}
-use Rattle.spki_guard.specs.declared.queries.Query.{Query}
-use Rattle.spki_guard.specs.declared.queries.Query.TheVariants.{Decide, Explain, Reduce}
-use Rattle.spki_guard.specs.HeldQuestions.{IsAnswerHeld}
-use Rattle.spki_guard.specs.Lines.{refused_list, refused_memory}
-use Rattle.spki_c.specs.Results.{IsHanded, decided, written}
-use Rattle.spki_c.specs.declared.handle_value.HandleValue.{HandleValue}
+use Rattle.spki_service.specs.declared.{limits.Limits.{Limits}, list_fault.AclFault.{AclFault}, question.Question.{Question}}
+use Rattle.spki_guard.specs.declared.{answers.Verdict.{Verdict}, queries.Query.{Query, TheVariants.{Decide, Explain, Reduce}}}
+use Rattle.spki_guard.specs.{HeldQuestions.{IsAnswerHeld}, Lines.{refused_list, refused_memory}}
+use Rattle.spki_c.specs.{Results.{IsHanded, decided, written}, declared.{handle_value.HandleValue.{HandleValue}, limits.LimitParts.{LimitParts}}}
 use Rattle.spki_c.specs.declared.handle_value.HandleValue.TheVariants as contents
-use Rattle.spki_c.specs.declared.limits.LimitParts.{LimitParts}
 
 -- ---- numbers
 

@@ -1,9 +1,7 @@
 -- What a C program holds by a pointer: which kind it is, and what a mark makes of it.
 use Rattle.std.specs.Prelude.{◌≡◌, ◌<◌, ◌≤◌, ℕ, Bool, true, false, Option, Some, None, length, if◌then◌else◌}
-use Rattle.spki_service.specs.GuardQuestions.{HasMark}
-use Rattle.spki_service.specs.declared.owned_question.OwnedQuestion.{OwnedQuestion}
-use Rattle.spki_c.specs.declared.handle_value.HandleValue.{HandleValue}
-use Rattle.spki_c.specs.declared.handle_value.HandleValue.TheVariants.{Guard, Question}
+use Rattle.spki_service.specs.{GuardQuestions.{HasMark}, declared.owned_question.OwnedQuestion.{OwnedQuestion}}
+use Rattle.spki_c.specs.declared.handle_value.HandleValue.{HandleValue, TheVariants.{Guard, Question}}
 
 -- it is a question
 abbrev pub IsQuestion : HandleValue → Type 0

@@ -3,8 +3,7 @@ use base.Fml.{Fml, Lft, Share, fsep, fex, flft, ftrue}
 use denote.RattleType.{RattleType}
 use denote.RawPtr.{Ptr, block_ptr, null_ptr, Testable}
 use denote.Struct.Lending.{lent_at}
-use Rattle.std.specs.Prelude.{Option, Some, None, ◌≡◌, ℕ, ◌^◌, List, length, Bool, true, false}
-use Rattle.std.specs.contracts.impls.GlobalAllocator.TheImpl.{ghosts}
+use Rattle.std.specs.{Prelude.{Option, Some, None, ◌≡◌, ℕ, ◌^◌, List, length, Bool, true, false}, contracts.impls.GlobalAllocator.TheImpl.{ghosts}}
 use Rattle.std.specs.declared.alloc.Global.{Global}
 use Rattle.std_alloc.specs.Box.Ownership.{box_owns}
 use lib.Dec.{ltb}

@@ -1,9 +1,7 @@
 -- The texts of an array that C passes, and what a call may read of them.
 use base.Fml.{Fml, fsep, ftrue}
 use Rattle.std.specs.Prelude.{List, [], ◌∷◌, map, ◌≡◌}
-use Rattle.spki_c.specs.declared.text.Text.{Text}
-use Rattle.spki_c.specs.declared.readable.TextPlace.{TextPlace}
-use Rattle.spki_c.specs.Pointers.{text_owns}
+use Rattle.spki_c.specs.{declared.{text.Text.{Text}, readable.TextPlace.{TextPlace}}, Pointers.{text_owns}}
 
 -- what may be read of each of these texts
 unfoldable pub texts_own : List Text → Fml

@@ -1,9 +1,7 @@
 -- What a C program receives from a call: the number of a status, the buffer, and the length of the answer.
 use Rattle.std.specs.Prelude.{ℕ, ◌≡◌, ◌<◌, ◌≤◌, List, ◌++◌, length, drop}
-use Rattle.spki_words.specs.declared.commands.Command.{Command}
-use Rattle.spki_words.specs.declared.commands.Command.TheVariants.{Canonical, Advanced, Transport, Intersect, Reduce, Check, Explain}
-use Rattle.spki_guard.specs.declared.answers.Verdict.{Verdict}
-use Rattle.spki_guard.specs.declared.answers.Verdict.TheVariants.{Done, No, Refused}
+use Rattle.spki_words.specs.declared.commands.Command.{Command, TheVariants.{Canonical, Advanced, Transport, Intersect, Reduce, Check, Explain}}
+use Rattle.spki_guard.specs.declared.answers.Verdict.{Verdict, TheVariants.{Done, No, Refused}}
 use Rattle.spki_guard.specs.TextAnswers.{IsAnswer, RefusesAsLong, IsAnswerApart}
 
 -- ---- the numbers of commands and of statuses for C programs

@@ -1,7 +1,6 @@
 -- The octets of a string inside a value (RFC 9804, sections 4 and 5).
 use Rattle.std.specs.Prelude.{◌≡◌, ℕ, List, [], ◌∷◌, length, Option, Some, None, slice_get}
-use Rattle.sexpr_core.specs.Value.{Value, string, list, canon, members, IsWithinLimits}
-use Rattle.sexpr_core.specs.Nodes.{LiesAt}
+use Rattle.sexpr_core.specs.{Value.{Value, string, list, canon, members, IsWithinLimits}, Nodes.{LiesAt}}
 
 -- the members of a list; a string has none
 abbrev pub parts : Value → List Value

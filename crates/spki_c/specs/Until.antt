@@ -1,11 +1,8 @@
 -- Until when a yes holds, as a C program receives it.
 use Rattle.std.specs.Prelude.{◌≡◌, ℕ, List, Bool, Option, Some, None, ℤ, pos, negsuc}
 use Rattle.spki_decision.specs.declared.grant.Grant.{Grant}
-use Rattle.spki_service.specs.AccessLists.{GuardModel}
-use Rattle.spki_service.specs.Questions.{last_second}
-use Rattle.spki_service.specs.declared.question.Question.{Question}
-use Rattle.spki_guard.specs.declared.answers.Verdict.TheVariants.{Done}
-use Rattle.spki_guard.specs.HeldQuestions.{HasGrant}
+use Rattle.spki_service.specs.{AccessLists.{GuardModel}, Questions.{last_second}, declared.question.Question.{Question}}
+use Rattle.spki_guard.specs.{declared.answers.Verdict.TheVariants.{Done}, HeldQuestions.{HasGrant}}
 
 -- the last second of a limit; without a limit the highest number
 abbrev pub number_until : Option (List ℕ) → ℤ

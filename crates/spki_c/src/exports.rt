@@ -3,8 +3,7 @@ ghost use Rattle.std.specs.Prelude.{◌≡◌, ◌≢◌, ◌<◌, ◌⊎◌, �
 ghost use Rattle.sexpr_core.specs.Value.{Value, canon, IsWithinLimits};
 ghost use Rattle.spki_words.specs.declared.commands.Command.{Command};
 ghost use Rattle.spki_guard.specs.declared.answers.Verdict.{Verdict};
-ghost use Rattle.spki_c.specs.Results.{number_of, status_of, decided, IsHanded, IsMisuse, AnswersText, AnswersApart};
-ghost use Rattle.spki_c.specs.Asking.{IsLent};
+ghost use Rattle.spki_c.specs.{Results.{number_of, status_of, decided, IsHanded, IsMisuse, AnswersText, AnswersApart}, Asking.{IsLent}};
 ghost use Rattle.spki_c.specs.Strings.{IsFound, IsNotThere};
 
 use crate::buffer::{hand_over, misused};

@@ -1,12 +1,9 @@
 //! The exported functions for guards that a caller holds.
 ghost use Rattle.std.specs.Prelude.{◌≡◌, ◌≢◌, ◌⊎◌, None, Some, IsSome, length};
-ghost use Rattle.spki_c.specs.declared.handle_value.HandleValue.{HandleValue};
-ghost use Rattle.spki_c.specs.HandleValues.{IsClosed};
+ghost use Rattle.spki_c.specs.{declared.handle_value.HandleValue.{HandleValue}, HandleValues.{IsClosed}};
+ghost use Rattle.spki_c.specs.{Guards.{policy_number, numbers_in, AreAllowed, IsOpened, IsUnopened}, Results.{IsMisuse}, Asking.{IsLent}};
 ghost use Rattle.spki_cert.specs.declared.principal.Policy.{Policy};
 ghost use Rattle.spki_service.specs.AccessLists.{GuardModel};
-ghost use Rattle.spki_c.specs.Guards.{policy_number, numbers_in, AreAllowed, IsOpened, IsUnopened};
-ghost use Rattle.spki_c.specs.Results.{IsMisuse};
-ghost use Rattle.spki_c.specs.Asking.{IsLent};
 
 use crate::box_pointer::BoxPointer;
 use crate::buffer::{hand_over, misused};

@@ -1,9 +1,6 @@
 //! Pointers to guards and questions that are passed to C and come back.
-ghost use Rattle.std.specs.Prelude.{◌≡◌, Some, None, IsSome};
-ghost use Rattle.std.specs.declared.option.Option.{Option};
-ghost use Rattle.std.specs.Coded.{coded_option};
-ghost use Rattle.spki_c.specs.declared.handle_value.HandleValue.{HandleValue};
-ghost use Rattle.spki_c.specs.contracts.handle_value.HandleValue.{the_row};
+ghost use Rattle.std.specs.{Prelude.{◌≡◌, Some, None, IsSome}, declared.option.Option.{Option}, Coded.{coded_option}};
+ghost use Rattle.spki_c.specs.{declared.handle_value.HandleValue.{HandleValue}, contracts.handle_value.HandleValue.{the_row}};
 ghost use Rattle.spki_c.specs.Pointers.{held_owns, held_lent};
 
 use crate::box_pointer::BoxPointer;

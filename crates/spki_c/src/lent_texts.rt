@@ -1,7 +1,6 @@
 //! The octets of texts that C passes.
 ghost use Rattle.std.specs.Prelude.{◌≡◌, ◌↔◌, IsTrue, IfOk, IfErr, All, map};
-ghost use Rattle.spki_c.specs.Asking.{IsLent};
-ghost use Rattle.spki_c.specs.Readables.{AreReadable};
+ghost use Rattle.spki_c.specs.{Asking.{IsLent}, Readables.{AreReadable}};
 
 use crate::readable::{Readable, TextPlace};
 use crate::text::Text;

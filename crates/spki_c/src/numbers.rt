@@ -1,7 +1,6 @@
 //! The numbers of commands, of queries and of statuses.
 ghost use Rattle.std.specs.Prelude.{◌≡◌, ◌≢◌, MatchOption};
-ghost use Rattle.spki_c.specs.Guards.{query_number, status_for};
-ghost use Rattle.spki_c.specs.Results.{number_of, status_of, decided, written};
+ghost use Rattle.spki_c.specs.{Guards.{query_number, status_for}, Results.{number_of, status_of, decided, written}};
 
 use spki_guard::{Command, Query, Verdict};
 

@@ -1,10 +1,8 @@
 //! Opened questions on the heap.
 ghost use Rattle.std.specs.Prelude.{◌≡◌, IfOk, IfErr};
 ghost use Rattle.spki_service.specs.GuardQuestions.{IsOpened, NoneMarked};
-ghost use Rattle.spki_service.specs.declared.owned_question.OwnedQuestion.{OwnedQuestion};
-ghost use Rattle.spki_guard.specs.TextAnswers.{written_by};
-ghost use Rattle.spki_guard.specs.HeldQuestions.{IsUnreadQuestion};
-ghost use Rattle.spki_service.specs.declared.question.Question.{Question};
+ghost use Rattle.spki_service.specs.declared.{owned_question.OwnedQuestion.{OwnedQuestion}, question.Question.{Question}};
+ghost use Rattle.spki_guard.specs.{TextAnswers.{written_by}, HeldQuestions.{IsUnreadQuestion}};
 ghost use Rattle.spki_c.specs.Asking.{AreLent, IsQuestionOf};
 
 use crate::handle_value::{HandleValue, boxed};

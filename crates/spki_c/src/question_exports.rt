@@ -1,19 +1,12 @@
 //! The exported functions for opened questions that a caller holds.
 ghost use Rattle.std.specs.Prelude.{◌≡◌, ◌≢◌, ◌⊎◌, negsuc, None, Some, IsSome, false, length, slice_get};
 ghost use Rattle.spki_decision.specs.CertificateTests.{Signed};
-ghost use Rattle.spki_service.specs.AccessLists.{GuardModel};
-ghost use Rattle.spki_service.specs.declared.question.Question.{Question};
-ghost use Rattle.spki_service.specs.declared.owned_question.OwnedQuestion.{OwnedQuestion};
+ghost use Rattle.spki_service.specs.{AccessLists.{GuardModel}, declared.{question.Question.{Question}, owned_question.OwnedQuestion.{OwnedQuestion}}};
 ghost use Rattle.spki_service.specs.GuardQuestions.{IsOpened};
-ghost use Rattle.spki_guard.specs.declared.queries.Query.{Query};
+ghost use Rattle.spki_guard.specs.{declared.queries.Query.{Query}, HeldQuestions.{GrantsHeld, MayGrant}};
 ghost use Rattle.spki_c.specs.Asking.{IsAmbiguous, IsQuestionOf, IsHeldQuestion, IsUnheld, AreLent, IsSignature};
-ghost use Rattle.spki_c.specs.declared.handle_value.HandleValue.{HandleValue};
-ghost use Rattle.spki_c.specs.HandleValues.{HandsBack};
-ghost use Rattle.spki_c.specs.Guards.{query_number, IsAnswered};
-ghost use Rattle.spki_c.specs.Until.{IsHeldUntil};
-ghost use Rattle.spki_guard.specs.HeldQuestions.{GrantsHeld, MayGrant};
-ghost use Rattle.spki_c.specs.Readables.{AreReadable};
-ghost use Rattle.spki_c.specs.Results.{IsMisuse};
+ghost use Rattle.spki_c.specs.{declared.handle_value.HandleValue.{HandleValue}, HandleValues.{HandsBack}, Guards.{query_number, IsAnswered}};
+ghost use Rattle.spki_c.specs.{Until.{IsHeldUntil}, Readables.{AreReadable}, Results.{IsMisuse}};
 
 use crate::box_pointer::BoxPointer;
 use crate::buffer::{hand_over, misused};

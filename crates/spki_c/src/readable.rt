@@ -1,9 +1,6 @@
 //! Arrays of texts that C passes.
-ghost use Rattle.std.specs.Prelude.{◌≡◌, List, ◌∷◌};
-ghost use Rattle.std.specs.Coded.{coded_list};
-ghost use Rattle.spki_c.specs.declared.text.Text.{Text};
-ghost use Rattle.spki_c.specs.contracts.text.Text.{the_row};
-ghost use Rattle.spki_c.specs.Readables.{texts_own, place_of};
+ghost use Rattle.std.specs.{Prelude.{◌≡◌, List, ◌∷◌}, Coded.{coded_list}};
+ghost use Rattle.spki_c.specs.{declared.text.Text.{Text}, contracts.text.Text.{the_row}, Readables.{texts_own, place_of}};
 
 use crate::text::Text;
 use std::marker::Model;

@@ -1,7 +1,6 @@
 //! Finds strings inside values.
 ghost use Rattle.std.specs.Prelude.{◌≡◌, ◌≤◌, None, Some, length, slice_get, MatchOption};
-ghost use Rattle.sexpr_core.specs.Value.{canon};
-ghost use Rattle.sexpr_core.specs.Nodes.{LiesAt};
+ghost use Rattle.sexpr_core.specs.{Value.{canon}, Nodes.{LiesAt}};
 ghost use Rattle.spki_c.specs.Strings.{parts, octets_of, octets_at, StandsIn, IsMember};
 
 use sexpr_core::syntax::{Node, NodeKind};

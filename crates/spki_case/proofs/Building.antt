@@ -1,15 +1,10 @@
 -- How a case is built of its parts.
-use Rattle.std.proofs.Common.{◌≡◌, ◌≢◌, ℕ, List, [], ◌∷◌, Option, Some, None, MatchOption, refl, sym, ap, ◌∙◌, rules}
-use Rattle.std.specs.Prelude.{codes}
-use Rattle.sexpr_core.specs.Value.{Value, string, list, none, more, members, plain}
-use Rattle.sexpr_core.specs.Nodes.{members-values}
+use Rattle.std.{proofs.Common.{◌≡◌, ◌≢◌, ℕ, List, [], ◌∷◌, Option, Some, None, MatchOption, refl, sym, ap, ◌∙◌, rules}, specs.Prelude.{codes}}
+use Rattle.sexpr_core.specs.{Value.{Value, string, list, none, more, members, plain}, Nodes.{members-values}}
+use Rattle.spki_cert.specs.declared.principal.Policy.{Policy, TheVariants.{Open, Strict}}
+use Rattle.spki_case.specs.{Case.{headed, part_values, case_value, policy_values}, View.{IsPart, ArePartsOf}}
+use Rattle.spki_case.specs.declared.parts.{Parts.{Parts}, TakenPart.{TakenPart}}
 use Rattle.spki_case.specs.Case as spec
-use Rattle.spki_cert.specs.declared.principal.Policy.{Policy}
-use Rattle.spki_cert.specs.declared.principal.Policy.TheVariants.{Open, Strict}
-use Rattle.spki_case.specs.Case.{headed, part_values, case_value, policy_values}
-use Rattle.spki_case.specs.View.{IsPart, ArePartsOf}
-use Rattle.spki_case.specs.declared.parts.Parts.{Parts}
-use Rattle.spki_case.specs.declared.parts.TakenPart.{TakenPart}
 
 abbrev behind : Value → List Value
 behind (string hint octets) = []

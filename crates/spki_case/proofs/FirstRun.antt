@@ -1,6 +1,5 @@
 -- The worked example of the first run: its value is written as its text, and is built as a case.
-use Rattle.std.proofs.Common.{◌≡◌, [], ◌∷◌, ◌++◌, refl}
-use Rattle.std.specs.Prelude.{codes}
+use Rattle.std.{proofs.Common.{◌≡◌, [], ◌∷◌, ◌++◌, refl}, specs.Prelude.{codes}}
 use Rattle.sexpr_core.specs.Value.{Value, plain, canon, verbatim, decimal, depth}
 use Rattle.spki_cert.specs.declared.principal.Policy.TheVariants.{Open}
 use Rattle.spki_case.specs.Case.{Parts, headed, case_value}

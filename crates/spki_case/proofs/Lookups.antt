@@ -1,28 +1,16 @@
 -- What is found by a digest: in a map where one more comes behind others, and by halves in rows in order.
 use Rattle.std.proofs.Common.{◌≡◌, ℕ, Ordering, Bool, true, false, cond, List, ◌⊎◌, inl, inr, Vec, Option, Some, None, refl, sym, ap, subst, ◌∙◌, rules, ◌<◌, ◌≤◌, ◌&&◌, ◌||◌, [], ◌∷◌, map, length, Result, Ok, Err, ⊎_elim, bytes_eq, arith}
-use Rattle.std.specs.Option.{option_or, is_some}
-use Rattle.std.specs.BTreeMap.{BTreeMap, UpdatesBy}
-use Rattle.std.specs.Cmp.Lexicographic.{slice_cmp}
-use Rattle.std.specs.Map.{lookup, KeepsOthers, IsKeyTest, AreApart}
-use Rattle.std.specs.Ordering.{nat_cmp, is_eq, eq_by_cmp, ordering_then}
-use Rattle.std.specs.declared.alloc.Global.{Global}
 use Rattle.std.proofs.lemmas.Bool.{cases_Bool, cond-true, cond-false, cases_lt}
 use Rattle.std.proofs.lemmas.Cmp.{eq_by_cmp_equiv, nat_list_cmp_total, nat_list_eq_equiv, on_total, then_total}
-use Rattle.std.proofs.lemmas.Map.Text.{is_eq-slice_cmp}
-use Rattle.std.proofs.lemmas.Slice.Eq.{bytes_eq-Decides}
-use Rattle.spki_case.specs.Lookups.{at_digest, SortedRow, AreSorted, compared, row_of, sorted_row}
+use Rattle.std.proofs.lemmas.{Map.{Text.{is_eq-slice_cmp}, Keys.{any_passes_from_place}}, Slice.Eq.{bytes_eq-Decides}}
+use Rattle.std.proofs.lemmas.{List.{Folds.{list_any_none}, Sorted.{searchable_from_sorted}}, Option.{slice_get-get_or}}
 use Rattle.std.proofs.Math.Bool.{and_comm, and_assoc}
-use Rattle.std.specs.Cmp.{IsTotalOrder, tied_then}
-use Rattle.std.specs.List.{list_any}
-use Rattle.std.specs.List.Sorted.{IsSorted, IsBinarySearchResult, IsSearchInRange}
-use Rattle.std.specs.Prelude.{is_ok}
-use Rattle.std.proofs.lemmas.List.Folds.{list_any_none}
-use Rattle.std.proofs.lemmas.List.Sorted.{searchable_from_sorted}
-use Rattle.std.proofs.lemmas.Map.Keys.{any_passes_from_place}
-use Rattle.std.proofs.lemmas.Option.{slice_get-get_or}
-use Rattle.spki_case.specs.declared.table.Row as code_row
+use Rattle.std.specs.{Option.{option_or, is_some}, BTreeMap.{BTreeMap, UpdatesBy}, Cmp.{IsTotalOrder, tied_then, Lexicographic.{slice_cmp}}}
+use Rattle.std.specs.{Map.{lookup, KeepsOthers, IsKeyTest, AreApart}, Ordering.{nat_cmp, is_eq, eq_by_cmp, ordering_then}}
+use Rattle.std.specs.{declared.alloc.Global.{Global}, List.{list_any, Sorted.{IsSorted, IsBinarySearchResult, IsSearchInRange}}, Prelude.{is_ok}}
+use Rattle.spki_case.specs.{Lookups.{at_digest, SortedRow, AreSorted, compared, row_of, sorted_row}, Case.{is_row_of, accepts}}
 use Rattle.sha2.specs.Sha256.{sha256}
-use Rattle.spki_case.specs.Case.{is_row_of, accepts}
+use Rattle.spki_case.specs.declared.table.Row as code_row
 
 -- ---- what is kept by a digest, where one more comes behind others
 

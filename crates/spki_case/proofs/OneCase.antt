@@ -1,29 +1,20 @@
 -- A value is at most one case or accepted list. It is refused for at most one fault, and is never both read and
 -- refused.
 use Rattle.std.proofs.Common.{◌≡◌, inl, inr, ℕ, List, [], ◌∷◌, ◌++◌, refl, sym, ap, subst, ◌∙◌, rules, Option, Some, ◌≢◌, arith}
-use Rattle.std.specs.Prelude.{codes}
+use Rattle.std.specs.{Prelude.{codes}, List.{AllZip}}
 use Rattle.sexpr_core.specs.Value.{Value, canon, IsWithinLimits}
-use Rattle.spki_case.specs.declared.cases.CaseFault.{CaseFault}
-use Rattle.spki_case.specs.declared.cases.CaseFault.TheVariants as faults
+use Rattle.sexpr_core.specs.{declared.fault.FormFault.{FormFault, TheVariants.{TooLong, TooDeep, Short, Memory}}, Reading.{Refused}}
+use Rattle.sexpr_core.proofs.{Texts.{canon_one}, Refusals.{no_refusal}}
 use Rattle.spki_case.specs.Case.{Parts, case_value, PartRefused, ValueRefused, IsOuter, Case, Row, RowOf, headed, acl_value, sequence_value, policy_values, part_values, RequestOf, CaseOf, IsCaseText, rows_fault, TextRefused}
-use Rattle.std.specs.List.{AllZip}
-use Rattle.sexpr_core.proofs.Texts.{canon_one}
-use Rattle.spki_tag.specs.Request.{Request}
-use Rattle.spki_tag.proofs.RequestReading.{request_only}
-use Rattle.spki_cert.specs.declared.principal.Policy.{Policy}
-use Rattle.spki_cert.specs.declared.principal.Policy.TheVariants.{Open, Strict}
-use Rattle.spki_cert.specs.Readings.{KeyOf, DateOf}
+use Rattle.spki_case.specs.declared.{cases.CaseFault.{CaseFault}, rows.RowsFault.{RowsFault}}
+use Rattle.spki_case.specs.RowsForm.{NoRows, RowsOf, IsRowsText, RowsTextRefused}
+use Rattle.spki_case.proofs.Building.{behind_head}
+use Rattle.spki_tag.{specs.Request.{Request}, proofs.RequestReading.{request_only}}
+use Rattle.spki_cert.specs.{declared.{principal.Policy.{Policy, TheVariants.{Open, Strict}}, fault.CertFault.{CertFault}}, Readings.{KeyOf, DateOf}}
 use Rattle.spki_cert.specs.Structures.{AclOf, SeqOf}
 use Rattle.spki_cert.proofs.OneReading.{key-one, hash-one, date-one, acl-one, sequence-one}
-use Rattle.spki_case.proofs.Building.{behind_head}
-use Rattle.spki_cert.specs.declared.fault.CertFault.{CertFault}
-use Rattle.spki_case.specs.declared.rows.RowsFault.{RowsFault}
+use Rattle.spki_case.specs.declared.cases.CaseFault.TheVariants as faults
 use Rattle.spki_case.specs.declared.rows.RowsFault.TheVariants as rows_faults
-use Rattle.spki_case.specs.RowsForm.{NoRows, RowsOf, IsRowsText, RowsTextRefused}
-use Rattle.sexpr_core.specs.declared.fault.FormFault.{FormFault}
-use Rattle.sexpr_core.specs.declared.fault.FormFault.TheVariants.{TooLong, TooDeep, Short, Memory}
-use Rattle.sexpr_core.specs.Reading.{Refused}
-use Rattle.sexpr_core.proofs.Refusals.{no_refusal}
 
 -- ---- the fault of a part as the case's
 

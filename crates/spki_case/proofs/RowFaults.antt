@@ -1,30 +1,19 @@
 -- The fault that is named of a row along the way of its reading. A value has none as a row, and the parts of a case
 -- have none, exactly where they are such.
-use Rattle.std.proofs.Common.{◌≡◌, ◌≢◌, inl, inr, sym, ℕ, List, true, Some, None, refl, ◌∙◌, rules}
-use Rattle.std.specs.Prelude.{codes, ◌↔◌}
+use Rattle.std.{proofs.Common.{◌≡◌, ◌≢◌, inl, inr, sym, ℕ, List, true, Some, None, refl, ◌∙◌, rules}, specs.{Prelude.{codes, ◌↔◌}, List.{AllZip}}}
 use Rattle.sexpr_core.specs.Value.{Value, canon, HasOctets}
-use Rattle.spki_tag.specs.Faults.{request_fault}
-use Rattle.spki_cert.specs.declared.hash.HashAlg.{HashAlg}
-use Rattle.spki_cert.specs.declared.hash.HashAlg.TheVariants.{Sha256}
-use Rattle.spki_cert.specs.Readings.{HashOf}
-use Rattle.spki_cert.specs.Fields.{behind_head}
-use Rattle.spki_cert.specs.FieldFaults.{key_fault, date_fault}
-use Rattle.spki_cert.specs.declared.fault.CertFault.{CertFault}
-use Rattle.spki_cert.specs.declared.fault.CertFaultKind.{CertFaultKind}
-use Rattle.spki_cert.proofs.SequenceFaultLaws.{IsTriple, triple-read, triple-form}
-use Rattle.spki_case.specs.Case.{begins_sha256, sha256_fault, row_fault, rows_fault, Row, Case, RowOf, Parts, acl_value, sequence_value, case_value, CaseOf, IsOuter}
-use Rattle.std.specs.List.{AllZip}
-use Rattle.spki_tag.proofs.Faultless.{request_none_exactly}
+use Rattle.spki_tag.{specs.Faults.{request_fault}, proofs.Faultless.{request_none_exactly}}
+use Rattle.spki_cert.specs.declared.{hash.HashAlg.{HashAlg, TheVariants.{Sha256}}, fault.{CertFault.{CertFault}, CertFaultKind.{CertFaultKind}}}
+use Rattle.spki_cert.specs.{Readings.{HashOf}, Fields.{behind_head}, FieldFaults.{key_fault, date_fault}}
 use Rattle.spki_cert.specs.StructureFaults.{acl_fault, sequence_fault, IsRefusedAt}
-use Rattle.spki_cert.proofs.HeadedLists.{Reads, none-found, unless-none, behind-group}
-use Rattle.spki_cert.proofs.SubjectFaultNone.{key-none, hash-none, date-none}
-use Rattle.spki_cert.proofs.EntryFaultNone.{each-none, each-first, acl-none}
+use Rattle.spki_cert.proofs.{SequenceFaultLaws.{IsTriple, triple-read, triple-form}, HeadedLists.{Reads, none-found, unless-none, behind-group}}
+use Rattle.spki_cert.proofs.{SubjectFaultNone.{key-none, hash-none, date-none}, EntryFaultNone.{each-none, each-first, acl-none}}
 use Rattle.spki_cert.proofs.SequenceFaultNone.{sequence-none}
+use Rattle.spki_case.specs.Case.{begins_sha256, sha256_fault, row_fault, rows_fault, Row, Case, RowOf, Parts, acl_value, sequence_value, case_value, CaseOf, IsOuter}
+use Rattle.spki_case.specs.{declared.rows.RowsFault.{RowsFault}, RowsForm.{accepted_value, NoRows}}
 use Rattle.spki_case.proofs.OneCase.{parts-one}
 use Rattle.spki_cert.specs.declared.fault.CertFaultKind.TheVariants as kinds
-use Rattle.spki_case.specs.declared.rows.RowsFault.{RowsFault}
 use Rattle.spki_case.specs.declared.rows.RowsFault.TheVariants as faults
-use Rattle.spki_case.specs.RowsForm.{accepted_value, NoRows}
 
 -- ---- the fault that is named of a row, along the way of its reading
 

@@ -1,12 +1,8 @@
 -- In a sequence each certificate is followed by its signature.
-use Rattle.std.proofs.Common.{◌≡◌, ℕ, suc, List, [], ◌∷◌, Bool, true, false, refl, sym, ◌∙◌, inl, inr, rules}
-use Rattle.std.specs.Prelude.{codes, IsSome, is_some}
-use Rattle.std.specs.List.{AllZip, list_all}
-use Rattle.std.proofs.lemmas.Bool.{and_from}
+use Rattle.std.proofs.{Common.{◌≡◌, ℕ, suc, List, [], ◌∷◌, Bool, true, false, refl, sym, ◌∙◌, inl, inr, rules}, lemmas.Bool.{and_from}}
+use Rattle.std.specs.{Prelude.{codes, IsSome, is_some}, List.{AllZip, list_all}}
 use Rattle.sexpr_core.specs.Value.{Value}
-use Rattle.spki_cert.specs.declared.certificate.SeqItem.{SeqItem}
-use Rattle.spki_cert.specs.declared.certificate.SeqItem.TheVariants.{DoHash, Auth, Name, Signature}
-use Rattle.spki_cert.specs.Fields.{is_headed}
+use Rattle.spki_cert.specs.{declared.certificate.SeqItem.{SeqItem, TheVariants.{DoHash, Auth, Name, Signature}}, Fields.{is_headed}}
 use Rattle.spki_cert.specs.Structures.{ItemOf, waits_behind, waits_after, IsInPlace, AreInPlace, SeqOf}
 use Rattle.spki_case.specs.Case.{signature_in, certificates_from, are_signed}
 

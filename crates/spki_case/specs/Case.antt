@@ -2,35 +2,22 @@
 -- are cases, and what a fault means for a row, a part or a case.
 use Rattle.std.specs.Prelude.{ℕ, List, Option, Bool, ◌&&◌, bytes_eq, IsTrue, ◌≡◌, suc, [], ◌∷◌, Some, None, is_some, true, ◌≢◌, ◌⊎◌, codes, false, drop}
 use Rattle.std.specs.List.{list_any, list_all, AllZip}
-use Rattle.spki_tag.specs.Request.{Request, IsRequest, request_value}
-use Rattle.spki_cert.specs.declared.hash.HashAlg.TheVariants.{Sha256}
-use Rattle.spki_cert.specs.declared.principal.Policy.{Policy}
-use Rattle.spki_cert.specs.declared.entry.Entry.{Entry}
-use Rattle.spki_cert.specs.declared.certificate.SeqItem.{SeqItem}
-use Rattle.spki_cert.specs.Naming.{is_digest}
-use Rattle.spki_cert.specs.declared.principal.Principal.{Principal}
-use Rattle.spki_cert.specs.declared.certificate.AuthCert.{AuthCert}
-use Rattle.spki_cert.specs.declared.certificate.NameCert.{NameCert}
-use Rattle.spki_cert.specs.declared.certificate.Signature as signature
-use Rattle.spki_cert.specs.declared.certificate.SeqItem.TheVariants.{Key, DoHash, Auth, Name, Signature}
-use Rattle.sexpr_core.specs.declared.fault.FormFault.{FormFault}
-use Rattle.sexpr_core.specs.declared.fault.FormFault.TheVariants.{Memory}
-use Rattle.sexpr_core.specs.Value.{Value, canon, IsWithinLimits, plain, group}
-use Rattle.sexpr_core.specs.Reading.{Refused}
-use Rattle.spki_cert.specs.Readings.{KeyOf, HashOf, DateOf}
-use Rattle.spki_tag.specs.Faults.{first_fault, unless, request_fault}
-use Rattle.spki_cert.specs.declared.fault.CertFault.{CertFault}
-use Rattle.spki_cert.specs.declared.fault.CertFaultKind.{CertFaultKind}
-use Rattle.spki_cert.specs.declared.fault.CertFaultKind.TheVariants.{Shape, HashAlg}
-use Rattle.spki_cert.specs.Fields.{is_headed, behind_head}
-use Rattle.spki_cert.specs.FieldFaults.{fault_at, unless_none, is_plain, key_fault, hash_fault}
-use Rattle.spki_cert.specs.StructureFaults.{each_looked, any_value, acl_fault, sequence_fault}
+use Rattle.spki_tag.specs.{Request.{Request, IsRequest, request_value}, Faults.{first_fault, unless, request_fault}}
 use Rattle.spki_tag.specs.declared.fault.TagFault.{TagFault}
+use Rattle.spki_cert.specs.declared.hash.HashAlg.TheVariants.{Sha256}
+use Rattle.spki_cert.specs.declared.certificate.{SeqItem.{SeqItem, TheVariants.{Key, DoHash, Auth, Name, Signature}}, AuthCert.{AuthCert}}
+use Rattle.spki_cert.specs.declared.certificate.NameCert.{NameCert}
+use Rattle.spki_cert.specs.declared.{principal.{Policy.{Policy, TheVariants.{Open, Strict}}, Principal.{Principal}}, entry.Entry.{Entry}}
+use Rattle.spki_cert.specs.declared.fault.{CertFault.{CertFault}, CertFaultKind.{CertFaultKind, TheVariants.{Shape, HashAlg}}}
+use Rattle.spki_cert.specs.{Naming.{is_digest}, Readings.{KeyOf, HashOf, DateOf}, Fields.{is_headed, behind_head}}
+use Rattle.spki_cert.specs.FieldFaults.{fault_at, unless_none, is_plain, key_fault, hash_fault}
+use Rattle.spki_cert.specs.{StructureFaults.{each_looked, any_value, acl_fault, sequence_fault}, Structures.{AclOf, SeqOf}}
+use Rattle.sexpr_core.specs.{declared.fault.FormFault.{FormFault, TheVariants.{Memory}}, Value.{Value, canon, IsWithinLimits, plain, group}}
+use Rattle.sexpr_core.specs.Reading.{Refused}
+use Rattle.spki_case.specs.declared.cases.CaseFault.{CaseFault}
+use Rattle.spki_cert.specs.declared.certificate.Signature as signature
 use Rattle.spki_tag.specs.declared.fault.TagFault.TheVariants as tag_faults
 use Rattle.spki_cert.specs.declared.fault.CertFaultKind.TheVariants as kinds
-use Rattle.spki_cert.specs.declared.principal.Policy.TheVariants.{Open, Strict}
-use Rattle.spki_cert.specs.Structures.{AclOf, SeqOf}
-use Rattle.spki_case.specs.declared.cases.CaseFault.{CaseFault}
 use Rattle.spki_case.specs.declared.cases.CaseFault.TheVariants as faults
 
 -- ---- cases: what is to be decided, and with what

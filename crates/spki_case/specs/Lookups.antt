@@ -1,13 +1,7 @@
 -- What is found by a digest: the element of a map, and rows of an accepted list in the order of the search.
-use Rattle.std.specs.Prelude.{ℕ, List, Vec, Option, ◌≡◌, map, Bool}
-use Rattle.std.specs.BTreeMap.{BTreeMap, get_by}
-use Rattle.std.specs.Cmp.Lexicographic.{slice_cmp}
-use Rattle.std.specs.Ordering.{nat_cmp, ordering_then}
-use Rattle.std.specs.declared.alloc.Global.{Global}
-use Rattle.std.specs.List.{list_any}
-use Rattle.std.specs.Borrow.{Bor}
-use Rattle.std.specs.List.Sorted.{IsSorted}
-use Rattle.std.specs.declared.cmp.Ordering.{Ordering}
+use Rattle.std.specs.{Prelude.{ℕ, List, Vec, Option, ◌≡◌, map, Bool}, BTreeMap.{BTreeMap, get_by}, Cmp.Lexicographic.{slice_cmp}}
+use Rattle.std.specs.{Ordering.{nat_cmp, ordering_then}, declared.{alloc.Global.{Global}, cmp.Ordering.{Ordering}}}
+use Rattle.std.specs.{List.{list_any, Sorted.{IsSorted}}, Borrow.{Bor}}
 use Rattle.spki_case.specs.Case.{Row}
 use Rattle.spki_case.specs.declared.table.Row as code_row
 

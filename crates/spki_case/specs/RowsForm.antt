@@ -1,11 +1,9 @@
 -- The separate accepted list of a value, and what its rows state.
-use Rattle.std.specs.Prelude.{◌≡◌, ◌≢◌, ◌⊎◌, List, ℕ, Some, codes, IsTrue}
-use Rattle.std.specs.List.{AllZip}
+use Rattle.std.specs.{Prelude.{◌≡◌, ◌≢◌, ◌⊎◌, List, ℕ, Some, codes, IsTrue}, List.{AllZip}}
 use Rattle.sexpr_core.specs.Value.{Value}
 use Rattle.spki_cert.specs.declared.fault.CertFault.{CertFault}
+use Rattle.spki_case.specs.{Case.{Row, Verified, accepts, headed, RowOf, rows_fault, IsTextOf, IsMalformed}, declared.rows.RowsFault.{RowsFault}}
 use Rattle.spki_cert.specs.declared.fault.CertFaultKind.TheVariants as kinds
-use Rattle.spki_case.specs.Case.{Row, Verified, accepts, headed, RowOf, rows_fault, IsTextOf, IsMalformed}
-use Rattle.spki_case.specs.declared.rows.RowsFault.{RowsFault}
 use Rattle.spki_case.specs.declared.rows.RowsFault.TheVariants as faults
 
 -- a list with the head `accepted`

@@ -1,8 +1,7 @@
 -- What a case of the code, its accepted list and the parts that its readers return are in the model.
 use Rattle.std.specs.Prelude.{List, map, IsTrue, ◌≡◌, ◌≢◌, ℕ, ◌∷◌}
-use Rattle.spki_case.specs.declared.table.AcceptedTable.{AcceptedTable}
+use Rattle.spki_case.specs.{declared.table.AcceptedTable.{AcceptedTable}, Case.{Case, Row, Verified, accepts, headed}}
 use Rattle.spki_case.specs.declared.cases.Case as code
-use Rattle.spki_case.specs.Case.{Case, Row, Verified, accepts, headed}
 pub use Rattle.spki_case.specs.Lookups.{row_of}
 use Rattle.sexpr_core.specs.Value.{Value}
 use Rattle.spki_case.specs.Case as spec

@@ -1,17 +1,13 @@
 //! Laws of cases and accepted lists.
 //! Each function is a law: it does nothing, and its contract is the fact. A reading of a value is the row, list or case that it is read as.
 
-ghost use Rattle.std.specs.Prelude.{◌≡◌, ◌↔◌, ℕ, List, Some, None};
-ghost use Rattle.std.specs.List.{AllZip};
+ghost use Rattle.std.specs.{Prelude.{◌≡◌, ◌↔◌, ℕ, List, Some, None}, List.{AllZip}};
 ghost use Rattle.sexpr_core.specs.Value.{HasOctets, Value};
 ghost use Rattle.spki_tag.specs.Faults.{request_fault};
-ghost use Rattle.spki_cert.specs.FieldFaults.{key_fault, date_fault};
-ghost use Rattle.spki_cert.specs.StructureFaults.{acl_fault, sequence_fault, IsRefusedAt};
+ghost use Rattle.spki_cert.specs.{FieldFaults.{key_fault, date_fault}, StructureFaults.{acl_fault, sequence_fault, IsRefusedAt}};
 ghost use Rattle.spki_cert.specs.declared.fault.CertFault.{CertFault};
 ghost use Rattle.spki_case.specs.Case.{Case, Row, Parts, acl_value, sequence_value, case_value, CaseOf, ValueRefused, IsCaseText, TextRefused, RowOf, row_fault, rows_fault};
-ghost use Rattle.spki_case.specs.RowsForm.{NoRows, IsRowsText, RowsTextRefused};
-ghost use Rattle.spki_case.specs.declared.cases.CaseFault.{CaseFault};
-ghost use Rattle.spki_case.specs.declared.rows.RowsFault.{RowsFault};
+ghost use Rattle.spki_case.specs.{RowsForm.{NoRows, IsRowsText, RowsTextRefused}, declared.{cases.CaseFault.{CaseFault}, rows.RowsFault.{RowsFault}}};
 
 /// A value has at most one reading as a row of an accepted list.
 pub fn one_row()

@@ -3,9 +3,8 @@
 ghost use Rattle.std.specs.Prelude.{◌≡◌, ◌≢◌, ◌∷◌, [], MatchOption, MatchBool};
 ghost use Rattle.sexpr_core.specs.Value.{Value, plain};
 ghost use Rattle.spki_cert.specs.declared.principal.Policy.{Policy};
+ghost use Rattle.spki_case.specs.{Case.{case_value, part_values, policy_values}, View.{IsPart, IsNoPart, ArePartsOf}};
 ghost use Rattle.spki_case.specs.Case as spec;
-ghost use Rattle.spki_case.specs.Case.{case_value, part_values, policy_values};
-ghost use Rattle.spki_case.specs.View.{IsPart, IsNoPart, ArePartsOf};
 
 use sexpr_core::syntax::{Members, Node};
 use spki_cert::Policy;

@@ -1,10 +1,8 @@
 //! Reads the rows of an accepted list, which are signatures that the service has verified.
 
-ghost use Rattle.std.specs.Prelude.{◌≡◌, ◌≢◌, ◌<◌, ◌↔◌, length, map, Some, None, IfOk, IfErr, IsErrOf};
+ghost use Rattle.std.specs.{Prelude.{◌≡◌, ◌≢◌, ◌<◌, ◌↔◌, length, map, Some, None, IfOk, IfErr, IsErrOf}, List.{AllZip}};
 ghost use Rattle.spki_cert.specs.Readings.{HashOf};
-ghost use Rattle.std.specs.List.{AllZip};
-ghost use Rattle.spki_case.specs.Case.{RowOf, sha256_fault, row_fault, rows_fault, IsOuter};
-ghost use Rattle.spki_case.specs.View.{row_of, rows_of};
+ghost use Rattle.spki_case.specs.{Case.{RowOf, sha256_fault, row_fault, rows_fault, IsOuter}, View.{row_of, rows_of}};
 ghost use Rattle.spki_case.specs.RowsForm.{RowsOf, NoRows, IsRowsText, RowsTextRefused};
 
 use crate::table::{AcceptedTable, Row};

@@ -1,24 +1,16 @@
 -- What is read of an entry or of a sequence is at most a multiple of the octets of its canonical text.
 use Rattle.std.proofs.Common.{◌≡◌, ℕ, ◌+◌, ◌*◌, ◌≤◌, ◌<◌, inl, inr, List, [], ◌∷◌, length, arith, Option, Some, None, codes, ap, rules}
-use Rattle.std.specs.List.{AllZip}
 use Rattle.std.proofs.lemmas.Bool.{cond_both}
+use Rattle.std.specs.List.{AllZip}
 use Rattle.sexpr_core.specs.Value.{Value, Values, string, list, none, more, plain, group, canon, canons, values, members}
-use Rattle.spki_tag.specs.Cost.{weight}
-use Rattle.spki_tag.specs.Reading.{ReadsAs}
-use Rattle.spki_tag.specs.Tag as tags
-use Rattle.spki_tag.proofs.Weights.{read_weight, verbatim_ge, canon_list, canons_more}
-use Rattle.spki_cert.specs.declared.principal.Principal.{Principal}
-use Rattle.spki_cert.specs.declared.principal.Principal.TheVariants.{Key, Hash}
-use Rattle.spki_cert.specs.declared.entry.Subject.{Subject}
-use Rattle.spki_cert.specs.declared.entry.Entry.{Entry}
-use Rattle.spki_cert.specs.declared.certificate.AuthCert.{AuthCert}
-use Rattle.spki_cert.specs.declared.certificate.NameCert.{NameCert}
-use Rattle.spki_cert.specs.declared.certificate.SeqItem.{SeqItem}
-use Rattle.spki_cert.specs.declared.certificate.SeqItem.TheVariants as items
-use Rattle.spki_cert.specs.Readings.{alg_name}
+use Rattle.spki_tag.{specs.{Cost.{weight}, Reading.{ReadsAs}}, proofs.Weights.{read_weight, verbatim_ge, canon_list, canons_more}}
+use Rattle.spki_cert.specs.declared.{principal.Principal.{Principal, TheVariants.{Key, Hash}}, entry.{Subject.{Subject}, Entry.{Entry}}}
+use Rattle.spki_cert.specs.declared.certificate.{AuthCert.{AuthCert}, NameCert.{NameCert}, SeqItem.{SeqItem}}
 use Rattle.spki_cert.specs.Fields.{PrincipalOf, plains, RelativeOf, IsNamedSubject, SubjectOf, IssuedTo, IssuerOf, is_headed, behind_head, contents, TagOf}
-use Rattle.spki_cert.specs.Structures.{EntryOf, AuthCertOf, NameCertOf, ItemOf, SeqOf, IssuedBy, IssuedFor}
+use Rattle.spki_cert.specs.{Readings.{alg_name}, Structures.{EntryOf, AuthCertOf, NameCertOf, ItemOf, SeqOf, IssuedBy, IssuedFor}}
 use Rattle.spki_cert.specs.Cost.{names_weight, principal_weight, subject_weight, entry_weight, item_weight, items_weight}
+use Rattle.spki_tag.specs.Tag as tags
+use Rattle.spki_cert.specs.declared.certificate.SeqItem.TheVariants as items
 
 -- ---- octets of values
 

@@ -1,22 +1,17 @@
 -- Entries and access lists along the way of their reading: the fault that is named of them, and what is none.
 use Rattle.std.proofs.Common.{◌≡◌, ℕ, inl, inr, Bool, true, false, cond, List, [], ◌∷◌, ◌++◌, refl, ap, ◌∙◌, rules, ◌+◌, drop, Option, Some, None}
-use Rattle.std.specs.Prelude.{codes, not, ◌&&◌, if◌then◌else◌}
-use Rattle.std.specs.List.{AllZip}
+use Rattle.std.specs.{Prelude.{codes, not, ◌&&◌, if◌then◌else◌}, List.{AllZip}}
 use Rattle.sexpr_core.specs.Value.{Value, plain, group, IsNotHeaded}
-use Rattle.spki_cert.specs.declared.entry.Entry.{Entry}
-use Rattle.spki_cert.specs.declared.entry.Subject.{Subject}
+use Rattle.spki_cert.specs.declared.entry.{Entry.{Entry}, Subject.{Subject}}
+use Rattle.spki_cert.specs.declared.fault.{CertFault.{CertFault}, CertFaultKind.{CertFaultKind, TheVariants.{Shape, RelativeInEntry}}}
+use Rattle.spki_cert.specs.declared.principal.Principal.{Principal, TheVariants.{Key, Hash}}
 use Rattle.spki_cert.specs.Fields.{SubjectOf, RelativeOf, plains, is_headed, PrincipalOf, WrittenSubjectOf, behind_head}
 use Rattle.spki_cert.specs.Structures.{EntryOf, AclOf, IsVersion, BeginsWell}
+use Rattle.spki_cert.specs.FieldFaults.{fault_at, is_name, subject_fault, entry_subject_fault, is_relative, begins_named, has, fields_fault, entry_field_fault, is_both_ways}
 use Rattle.spki_cert.specs.StructureFaults.{behind_version, entry_fault, at_item, acl_version_fault, outer_fault, entries_fault, acl_fault}
 use Rattle.spki_cert.proofs.HeadedLists.{same_others, not-headed, behind-group, of-form, of-no_form, one-look}
 use Rattle.spki_cert.proofs.SubjectFaultLaws.{name-is_no_principal, string-is_no_principal, principal-else}
 use Rattle.spki_tag.specs.Faults.{first_fault, unless}
-use Rattle.spki_cert.specs.declared.fault.CertFault.{CertFault}
-use Rattle.spki_cert.specs.declared.fault.CertFaultKind.{CertFaultKind}
-use Rattle.spki_cert.specs.declared.fault.CertFaultKind.TheVariants.{Shape, RelativeInEntry}
-use Rattle.spki_cert.specs.declared.principal.Principal.{Principal}
-use Rattle.spki_cert.specs.declared.principal.Principal.TheVariants.{Key, Hash}
-use Rattle.spki_cert.specs.FieldFaults.{fault_at, is_name, subject_fault, entry_subject_fault, is_relative, begins_named, has, fields_fault, entry_field_fault, is_both_ways}
 
 -- ---- entries and access lists that were read, and those that are none
 

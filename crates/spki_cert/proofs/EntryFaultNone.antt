@@ -1,28 +1,19 @@
 -- A value has no fault as an entry or as an access list exactly where it is one.
 use Rattle.std.proofs.Common.{◌≡◌, ℕ, ◌+◌, List, [], ◌∷◌, ◌++◌, length, arith, Bool, true, false, ◌&&◌, ◌||◌, Option, Some, None, refl, sym, ap, ◌∙◌, rules}
-use Rattle.std.specs.Prelude.{codes, ◌↔◌, if◌then◌else◌}
-use Rattle.std.specs.List.{AllZip}
-use Rattle.std.proofs.Math.Bool.{and-false}
-use Rattle.std.proofs.lemmas.Bool.{or_parts}
+use Rattle.std.proofs.{Math.Bool.{and-false}, lemmas.Bool.{or_parts}}
+use Rattle.std.specs.{Prelude.{codes, ◌↔◌, if◌then◌else◌}, List.{AllZip}}
 use Rattle.sexpr_core.specs.Value.{Value, plain, group}
-use Rattle.spki_tag.specs.Reading.{ReadsAs}
-use Rattle.spki_tag.specs.Faults.{first_fault}
-use Rattle.spki_cert.specs.declared.fault.CertFault.{CertFault}
-use Rattle.spki_cert.specs.declared.fault.CertFaultKind.{CertFaultKind}
-use Rattle.spki_cert.specs.declared.fault.CertFaultKind.TheVariants.{Shape}
-use Rattle.spki_cert.specs.declared.window.Window.{Window}
+use Rattle.spki_tag.specs.{Reading.{ReadsAs}, Faults.{first_fault}}
+use Rattle.spki_cert.specs.declared.{fault.{CertFault.{CertFault}, CertFaultKind.{CertFaultKind, TheVariants.{Shape}}}, window.Window.{Window}}
 use Rattle.spki_cert.specs.declared.entry.Entry.{Entry}
-use Rattle.spki_cert.specs.Readings.{DateOf}
 use Rattle.spki_cert.specs.Fields.{is_headed, behind_head, Sole, Given, ValidOf, IsTimeField, IsField, propagate, tag, time, comment, AreFields, propagates, WindowOf, directly, in_valid}
 use Rattle.spki_cert.specs.StructureFaults.{IsRefusedAt, behind_version, entry_fault, at_item, each_looked, acl_version_fault, outer_fault, entries_fault, acl_fault}
-use Rattle.spki_cert.specs.Structures.{EntryOf, AclOf, IsVersion, BeginsWell}
-use Rattle.spki_cert.specs.FieldFaults.{sole_fault, has, version_fault, is_both_ways}
-use Rattle.spki_cert.specs.Inner.Gathering.{is_word_among}
+use Rattle.spki_cert.specs.{Readings.{DateOf}, Structures.{EntryOf, AclOf, IsVersion, BeginsWell}}
+use Rattle.spki_cert.specs.{FieldFaults.{sole_fault, has, version_fault, is_both_ways}, Inner.Gathering.{is_word_among}}
 use Rattle.spki_cert.proofs.HeadedLists.{Reads, is-group, unless-none, unless_not-none, behind-none, none-found}
 use Rattle.spki_cert.proofs.FieldLaws.{none-headed, headed-none, other-word, time-first, time-last, time-valid, field-tag}
 use Rattle.spki_cert.proofs.EntryFaultLaws.{entries-behind, entry-unversioned, acl-read, entry_looked, entry-looked, outer-form, acl-entries}
-use Rattle.spki_cert.proofs.FieldFaultLaws.{has-given, version-faultless}
-use Rattle.spki_cert.proofs.SubjectFaultNone.{entry_subject-none}
+use Rattle.spki_cert.proofs.{FieldFaultLaws.{has-given, version-faultless}, SubjectFaultNone.{entry_subject-none}}
 use Rattle.spki_cert.proofs.FieldFaultNone.{given-read, entry_fields-none, versions-read}
 
 -- ---- windows

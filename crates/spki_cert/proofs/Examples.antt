@@ -2,23 +2,15 @@
 use Rattle.std.proofs.Common.{◌≡◌, ℕ, ◌+◌, true, false, List, [], ◌∷◌, ◌++◌, length, Some, None, inl, inr, refl, ap, ◌∙◌, arith}
 use Rattle.std.specs.Prelude.{codes}
 use Rattle.sexpr_core.specs.Value.{Value, plain, group, verbatim, decimal}
-use Rattle.spki_tag.specs.Tag as tags
-use Rattle.spki_tag.specs.Reading.{ReadsAs}
-use Rattle.spki_tag.proofs.TagReading.{apart, normal-of}
-use Rattle.spki_tag.specs.Tag.{is_time, is_date}
-use Rattle.spki_cert.specs.declared.hash.HashAlg.TheVariants.{Sha1}
-use Rattle.spki_cert.specs.declared.principal.Policy.TheVariants.{Strict}
-use Rattle.spki_cert.specs.declared.principal.Principal.TheVariants.{Key, Hash}
-use Rattle.spki_cert.specs.declared.window.Window.{Window}
-use Rattle.spki_cert.specs.Naming.{names}
-use Rattle.spki_cert.specs.Time.{within, meet_of}
-use Rattle.spki_cert.specs.Readings.{KeyOf, DateOf}
+use Rattle.spki_tag.{specs.{Reading.{ReadsAs}, Tag.{is_time, is_date}}, proofs.TagReading.{apart, normal-of}}
+use Rattle.spki_cert.specs.declared.{hash.HashAlg.TheVariants.{Sha1}, principal.{Policy.TheVariants.{Strict}, Principal.TheVariants.{Key, Hash}}}
+use Rattle.spki_cert.specs.declared.{window.Window.{Window}, fault.CertFaultKind.TheVariants.{StraySignature}}
+use Rattle.spki_cert.specs.{Naming.{names}, Time.{within, meet_of}, Readings.{KeyOf, DateOf}}
 use Rattle.spki_cert.specs.Fields.{is_headed, NameOf, WindowOf, IsAbsent, IsOnce, directly, in_valid, tag}
-use Rattle.spki_cert.specs.Structures.{EntryOf, AreInPlace, waits_after}
-use Rattle.spki_cert.specs.RefusedWholes.{HasWrongItem, HasStraySignature}
-use Rattle.spki_cert.specs.declared.certificate.SeqItem.TheVariants as items
-use Rattle.spki_cert.specs.declared.fault.CertFaultKind.TheVariants.{StraySignature}
+use Rattle.spki_cert.specs.{Structures.{EntryOf, AreInPlace, waits_after}, RefusedWholes.{HasWrongItem, HasStraySignature}}
 use Rattle.spki_cert.proofs.FieldLaws.{once-push}
+use Rattle.spki_tag.specs.Tag as tags
+use Rattle.spki_cert.specs.declared.certificate.SeqItem.TheVariants as items
 
 -- (public-key (test a))
 abbrev ka_body : Value

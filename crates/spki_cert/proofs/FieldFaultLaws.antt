@@ -1,23 +1,17 @@
 -- The fault that is named of a field, and of fields one after the other, along the way of their reading.
 use Rattle.std.proofs.Common.{◌≡◌, ◌≢◌, ℕ, List, [], ◌∷◌, ◌++◌, Bool, true, false, Option, Some, None, refl, sym, ap, ◌∙◌, inr, rules}
-use Rattle.std.specs.Prelude.{codes, not, is_some, if◌then◌else◌, ◌||◌, ◌&&◌}
-use Rattle.std.specs.List.{AllByRecursion}
 use Rattle.std.proofs.lemmas.Bool.{false_from_ne_true, true_from_ne_false}
+use Rattle.std.specs.{Prelude.{codes, not, is_some, if◌then◌else◌, ◌||◌, ◌&&◌}, List.{AllByRecursion}}
 use Rattle.sexpr_core.specs.Value.{Value, plain, group, IsNotHeaded}
-use Rattle.sexpr_core.specs.Value as sexpr
-use Rattle.spki_tag.specs.Faults.{first_fault, unless, tag_fault, IsNamed}
-use Rattle.spki_cert.specs.declared.window.Window.{Window}
-use Rattle.spki_cert.specs.declared.fault.CertFaultKind.{CertFaultKind}
-use Rattle.spki_cert.specs.declared.fault.CertFaultKind.TheVariants.{Shape, Online, Memory}
-use Rattle.spki_tag.specs.Reading.{ReadsAs}
-use Rattle.spki_cert.specs.Fields.{is_headed, behind_head, contents, Given, Sole, IsLimitField, ValidOf, IsUnread, display, issuer_info, subject_info}
+use Rattle.spki_tag.specs.{Faults.{first_fault, unless, tag_fault, IsNamed}, Reading.{ReadsAs}, declared.fault.TagFault.{TagFault}}
+use Rattle.spki_cert.specs.declared.{window.Window.{Window}, fault.CertFaultKind.{CertFaultKind, TheVariants.{Shape, Online, Memory}}}
+use Rattle.spki_cert.specs.declared.fields.{FieldValues.{FieldValues}, Place.{Place}}
 use Rattle.spki_cert.specs.FieldFaults.{sole_fault, unless_none, subject_fault, issuer_fault, date_fault, head_of, has, has_head, is_again, fields_looked, fields_fault, version_fault, limit_fault, time_fault, as_tag, kind_of_tag, entry_field_fault, is_unread, cert_field_fault, is_both_ways}
-use Rattle.spki_tag.specs.declared.fault.TagFault.{TagFault}
-use Rattle.spki_cert.specs.declared.fields.FieldValues.{FieldValues}
-use Rattle.spki_cert.specs.declared.fields.Place.{Place}
-use Rattle.spki_cert.specs.declared.fields.Place.TheVariants as places
+use Rattle.spki_cert.specs.Fields.{is_headed, behind_head, contents, Given, Sole, IsLimitField, ValidOf, IsUnread, display, issuer_info, subject_info}
 use Rattle.spki_cert.specs.Inner.Gathering.{IsTagKind, is_word_among, IsNew, AreRead, FieldValuesOf, IsOneWay, IsBothWays, fault_in}
 use Rattle.spki_cert.proofs.HeadedLists.{headed-by, not-headed, head-group, is-group, behind-group, of-form, first-of, one-look, headed-else}
+use Rattle.sexpr_core.specs.Value as sexpr
+use Rattle.spki_cert.specs.declared.fields.Place.TheVariants as places
 
 -- ---- versions
 

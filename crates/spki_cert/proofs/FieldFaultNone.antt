@@ -1,30 +1,21 @@
 -- A value has no fault as a limit or as a field, and values have none as fields, exactly where they are.
 use Rattle.std.proofs.Common.{◌≡◌, ℕ, ◌≤◌, List, [], ◌∷◌, ◌++◌, length, append_assoc, append-nil, arith, Bool, true, false, Option, Some, None, refl, sym, ap, subst, ◌∙◌, inl, inr, rules}
-use Rattle.std.specs.Prelude.{codes, ◌↔◌, not, if◌then◌else◌}
-use Rattle.std.specs.List.{AllByRecursion}
-use Rattle.std.proofs.lemmas.Slice.Eq.{bytes_eq-Decides}
-use Rattle.std.proofs.lemmas.Bool.{or_from}
+use Rattle.std.proofs.lemmas.{Slice.Eq.{bytes_eq-Decides}, Bool.{or_from}}
+use Rattle.std.specs.{Prelude.{codes, ◌↔◌, not, if◌then◌else◌}, List.{AllByRecursion}}
 use Rattle.sexpr_core.specs.Value.{Value, plain, group}
-use Rattle.sexpr_core.specs.Value as sexpr
-use Rattle.spki_tag.specs.Reading.{ReadsAs}
-use Rattle.spki_tag.specs.Faults.{first_fault, unless}
-use Rattle.spki_tag.proofs.Faultless.{tag_none_exactly}
-use Rattle.spki_tag.proofs.TagReading.{normal-of}
-use Rattle.spki_cert.specs.declared.fault.CertFaultKind.{CertFaultKind}
-use Rattle.spki_cert.specs.declared.fault.CertFaultKind.TheVariants.{Shape}
-use Rattle.spki_cert.specs.declared.principal.Principal.{Principal}
-use Rattle.spki_cert.specs.declared.window.Window.{Window}
-use Rattle.spki_cert.specs.Readings.{DateOf}
+use Rattle.spki_tag.{specs.{Reading.{ReadsAs}, Faults.{first_fault, unless}}, proofs.{Faultless.{tag_none_exactly}, TagReading.{normal-of}}}
+use Rattle.spki_cert.specs.declared.{fault.CertFaultKind.{CertFaultKind, TheVariants.{Shape}}, principal.Principal.{Principal}}
+use Rattle.spki_cert.specs.declared.{window.Window.{Window}, fields.Place.{Place}}
 use Rattle.spki_cert.specs.Fields.{WrittenSubjectOf, IssuerOf, is_headed, behind_head, contents, Sole, Given, IsLimitWord, IsLimitField, ValidOf, IssuerIn, WrittenSubjectIn, IsTimeField, limit, valid, IsField, propagate, tag, time, comment, IsCertField, common, version, issuer, subject, unread, AreFields}
 use Rattle.spki_cert.specs.FieldFaults.{sole_fault, unless_none, date_fault, subject_fault, issuer_fault, is_again, fields_looked, fields_fault, version_fault, limit_fault, time_fault, kind_of_tag, entry_field_fault, is_unread, cert_field_fault}
-use Rattle.spki_cert.specs.declared.fields.Place.{Place}
-use Rattle.spki_cert.specs.declared.fields.Place.TheVariants as places
-use Rattle.spki_cert.specs.Inner.Gathering.{fault_in, IsFieldOf}
-use Rattle.spki_cert.proofs.HeadedLists.{Reads, headed-by, is-group, unless-none, unless_not-none, none-found, sole-read, sole-none}
+use Rattle.spki_cert.specs.{Readings.{DateOf}, Inner.Gathering.{fault_in, IsFieldOf}}
 use Rattle.spki_cert.proofs.FieldLaws.{each-push, each-at, contents-headed, contents-other, once-before, once-new, none-headed, headed-none, HasHead, field-word, cert-word, among-else, limit-not_valid, time_words, field_words, time-head, field-head, first-limit, last-limit}
-use Rattle.spki_cert.proofs.FieldFaultLaws as faults
 use Rattle.spki_cert.proofs.FieldFaultLaws.{unread-read, again-headed, version-faultless, limit-first, limit-last, entry-tag_field, entry-propagate, entry-comment, entry-else, cert-issuer_field, cert-subject_field, cert-version_field, cert-unread, cert-else}
+use Rattle.spki_cert.proofs.HeadedLists.{Reads, headed-by, is-group, unless-none, unless_not-none, none-found, sole-read, sole-none}
 use Rattle.spki_cert.proofs.SubjectFaultNone.{date-none, subject-none, issuer-none}
+use Rattle.sexpr_core.specs.Value as sexpr
+use Rattle.spki_cert.specs.declared.fields.Place.TheVariants as places
+use Rattle.spki_cert.proofs.FieldFaultLaws as faults
 
 -- ---- versions
 

@@ -1,18 +1,13 @@
 -- What fields and limits say that were read one after the other.
 use Rattle.std.proofs.Common.{◌≡◌, ℕ, ◌+◌, ◌≤◌, Bool, true, false, cond, List, [], ◌∷◌, ◌++◌, length, Option, Some, None, refl, ap, ◌∙◌, arith, append-nil, length-append, rules, inl, inr, sym, subst}
-use Rattle.std.specs.List.{AllByRecursion, list_any}
+use Rattle.std.proofs.lemmas.{Bool.{false_from_ne_true}, List.Folds.{list_any-append}}
+use Rattle.std.specs.{List.{AllByRecursion, list_any}, Prelude.{codes}}
 use Rattle.sexpr_core.specs.Value.{Value, plain, group}
 use Rattle.spki_cert.specs.Fields.{is_headed, behind_head, contents, AreOnce, Given, Sole, IsLimitField, ValidOf, IsTimeField, limit, valid, IsField, propagate, tag, time, comment, IssuerIn, WrittenSubjectIn, IsUnread, IsCertField, common, version, issuer, subject, unread}
-use Rattle.std.proofs.lemmas.Bool.{false_from_ne_true}
-use Rattle.spki_cert.proofs.HeadedLists.{Reads, other-head, head-same, headed-by, behind-group, headed-else}
-use Rattle.std.specs.Prelude.{codes}
-use Rattle.spki_cert.specs.declared.window.Window.{Window}
-use Rattle.spki_cert.specs.Readings.{DateOf}
 use Rattle.spki_cert.specs.Inner.Gathering.{Headed, AddsLimit, first, last, is_word_among, IsSilent, FieldValueOf, gather, FieldValuesOf, IsNew, AreRead}
+use Rattle.spki_cert.specs.{declared.{window.Window.{Window}, fields.{FieldValues.{FieldValues}, FieldValue.{FieldValue}}}, Readings.{DateOf}}
+use Rattle.spki_cert.proofs.HeadedLists.{Reads, other-head, head-same, headed-by, behind-group, headed-else}
 use Rattle.spki_tag.specs.Reading.{ReadsAs}
-use Rattle.std.proofs.lemmas.List.Folds.{list_any-append}
-use Rattle.spki_cert.specs.declared.fields.FieldValues.{FieldValues}
-use Rattle.spki_cert.specs.declared.fields.FieldValue.{FieldValue}
 use Rattle.spki_cert.specs.declared.fields.FieldValue.TheVariants as field_value
 
 -- ---- what fields say, one field after the other

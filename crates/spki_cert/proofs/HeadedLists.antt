@@ -1,15 +1,11 @@
 -- Lists with a head: that they are the same, and what is looked at in a list whose form is known.
 use Rattle.std.proofs.Common.{◌≡◌, ℕ, List, [], ◌∷◌, ◌++◌, refl, sym, ap, ◌∙◌, append_assoc, Bool, true, false, None, rules, Option, Some, Result, Ok, Err, subst}
-use Rattle.sexpr_core.specs.Value.{IsNotHeaded, Value, plain, group, members, IsNoString}
-use Rattle.std.proofs.lemmas.Bool.{false_from_ne_true}
-use Rattle.std.proofs.lemmas.Slice.Eq.{bytes_eq-Decides}
-use Rattle.spki_cert.specs.Fields.{is_headed, behind_head, Sole}
-use Rattle.sexpr_core.specs.Value as sexpr
-use Rattle.sexpr_core.specs.Nodes.{members-values, values-members}
-use Rattle.std.specs.Prelude.{IfErr, not, ◌↔◌}
-use Rattle.std.specs.Result.{IsErrAnd}
+use Rattle.std.proofs.lemmas.{Bool.{false_from_ne_true}, Slice.Eq.{bytes_eq-Decides}}
+use Rattle.std.specs.{Prelude.{IfErr, not, ◌↔◌}, Result.{IsErrAnd}}
+use Rattle.sexpr_core.specs.{Value.{IsNotHeaded, Value, plain, group, members, IsNoString}, Nodes.{members-values, values-members}}
+use Rattle.spki_cert.specs.{Fields.{is_headed, behind_head, Sole}, FieldFaults.{head_of, unless_none, sole_fault, is_plain}}
 use Rattle.spki_tag.specs.Faults.{first_fault, unless}
-use Rattle.spki_cert.specs.FieldFaults.{head_of, unless_none, sole_fault, is_plain}
+use Rattle.sexpr_core.specs.Value as sexpr
 
 -- ---- lists that are the same have the same members, and those with two heads are not the same
 

@@ -1,34 +1,21 @@
 -- A value has one reading.
 use Rattle.std.proofs.Common.{◌≡◌, ℕ, inl, inr, List, [], ◌∷◌, ◌++◌, Option, Some, None, refl, sym, ap, subst, ◌∙◌, rules}
-use Rattle.std.specs.Prelude.{codes}
-use Rattle.std.specs.List.{AllZip}
+use Rattle.std.specs.{Prelude.{codes}, List.{AllZip}}
 use Rattle.sexpr_core.specs.Value.{Value, plain, group}
-use Rattle.spki_tag.specs.Tag as tags
-use Rattle.spki_tag.specs.Reading.{ReadsAs}
-use Rattle.spki_tag.proofs.TagReading.{reading-one}
-use Rattle.spki_cert.specs.declared.hash.HashAlg.{HashAlg}
-use Rattle.spki_cert.specs.declared.principal.Principal.{Principal}
-use Rattle.spki_cert.specs.declared.principal.Principal.TheVariants.{Key, Hash}
-use Rattle.spki_cert.specs.declared.entry.Subject.{Subject}
-use Rattle.spki_cert.specs.declared.entry.Entry.{Entry}
-use Rattle.spki_cert.specs.declared.window.Window.{Window}
-use Rattle.spki_cert.specs.declared.certificate.AuthCert.{AuthCert}
-use Rattle.spki_cert.specs.declared.certificate.NameCert.{NameCert}
-use Rattle.spki_cert.specs.declared.certificate.Signature.{Signature}
-use Rattle.spki_cert.specs.declared.certificate.SeqItem.{SeqItem}
-use Rattle.spki_cert.specs.declared.certificate.SeqItem.TheVariants as items
-use Rattle.spki_cert.specs.Readings.{KeyOf, HashOf, DateOf, alg_name}
-use Rattle.spki_cert.specs.Fields.{PrincipalOf, plains, NameOf, IsNamedSubject, SubjectOf, IssuedTo, IssuerOf, Sole, Given, LimitsAre, WindowOf, directly, in_valid, TagOf, propagates, IssuerIn}
-use Rattle.spki_cert.specs.Structures.{EntryOf, AclOf, IssuedFor, AuthCertOf, NameCertOf, SignatureOf, DoHashOf, ItemOf, SeqOf}
-use Rattle.spki_cert.specs.StructureFaults.{behind_version}
-use Rattle.spki_cert.proofs.HeadedLists.{same_others, same_second, same_rest, apart}
-use Rattle.spki_cert.specs.FieldFaults.{alg_named}
-use Rattle.spki_cert.proofs.SubjectFaultLaws.{named-alg, name-is_no_principal}
-use Rattle.spki_cert.proofs.FieldLaws.{given-else}
-use Rattle.spki_cert.proofs.EntryFaultLaws.{relative-is_no_subject, entries-behind}
+use Rattle.spki_tag.{specs.Reading.{ReadsAs}, proofs.TagReading.{reading-one}}
+use Rattle.spki_cert.specs.declared.{hash.HashAlg.{HashAlg}, principal.Principal.{Principal, TheVariants.{Key, Hash}}}
+use Rattle.spki_cert.specs.declared.{entry.{Subject.{Subject}, Entry.{Entry}}, window.Window.{Window}}
+use Rattle.spki_cert.specs.declared.certificate.{AuthCert.{AuthCert}, NameCert.{NameCert}, Signature.{Signature}, SeqItem.{SeqItem}}
 use Rattle.spki_cert.specs.declared.certificate_reader.CertParts.{CertParts}
-use Rattle.spki_cert.specs.Inner.Gathering.{PartsOf}
+use Rattle.spki_cert.specs.Fields.{PrincipalOf, plains, NameOf, IsNamedSubject, SubjectOf, IssuedTo, IssuerOf, Sole, Given, LimitsAre, WindowOf, directly, in_valid, TagOf, propagates, IssuerIn}
+use Rattle.spki_cert.specs.Readings.{KeyOf, HashOf, DateOf, alg_name}
+use Rattle.spki_cert.specs.Structures.{EntryOf, AclOf, IssuedFor, AuthCertOf, NameCertOf, SignatureOf, DoHashOf, ItemOf, SeqOf}
+use Rattle.spki_cert.specs.{StructureFaults.{behind_version}, FieldFaults.{alg_named}, Inner.Gathering.{PartsOf}}
+use Rattle.spki_cert.proofs.{HeadedLists.{same_others, same_second, same_rest, apart}, SubjectFaultLaws.{named-alg, name-is_no_principal}}
+use Rattle.spki_cert.proofs.{FieldLaws.{given-else}, EntryFaultLaws.{relative-is_no_subject, entries-behind}}
 use Rattle.spki_cert.proofs.SequenceFaultLaws.{auth_parts, auth-parts, name_parts, name-parts}
+use Rattle.spki_tag.specs.Tag as tags
+use Rattle.spki_cert.specs.declared.certificate.SeqItem.TheVariants as items
 
 -- ---- keys, hashes and dates
 

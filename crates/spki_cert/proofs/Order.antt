@@ -1,16 +1,11 @@
 -- Moments are in order, and what follows for windows.
 use Rattle.std.proofs.Common.{◌≡◌, ℕ, Bool, true, false, cond, ◌&&◌, List, Option, Some, None, refl, sym, ap, ◌∙◌, rules}
-use Rattle.std.specs.Prelude.{codes}
-use Rattle.std.specs.Cmp.Lexicographic.{slice_cmp}
-use Rattle.std.specs.declared.cmp.Ordering.{Ordering}
-use Rattle.std.specs.declared.cmp.Ordering.TheVariants.{Greater}
+use Rattle.std.proofs.{lemmas.{Cmp.{nat_list_cmp_total, upto as goes_on, tied_itself}, Bool.{and_parts}}, Math.Bool.{and-true, and_comm}}
+use Rattle.std.specs.{Prelude.{codes}, Cmp.Lexicographic.{slice_cmp}, declared.cmp.Ordering.{Ordering, TheVariants.{Greater}}}
 use Rattle.std.specs.Ordering.{nat_cmp, is_le, is_gt, ordering_reverse}
-use Rattle.std.proofs.lemmas.Cmp.{nat_list_cmp_total, upto as goes_on, tied_itself}
-use Rattle.std.proofs.Math.Bool.{and-true, and_comm}
-use Rattle.std.proofs.lemmas.Bool.{and_parts}
 use Rattle.spki_cert.specs.declared.window.Window.{Window}
-use Rattle.spki_tag.specs.Tag.{is_time, is_date}
 use Rattle.spki_cert.specs.Time.{upto, is_from, is_until, within, later, earlier, in_order, IsLimit, IsMeet, Overlap, AreApart}
+use Rattle.spki_tag.specs.Tag.{is_time, is_date}
 
 le_or_gt : (o : Ordering) → is_le o ≡ true → is_gt o ≡ false
 le_or_gt Greater e = absurd cc

@@ -1,21 +1,16 @@
 -- What is wrong with an access list or a sequence that has a fault.
 use Rattle.std.proofs.Common.{◌≡◌, ◌⊎◌, inl, inr, ℕ, ◌+◌, ◌<◌, ◌||◌, length, length-append, arith, Bool, true, false, List, [], ◌∷◌, ◌++◌, append_assoc, Option, Some, None, refl, sym, ap, ◌∙◌, subst}
-use Rattle.std.specs.Prelude.{codes, is_some, if◌then◌else◌}
-use Rattle.std.specs.List.{AllZip, AllByRecursion}
 use Rattle.std.proofs.lemmas.Slice.Zip.{all_zipped_more}
+use Rattle.std.specs.{Prelude.{codes, is_some, if◌then◌else◌}, List.{AllZip, AllByRecursion}}
 use Rattle.sexpr_core.specs.Value.{Value, plain, group}
 use Rattle.spki_tag.specs.Faults.{first_fault, unless}
 use Rattle.spki_cert.specs.declared.certificate.SeqItem.{SeqItem}
-use Rattle.spki_cert.specs.declared.fault.CertFault.{CertFault}
-use Rattle.spki_cert.specs.declared.fault.CertFaultKind.{CertFaultKind}
-use Rattle.spki_cert.specs.declared.fault.CertFaultKind.TheVariants.{Shape, UnsignedCert, StraySignature}
-use Rattle.spki_cert.specs.Fields.{is_headed, behind_head}
-use Rattle.spki_cert.specs.FieldFaults.{sole_fault, version_fault}
-use Rattle.spki_cert.specs.Structures.{EntryOf, BeginsWell, ItemOf, AreInPlace, IsInPlace, waits_behind, waits_after}
+use Rattle.spki_cert.specs.declared.fault.{CertFault.{CertFault}, CertFaultKind.{CertFaultKind, TheVariants.{Shape, UnsignedCert, StraySignature}}}
+use Rattle.spki_cert.specs.{Fields.{is_headed, behind_head}, FieldFaults.{sole_fault, version_fault}}
 use Rattle.spki_cert.specs.StructureFaults.{IsRefusedAt, entry_fault, at_item, acl_version_fault, outer_fault, entries_fault, acl_fault, behind_version, item_fault, place_fault, waiting, items_looked, items_fault, sequence_fault}
 use Rattle.spki_cert.specs.RefusedWholes.{HasRefusedEntry, HasOtherVersion, IsNoListOfEntries, BeginsWith, HasRefusedItem, HasStraySignature, GoesOn, HasUnsignedCertificate, HasWrongItem}
-use Rattle.spki_cert.proofs.HeadedLists.{is-group, one-look, moved}
-use Rattle.spki_cert.proofs.EntryFaultNone.{entries-refused, outer-read, version-well}
+use Rattle.spki_cert.specs.Structures.{EntryOf, BeginsWell, ItemOf, AreInPlace, IsInPlace, waits_behind, waits_after}
+use Rattle.spki_cert.proofs.{HeadedLists.{is-group, one-look, moved}, EntryFaultNone.{entries-refused, outer-read, version-well}}
 use Rattle.spki_cert.proofs.SequenceFaultNone.{item-none, place-read, waits-same}
 
 -- ---- access lists

@@ -1,28 +1,20 @@
 -- Signatures, operations, certificates and sequences along the way of their reading: what was read, and the fault
 -- that is named of each.
 use Rattle.std.proofs.Common.{◌≡◌, ℕ, List, [], ◌∷◌, drop, Bool, true, Option, Some, None, ◌∙◌, rules, false, refl, ◌++◌, ap, ◌+◌}
+use Rattle.std.proofs.Math.Bool.{or-false}
+use Rattle.std.specs.Prelude.{codes, is_some, not, if◌then◌else◌, ◌||◌}
 use Rattle.sexpr_core.specs.Value.{Value, plain, group, IsNotHeaded}
 use Rattle.spki_tag.specs.Faults.{first_fault, unless}
-use Rattle.spki_cert.specs.declared.fault.CertFaultKind.{CertFaultKind}
-use Rattle.spki_cert.specs.declared.fault.CertFaultKind.TheVariants.{Shape, UnknownOp}
-use Rattle.spki_cert.specs.Fields.{is_headed, behind_head, IssuerOf}
+use Rattle.spki_cert.specs.declared.fault.{CertFaultKind.{CertFaultKind, TheVariants.{Shape, UnknownOp}}, CertFault.{CertFault}}
+use Rattle.spki_cert.specs.declared.{certificate.{AuthCert.{AuthCert}, NameCert.{NameCert}}, certificate_reader.CertParts.{CertParts}}
+use Rattle.spki_cert.specs.declared.{principal.Principal.{Principal}, principal_reader.{Issuer.{Issuer}, WrittenSubject.{WrittenSubject}}}
+use Rattle.spki_cert.specs.declared.fields.FieldValues.{FieldValues}
 use Rattle.spki_cert.specs.FieldFaults.{fault_at, unless_none, is_plain, alg_fault, hash_fault, principal_fault, has, fields_fault, cert_field_fault, is_both_ways}
 use Rattle.spki_cert.specs.StructureFaults.{any_value, signature_fault, do_fault, is_hash_word, at_item, has_name_issuer, is_tagged_right, cert_fault, items_fault, sequence_fault}
-use Rattle.spki_cert.proofs.HeadedLists.{is-group, of-form, of-no_form, unless-none, none-found, first-of, one-look}
-use Rattle.spki_cert.proofs.FieldFaultLaws.{has-given}
-use Rattle.spki_cert.specs.declared.certificate.AuthCert.{AuthCert}
-use Rattle.spki_cert.specs.declared.certificate.NameCert.{NameCert}
-use Rattle.spki_cert.specs.declared.certificate_reader.CertParts.{CertParts}
-use Rattle.spki_cert.specs.Structures.{AuthCertOf, NameCertOf, IssuedBy}
+use Rattle.spki_cert.specs.{Fields.{is_headed, behind_head, IssuerOf}, Structures.{AuthCertOf, NameCertOf, IssuedBy}}
 use Rattle.spki_cert.specs.Inner.Gathering.{PartsOf, FieldValuesOf, parts_looked, parts_fault}
-use Rattle.std.specs.Prelude.{codes, is_some, not, if◌then◌else◌, ◌||◌}
-use Rattle.spki_cert.specs.declared.fault.CertFault.{CertFault}
-use Rattle.spki_cert.specs.declared.principal.Principal.{Principal}
+use Rattle.spki_cert.proofs.{HeadedLists.{is-group, of-form, of-no_form, unless-none, none-found, first-of, one-look}, FieldFaultLaws.{has-given}}
 use Rattle.spki_cert.proofs.SubjectFaultLaws.{principal-else}
-use Rattle.std.proofs.Math.Bool.{or-false}
-use Rattle.spki_cert.specs.declared.principal_reader.Issuer.{Issuer}
-use Rattle.spki_cert.specs.declared.principal_reader.WrittenSubject.{WrittenSubject}
-use Rattle.spki_cert.specs.declared.fields.FieldValues.{FieldValues}
 
 -- ---- lists of a head and three members
 

@@ -1,35 +1,23 @@
 -- A value has no fault as a signature, an operation, a certificate, an item or a sequence exactly where it is one.
 use Rattle.std.proofs.Common.{◌≡◌, ℕ, ◌⊎◌, inl, inr, List, [], ◌∷◌, Bool, true, false, Option, Some, None, refl, sym, ◌∙◌, rules, ◌+◌, subst}
-use Rattle.std.specs.Prelude.{codes, ◌↔◌, is_some, if◌then◌else◌}
 use Rattle.std.proofs.lemmas.Slice.Eq.{bytes_eq-Decides}
+use Rattle.std.specs.{Prelude.{codes, ◌↔◌, is_some, if◌then◌else◌}, List.{AllZip}}
 use Rattle.sexpr_core.specs.Value.{Value, plain, group, canon}
-use Rattle.spki_tag.specs.Tag as tags
-use Rattle.spki_tag.specs.Reading.{ReadsAs}
-use Rattle.spki_tag.specs.Faults.{unless, first_fault}
-use Rattle.spki_cert.specs.declared.hash.HashAlg.{HashAlg}
-use Rattle.spki_cert.specs.declared.fault.CertFaultKind.TheVariants.{Shape}
-use Rattle.spki_cert.specs.declared.principal.Principal.{Principal}
-use Rattle.spki_cert.specs.declared.entry.Subject.{Subject}
-use Rattle.spki_cert.specs.declared.certificate.AuthCert.{AuthCert}
-use Rattle.spki_cert.specs.declared.certificate.NameCert.{NameCert}
-use Rattle.spki_cert.specs.declared.certificate.Signature.{Signature}
+use Rattle.spki_tag.specs.{Reading.{ReadsAs}, Faults.{unless, first_fault}}
+use Rattle.spki_cert.specs.declared.{hash.HashAlg.{HashAlg}, fault.{CertFaultKind.TheVariants.{Shape}, CertFault.{CertFault}}}
+use Rattle.spki_cert.specs.declared.{principal.Principal.{Principal}, entry.Subject.{Subject}}
+use Rattle.spki_cert.specs.declared.certificate.{AuthCert.{AuthCert}, NameCert.{NameCert}, Signature.{Signature}, SeqItem.{SeqItem}}
 use Rattle.spki_cert.specs.declared.certificate_reader.CertParts.{CertParts}
-use Rattle.spki_cert.specs.Readings.{alg_name}
 use Rattle.spki_cert.specs.Fields.{unread, issuer_info, subject_info, WrittenSubjectOf, IssuedTo, is_headed, Sole, Given, propagate, tag, IsCertField, common, version, issuer, subject, display, IssuerIn, WrittenSubjectIn, propagates, behind_head}
 use Rattle.spki_cert.specs.Structures.{IssuedBy, IssuedFor, AuthCertOf, NameCertOf, SignatureOf, DoHashOf, ItemOf, SeqOf, IsInPlace, AreInPlace, waits_behind, waits_after}
-use Rattle.spki_cert.specs.FieldFaults.{is_plain, key_fault}
 use Rattle.spki_cert.specs.StructureFaults.{signature_fault, do_fault, cert_fault, is_hash_word, is_tagged_right, at_item, item_fault, place_fault, waiting, items_looked, items_fault, sequence_fault}
-use Rattle.spki_cert.specs.Inner.Gathering.{PartsOf, parts_fault}
+use Rattle.spki_cert.specs.{Readings.{alg_name}, FieldFaults.{is_plain, key_fault}, Inner.Gathering.{PartsOf, parts_fault}}
 use Rattle.spki_cert.proofs.HeadedLists.{Reads, other-head, headed-by, is-group, unless-none, unless_not-none, behind-none, none-found, headed-else}
-use Rattle.spki_cert.proofs.FieldLaws.{other-word, unread_words, unread-head, field-tag, cert-issuer, cert-subject}
-use Rattle.spki_cert.proofs.FieldFaultLaws.{has-given}
 use Rattle.spki_cert.proofs.SequenceFaultLaws.{triple-read, triple-form, signature-looks, do-form, parts-tested, cert-looked, tagged-right, right, auth_parts, auth-parts, name_parts, name-parts, do_looked, sequence-items}
-use Rattle.spki_cert.proofs.SubjectFaultNone.{hash-none, alg-none, principal-none, key-none}
-use Rattle.spki_cert.proofs.FieldFaultNone.{given-read, cert_fields-none}
+use Rattle.spki_cert.proofs.{FieldLaws.{other-word, unread_words, unread-head, field-tag, cert-issuer, cert-subject}, FieldFaultLaws.{has-given}}
+use Rattle.spki_cert.proofs.{SubjectFaultNone.{hash-none, alg-none, principal-none, key-none}, FieldFaultNone.{given-read, cert_fields-none}}
 use Rattle.spki_cert.proofs.EntryFaultNone.{untimed_words, field-timed, TimedBy, window-read, window-window_of_limits, some-given, at-none}
-use Rattle.std.specs.List.{AllZip}
-use Rattle.spki_cert.specs.declared.fault.CertFault.{CertFault}
-use Rattle.spki_cert.specs.declared.certificate.SeqItem.{SeqItem}
+use Rattle.spki_tag.specs.Tag as tags
 use Rattle.spki_cert.specs.declared.certificate.SeqItem.TheVariants as items
 
 -- ---- a value has no fault as a signature, an operation or a certificate exactly where it is one

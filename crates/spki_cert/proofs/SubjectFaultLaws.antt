@@ -1,27 +1,19 @@
 -- Keys, hashes, dates, principals, subjects and issuers along the way of their reading: the fault that is named of
 -- each, and what is none.
 use Rattle.std.proofs.Common.{◌≡◌, ◌≢◌, ℕ, List, [], ◌∷◌, length, drop, arith, Bool, true, false, Option, Some, None, refl, ap, ◌∙◌, rules, ◌++◌, inl, inr}
-use Rattle.std.specs.Prelude.{codes, is_some, if◌then◌else◌, ◌==◌, not}
-use Rattle.std.specs.Str.{bytes_eq}
-use Rattle.std.proofs.lemmas.Bool.{false_from_ne_true}
-use Rattle.std.proofs.lemmas.Slice.Eq.{bytes_eq-Decides}
-use Rattle.sexpr_core.specs.Value.{Value, plain, group, members, IsNotHeaded}
-use Rattle.sexpr_core.specs.Value as sexpr
-use Rattle.sexpr_core.specs.Nodes.{values-members}
-use Rattle.spki_tag.specs.Tag.{is_date}
-use Rattle.spki_tag.specs.Faults.{first_fault, unless}
-use Rattle.spki_cert.specs.declared.hash.HashAlg.{HashAlg}
-use Rattle.spki_cert.specs.declared.hash.HashAlg.TheVariants.{Sha1}
+use Rattle.std.proofs.lemmas.{Bool.{false_from_ne_true}, Slice.Eq.{bytes_eq-Decides}}
+use Rattle.std.specs.{Prelude.{codes, is_some, if◌then◌else◌, ◌==◌, not}, Str.{bytes_eq}, List.{list_all}}
+use Rattle.sexpr_core.specs.{Value.{Value, plain, group, members, IsNotHeaded}, Nodes.{values-members}}
+use Rattle.spki_tag.specs.{Tag.{is_date}, Faults.{first_fault, unless}}
 use Rattle.spki_cert.specs.declared.fault.CertFaultKind.{CertFaultKind}
 use Rattle.spki_cert.specs.declared.fault.CertFaultKind.TheVariants.{Shape, HashAlg as UnknownAlg, DigestLength, BadDate, Threshold, Keyholder}
-use Rattle.spki_cert.specs.Readings.{IsAlgorithm, alg_name, digest_len, AreUris, IsNoKey, IsNoHash}
+use Rattle.spki_cert.specs.declared.{hash.HashAlg.{HashAlg, TheVariants.{Sha1}}, principal.Principal.{Principal, TheVariants.{Key, Hash}}}
 use Rattle.spki_cert.specs.FieldFaults.{fault_at, is_plain, any_octets, begins_plain, behind_key, key_fault, date_fault, alg_fault, hash_fault, alg_named, is_alg, digest_fits, are_uris, principal_fault, is_name, are_names, names_fault, subject_fault, issuer_name_fault, issuer_fault}
-use Rattle.spki_cert.proofs.HeadedLists.{headed-by, is-group, of-form, first-of, same_others, apart, behind-group, one-look, headed-else}
+use Rattle.spki_cert.specs.Readings.{IsAlgorithm, alg_name, digest_len, AreUris, IsNoKey, IsNoHash}
 use Rattle.spki_cert.specs.Inner.Gathering.{digest_fault, NamesWrittenSubject}
-use Rattle.spki_cert.specs.declared.principal.Principal.{Principal}
-use Rattle.spki_cert.specs.declared.principal.Principal.TheVariants.{Key, Hash}
 use Rattle.spki_cert.specs.Fields.{PrincipalOf, WrittenSubjectOf, plains, is_headed, behind_head}
-use Rattle.std.specs.List.{list_all}
+use Rattle.spki_cert.proofs.HeadedLists.{headed-by, is-group, of-form, first-of, same_others, apart, behind-group, one-look, headed-else}
+use Rattle.sexpr_core.specs.Value as sexpr
 
 -- ---- the fault that is named of a key, a hash or a date, along the way of its reading
 

@@ -2,19 +2,17 @@
 use Rattle.std.proofs.Common.{◌≡◌, ℕ, List, [], ◌∷◌, arith, true, None, refl, sym, ◌∙◌, rules, Bool, false, Option, Some, ap, subst, inl, inr}
 use Rattle.std.specs.Prelude.{codes, ◌↔◌, ◌==◌, not, if◌then◌else◌}
 use Rattle.sexpr_core.specs.Value.{Value, plain, group, IsNoString}
-use Rattle.sexpr_core.specs.Value as sexpr
 use Rattle.spki_tag.specs.Faults.{unless, first_fault}
-use Rattle.spki_cert.specs.declared.fault.CertFaultKind.TheVariants.{Shape, Threshold, Keyholder, RelativeInEntry}
-use Rattle.spki_cert.specs.declared.hash.HashAlg.{HashAlg}
+use Rattle.spki_cert.specs.declared.{fault.CertFaultKind.TheVariants.{Shape, Threshold, Keyholder, RelativeInEntry}, hash.HashAlg.{HashAlg}}
+use Rattle.spki_cert.specs.declared.principal.Principal.{Principal, TheVariants.{Key, Hash}}
 use Rattle.spki_cert.specs.Readings.{KeyOf, HashOf, DateOf, alg_name}
-use Rattle.spki_cert.specs.Fields.{is_headed, PrincipalOf, WrittenSubjectOf, SubjectOf, IssuerOf, plains, behind_head}
 use Rattle.spki_cert.specs.FieldFaults.{any_octets, key_fault, alg_fault, hash_fault, date_fault, principal_fault, is_name, are_names, names_fault, subject_fault, is_relative, entry_subject_fault, issuer_name_fault, issuer_fault}
-use Rattle.spki_cert.proofs.HeadedLists.{Reads, unless-none, none-found, behind-none, is-group, plain-passes, no-plain}
-use Rattle.spki_cert.proofs.SubjectFaultLaws.{key_looked, key-form, begins-plain, algorithm, named-alg, named-read, digest-sized, hash_looked, hash-digest, uris-are, uris-read, alg-known, date-tested, string-is_no_principal, name-who, name-names_who, principal-else, plains-all, all-plains, subject-names, issuer-form}
-use Rattle.spki_cert.specs.declared.principal.Principal.{Principal}
-use Rattle.spki_cert.specs.declared.principal.Principal.TheVariants.{Key, Hash}
+use Rattle.spki_cert.specs.Fields.{is_headed, PrincipalOf, WrittenSubjectOf, SubjectOf, IssuerOf, plains, behind_head}
 use Rattle.spki_cert.specs.Inner.Gathering.{NamesWrittenSubject}
+use Rattle.spki_cert.proofs.SubjectFaultLaws.{key_looked, key-form, begins-plain, algorithm, named-alg, named-read, digest-sized, hash_looked, hash-digest, uris-are, uris-read, alg-known, date-tested, string-is_no_principal, name-who, name-names_who, principal-else, plains-all, all-plains, subject-names, issuer-form}
+use Rattle.spki_cert.proofs.HeadedLists.{Reads, unless-none, none-found, behind-none, is-group, plain-passes, no-plain}
 use Rattle.spki_cert.proofs.EntryFaultLaws.{subject-relative, subject-absolute}
+use Rattle.sexpr_core.specs.Value as sexpr
 
 -- ---- a value has no fault as a key, a hash or a date exactly where it is one
 

@@ -1,10 +1,7 @@
 -- How much of a subject, an entry, a certificate or a sequence is read when it is tested.
 use Rattle.std.specs.Prelude.{ℕ, ◌+◌, List, [], ◌∷◌, length}
 use Rattle.spki_tag.specs.Cost.{weight}
-use Rattle.spki_cert.specs.declared.principal.Principal.{Principal}
-use Rattle.spki_cert.specs.declared.principal.Principal.TheVariants.{Key, Hash}
-use Rattle.spki_cert.specs.declared.entry.Subject.{Subject}
-use Rattle.spki_cert.specs.declared.entry.Entry.{Entry}
+use Rattle.spki_cert.specs.declared.{principal.Principal.{Principal, TheVariants.{Key, Hash}}, entry.{Subject.{Subject}, Entry.{Entry}}}
 use Rattle.spki_cert.specs.declared.certificate.SeqItem.{SeqItem}
 use Rattle.spki_cert.specs.declared.certificate.SeqItem.TheVariants as items
 

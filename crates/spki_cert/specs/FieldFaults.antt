@@ -2,18 +2,13 @@
 -- the left (RFC 2693, sections 2.5, 2.6, 2.8, 3.3, 3.4, 5 and 6.3.2). The forms are those of the SPKI working group's
 -- structure draft.
 use Rattle.std.specs.Prelude.{ℕ, List, [], ◌∷◌, drop, Option, Some, None, Bool, true, false, ◌==◌, length, codes, is_some, if◌then◌else◌, not, ◌&&◌, ◌||◌, ◌++◌}
+use Rattle.std.specs.{Str.{bytes_eq}, List.{list_all, list_any}}
 use Rattle.sexpr_core.specs.Value.{Value, string, list, none, more}
-use Rattle.spki_tag.specs.Faults.{first_fault, unless, tag_fault}
-use Rattle.std.specs.Str.{bytes_eq}
-use Rattle.spki_tag.specs.Tag.{is_date}
-use Rattle.spki_cert.specs.declared.hash.HashAlg.{HashAlg}
-use Rattle.spki_cert.specs.declared.hash.HashAlg.TheVariants.{Sha1, Sha256, Sha512}
-use Rattle.spki_cert.specs.declared.fault.CertFaultKind.{CertFaultKind}
+use Rattle.spki_tag.specs.{Faults.{first_fault, unless, tag_fault}, Tag.{is_date}, declared.fault.TagFault.{TagFault}}
 use Rattle.spki_cert.specs.declared.fault.CertFaultKind.TheVariants.{Shape, HashAlg as UnknownAlg, DigestLength, KeyUris, BadDate, Threshold, Keyholder, RelativeInEntry, UnknownVersion, Online, Tag}
-use Rattle.spki_cert.specs.Readings.{digest_len}
-use Rattle.spki_cert.specs.Fields.{is_headed, behind_head}
-use Rattle.std.specs.List.{list_all, list_any}
-use Rattle.spki_tag.specs.declared.fault.TagFault.{TagFault}
+use Rattle.spki_cert.specs.declared.fault.CertFaultKind.{CertFaultKind}
+use Rattle.spki_cert.specs.declared.hash.HashAlg.{HashAlg, TheVariants.{Sha1, Sha256, Sha512}}
+use Rattle.spki_cert.specs.{Readings.{digest_len}, Fields.{is_headed, behind_head}}
 
 -- ---- what is tested in a list, by place
 

@@ -1,17 +1,13 @@
 -- Principals, subjects and issuers of values, and the contents of the fields of an entry and of a certificate in any
 -- order (RFC 2693, sections 2.5, 2.6, 2.8, 3.3, 3.4 and 5). The forms are those of the SPKI working group's structure
 -- draft.
-use Rattle.std.specs.Prelude.{◌≡◌, ℕ, ◌⊎◌, List, [], ◌∷◌, Option, Some, None, codes, ◌≤◌, Bool, false, length, if◌then◌else◌}
-use Rattle.sexpr_core.specs.Value.{Value, plain, group, string, list, none, more, members}
-use Rattle.spki_cert.specs.declared.principal.Principal.{Principal}
-use Rattle.spki_cert.specs.declared.principal.Principal.TheVariants.{Key, Hash}
-use Rattle.spki_cert.specs.declared.entry.Subject.{Subject}
-use Rattle.spki_cert.specs.Readings.{KeyOf, HashOf, DateOf}
-use Rattle.std.specs.Str.{bytes_eq}
+use Rattle.std.specs.{Prelude.{◌≡◌, ℕ, ◌⊎◌, List, [], ◌∷◌, Option, Some, None, codes, ◌≤◌, Bool, false, length, if◌then◌else◌}, Str.{bytes_eq}}
 use Rattle.std.specs.List.{AllByRecursion, list_any}
-use Rattle.spki_tag.specs.Tag as tags
+use Rattle.sexpr_core.specs.Value.{Value, plain, group, string, list, none, more, members}
+use Rattle.spki_cert.specs.declared.{principal.Principal.{Principal, TheVariants.{Key, Hash}}, entry.Subject.{Subject}, window.Window.{Window}}
+use Rattle.spki_cert.specs.Readings.{KeyOf, HashOf, DateOf}
 use Rattle.spki_tag.specs.Reading.{ReadsAs}
-use Rattle.spki_cert.specs.declared.window.Window.{Window}
+use Rattle.spki_tag.specs.Tag as tags
 
 -- ---- principals, subjects and issuers
 

@@ -1,16 +1,10 @@
 -- Which keys a principal names, and the algorithms by which keys may have to be digested (RFC 2693, section 2.5; the
 -- digests are those of FIPS 180-4).
-use Rattle.std.specs.Prelude.{ℕ, Bool, true, false, ◌&&◌, List}
-use Rattle.std.specs.Str.{bytes_eq}
+use Rattle.std.specs.{Prelude.{ℕ, Bool, true, false, ◌&&◌, List}, Str.{bytes_eq}}
 use Rattle.sha1.specs.Sha1.{sha1}
-use Rattle.sha2.specs.Sha256.{sha256}
-use Rattle.sha2.specs.Sha512.{sha512}
-use Rattle.spki_cert.specs.declared.hash.HashAlg.{HashAlg}
-use Rattle.spki_cert.specs.declared.hash.HashAlg.TheVariants.{Sha1, Sha256, Sha512}
-use Rattle.spki_cert.specs.declared.principal.Policy.{Policy}
-use Rattle.spki_cert.specs.declared.principal.Policy.TheVariants.{Open, Strict}
-use Rattle.spki_cert.specs.declared.principal.Principal.{Principal}
-use Rattle.spki_cert.specs.declared.principal.Principal.TheVariants.{Key, Hash}
+use Rattle.sha2.specs.{Sha256.{sha256}, Sha512.{sha512}}
+use Rattle.spki_cert.specs.declared.hash.HashAlg.{HashAlg, TheVariants.{Sha1, Sha256, Sha512}}
+use Rattle.spki_cert.specs.declared.principal.{Policy.{Policy, TheVariants.{Open, Strict}}, Principal.{Principal, TheVariants.{Key, Hash}}}
 use Rattle.spki_cert.specs.declared.algorithms.Algorithms.{Algorithms}
 
 -- ---- which keys a principal names (RFC 2693, section 2.5; the digests are those of FIPS 180-4)

@@ -1,8 +1,7 @@
 -- The keys, hashes and dates of values. The forms are those of the SPKI working group's structure draft.
 use Rattle.std.specs.Prelude.{◌≡◌, ℕ, List, [], ◌∷◌, length, true, codes}
 use Rattle.sexpr_core.specs.Value.{Value, plain, group, canon}
-use Rattle.spki_cert.specs.declared.hash.HashAlg.{HashAlg}
-use Rattle.spki_cert.specs.declared.hash.HashAlg.TheVariants.{Sha1, Sha256, Sha512}
+use Rattle.spki_cert.specs.declared.hash.HashAlg.{HashAlg, TheVariants.{Sha1, Sha256, Sha512}}
 use Rattle.spki_tag.specs.Tag.{is_date}
 
 -- (alg part ..)

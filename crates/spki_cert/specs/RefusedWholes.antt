@@ -1,13 +1,10 @@
 -- What is wrong with an access list or a sequence that is refused: with its outer list, or with which of its members (RFC 2693,
 -- sections 3.3, 3.4 and 6). The forms are those of the SPKI working group's structure draft.
-use Rattle.std.specs.Prelude.{◌≡◌, ◌≢◌, ◌+◌, ◌⊎◌, true, false, List, [], ◌∷◌, ◌++◌, length, Some, codes}
-use Rattle.std.specs.List.{AllZip, AllByRecursion}
+use Rattle.std.specs.{Prelude.{◌≡◌, ◌≢◌, ◌+◌, ◌⊎◌, true, false, List, [], ◌∷◌, ◌++◌, length, Some, codes}, List.{AllZip, AllByRecursion}}
 use Rattle.sexpr_core.specs.Value.{Value, plain, group}
 use Rattle.spki_cert.specs.declared.certificate.SeqItem.{SeqItem}
-use Rattle.spki_cert.specs.declared.fault.CertFault.{CertFault}
-use Rattle.spki_cert.specs.declared.fault.CertFaultKind.TheVariants.{Shape, UnsignedCert, StraySignature}
-use Rattle.spki_cert.specs.Fields.{is_headed, behind_head, version_field}
-use Rattle.spki_cert.specs.FieldFaults.{sole_fault, version_fault}
+use Rattle.spki_cert.specs.declared.fault.{CertFault.{CertFault}, CertFaultKind.TheVariants.{Shape, UnsignedCert, StraySignature}}
+use Rattle.spki_cert.specs.{Fields.{is_headed, behind_head, version_field}, FieldFaults.{sole_fault, version_fault}}
 use Rattle.spki_cert.specs.Structures.{EntryOf, IsVersion, ItemOf, AreInPlace, IsInPlace, waits_after}
 use Rattle.spki_cert.specs.StructureFaults.{IsRefusedAt, entry_fault, item_fault}
 

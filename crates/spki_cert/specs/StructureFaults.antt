@@ -2,15 +2,13 @@
 -- 3.4 and 6.2). It is the first from the left, with missing fields and clashes last. The forms are those of the SPKI
 -- working group's structure draft.
 use Rattle.std.specs.Prelude.{ℕ, ◌+◌, not, List, [], ◌∷◌, drop, Option, Some, None, codes, if◌then◌else◌, Bool, false, ◌||◌, ◌≡◌, ◌++◌, length}
+use Rattle.std.specs.{Str.{bytes_eq}, List.{list_any, AllZip}}
 use Rattle.sexpr_core.specs.Value.{Value}
 use Rattle.spki_tag.specs.Faults.{first_fault, unless}
 use Rattle.spki_cert.specs.declared.fault.CertFault.{CertFault}
-use Rattle.spki_cert.specs.declared.fault.CertFaultKind.{CertFaultKind}
-use Rattle.spki_cert.specs.declared.fault.CertFaultKind.TheVariants.{Shape, UnknownOp, UnsignedCert, StraySignature}
-use Rattle.spki_cert.specs.Fields.{is_headed, behind_head, contents}
+use Rattle.spki_cert.specs.declared.fault.CertFaultKind.{CertFaultKind, TheVariants.{Shape, UnknownOp, UnsignedCert, StraySignature}}
 use Rattle.spki_cert.specs.FieldFaults.{fault_at, sole_fault, entry_subject_fault, has, fields_fault, version_fault, entry_field_fault, is_both_ways, unless_none, is_plain, key_fault, alg_fault, hash_fault, principal_fault, cert_field_fault}
-use Rattle.std.specs.Str.{bytes_eq}
-use Rattle.std.specs.List.{list_any, AllZip}
+use Rattle.spki_cert.specs.Fields.{is_headed, behind_head, contents}
 
 -- ---- entries and access lists
 

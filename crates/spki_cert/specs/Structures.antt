@@ -1,18 +1,11 @@
 -- The entries, access lists, certificates, signatures and sequences of values (RFC 2693, sections 3.3, 3.4 and 6.2).
 -- The forms are those of the SPKI working group's structure draft.
-use Rattle.std.specs.Prelude.{◌≡◌, true, List, [], ◌∷◌, ◌++◌, codes, ℕ, Option, Some, None, false, Bool, ◌⊎◌, if◌then◌else◌}
-use Rattle.std.specs.List.{AllZip}
+use Rattle.std.specs.{Prelude.{◌≡◌, true, List, [], ◌∷◌, ◌++◌, codes, ℕ, Option, Some, None, false, Bool, ◌⊎◌, if◌then◌else◌}, List.{AllZip}}
 use Rattle.sexpr_core.specs.Value.{Value, plain, group, canon}
-use Rattle.spki_cert.specs.declared.entry.Entry.{Entry}
+use Rattle.spki_cert.specs.declared.{entry.{Entry.{Entry}, Subject.{Subject}}, hash.HashAlg.{HashAlg}, principal.Principal.{Principal}}
+use Rattle.spki_cert.specs.declared.certificate.{AuthCert.{AuthCert}, NameCert.{NameCert}, Signature.{Signature}, SeqItem.{SeqItem}}
 use Rattle.spki_cert.specs.Fields.{SubjectOf, is_headed, version_field, IsField, AreFields, propagates, TagOf, WindowOf, PrincipalOf, IssuedTo, Sole, Given, IsAbsent, IsCertField, IssuerIn}
-use Rattle.spki_cert.specs.declared.hash.HashAlg.{HashAlg}
-use Rattle.spki_cert.specs.declared.principal.Principal.{Principal}
-use Rattle.spki_cert.specs.declared.entry.Subject.{Subject}
-use Rattle.spki_cert.specs.declared.certificate.AuthCert.{AuthCert}
-use Rattle.spki_cert.specs.declared.certificate.NameCert.{NameCert}
-use Rattle.spki_cert.specs.declared.certificate.Signature.{Signature}
 use Rattle.spki_cert.specs.Readings.{HashOf, alg_name, KeyOf}
-use Rattle.spki_cert.specs.declared.certificate.SeqItem.{SeqItem}
 use Rattle.spki_cert.specs.declared.certificate.SeqItem.TheVariants as items
 
 -- ---- entries and access lists

@@ -1,6 +1,5 @@
 -- Moments and windows of validity (RFC 2693, section 6.3.2).
-use Rattle.std.specs.Prelude.{◌≡◌, ℕ, Bool, true, false, ◌&&◌, List, Option, Some, None, if◌then◌else◌}
-use Rattle.std.specs.Cmp.Lexicographic.{slice_cmp}
+use Rattle.std.specs.{Prelude.{◌≡◌, ℕ, Bool, true, false, ◌&&◌, List, Option, Some, None, if◌then◌else◌}, Cmp.Lexicographic.{slice_cmp}}
 use Rattle.std.specs.Ordering.{nat_cmp, is_le}
 use Rattle.spki_cert.specs.declared.window.Window.{Window}
 use Rattle.spki_tag.specs.Tag.{is_date}

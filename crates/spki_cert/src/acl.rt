@@ -1,15 +1,13 @@
 //! Reads entries and access lists.
 //! A value with many parts is freed by a call of `drop`, so that the proof does not go through its parts at each exit.
 
-ghost use Rattle.std.specs.Prelude.{◌≡◌, ◌≢◌, ◌∷◌, [], Some, None, IsSome, IfSome, IfOk, IfErr, codes, map, List};
-ghost use Rattle.std.specs.List.{AllZip};
+ghost use Rattle.std.specs.{Prelude.{◌≡◌, ◌≢◌, ◌∷◌, [], Some, None, IsSome, IfSome, IfOk, IfErr, codes, map, List}, List.{AllZip}};
 ghost use Rattle.sexpr_core.specs.Value.{Value, node, plain, group};
-ghost use Rattle.spki_cert.specs.declared.entry.Entry as spec;
-ghost use Rattle.spki_cert.specs.declared.entry.Subject as subjects;
-ghost use Rattle.spki_cert.specs.Fields.{SubjectOf};
-ghost use Rattle.spki_cert.specs.FieldFaults.{entry_subject_fault};
+ghost use Rattle.spki_cert.specs.{Fields.{SubjectOf}, FieldFaults.{entry_subject_fault}};
 ghost use Rattle.spki_cert.specs.StructureFaults.{entry_fault, entries_fault, outer_fault, acl_fault, behind_version};
 ghost use Rattle.spki_cert.specs.Structures.{EntryOf, AclOf, BeginsWell};
+ghost use Rattle.spki_cert.specs.declared.entry.Entry as spec;
+ghost use Rattle.spki_cert.specs.declared.entry.Subject as subjects;
 
 use crate::entry::{Entry, Subject};
 use crate::fault::{CertFault, CertFaultKind};

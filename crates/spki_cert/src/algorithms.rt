@@ -1,8 +1,7 @@
 //! The algorithms by which keys may have to be digested.
 
 ghost use Rattle.std.specs.Prelude.{◌≡◌, ◌||◌, ◌&&◌, false};
-ghost use Rattle.spki_cert.specs.declared.hash.HashAlg.{HashAlg};
-ghost use Rattle.spki_cert.specs.Naming.{admits, is_among, is_hash_by, is_same};
+ghost use Rattle.spki_cert.specs.{declared.hash.HashAlg.{HashAlg}, Naming.{admits, is_among, is_hash_by, is_same}};
 
 use crate::hash::HashAlg;
 use crate::principal::{Policy, Principal};

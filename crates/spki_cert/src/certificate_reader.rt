@@ -2,8 +2,7 @@
 
 ghost use Rattle.std.specs.Prelude.{◌≡◌, ◌≢◌, Some, None, IfOk, IfErr};
 ghost use Rattle.sexpr_core.specs.Value.{Value};
-ghost use Rattle.spki_cert.specs.StructureFaults.{cert_fault};
-ghost use Rattle.spki_cert.specs.Inner.Gathering.{parts_fault, PartsOf, CertOf, IsSubjectOf};
+ghost use Rattle.spki_cert.specs.{StructureFaults.{cert_fault}, Inner.Gathering.{parts_fault, PartsOf, CertOf, IsSubjectOf}};
 
 use crate::certificate::{AuthCert, NameCert, SeqItem};
 use crate::entry::Subject;

@@ -4,11 +4,11 @@
 ghost use Rattle.std.specs.Prelude.{◌≡◌, ◌≢◌, ◌∷◌, [], ℕ, List, Option, Some, None, true, false, IfOk, IfErr, MatchOption, MatchBool, codes};
 ghost use Rattle.sexpr_core.specs.Value.{Value, plain, group};
 ghost use Rattle.spki_tag.specs.Reading.{ReadsAs};
-ghost use Rattle.spki_tag.specs.Tag as tags;
 ghost use Rattle.spki_cert.specs.declared.principal.Principal.{Principal};
-ghost use Rattle.spki_cert.specs.Fields.{Sole, IssuerIn, WrittenSubjectIn, IsUnread, AreFields, propagates};
 ghost use Rattle.spki_cert.specs.FieldFaults.{sole_fault, subject_fault, issuer_fault, kind_of_tag, fields_fault, time_fault, entry_field_fault, cert_field_fault};
 ghost use Rattle.spki_cert.specs.Inner.Gathering.{fault_in, IsTagKind, IssuerAt, WrittenSubjectAt, FieldValueOf, gather, FieldValuesOf, IsFieldOf, is_word_among, IsNew};
+ghost use Rattle.spki_cert.specs.Fields.{Sole, IssuerIn, WrittenSubjectIn, IsUnread, AreFields, propagates};
+ghost use Rattle.spki_tag.specs.Tag as tags;
 
 use crate::date::Date;
 use crate::fault::CertFaultKind;

@@ -1,9 +1,7 @@
 //! Hash algorithms (FIPS 180-4).
 
 ghost use Rattle.std.specs.Prelude.{◌≡◌, ◌≢◌, ◌↔◌, IsTrue, MatchOption};
-ghost use Rattle.spki_cert.specs.declared.hash.HashAlg.{HashAlg};
-ghost use Rattle.spki_cert.specs.Readings.{alg_name, digest_len};
-ghost use Rattle.spki_cert.specs.Naming.{digest_of, is_digest};
+ghost use Rattle.spki_cert.specs.{declared.hash.HashAlg.{HashAlg}, Readings.{alg_name, digest_len}, Naming.{digest_of, is_digest}};
 
 use sha1::Sha1 as Sha1Hasher;
 use sha2::{Digest, Sha256 as Sha256Hasher, Sha512 as Sha512Hasher};

@@ -28,8 +28,7 @@ pub struct Key<'a> {
 impl<'a> Model for Key<'a> {
     ghost use Rattle.std.specs.Prelude.{◌≡◌, ℕ, List, IfSome};
     ghost use Rattle.sha1.specs.Sha1.{sha1};
-    ghost use Rattle.sha2.specs.Sha256.{sha256};
-    ghost use Rattle.sha2.specs.Sha512.{sha512};
+    ghost use Rattle.sha2.specs.{Sha256.{sha256}, Sha512.{sha512}};
     ghost use Rattle.spki_cert.specs.Readings.{IsKey};
 
     ghost Value = { List ℕ };
@@ -44,11 +43,9 @@ impl<'a> Model for Key<'a> {
 }
 
 impl<'a> Key<'a> {
-    ghost use Rattle.spki_cert.specs.Naming.{is_digest};
-    ghost use Rattle.spki_cert.specs.Readings.{IsKey};
+    ghost use Rattle.spki_cert.specs.{Naming.{is_digest}, Readings.{IsKey}};
     ghost use Rattle.sha1.specs.Sha1.{sha1};
-    ghost use Rattle.sha2.specs.Sha256.{sha256};
-    ghost use Rattle.sha2.specs.Sha512.{sha512};
+    ghost use Rattle.sha2.specs.{Sha256.{sha256}, Sha512.{sha512}};
 
     /// The key with these canonical octets, without digests. They must be those of a key.
     pub(crate) fn new(octets: &'a [u8]) -> Key<'a>

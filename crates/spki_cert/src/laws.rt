@@ -3,25 +3,16 @@
 #![tactic(auto, using(crate::proofs::LawRules::laws))]
 
 ghost use Rattle.std.specs.Prelude.{◌≡◌, ◌↔◌, ◌⊎◌, ◌<◌, ◌≤◌, ◌*◌, ℕ, false, codes, length, List, Option, Some, None};
-ghost use Rattle.spki_cert.specs.declared.fault.CertFaultKind.TheVariants.{Shape};
-ghost use Rattle.spki_cert.specs.Fields.{is_headed};
-ghost use Rattle.sexpr_core.specs.Value.{Value, canon};
-ghost use Rattle.spki_cert.specs.declared.hash.HashAlg.{HashAlg};
-ghost use Rattle.spki_cert.specs.declared.fault.CertFault.{CertFault};
-ghost use Rattle.spki_cert.specs.declared.principal.Principal.{Principal};
-ghost use Rattle.spki_cert.specs.declared.entry.Entry.{Entry};
-ghost use Rattle.spki_cert.specs.declared.entry.Subject.{Subject};
-ghost use Rattle.spki_cert.specs.declared.certificate.AuthCert.{AuthCert};
-ghost use Rattle.spki_cert.specs.declared.certificate.NameCert.{NameCert};
-ghost use Rattle.spki_cert.specs.declared.certificate.SeqItem.{SeqItem};
-ghost use Rattle.spki_cert.specs.declared.certificate.Signature.{Signature};
-ghost use Rattle.spki_cert.specs.Readings.{KeyOf, HashOf, DateOf};
-ghost use Rattle.spki_cert.specs.Fields.{PrincipalOf, WrittenSubjectOf, SubjectOf, IssuerOf, AreFields, IsLimitField, IsField, IsCertField};
+ghost use Rattle.spki_cert.specs.declared.{fault.{CertFaultKind.TheVariants.{Shape}, CertFault.{CertFault}}, hash.HashAlg.{HashAlg}};
+ghost use Rattle.spki_cert.specs.declared.{principal.Principal.{Principal}, entry.{Entry.{Entry}, Subject.{Subject}}};
+ghost use Rattle.spki_cert.specs.declared.certificate.{AuthCert.{AuthCert}, NameCert.{NameCert}, SeqItem.{SeqItem}, Signature.{Signature}};
+ghost use Rattle.spki_cert.specs.Fields.{is_headed, PrincipalOf, WrittenSubjectOf, SubjectOf, IssuerOf, AreFields, IsLimitField, IsField, IsCertField};
 ghost use Rattle.spki_cert.specs.FieldFaults.{key_fault, hash_fault, date_fault, principal_fault, subject_fault, entry_subject_fault, issuer_fault, fields_fault, limit_fault, entry_field_fault, cert_field_fault};
 ghost use Rattle.spki_cert.specs.StructureFaults.{entry_fault, entries_fault, acl_fault, IsRefusedAt, signature_fault, do_fault, cert_fault, item_fault, sequence_fault};
-ghost use Rattle.spki_cert.specs.Cost.{entry_weight, items_weight};
+ghost use Rattle.spki_cert.specs.{Readings.{KeyOf, HashOf, DateOf}, Cost.{entry_weight, items_weight}};
 ghost use Rattle.spki_cert.specs.RefusedWholes.{HasRefusedEntry, IsNoListOfEntries, HasWrongItem};
 ghost use Rattle.spki_cert.specs.Structures.{EntryOf, AclOf, AuthCertOf, NameCertOf, SignatureOf, DoHashOf, ItemOf, SeqOf};
+ghost use Rattle.sexpr_core.specs.Value.{Value, canon};
 
 /// A value has at most one reading as a key.
 pub fn one_key()

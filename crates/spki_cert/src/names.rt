@@ -14,8 +14,7 @@ pub struct Names<'a> {
 }
 
 impl<'a> Model for Names<'a> {
-    ghost use Rattle.std.specs.Prelude.{ℕ, List};
-    ghost use Rattle.std.proofs.Common.{reverse};
+    ghost use Rattle.std.{specs.Prelude.{ℕ, List}, proofs.Common.{reverse}};
 
     ghost Value = { List (List ℕ) };
 

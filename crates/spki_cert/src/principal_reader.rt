@@ -1,13 +1,11 @@
 //! Reads principals, names, subjects and issuers.
 
-ghost use Rattle.std.specs.Prelude.{◌≡◌, ◌≢◌, false, ◌∷◌, ◌++◌, [], ℕ, List, Option, Some, None, codes, IfOk, IfErr};
+ghost use Rattle.std.specs.{Prelude.{◌≡◌, ◌≢◌, false, ◌∷◌, ◌++◌, [], ℕ, List, Option, Some, None, codes, IfOk, IfErr}, List.{list_all}};
 ghost use Rattle.sexpr_core.specs.Value.{Value, plain, group};
-ghost use Rattle.spki_cert.specs.declared.principal.Principal.{Principal};
-ghost use Rattle.spki_cert.specs.Fields.{PrincipalOf, IsNamedSubject, WrittenSubjectOf, IssuerOf, plains};
-ghost use Rattle.std.specs.List.{list_all};
-ghost use Rattle.spki_tag.specs.Faults.{unless};
+ghost use Rattle.spki_cert.specs.{declared.principal.Principal.{Principal}, Fields.{PrincipalOf, IsNamedSubject, WrittenSubjectOf, IssuerOf, plains}};
 ghost use Rattle.spki_cert.specs.FieldFaults.{principal_fault, is_name, names_fault, subject_fault, issuer_fault};
 ghost use Rattle.spki_cert.specs.Inner.Gathering.{NamesWrittenSubject};
+ghost use Rattle.spki_tag.specs.Faults.{unless};
 
 use crate::fault::CertFaultKind;
 use crate::octets::Octets;

@@ -1,12 +1,10 @@
 //! Reads sequences.
 
-ghost use Rattle.std.specs.Prelude.{◌≡◌, ◌≢◌, ◌∷◌, ◌+◌, IsSome, IfSome, IfOk, IfErr, List, Some, None, is_some, false};
-ghost use Rattle.std.specs.List.{AllZip};
+ghost use Rattle.std.specs.{Prelude.{◌≡◌, ◌≢◌, ◌∷◌, ◌+◌, IsSome, IfSome, IfOk, IfErr, List, Some, None, is_some, false}, List.{AllZip}};
 ghost use Rattle.sexpr_core.specs.Value.{Value, node};
-ghost use Rattle.spki_cert.specs.declared.certificate.SeqItem as spec;
-ghost use Rattle.spki_cert.specs.Fields.{is_headed};
-ghost use Rattle.spki_cert.specs.Structures.{ItemOf, IsInPlace, AreInPlace, waits_after, SeqOf};
+ghost use Rattle.spki_cert.specs.{Fields.{is_headed}, Structures.{ItemOf, IsInPlace, AreInPlace, waits_after, SeqOf}};
 ghost use Rattle.spki_cert.specs.StructureFaults.{place_fault, waiting, items_fault, sequence_fault, item_fault};
+ghost use Rattle.spki_cert.specs.declared.certificate.SeqItem as spec;
 
 use crate::certificate::SeqItem;
 use crate::certificate_reader::cert_of;

@@ -1,10 +1,8 @@
 //! Reads signatures and operations.
 
 ghost use Rattle.std.specs.Prelude.{◌≡◌, ◌≢◌, Some, None, IfOk, IfErr};
+ghost use Rattle.spki_cert.specs.{declared.hash.HashAlg.{HashAlg}, StructureFaults.{signature_fault, do_fault}, Structures.{SignatureOf, DoHashOf}};
 ghost use Rattle.spki_cert.specs.declared.certificate.Signature as spec;
-ghost use Rattle.spki_cert.specs.declared.hash.HashAlg.{HashAlg};
-ghost use Rattle.spki_cert.specs.StructureFaults.{signature_fault, do_fault};
-ghost use Rattle.spki_cert.specs.Structures.{SignatureOf, DoHashOf};
 
 use crate::certificate::Signature;
 use crate::fault::CertFaultKind;

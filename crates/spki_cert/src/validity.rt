@@ -2,9 +2,7 @@
 
 ghost use Rattle.std.specs.Prelude.{◌≡◌, ◌≢◌, ◌∷◌, [], ℕ, List, Some, None, codes, IfOk, IfErr, MatchOption};
 ghost use Rattle.sexpr_core.specs.Value.{Value, plain, group};
-ghost use Rattle.spki_cert.specs.declared.window.Window.{Window};
-ghost use Rattle.spki_cert.specs.Readings.{DateOf};
-ghost use Rattle.spki_cert.specs.Fields.{Sole, IsLimitWord, IsLimitField, ValidOf};
+ghost use Rattle.spki_cert.specs.{declared.window.Window.{Window}, Readings.{DateOf}, Fields.{Sole, IsLimitWord, IsLimitField, ValidOf}};
 ghost use Rattle.spki_cert.specs.FieldFaults.{sole_fault, date_fault, fields_fault, limit_fault};
 ghost use Rattle.spki_cert.specs.Inner.Gathering.{LimitLook, AddsLimit, IsOneWay, IsBothWays};
 

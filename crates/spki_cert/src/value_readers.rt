@@ -1,11 +1,10 @@
 //! Reads keys, hashes and dates.
 
 ghost use Rattle.std.specs.Prelude.{◌≡◌, ◌≢◌, IfOk, IfErr, codes, ◌∷◌, ℕ, List, Some, None, IsSome, MatchOption, MatchResult, IfSome, MatchBool};
-ghost use Rattle.spki_cert.specs.declared.hash.HashAlg.{HashAlg};
-ghost use Rattle.sexpr_core.specs.Value.{Value, node, plain, group, canon};
-ghost use Rattle.spki_cert.specs.FieldFaults.{key_fault, hash_fault, date_fault, alg_fault};
+ghost use Rattle.spki_cert.specs.{declared.hash.HashAlg.{HashAlg}, FieldFaults.{key_fault, hash_fault, date_fault, alg_fault}};
 ghost use Rattle.spki_cert.specs.Inner.Gathering.{digest_fault};
 ghost use Rattle.spki_cert.specs.Readings.{KeyOf, IsNoKey, HashOf, IsNoHash, DateOf, IsNoDate, DigestOf, AreUris, IsAlgorithm, alg_name, digest_len};
+ghost use Rattle.sexpr_core.specs.Value.{Value, node, plain, group, canon};
 
 use crate::date::Date;
 use crate::fault::{CertFault, CertFaultKind};

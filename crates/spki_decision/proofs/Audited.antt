@@ -1,30 +1,20 @@
 -- What a grant says of each certificate and tuple of its chain, and what other entries, narrower tuples or another moment
 -- change.
 use Rattle.std.proofs.Common.{◌≡◌, ℕ, zero, suc, ◌+◌, ◌<◌, Bool, true, false, cond, IsTrue, List, [], ◌∷◌, Some, find, flat_map, take, drop, ◌++◌, slice_get, refl, sym, ◌∙◌, ap, subst, arith, rules}
+use Rattle.std.proofs.lemmas.{Bool.{and_parts}, Grind.{flat_map-append}, List.{take-append-drop, Folds.{list_all-append}}}
+use Rattle.std.proofs.lemmas.{Option.{none-some, same_Some}, Slice.Eq.{bytes_eq-Decides}}
 use Rattle.std.specs.List.{AllZip, list_all}
-use Rattle.std.proofs.lemmas.Bool.{and_parts}
-use Rattle.std.proofs.lemmas.Grind.{flat_map-append}
-use Rattle.std.proofs.lemmas.List.{take-append-drop}
-use Rattle.std.proofs.lemmas.List.Folds.{list_all-append}
-use Rattle.std.proofs.lemmas.Option.{none-some, same_Some}
-use Rattle.std.proofs.lemmas.Slice.Eq.{bytes_eq-Decides}
 use Rattle.spki_tag.specs.Tag.{contains}
-use Rattle.spki_cert.specs.Naming.{names}
-use Rattle.spki_cert.specs.Time.{within}
-use Rattle.spki_cert.specs.declared.principal.Policy.{Policy}
-use Rattle.spki_cert.specs.declared.principal.Principal.{Principal}
-use Rattle.spki_cert.specs.declared.principal.Principal.TheVariants as principal
-use Rattle.spki_cert.specs.declared.certificate.SeqItem.{SeqItem}
-use Rattle.spki_cert.specs.declared.certificate.SeqItem.TheVariants as items
+use Rattle.spki_cert.specs.{Naming.{names}, Time.{within}}
+use Rattle.spki_cert.specs.declared.{principal.{Policy.{Policy}, Principal.{Principal}}, certificate.SeqItem.{SeqItem}, entry.Entry.{Entry}}
 use Rattle.spki_case.specs.Case.{Case, Verified, Certificate, auth, name, Shown, issuer_of, octets_of, signature_in, certificates, certificates_from, keys_of}
-use Rattle.spki_cert.specs.declared.entry.Entry.{Entry}
 use Rattle.spki_reduce.specs.Reduction.{Tuple, five, four, key, FiveTuple, entry_tuple, tags_of, windows_of, Joins}
-use Rattle.spki_decision.specs.Requirements.{Leads}
-use Rattle.spki_decision.specs.CertificateTests.{AreShown, tuple_of, issuer_key, PassesTests, PassesTestsAs, Signed, asked_in}
+use Rattle.spki_decision.specs.{Requirements.{Leads}, CertificateTests.{AreShown, tuple_of, issuer_key, PassesTests, PassesTestsAs, Signed, asked_in}}
 use Rattle.spki_decision.specs.Granted.{Granted, Supported}
 use Rattle.spki_decision.specs.Audited.{item_of, IsSignedByIssuer, IsHeldThroughout, IsHeldByAll, HaveIssuers, for_key}
-use Rattle.spki_decision.proofs.ListedSignatures.{stands_asked}
-use Rattle.spki_decision.proofs.ChainRequirements.{leads_alone, leads_first, passes, supports}
+use Rattle.spki_decision.proofs.{ListedSignatures.{stands_asked}, ChainRequirements.{leads_alone, leads_first, passes, supports}}
+use Rattle.spki_cert.specs.declared.principal.Principal.TheVariants as principal
+use Rattle.spki_cert.specs.declared.certificate.SeqItem.TheVariants as items
 
 -- ---- lists
 

@@ -1,34 +1,22 @@
 -- Certificates that pass their tests: their keys and tuples, one more at a time up to one that fails a test, and under both
 -- policies. What entries support with these tuples is what is granted.
 use Rattle.std.proofs.Common.{◌≡◌, ℕ, suc, List, [], ◌∷◌, Some, None, Bool, false, find, slice_get, refl, ◌++◌, ap, Option, if◌then◌else◌, sym, ◌∙◌, rules, zero, ◌+◌, ◌<◌, true, IsSome, is_some, map, length, take, drop, get_or, arith, add-one, drop-cons, below_more, ◌⊎◌, inl, inr}
-use Rattle.spki_cert.specs.declared.certificate.SeqItem.{SeqItem}
-use Rattle.spki_cert.specs.declared.certificate.SeqItem.TheVariants.{Key}
-use Rattle.spki_case.specs.Case.{keys_of, Verified, Shown, issuer_of, octets_of, AreSigned, certificates, Case}
+use Rattle.std.proofs.lemmas.{List.{take_more, take-append-drop, get_or-map, map-append, length-map}, Option.{slice_get-get_or, same_Some}}
+use Rattle.std.proofs.lemmas.{Slice.Zip.{all_zipped_more}, Bool.{and_parts}}
 use Rattle.std.specs.List.{AllZip, AllByRecursion, list_all}
-use Rattle.spki_cert.specs.declared.principal.Policy.{Policy}
-use Rattle.spki_cert.specs.declared.certificate.Signature as signature
-use Rattle.spki_cert.specs.Naming.{names, is_digest}
-use Rattle.spki_reduce.specs.Reduction.{Tuple, step_tuple, five, entry_tuple}
-use Rattle.spki_decision.specs.declared.evidence.Stop.TheVariants.{KeyNotShown, DigestDiffers, SignerDiffers, NotAccepted}
-use Rattle.spki_decision.specs.declared.evidence.Stop.{Stop}
-use Rattle.spki_decision.specs.CertificateTests.{issuer_key, PassesTests, PassesTestsAs, FailsBy, FailsAt, AreShown, tuple_of, shown_of}
-use Rattle.std.proofs.lemmas.List.{take_more, take-append-drop, get_or-map, map-append, length-map}
-use Rattle.std.proofs.lemmas.Option.{slice_get-get_or, same_Some}
-use Rattle.std.proofs.lemmas.Slice.Zip.{all_zipped_more}
-use Rattle.spki_reduce.specs.declared.tuple.Step.{Step}
-use Rattle.spki_decision.specs.declared.certificates.ShownCert.{ShownCert}
-use Rattle.std.proofs.lemmas.Bool.{and_parts}
-use Rattle.spki_cert.specs.declared.hash.HashAlg.TheVariants.{Sha1}
-use Rattle.spki_cert.specs.declared.principal.Policy.TheVariants.{Open, Strict}
-use Rattle.spki_cert.specs.declared.principal.Principal.{Principal}
-use Rattle.spki_cert.specs.declared.principal.Principal.TheVariants as principal
-use Rattle.spki_reduce.proofs.Derivations.{named_openly, supported_openly}
-use Rattle.spki_decision.specs.Granted.{Granted, opened, strict, Supported, NoneBefore, Names, HasLarge, SmallBefore, SmallUpTo, IsTooLarge, IsDecision, IsUnrefused, IsLarge, IsOverspent}
+use Rattle.spki_cert.specs.declared.certificate.SeqItem.{SeqItem, TheVariants.{Key}}
+use Rattle.spki_cert.specs.declared.{principal.{Policy.{Policy, TheVariants.{Open, Strict}}, Principal.{Principal}}, hash.HashAlg.TheVariants.{Sha1}}
 use Rattle.spki_cert.specs.declared.entry.Entry.{Entry}
-use Rattle.spki_reduce.specs.Chain.{TooLargeAt}
-use Rattle.spki_reduce.proofs.Chains.{never, too_large as large}
-use Rattle.spki_decision.specs.declared.decision.Decision.{Decision}
-use Rattle.spki_decision.specs.declared.decision.Decision.TheVariants.{Yes, No}
+use Rattle.spki_cert.specs.Naming.{names, is_digest}
+use Rattle.spki_case.specs.Case.{keys_of, Verified, Shown, issuer_of, octets_of, AreSigned, certificates, Case}
+use Rattle.spki_reduce.specs.{Reduction.{Tuple, step_tuple, five, entry_tuple}, declared.tuple.Step.{Step}, Chain.{TooLargeAt}}
+use Rattle.spki_reduce.proofs.{Derivations.{named_openly, supported_openly}, Chains.{never, too_large as large}}
+use Rattle.spki_decision.specs.declared.evidence.Stop.{Stop, TheVariants.{KeyNotShown, DigestDiffers, SignerDiffers, NotAccepted}}
+use Rattle.spki_decision.specs.declared.{certificates.ShownCert.{ShownCert}, decision.Decision.{Decision, TheVariants.{Yes, No}}}
+use Rattle.spki_decision.specs.Granted.{Granted, opened, strict, Supported, NoneBefore, Names, HasLarge, SmallBefore, SmallUpTo, IsTooLarge, IsDecision, IsUnrefused, IsLarge, IsOverspent}
+use Rattle.spki_decision.specs.CertificateTests.{issuer_key, PassesTests, PassesTestsAs, FailsBy, FailsAt, AreShown, tuple_of, shown_of}
+use Rattle.spki_cert.specs.declared.certificate.Signature as signature
+use Rattle.spki_cert.specs.declared.principal.Principal.TheVariants as principal
 
 -- ---- a search that finds nothing
 

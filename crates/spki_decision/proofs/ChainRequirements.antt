@@ -1,28 +1,20 @@
 -- From which authorizations tuples lead to a key, what is required of a subject before them, and the three tests by
 -- which an entry is supported.
 use Rattle.std.proofs.Common.{◌≡◌, ◌↔◌, ℕ, List, [], ◌∷◌, ◌++◌, refl, sym, ◌∙◌, ap, subst, rules, ◌≢◌, suc, ◌+◌, true, false, Option, Some, None, append_assoc, take, drop, slice_get, drop-cons, append-nil, take_all, length, get_or, ◌-◌, ◌<◌, Bool, ◌&&◌, flat_map}
-use Rattle.spki_cert.specs.declared.principal.Policy.{Policy}
-use Rattle.spki_reduce.specs.Reduction.{FiveTuple, FourTuple, Tuple, five, four, IsFor, Joins, Tree, leaf, join, Derives, extended, from_left, resolved, step_tuple, tags_of, windows_of, entry_tuple, in_each, within_each}
-use Rattle.spki_decision.specs.Requirements.{Leads, IsRequiredBy, IsRequiredBefore, IsMetBy, IsChainRequirement}
 use Rattle.std.proofs.lemmas.List.{map-append, append_cancel_left, take-append-drop, take_more, take_more_same}
-use Rattle.std.proofs.lemmas.Option.{slice_get_within, get_or_from_slice_get}
-use Rattle.spki_cert.specs.Naming.{names}
-use Rattle.spki_reduce.specs.declared.tuple.Step.{Step}
-use Rattle.spki_reduce.specs.Chain.{tuples_of, all_tags, all_windows}
-use Rattle.spki_decision.specs.declared.required_subject.RequiredSubject.{RequiredSubject}
-use Rattle.spki_reduce.proofs.Chains.{never, tags_so_far, windows_so_far}
-use Rattle.std.specs.List.{list_all}
 use Rattle.std.proofs.lemmas.List.Folds.{list_all-append, list_all_more}
-use Rattle.std.proofs.lemmas.Grind.{flat_map-append}
-use Rattle.spki_cert.specs.declared.entry.Entry.{Entry}
-use Rattle.spki_cert.specs.Time.{within}
-use Rattle.spki_tag.specs.Tag.{contains}
-use Rattle.spki_reduce.proofs.Derivations.{supported, from_left-leaves}
-use Rattle.spki_case.specs.Case.{Case}
-use Rattle.spki_decision.specs.declared.chain_requirement.ChainRequirement.{ChainRequirement}
+use Rattle.std.proofs.lemmas.{Option.{slice_get_within, get_or_from_slice_get}, Grind.{flat_map-append}, Bool.{and_parts, and_from}}
+use Rattle.std.specs.List.{list_all}
+use Rattle.spki_cert.specs.{declared.{principal.Policy.{Policy}, entry.Entry.{Entry}}, Naming.{names}, Time.{within}}
+use Rattle.spki_reduce.specs.Reduction.{FiveTuple, FourTuple, Tuple, five, four, IsFor, Joins, Tree, leaf, join, Derives, extended, from_left, resolved, step_tuple, tags_of, windows_of, entry_tuple, in_each, within_each}
+use Rattle.spki_reduce.specs.{declared.tuple.Step.{Step}, Chain.{tuples_of, all_tags, all_windows}}
+use Rattle.spki_reduce.proofs.{Chains.{never, tags_so_far, windows_so_far}, Derivations.{supported, from_left-leaves}}
+use Rattle.spki_decision.specs.Requirements.{Leads, IsRequiredBy, IsRequiredBefore, IsMetBy, IsChainRequirement}
+use Rattle.spki_decision.specs.declared.{required_subject.RequiredSubject.{RequiredSubject}, chain_requirement.ChainRequirement.{ChainRequirement}}
 use Rattle.spki_decision.specs.Granted.{Supported}
 use Rattle.spki_decision.proofs.CertificateTests.{each_at}
-use Rattle.std.proofs.lemmas.Bool.{and_parts, and_from}
+use Rattle.spki_tag.specs.Tag.{contains}
+use Rattle.spki_case.specs.Case.{Case}
 
 -- ---- tuples lead from an authorization to a key step by step
 

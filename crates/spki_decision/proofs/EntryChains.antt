@@ -2,40 +2,25 @@
 -- become, and their work.
 use Rattle.std.proofs.Common.{◌≡◌, ℕ, ◌*◌, ◌<◌, ◌≤◌, List, ◌∷◌, Some, length, take, slice_get, subst, arith, rules, inl, ◌+◌, false, [], ◌++◌, fold, drop, refl, sym, ap, ◌∙◌, le_trans, ◌⊎◌, inr, zero, suc, Option, None, add-one, ◌-◌, map, get_or, ◌||◌, Vec, mul-le-mul_left, mul-le-mul_right, Global, true, leb-true, Bool}
 use Rattle.std.proofs.lemmas.Option.{slice_get_within, get_or_from_slice_get, slice_get-get_or, none-some, same_Some}
-use Rattle.spki_cert.specs.declared.entry.Entry.{Entry}
-use Rattle.spki_cert.specs.declared.principal.Policy.{Policy}
-use Rattle.spki_tag.specs.Tag.{Tag, nodes, tags, nodes_all, nests_set, some_nests_set}
-use Rattle.spki_reduce.specs.Reduction.{FiveTuple, Tuple, five, four, tags_of, entry_tuple, met, nodes_product}
-use Rattle.spki_reduce.specs.Joining.{TooLargeFor}
-use Rattle.spki_reduce.specs.Chain.{all_tags, TooLargeAt, Takes, tuples_of, StopsAt, Excludes}
+use Rattle.std.proofs.lemmas.{List.{take-append-drop, length-map, length-append, take_more}, Grind.{flat_map-append}}
+use Rattle.std.proofs.lemmas.{Bool.{and_parts, not-true, lt-leb}, Slice.Zip.{AllZip-long, all_zipped_more}}
+use Rattle.std.proofs.Math.{Bool.{or_assoc}, Seq.{take-length}}
+use Rattle.std.specs.{Prelude.{nat_le, not, ◌&&◌}, List.{AllZip, AllByRecursion}}
+use Rattle.spki_cert.specs.declared.{entry.Entry.{Entry}, principal.Policy.{Policy}, certificate.SeqItem.{SeqItem}}
+use Rattle.spki_tag.specs.{Tag.{Tag, nodes, tags, nodes_all, nests_set, some_nests_set}, Meet.{meet}}
+use Rattle.spki_tag.proofs.{MeetSizes.{append-nodes, nodes-some}, Closure.{IsPlain, IsPlainWithin, neither, plain_meet}}
+use Rattle.spki_reduce.specs.{Reduction.{FiveTuple, Tuple, five, four, tags_of, entry_tuple, met, nodes_product}, Joining.{TooLargeFor}}
+use Rattle.spki_reduce.specs.{Chain.{all_tags, TooLargeAt, Takes, tuples_of, StopsAt, Excludes}, declared.{fold.Cause.{Cause}, tuple.Step.{Step}}}
 use Rattle.spki_reduce.proofs.Chains.{too_large as large, too_large}
-use Rattle.spki_decision.specs.Requirements.{IsSmallFor, IsSmallWith}
-use Rattle.spki_decision.specs.Spared.{nodes_together, most_of_one, has_small_product, is_plain, is_spared}
-use Rattle.std.proofs.Math.Bool.{or_assoc}
-use Rattle.std.proofs.lemmas.List.{take-append-drop, length-map, length-append, take_more}
-use Rattle.std.proofs.lemmas.Grind.{flat_map-append}
-use Rattle.spki_tag.specs.Meet.{meet}
-use Rattle.spki_tag.proofs.MeetSizes.{append-nodes, nodes-some}
-use Rattle.spki_tag.proofs.Closure.{IsPlain, IsPlainWithin, neither, plain_meet}
-use Rattle.std.proofs.lemmas.Bool.{and_parts, not-true, lt-leb}
-use Rattle.std.specs.Prelude.{nat_le, not, ◌&&◌}
-use Rattle.spki_decision.proofs.Charges.{Spent, none_spent, all_spent, one_spent, overspent}
-use Rattle.spki_case.specs.Case.{Case, Verified, certificates}
 use Rattle.spki_decision.specs.Granted.{IsCharge, IsOvercharged, IsOverspent, IsWithinWork, HasMuchWork, IsFailure, StopsAtItem, HasLargeTags, IsEntryFold, IsDated, EndsAtDate, AreFoldsOf, AreFolds, SmallBefore}
-use Rattle.std.specs.List.{AllZip, AllByRecursion}
-use Rattle.std.proofs.Math.Seq.{take-length}
-use Rattle.std.proofs.lemmas.Slice.Zip.{AllZip-long, all_zipped_more}
-use Rattle.spki_cert.specs.declared.certificate.SeqItem.{SeqItem}
-use Rattle.spki_reduce.specs.declared.fold.Cause.{Cause}
-use Rattle.spki_reduce.specs.declared.tuple.Step.{Step}
-use Rattle.spki_decision.specs.declared.certificates.ShownCert.{ShownCert}
-use Rattle.spki_decision.specs.declared.evidence.Evidence.{Evidence}
-use Rattle.spki_decision.specs.declared.evidence.Evidence.TheVariants as evidence
-use Rattle.spki_decision.specs.declared.evidence.Stop.{Stop}
-use Rattle.spki_decision.specs.Judged.{IsEvidence}
-use Rattle.spki_decision.specs.CertificateTests.{AreShown, FailsAt, shown_of}
+use Rattle.spki_decision.specs.declared.{certificates.ShownCert.{ShownCert}, evidence.{Evidence.{Evidence}, Stop.{Stop}}}
 use Rattle.spki_decision.specs.declared.reduction.EntryFold.{EntryFold}
+use Rattle.spki_decision.specs.{Requirements.{IsSmallFor, IsSmallWith}, Spared.{nodes_together, most_of_one, has_small_product, is_plain, is_spared}}
+use Rattle.spki_decision.specs.{Judged.{IsEvidence}, CertificateTests.{AreShown, FailsAt, shown_of}}
+use Rattle.spki_decision.proofs.Charges.{Spent, none_spent, all_spent, one_spent, overspent}
 use Rattle.spki_decision.proofs.CertificateTests.{stands_here, small_yet, none_shown, is_large}
+use Rattle.spki_case.specs.Case.{Case, Verified, certificates}
+use Rattle.spki_decision.specs.declared.evidence.Evidence.TheVariants as evidence
 
 -- ---- if each step is small with what is left before it, no step of a chain is too large
 

@@ -1,25 +1,17 @@
 -- The definitions at the values of worked examples.
 use Rattle.std.proofs.Common.{◌≡◌, ℕ, List, [], ◌∷◌, Bool, true, false, None, IsTrue, arith, Some, find, slice_get, refl, codes, rules}
 use Rattle.std.proofs.lemmas.Slice.Eq.{bytes_eq-Decides}
-use Rattle.spki_tag.specs.Request.{Request, string}
-use Rattle.spki_tag.specs.Tag.{star, set, none}
-use Rattle.spki_cert.specs.declared.hash.HashAlg.TheVariants.{Sha1, Sha256}
-use Rattle.spki_cert.specs.declared.principal.Policy.TheVariants.{Open, Strict}
-use Rattle.spki_cert.specs.declared.principal.Principal.{Principal}
-use Rattle.spki_cert.specs.declared.principal.Principal.TheVariants as principal
+use Rattle.spki_tag.specs.{Request.{Request, string}, Tag.{star, set, none}}
+use Rattle.spki_cert.specs.declared.{hash.HashAlg.TheVariants.{Sha1, Sha256}, principal.{Policy.TheVariants.{Open, Strict}, Principal.{Principal}}}
 use Rattle.spki_cert.specs.declared.entry.Entry.{Entry}
-use Rattle.spki_cert.specs.declared.certificate.AuthCert.{AuthCert}
-use Rattle.spki_cert.specs.declared.certificate.Signature as signature
-use Rattle.spki_cert.specs.declared.certificate.SeqItem.{SeqItem}
-use Rattle.spki_cert.specs.declared.certificate.SeqItem.TheVariants.{Auth, DoHash, Key, Signature}
+use Rattle.spki_cert.specs.declared.certificate.{AuthCert.{AuthCert}, SeqItem.{SeqItem, TheVariants.{Auth, DoHash, Key, Signature}}}
 use Rattle.spki_cert.specs.Naming.{digest_of, is_digest, names}
 use Rattle.spki_reduce.specs.Reduction.{FiveTuple, Tuple, five, entry_tuple, auth_tuple, Joins, delegated as delegated_to}
 use Rattle.spki_case.specs.Case.{Case, Verified, auth, certificates}
-use Rattle.spki_decision.specs.CertificateTests.{AreShown, issuer_key}
-use Rattle.spki_decision.specs.Granted.{Granted}
-use Rattle.spki_decision.specs.Audited.{IsSignedByIssuer, IsHeldByAll, IsNarrowerEntry}
-use Rattle.spki_decision.proofs.Audited.{signed_by_issuer}
-use Rattle.spki_decision.proofs.KeptEntries.{granted_alone, alone_granted, from_left_granted, granted_from_left}
+use Rattle.spki_decision.specs.{CertificateTests.{AreShown, issuer_key}, Granted.{Granted}, Audited.{IsSignedByIssuer, IsHeldByAll, IsNarrowerEntry}}
+use Rattle.spki_decision.proofs.{Audited.{signed_by_issuer}, KeptEntries.{granted_alone, alone_granted, from_left_granted, granted_from_left}}
+use Rattle.spki_cert.specs.declared.principal.Principal.TheVariants as principal
+use Rattle.spki_cert.specs.declared.certificate.Signature as signature
 
 abbrev ka : List ℕ
 ka = codes "(10:public-key(4:test1:a))"

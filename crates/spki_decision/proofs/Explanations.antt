@@ -1,35 +1,23 @@
 -- What the reasons of entries say of what is granted, and of decisions. A case has one explanation.
 use Rattle.std.proofs.Common.{◌≡◌, ◌↔◌, ◌⊎◌, inl, inr, ℕ, suc, ◌<◌, List, [], ◌∷◌, Option, Some, None, IsNone, slice_get, refl, ap, ◌∙◌, arith, rules, zero, ◌++◌, length, sym, subst, IsSomeAnd, take_all}
+use Rattle.std.proofs.lemmas.{Slice.Zip.{AllZip-left, AllZip-right}, Option.{slice_get_within, same_Some}}
 use Rattle.std.specs.List.{AllZip, AllByRecursion}
-use Rattle.std.proofs.lemmas.Slice.Zip.{AllZip-left, AllZip-right}
 use Rattle.spki_tag.specs.Request.{IsRequest}
-use Rattle.spki_cert.specs.declared.entry.Entry.{Entry}
-use Rattle.spki_reduce.specs.declared.fold.Cause.{Cause}
-use Rattle.spki_reduce.specs.declared.last_tests.MissingGrant.{MissingGrant}
-use Rattle.spki_reduce.specs.declared.last_tests.MissingGrant.TheVariants as missing
-use Rattle.spki_reduce.specs.declared.tuple.Five.{Five}
+use Rattle.spki_cert.specs.declared.{entry.Entry.{Entry}, principal.Policy.{Policy}, certificate.SeqItem.{SeqItem}}
 use Rattle.spki_reduce.specs.Reduction.{FiveTuple, Tuple, five, four, own, entry_tuple, issuer_of, Tree, leaf, join, Derives, extended, Joins, Grants as Allows, in_each, within_each, IsMissingGrant}
-use Rattle.spki_cert.specs.declared.principal.Policy.{Policy}
+use Rattle.spki_reduce.specs.declared.{fold.Cause.{Cause}, last_tests.MissingGrant.{MissingGrant}, tuple.Five.{Five}}
 use Rattle.spki_reduce.specs.Chain.{FoldsTo, HasMet, GoesThrough}
-use Rattle.spki_reduce.proofs.Derivations.{from_left-leaves, one_root}
-use Rattle.spki_reduce.proofs.Chains.{unsupported}
-use Rattle.spki_reduce.proofs.ReducedForms.{never}
-use Rattle.spki_case.specs.Case.{Case, Verified, Certificate, auth, name, Shown, certificates}
-use Rattle.spki_decision.specs.declared.decision.Decision.{Decision}
-use Rattle.spki_decision.specs.declared.decision.Decision.TheVariants.{Yes, No}
-use Rattle.spki_decision.specs.declared.explanation.Explanation.{Explanation}
-use Rattle.spki_decision.specs.declared.explanation.Explanation.TheVariants.{Evidence, Entries}
-use Rattle.spki_decision.specs.declared.explanation.Reason.{Reason}
-use Rattle.spki_decision.specs.declared.explanation.Reason.TheVariants.{Grants, NotTheKey, TagLacks, WindowLacks, Stopped}
-use Rattle.spki_decision.specs.declared.evidence.Stop.{Stop}
-use Rattle.spki_decision.specs.CertificateTests.{AreShown, with_entries, tuple_of, PassesTestsAs, FailsAt}
-use Rattle.spki_decision.specs.Granted.{Supported, AllSmall, IsWithinWork, IsFailure, StopsAtItem, IsEntryFold, AreFolds, Granted, IsDecision}
-use Rattle.spki_decision.specs.declared.reduction.EntryFold.{EntryFold}
-use Rattle.spki_decision.specs.Explained.{IsReasonFor, LacksFirst, IsReason, reason_of, AreReasons, IsExplanation, IsFirstGrant, Agrees, IsSameExplanation}
-use Rattle.spki_decision.proofs.CertificateTests.{granted, supported, one_list, one_test, never_both}
-use Rattle.std.proofs.lemmas.Option.{slice_get_within, same_Some}
-use Rattle.spki_cert.specs.declared.certificate.SeqItem.{SeqItem}
+use Rattle.spki_reduce.proofs.{Derivations.{from_left-leaves, one_root}, Chains.{unsupported}, ReducedForms.{never}}
 use Rattle.spki_reduce.proofs.Through.{HasTag, AreTagged, unstopped, one_stop}
+use Rattle.spki_case.specs.Case.{Case, Verified, Certificate, auth, name, Shown, certificates}
+use Rattle.spki_decision.specs.declared.explanation.Explanation.{Explanation, TheVariants.{Evidence, Entries}}
+use Rattle.spki_decision.specs.declared.explanation.Reason.{Reason, TheVariants.{Grants, NotTheKey, TagLacks, WindowLacks, Stopped}}
+use Rattle.spki_decision.specs.declared.{decision.Decision.{Decision, TheVariants.{Yes, No}}, evidence.Stop.{Stop}, reduction.EntryFold.{EntryFold}}
+use Rattle.spki_decision.specs.CertificateTests.{AreShown, with_entries, tuple_of, PassesTestsAs, FailsAt}
+use Rattle.spki_decision.specs.Explained.{IsReasonFor, LacksFirst, IsReason, reason_of, AreReasons, IsExplanation, IsFirstGrant, Agrees, IsSameExplanation}
+use Rattle.spki_decision.specs.Granted.{Supported, AllSmall, IsWithinWork, IsFailure, StopsAtItem, IsEntryFold, AreFolds, Granted, IsDecision}
+use Rattle.spki_decision.proofs.CertificateTests.{granted, supported, one_list, one_test, never_both}
+use Rattle.spki_reduce.specs.declared.last_tests.MissingGrant.TheVariants as missing
 
 -- ---- one entry
 

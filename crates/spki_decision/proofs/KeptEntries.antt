@@ -1,27 +1,18 @@
 -- What a grant is in the bracketing from the left, and in a part of an access list from which only entries are
 -- missing that are left out.
 use Rattle.std.proofs.Common.{◌≡◌, ℕ, suc, List, [], Result, Ok, Err, take, Some, slice_get, refl, rules, ◌∷◌, sym, subst, zero, ◌+◌, ◌<◌, ◌≤◌, map, ap, ◌∙◌, arith, inl, inr, ◌⊎◌, length}
-use Rattle.spki_cert.specs.declared.entry.Entry.{Entry}
+use Rattle.std.proofs.{Math.Seq.{take-length}, lemmas.{List.{take-map}, Option.{none-some, same_Some, slice_get-map, slice_get_within}}}
+use Rattle.spki_cert.specs.declared.{entry.Entry.{Entry}, principal.Policy.{Policy}}
 use Rattle.spki_reduce.specs.Reduction.{Tuple, five, entry_tuple, from_left, Grants, Supports, Issuer, Issues, FiveTuple, four, Joins, Derives}
-use Rattle.spki_reduce.specs.Joining.{TooLargeFor}
-use Rattle.spki_reduce.specs.Chain.{TooLargeAt, Reaches, ReachedAt, ResolvesTimely}
-use Rattle.spki_decision.proofs.Charges.{no_charge, sum_whole}
-use Rattle.std.proofs.Math.Seq.{take-length}
-use Rattle.std.proofs.lemmas.List.{take-map}
+use Rattle.spki_reduce.specs.{Joining.{TooLargeFor}, Chain.{TooLargeAt, Reaches, ReachedAt, ResolvesTimely}}
 use Rattle.spki_reduce.proofs.Derivations.{supported, from_left-leaves}
-use Rattle.spki_case.specs.Case.{Case, Verified}
-use Rattle.spki_decision.specs.CertificateTests.{AreShown}
 use Rattle.spki_decision.specs.Granted.{Granted, Supported, IsDecision, IsTooLarge, SmallUpTo, IsCharge, IsSumOf, IsEntryWork, IsWithinWork, IsLarge, IsOverspent}
-use Rattle.spki_decision.specs.Answered.{IsDecided}
-use Rattle.spki_decision.proofs.CertificateTests.{one_list, granted}
-use Rattle.spki_decision.proofs.ChainRequirements.{five_same, first_step}
-use Rattle.spki_cert.specs.declared.principal.Policy.{Policy}
+use Rattle.spki_decision.specs.{CertificateTests.{AreShown}, Answered.{IsDecided}}
+use Rattle.spki_decision.specs.declared.decision.Decision.{Decision, TheVariants.{Yes, No}}
+use Rattle.spki_decision.specs.declared.fault.GuardFault.{GuardFault, TheVariants.{TooLarge, Memory}}
 use Rattle.spki_decision.specs.Requirements.{key_of, first_key, IsOf, IsLeftOut, IsKept, AreKept, second, kept_case, IsRenumbered, IsSameAnswer}
-use Rattle.std.proofs.lemmas.Option.{none-some, same_Some, slice_get-map, slice_get_within}
-use Rattle.spki_decision.specs.declared.decision.Decision.{Decision}
-use Rattle.spki_decision.specs.declared.decision.Decision.TheVariants.{Yes, No}
-use Rattle.spki_decision.specs.declared.fault.GuardFault.{GuardFault}
-use Rattle.spki_decision.specs.declared.fault.GuardFault.TheVariants.{TooLarge, Memory}
+use Rattle.spki_decision.proofs.{Charges.{no_charge, sum_whole}, CertificateTests.{one_list, granted}, ChainRequirements.{five_same, first_step}}
+use Rattle.spki_case.specs.Case.{Case, Verified}
 
 -- ---- what a grant is in the bracketing from the left, and without certificates
 

@@ -1,36 +1,26 @@
 -- What a verifier is asked of certificates, and what its answers make of the evidence of a sequence and of the answer
 -- to a case.
 use Rattle.std.proofs.Common.{◌≡◌, ℕ, ◌+◌, List, [], ◌∷◌, ◌++◌, drop, Some, None, ◌&&◌, Option, option_and_then, refl, append_assoc, append-nil, rules, zero, suc, slice_get, subst, Result, Ok, Err, ◌<◌, sym, ◌∙◌, ap, map, length, take, get_or, arith, drop-cons, add-one}
-use Rattle.spki_cert.specs.declared.principal.Policy.{Policy}
-use Rattle.spki_cert.specs.Naming.{names, is_digest}
-use Rattle.spki_case.specs.Case.{Verified, Shown, issuer_of, octets_of, Case, keys_of, certificates}
-use Rattle.spki_decision.specs.declared.evidence.Stop.{Stop}
-use Rattle.spki_decision.specs.declared.evidence.Stop.TheVariants.{KeyNotShown, DigestDiffers, SignerDiffers, NotAccepted}
-use Rattle.spki_decision.specs.CertificateTests.{issuer_key, PassesTests, FailsBy, Signed, asked_of, asked_with, asked_in, every, PassesTestsAs, FailsAt, AreShown, asked, before_all, IsAccepted, AgreeOn, FailsIn, signed_of, RefusedAt}
-use Rattle.spki_decision.specs.Judged.{PassesAs, IsEvidence}
-use Rattle.std.specs.List.{AllZip, AllByRecursion}
-use Rattle.std.proofs.lemmas.Option.{none-some, same_Some, cond_some, option_and_then_some}
-use Rattle.std.proofs.lemmas.Bool.{and_parts}
-use Rattle.spki_cert.specs.declared.certificate.SeqItem.{SeqItem}
-use Rattle.spki_reduce.specs.Reduction.{Tuple}
-use Rattle.spki_decision.specs.declared.decision.Decision.{Decision}
-use Rattle.spki_decision.specs.declared.decision.Decision.TheVariants.{Yes, No}
-use Rattle.spki_decision.specs.declared.fault.GuardFault.{GuardFault}
-use Rattle.spki_decision.specs.declared.fault.GuardFault.TheVariants.{TooLarge, Memory}
-use Rattle.spki_decision.specs.declared.explanation.Explanation.{Explanation}
-use Rattle.spki_decision.specs.declared.explanation.Explanation.TheVariants as explanation
-use Rattle.spki_decision.specs.declared.reduction.EntryFold.{EntryFold}
-use Rattle.spki_decision.specs.declared.reduction.Reduction.{Reduction}
-use Rattle.spki_decision.specs.declared.reduction.Reduction.TheVariants as reduction
-use Rattle.spki_decision.specs.Granted.{Granted, IsDecision, AreFolds, IsFailure, SomeTooLarge}
-use Rattle.spki_decision.specs.Answered.{IsDecided, IsExplained, IsReduced}
-use Rattle.spki_decision.proofs.CertificateTests.{at_place, below}
+use Rattle.std.proofs.lemmas.{Option.{none-some, same_Some, cond_some, option_and_then_some}, Bool.{and_parts}}
 use Rattle.std.proofs.lemmas.List.{get_or-map, length-map, length-take-le, length-append, take_more, take-append-drop}
 use Rattle.std.proofs.Math.Seq.{get_or-append_seam}
+use Rattle.std.specs.List.{AllZip, AllByRecursion}
+use Rattle.spki_cert.specs.{declared.{principal.Policy.{Policy}, certificate.SeqItem.{SeqItem}}, Naming.{names, is_digest}}
+use Rattle.spki_case.specs.Case.{Verified, Shown, issuer_of, octets_of, Case, keys_of, certificates}
+use Rattle.spki_decision.specs.declared.evidence.Stop.{Stop, TheVariants.{KeyNotShown, DigestDiffers, SignerDiffers, NotAccepted}}
 use Rattle.spki_decision.specs.declared.evidence.Evidence.{Evidence}
+use Rattle.spki_decision.specs.declared.decision.Decision.{Decision, TheVariants.{Yes, No}}
+use Rattle.spki_decision.specs.declared.{fault.GuardFault.{GuardFault, TheVariants.{TooLarge, Memory}}, explanation.Explanation.{Explanation}}
+use Rattle.spki_decision.specs.declared.reduction.{EntryFold.{EntryFold}, Reduction.{Reduction}}
+use Rattle.spki_decision.specs.CertificateTests.{issuer_key, PassesTests, FailsBy, Signed, asked_of, asked_with, asked_in, every, PassesTestsAs, FailsAt, AreShown, asked, before_all, IsAccepted, AgreeOn, FailsIn, signed_of, RefusedAt}
+use Rattle.spki_decision.specs.{Judged.{PassesAs, IsEvidence}, Granted.{Granted, IsDecision, AreFolds, IsFailure, SomeTooLarge}}
+use Rattle.spki_decision.specs.Answered.{IsDecided, IsExplained, IsReduced}
+use Rattle.spki_decision.proofs.{CertificateTests.{at_place, below}, EntryChains.{all_pushed}}
+use Rattle.spki_reduce.specs.Reduction.{Tuple}
+use Rattle.spki_decision.specs.declared.explanation.Explanation.TheVariants as explanation
+use Rattle.spki_decision.specs.declared.reduction.Reduction.TheVariants as reduction
 use Rattle.spki_decision.specs.declared.evidence.Evidence.TheVariants as evidence
 use Rattle.spki_decision.specs.declared.signed.Signed as examined
-use Rattle.spki_decision.proofs.EntryChains.{all_pushed}
 
 -- ---- what a verifier is asked of one certificate
 

@@ -1,35 +1,23 @@
 -- What more or fewer entries, narrower tuples and another moment change of what is granted.
 use Rattle.std.proofs.Common.{◌≡◌, ◌≢◌, inl, inr, ℕ, zero, suc, ◌<◌, ◌≤◌, Bool, true, List, [], ◌∷◌, ◌++◌, length, Some, Result, Ok, Err, slice_get, flat_map, refl, sym, ◌∙◌, ap, subst, arith, ◌⊎◌, take, map}
-use Rattle.std.specs.List.{AllZip, list_all}
-use Rattle.std.proofs.lemmas.Bool.{and_parts, and_from, cases_lt}
-use Rattle.std.proofs.lemmas.List.Folds.{list_all-append}
-use Rattle.std.proofs.lemmas.Option.{none-some, same_Some, slice_get_within}
-use Rattle.spki_tag.specs.Tag.{contains, is_date}
-use Rattle.spki_tag.specs.Request.{Request, IsRequest}
-use Rattle.spki_cert.specs.Naming.{names}
-use Rattle.spki_cert.specs.Time.{within}
-use Rattle.spki_cert.specs.declared.principal.Policy.{Policy}
-use Rattle.spki_cert.specs.declared.principal.Principal.{Principal}
-use Rattle.spki_cert.specs.declared.certificate.SeqItem.{SeqItem}
-use Rattle.spki_cert.specs.declared.certificate.SeqItem.TheVariants as items
-use Rattle.spki_cert.specs.declared.entry.Entry.{Entry}
-use Rattle.spki_case.specs.Case.{Case, Verified, certificates_from, keys_of}
-use Rattle.spki_reduce.specs.Chain.{all_windows}
-use Rattle.spki_reduce.specs.Reduction.{Tuple, five, four, FiveTuple, entry_tuple, tags_of, windows_of, in_each, within_each, Joins, IsFor, delegated, resolved}
-use Rattle.spki_decision.specs.declared.decision.Decision.{Decision}
-use Rattle.spki_decision.specs.declared.decision.Decision.TheVariants.{Yes, No}
-use Rattle.spki_decision.specs.declared.fault.GuardFault.{GuardFault}
-use Rattle.spki_decision.specs.declared.fault.GuardFault.TheVariants.{TooLarge, Memory}
-use Rattle.spki_decision.specs.CertificateTests.{PassesTestsAs, with_entries}
-use Rattle.spki_decision.specs.Granted.{Granted, Supported, IsDecision, IsCharge, IsSumOf, IsEntryWork, IsLarge, IsOverspent}
-use Rattle.spki_decision.specs.Answered.{IsDecided}
-use Rattle.spki_decision.specs.Requirements.{Leads, AreKept, second, kept_case}
-use Rattle.spki_decision.proofs.Charges.{front_of, sum_kept}
-use Rattle.spki_decision.proofs.OneDecision.{unlike}
-use Rattle.spki_decision.proofs.KeptEntries.{from_second, listed}
+use Rattle.std.proofs.lemmas.{Bool.{and_parts, and_from, cases_lt}, List.Folds.{list_all-append}, Option.{none-some, same_Some, slice_get_within}}
 use Rattle.std.proofs.Math.Seq.{take-length}
+use Rattle.std.specs.List.{AllZip, list_all}
+use Rattle.spki_tag.specs.{Tag.{contains, is_date}, Request.{Request, IsRequest}}
+use Rattle.spki_cert.specs.{Naming.{names}, Time.{within}}
+use Rattle.spki_cert.specs.declared.{principal.{Policy.{Policy}, Principal.{Principal}}, certificate.SeqItem.{SeqItem}, entry.Entry.{Entry}}
+use Rattle.spki_case.specs.Case.{Case, Verified, certificates_from, keys_of}
+use Rattle.spki_reduce.specs.Reduction.{Tuple, five, four, FiveTuple, entry_tuple, tags_of, windows_of, in_each, within_each, Joins, IsFor, delegated, resolved}
+use Rattle.spki_reduce.specs.Chain.{all_windows}
+use Rattle.spki_decision.specs.declared.decision.Decision.{Decision, TheVariants.{Yes, No}}
+use Rattle.spki_decision.specs.declared.fault.GuardFault.{GuardFault, TheVariants.{TooLarge, Memory}}
+use Rattle.spki_decision.specs.CertificateTests.{PassesTestsAs, with_entries}
+use Rattle.spki_decision.specs.{Granted.{Granted, Supported, IsDecision, IsCharge, IsSumOf, IsEntryWork, IsLarge, IsOverspent}, Answered.{IsDecided}}
+use Rattle.spki_decision.specs.Requirements.{Leads, AreKept, second, kept_case}
 use Rattle.spki_decision.specs.Audited.{AreAmong, IsNarrower, IsNarrowerFive, IsNarrowerEntry, IsNarrowerCase, at_moment, AreTimely}
+use Rattle.spki_decision.proofs.{Charges.{front_of, sum_kept}, OneDecision.{unlike}, KeptEntries.{from_second, listed}}
 use Rattle.spki_decision.proofs.ChainRequirements.{leads_alone, leads_first, passes, supports}
+use Rattle.spki_cert.specs.declared.certificate.SeqItem.TheVariants as items
 
 -- ---- places in lists
 

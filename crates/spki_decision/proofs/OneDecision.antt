@@ -1,33 +1,22 @@
 -- A case has one reduction. A text has one decision, one explanation and one reduction, or is refused as too large.
 use Rattle.std.proofs.Common.{Some, length, slice_get, ◌<◌, arith, suc, ◌≡◌, List, [], ◌∷◌, refl, sym, ap, ◌∙◌, rules, ◌⊎◌, inl, inr, ℕ, Result, Ok, Err, subst}
 use Rattle.std.proofs.lemmas.Option.{slice_get_within}
-use Rattle.spki_case.specs.Case.{Case, Verified, accepted_by, IsCaseText, keys_of, certificates}
-use Rattle.spki_decision.specs.declared.decision.Decision.{Decision}
-use Rattle.spki_decision.specs.declared.decision.Decision.TheVariants.{Yes, No}
-use Rattle.spki_decision.specs.Granted.{IsDecision, IsUnrefused, IsTooLarge, IsEntryFold, AreFolds, IsReduction, IsSameReduction, IsDated, AreDated, AllSmall, SmallBefore, IsFirstGranted, IsWithinWork, IsLarge, IsOverspent, HasLargeTags, HasMuchWork, SomeTooLarge}
 use Rattle.std.specs.List.{AllZip, AllByRecursion}
-use Rattle.spki_cert.specs.declared.entry.Entry.{Entry}
-use Rattle.spki_cert.specs.Time.{IsLimit}
-use Rattle.spki_reduce.specs.declared.tuple.Five.{Five}
-use Rattle.spki_reduce.specs.Reduction.{Tuple, five, entry_tuple}
-use Rattle.spki_reduce.proofs.Uniqueness.{five_one, one_fold}
-use Rattle.spki_reduce.proofs.Through.{AreTagged, becomes_nothing}
-use Rattle.spki_decision.specs.declared.reduction.EntryFold.{EntryFold}
-use Rattle.spki_decision.specs.declared.reduction.EntryFold.TheVariants.{Done, Stopped}
-use Rattle.spki_decision.specs.declared.reduction.Reduction.{Reduction}
-use Rattle.spki_decision.specs.declared.reduction.Reduction.TheVariants.{Evidence, Entries}
-use Rattle.spki_decision.proofs.CertificateTests.{one_list}
-use Rattle.spki_decision.proofs.Explanations.{one_failure, are_tagged, one_item, one_explanation}
-use Rattle.spki_case.proofs.OneCase.{text-one}
-use Rattle.spki_decision.specs.declared.fault.GuardFault.{GuardFault}
-use Rattle.spki_decision.specs.declared.fault.GuardFault.TheVariants.{TooLarge, Memory}
-use Rattle.spki_decision.specs.declared.explanation.Explanation.{Explanation}
+use Rattle.spki_case.{specs.Case.{Case, Verified, accepted_by, IsCaseText, keys_of, certificates}, proofs.OneCase.{text-one}}
+use Rattle.spki_decision.specs.declared.reduction.EntryFold.{EntryFold, TheVariants.{Done, Stopped}}
+use Rattle.spki_decision.specs.declared.reduction.Reduction.{Reduction, TheVariants.{Evidence, Entries}}
+use Rattle.spki_decision.specs.declared.decision.Decision.{Decision, TheVariants.{Yes, No}}
+use Rattle.spki_decision.specs.declared.{fault.GuardFault.{GuardFault, TheVariants.{TooLarge, Memory}}, explanation.Explanation.{Explanation}}
+use Rattle.spki_decision.specs.Granted.{IsDecision, IsUnrefused, IsTooLarge, IsEntryFold, AreFolds, IsReduction, IsSameReduction, IsDated, AreDated, AllSmall, SmallBefore, IsFirstGranted, IsWithinWork, IsLarge, IsOverspent, HasLargeTags, HasMuchWork, SomeTooLarge}
+use Rattle.spki_decision.specs.{CertificateTests.{AreShown}, Explained.{IsExplanation, IsSameExplanation}}
+use Rattle.spki_decision.specs.Answered.{IsDecided, IsExplained, IsReduced, AreSame}
+use Rattle.spki_decision.proofs.{CertificateTests.{one_list}, Explanations.{one_failure, are_tagged, one_item, one_explanation}}
+use Rattle.spki_decision.proofs.Charges.{not_overspent}
+use Rattle.spki_cert.specs.{declared.entry.Entry.{Entry}, Time.{IsLimit}}
+use Rattle.spki_reduce.specs.{declared.tuple.Five.{Five}, Reduction.{Tuple, five, entry_tuple}}
+use Rattle.spki_reduce.proofs.{Uniqueness.{five_one, one_fold}, Through.{AreTagged, becomes_nothing}}
 use Rattle.spki_decision.specs.declared.explanation.Explanation.TheVariants as explanation
 use Rattle.spki_decision.specs.declared.reduction.Reduction.TheVariants as reduction
-use Rattle.spki_decision.specs.CertificateTests.{AreShown}
-use Rattle.spki_decision.specs.Explained.{IsExplanation, IsSameExplanation}
-use Rattle.spki_decision.specs.Answered.{IsDecided, IsExplained, IsReduced, AreSame}
-use Rattle.spki_decision.proofs.Charges.{not_overspent}
 
 -- ---- a decision that passes no refusal over, and a refusal: a case has at most one of them
 

@@ -1,18 +1,12 @@
 -- The numbers of nodes of steps, counted one step after another.
 use Rattle.std.proofs.Common.{◌≡◌, ℕ, ◌+◌, ◌*◌, ◌<◌, ◌≤◌, max, ◌||◌, true, false, Bool, List, [], ◌∷◌, ◌++◌, length, take, drop, get_or, map, sym, ap, ◌∙◌, arith, mul-le-mul_left, mul-le-mul_right}
-use Rattle.std.proofs.lemmas.Bool.{or_right, or_from, lt-leb}
+use Rattle.std.proofs.lemmas.{Bool.{or_right, or_from, lt-leb}, List.{take-append-drop, map-append}, Grind.{flat_map-append}}
 use Rattle.std.specs.Prelude.{nat_le, not, ◌&&◌}
-use Rattle.std.proofs.lemmas.List.{take-append-drop, map-append}
-use Rattle.std.proofs.lemmas.Grind.{flat_map-append}
-use Rattle.spki_tag.specs.Tag.{Tag, nodes, tags, nests_set, some_nests_set}
-use Rattle.spki_tag.proofs.MeetSizes.{nodes-some}
-use Rattle.spki_reduce.specs.declared.tuple.Step.{Step}
-use Rattle.spki_reduce.specs.Reduction.{Tuple, tags_of, step_tuple, nodes_product}
-use Rattle.spki_reduce.specs.Chain.{tuples_of, all_tags}
+use Rattle.spki_tag.{specs.Tag.{Tag, nodes, tags, nests_set, some_nests_set}, proofs.MeetSizes.{nodes-some}}
+use Rattle.spki_reduce.specs.{declared.tuple.Step.{Step}, Reduction.{Tuple, tags_of, step_tuple, nodes_product}, Chain.{tuples_of, all_tags}}
 use Rattle.spki_reduce.proofs.ReducedForms.{nodes_product-append}
 use Rattle.spki_decision.specs.Spared.{nodes_in, nodes_together, most_of_one, has_small_product, is_plain, is_spared}
-use Rattle.spki_decision.proofs.ChainRequirements.{more_tuples, more_tags}
-use Rattle.spki_decision.proofs.EntryChains.{append-sets, one_at_least, and_false}
+use Rattle.spki_decision.proofs.{ChainRequirements.{more_tuples, more_tags}, EntryChains.{append-sets, one_at_least, and_false}}
 
 together-append : (ts us : List Tuple) → nodes_together (ts ++ us) ≡ nodes_together ts + nodes_together us
 together-append [] us = omega arith

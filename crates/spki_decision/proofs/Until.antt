@@ -1,31 +1,20 @@
 -- The least not-after of windows, and till when what is granted is granted.
 use Rattle.std.proofs.Common.{◌≡◌, ◌⊎◌, inl, inr, ℕ, zero, suc, ◌+◌, ◌<◌, ◌≤◌, true, false, List, [], ◌∷◌, ◌++◌, length, take, get_or, Option, Some, None, IsSome, slice_get, append_assoc, refl, sym, ◌∙◌, ap, subst}
+use Rattle.std.proofs.lemmas.{Bool.{and_parts, and_from}, Option.{none-some, same_Some}}
 use Rattle.std.specs.List.{AllZip}
-use Rattle.std.proofs.lemmas.Bool.{and_parts, and_from}
-use Rattle.std.proofs.lemmas.Option.{none-some, same_Some}
 use Rattle.spki_cert.specs.Time.{upto, is_from, is_until, within}
-use Rattle.spki_cert.specs.declared.window.Window.{Window}
-use Rattle.spki_cert.specs.declared.principal.Policy.{Policy}
-use Rattle.spki_cert.specs.declared.certificate.SeqItem.{SeqItem}
-use Rattle.spki_cert.specs.declared.certificate.SeqItem.TheVariants as items
-use Rattle.spki_cert.specs.declared.entry.Entry.{Entry}
+use Rattle.spki_cert.specs.declared.{window.Window.{Window}, principal.Policy.{Policy}, certificate.SeqItem.{SeqItem}, entry.Entry.{Entry}}
 use Rattle.spki_cert.proofs.Order.{upto-self, upto-then, upto-turned}
-use Rattle.spki_reduce.specs.declared.tuple.Step.{Step}
-use Rattle.spki_reduce.specs.Reduction.{Tuple, FiveTuple, windows_of, within_each, step_tuple, entry_tuple}
+use Rattle.spki_reduce.specs.{declared.tuple.Step.{Step}, Reduction.{Tuple, FiveTuple, windows_of, within_each, step_tuple, entry_tuple}}
 use Rattle.spki_reduce.specs.Chain.{tuples_of, all_windows}
 use Rattle.spki_case.specs.Case.{Case, Verified, certificates_from, keys_of}
-use Rattle.spki_decision.specs.declared.decision.Decision.{Decision}
-use Rattle.spki_decision.specs.declared.decision.Decision.TheVariants.{Yes}
-use Rattle.spki_decision.specs.declared.grant.Grant.{Grant}
-use Rattle.spki_decision.specs.declared.chain_requirement.ChainRequirement.{ChainRequirement}
-use Rattle.spki_decision.specs.declared.required_subject.RequiredSubject.{RequiredSubject}
-use Rattle.spki_decision.specs.CertificateTests.{PassesTestsAs, AreShown}
-use Rattle.spki_decision.specs.Granted.{Granted, Supported, IsDecision}
-use Rattle.spki_decision.specs.Requirements.{IsChainRequirement, IsMetBy}
-use Rattle.spki_decision.specs.Audited.{at_moment}
+use Rattle.spki_decision.specs.declared.{decision.Decision.{Decision, TheVariants.{Yes}}, grant.Grant.{Grant}}
+use Rattle.spki_decision.specs.declared.{chain_requirement.ChainRequirement.{ChainRequirement}, required_subject.RequiredSubject.{RequiredSubject}}
+use Rattle.spki_decision.specs.{CertificateTests.{PassesTestsAs, AreShown}, Granted.{Granted, Supported, IsDecision}}
+use Rattle.spki_decision.specs.{Requirements.{IsChainRequirement, IsMetBy}, Audited.{at_moment}}
 use Rattle.spki_decision.specs.Until.{IsEndOf, IsLeastEnd, HasEnd, windows_in, HoldsUntil}
-use Rattle.spki_decision.proofs.ChainRequirements.{passes, more_windows}
-use Rattle.spki_decision.proofs.Monotony.{supported_then, yes_by}
+use Rattle.spki_decision.proofs.{ChainRequirements.{passes, more_windows}, Monotony.{supported_then, yes_by}}
+use Rattle.spki_cert.specs.declared.certificate.SeqItem.TheVariants as items
 
 -- ---- the windows of two lists
 

@@ -1,13 +1,9 @@
 -- The answer to a case, apart from Memory: what decide, explain and reduce_case promise of each answer except Memory.
 use Rattle.std.specs.Prelude.{◌≡◌, Result, Ok, Err}
 use Rattle.spki_case.specs.Case.{Case, Verified}
-use Rattle.spki_decision.specs.declared.decision.Decision.{Decision}
-use Rattle.spki_decision.specs.declared.fault.GuardFault.{GuardFault}
-use Rattle.spki_decision.specs.declared.fault.GuardFault.TheVariants.{TooLarge, Memory}
-use Rattle.spki_decision.specs.declared.explanation.Explanation.{Explanation}
-use Rattle.spki_decision.specs.declared.reduction.Reduction.{Reduction}
-use Rattle.spki_decision.specs.Granted.{IsDecision, IsUnrefused, IsTooLarge, IsReduction, AreDated, SomeTooLarge}
-use Rattle.spki_decision.specs.Explained.{IsExplanation}
+use Rattle.spki_decision.specs.declared.{decision.Decision.{Decision}, fault.GuardFault.{GuardFault, TheVariants.{TooLarge, Memory}}}
+use Rattle.spki_decision.specs.declared.{explanation.Explanation.{Explanation}, reduction.Reduction.{Reduction}}
+use Rattle.spki_decision.specs.{Granted.{IsDecision, IsUnrefused, IsTooLarge, IsReduction, AreDated, SomeTooLarge}, Explained.{IsExplanation}}
 use Rattle.spki_reduce.specs.declared.fault.ReduceFault.{ReduceFault}
 use Rattle.spki_reduce.specs.declared.fault.ReduceFault.TheVariants as reduce
 

@@ -1,21 +1,14 @@
 -- What a grant says of each link of its chain: its own signature, its tag, its window and its delegation (RFC 2693, sections 6
 -- and 6.3). What fewer entries, narrower tuples or another moment can change.
-use Rattle.std.specs.Prelude.{◌≡◌, ℕ, ◌<◌, true, IsTrue, List, Some, slice_get, take}
-use Rattle.std.specs.List.{AllZip}
-use Rattle.spki_tag.specs.Tag.{contains, is_date}
-use Rattle.spki_tag.specs.Request.{Request, IsRequest}
-use Rattle.spki_cert.specs.Naming.{names, is_digest}
-use Rattle.spki_cert.specs.Time.{within}
-use Rattle.spki_cert.specs.declared.certificate.AuthCert.{AuthCert}
-use Rattle.spki_cert.specs.declared.certificate.NameCert.{NameCert}
-use Rattle.spki_cert.specs.declared.certificate.Signature as signature
-use Rattle.spki_cert.specs.declared.certificate.SeqItem.{SeqItem}
-use Rattle.spki_cert.specs.declared.certificate.SeqItem.TheVariants as items
-use Rattle.spki_cert.specs.declared.entry.Entry.{Entry}
+use Rattle.std.specs.{Prelude.{◌≡◌, ℕ, ◌<◌, true, IsTrue, List, Some, slice_get, take}, List.{AllZip}}
+use Rattle.spki_tag.specs.{Tag.{contains, is_date}, Request.{Request, IsRequest}}
+use Rattle.spki_cert.specs.{Naming.{names, is_digest}, Time.{within}}
+use Rattle.spki_cert.specs.declared.{certificate.{AuthCert.{AuthCert}, NameCert.{NameCert}, SeqItem.{SeqItem}}, entry.Entry.{Entry}}
 use Rattle.spki_reduce.specs.Reduction.{Tuple, five, four, key, FiveTuple, FourTuple, entry_tuple, in_each, within_each, windows_of}
 use Rattle.spki_case.specs.Case.{Case, Verified, Certificate, auth, name, issuer_of, octets_of, keys_of, certificates, signature_in}
-use Rattle.spki_decision.specs.CertificateTests.{asked, issuer_key, AreShown}
-use Rattle.spki_decision.specs.Granted.{Supported}
+use Rattle.spki_decision.specs.{CertificateTests.{asked, issuer_key, AreShown}, Granted.{Supported}}
+use Rattle.spki_cert.specs.declared.certificate.Signature as signature
+use Rattle.spki_cert.specs.declared.certificate.SeqItem.TheVariants as items
 
 -- ---- own signatures
 

@@ -2,20 +2,15 @@
 -- both (RFC 2693, section 6).
 use Rattle.std.specs.Prelude.{◌≡◌, ℕ, List, ◌∷◌, ◌++◌, Option, Some, None, false, IsTrue, find, [], length, ◌&&◌, if◌then◌else◌, option_and_then, option_copied}
 use Rattle.std.specs.List.{AllZip, AllByRecursion}
-use Rattle.spki_cert.specs.declared.principal.Policy.{Policy}
-use Rattle.spki_cert.specs.declared.principal.Principal.{Principal}
-use Rattle.spki_cert.specs.declared.principal.Principal.TheVariants as principal
-use Rattle.spki_cert.specs.declared.certificate.Signature as signature
-use Rattle.spki_cert.specs.declared.certificate.SeqItem.{SeqItem}
+use Rattle.spki_cert.specs.declared.{principal.{Policy.{Policy}, Principal.{Principal}}, certificate.SeqItem.{SeqItem}, entry.Entry.{Entry}}
 use Rattle.spki_cert.specs.Naming.{names, is_digest}
 use Rattle.spki_reduce.specs.Reduction.{Tuple, five, four, auth_tuple, name_tuple}
-use Rattle.spki_decision.specs.declared.evidence.Stop.{Stop}
-use Rattle.spki_decision.specs.declared.evidence.Stop.TheVariants.{KeyNotShown, DigestDiffers, SignerDiffers, NotAccepted}
+use Rattle.spki_decision.specs.declared.evidence.Stop.{Stop, TheVariants.{KeyNotShown, DigestDiffers, SignerDiffers, NotAccepted}}
+use Rattle.spki_decision.specs.declared.certificates.{Certificate.TheVariants.{Auth, Name}, ShownCert.{ShownCert}}
 use Rattle.spki_case.specs.Case.{Verified, Certificate, auth, name, Shown, issuer_of, octets_of, keys_of, certificates, Case}
+use Rattle.spki_cert.specs.declared.principal.Principal.TheVariants as principal
+use Rattle.spki_cert.specs.declared.certificate.Signature as signature
 use Rattle.spki_decision.specs.declared.certificates.Certificate as code
-use Rattle.spki_decision.specs.declared.certificates.Certificate.TheVariants.{Auth, Name}
-use Rattle.spki_decision.specs.declared.certificates.ShownCert.{ShownCert}
-use Rattle.spki_cert.specs.declared.entry.Entry.{Entry}
 use Rattle.spki_decision.specs.declared.signed.Signed as examined
 
 -- ---- which certificates of a sequence pass their tests, and their tuples (RFC 2693, section 6)

@@ -1,15 +1,9 @@
 -- How much is read of the tuples of certificates when they are tested, and the ticks of an entry's chain.
 use Rattle.std.specs.Prelude.{◌≡◌, ℕ, ◌+◌, ◌<◌, ◌≤◌, ◌⊎◌, List, [], ◌∷◌, Option, None, true, false}
-use Rattle.spki_cert.specs.declared.entry.Entry.{Entry}
-use Rattle.spki_cert.specs.declared.principal.Policy.{Policy}
-use Rattle.spki_tag.specs.Tag.{tags}
-use Rattle.spki_tag.specs.Cost.{weight_all}
-use Rattle.spki_cert.specs.Cost.{names_weight, principal_weight}
-use Rattle.spki_reduce.specs.Reduction.{Tuple, five, four, tags_of, entry_tuple}
-use Rattle.spki_reduce.specs.Chain.{AreTicksOfSteps}
-use Rattle.spki_decision.specs.Spared.{is_spared}
-use Rattle.spki_decision.specs.declared.reduction.EntryFold.{EntryFold}
-use Rattle.spki_decision.specs.declared.reduction.EntryFold.TheVariants.{Done, Stopped}
+use Rattle.spki_cert.specs.{declared.{entry.Entry.{Entry}, principal.Policy.{Policy}}, Cost.{names_weight, principal_weight}}
+use Rattle.spki_tag.specs.{Tag.{tags}, Cost.{weight_all}}
+use Rattle.spki_reduce.specs.{Reduction.{Tuple, five, four, tags_of, entry_tuple}, Chain.{AreTicksOfSteps}}
+use Rattle.spki_decision.specs.{Spared.{is_spared}, declared.reduction.EntryFold.{EntryFold, TheVariants.{Done, Stopped}}}
 
 -- one for the tuple, and its tags
 abbrev pub content_weight : Tuple → ℕ

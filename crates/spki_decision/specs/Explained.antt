@@ -1,25 +1,19 @@
 -- Why each entry of a case grants the request or does not (RFC 2693, section 6.3), and the sinks that take what its
 -- entries become and the reasons.
+use Rattle.std.proofs.Common.{◌≡◌, List, [], ◌++◌, Vec, Global, sym, refl, append-nil, ◌≢◌, ◌↔◌, ℕ, suc, ◌<◌, ◌∷◌, Option, Some, None, slice_get, length}
 use Rattle.std.specs.List.{AllZip}
 use Rattle.spki_tag.specs.Tag.{set, none}
 use Rattle.spki_cert.specs.declared.entry.Entry.{Entry}
 use Rattle.spki_reduce.specs.declared.last_tests.MissingGrant.{MissingGrant}
-use Rattle.spki_reduce.specs.declared.last_tests.MissingGrant.TheVariants as missing
-use Rattle.spki_reduce.specs.Reduction.{FiveTuple, Tuple, five, entry_tuple, Derives, from_left, SomeMoment, met, IsMissingGrant}
-use Rattle.spki_reduce.specs.Chain.{all_tags}
-use Rattle.spki_case.specs.Case.{Case, Verified}
-use Rattle.spki_decision.specs.declared.decision.Decision.{Decision}
-use Rattle.spki_decision.specs.declared.decision.Decision.TheVariants.{Yes, No}
-use Rattle.spki_decision.specs.declared.explanation.Explanation.{Explanation}
-use Rattle.spki_decision.specs.declared.explanation.Explanation.TheVariants.{Evidence, Entries}
-use Rattle.spki_decision.specs.declared.explanation.Reason.{Reason}
-use Rattle.spki_decision.specs.declared.explanation.Reason.TheVariants.{Grants, NotTheKey, TagLacks, WindowLacks, Stopped}
+use Rattle.spki_reduce.specs.{Reduction.{FiveTuple, Tuple, five, entry_tuple, Derives, from_left, SomeMoment, met, IsMissingGrant}, Chain.{all_tags}}
+use Rattle.spki_case.specs.{Case.{Case, Verified}, View.{model}}
+use Rattle.spki_decision.specs.declared.explanation.Explanation.{Explanation, TheVariants.{Evidence, Entries}}
+use Rattle.spki_decision.specs.declared.explanation.Reason.{Reason, TheVariants.{Grants, NotTheKey, TagLacks, WindowLacks, Stopped}}
+use Rattle.spki_decision.specs.declared.explanation.ReasonSink.{ReasonSink}
+use Rattle.spki_decision.specs.declared.{decision.Decision.{Decision, TheVariants.{Yes, No}}, reduction.EntryFold.{EntryFold}}
 use Rattle.spki_decision.specs.CertificateTests.{AreShown, with_entries}
 use Rattle.spki_decision.specs.Granted.{Supported, AllSmall, Granted, IsFailure, StopsAtItem, IsWithinWork, IsEntryFold}
-use Rattle.std.proofs.Common.{◌≡◌, List, [], ◌++◌, Vec, Global, sym, refl, append-nil, ◌≢◌, ◌↔◌, ℕ, suc, ◌<◌, ◌∷◌, Option, Some, None, slice_get, length}
-use Rattle.spki_case.specs.View.{model}
-use Rattle.spki_decision.specs.declared.explanation.ReasonSink.{ReasonSink}
-use Rattle.spki_decision.specs.declared.reduction.EntryFold.{EntryFold}
+use Rattle.spki_reduce.specs.declared.last_tests.MissingGrant.TheVariants as missing
 
 -- ---- why each entry of a case grants the request or does not (RFC 2693, section 6.3)
 

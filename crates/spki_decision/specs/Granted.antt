@@ -1,24 +1,16 @@
 -- The entries of a case, each with all certificates: which are granted, what each becomes, and what a decision and a
 -- reduction mean (RFC 2693, section 6.3).
 use Rattle.std.specs.Prelude.{◌≡◌, ℕ, suc, ◌<◌, List, Some, length, slice_get, ◌∷◌, ◌⊎◌, ◌+◌, ◌≤◌, [], take, true, false, Option}
-use Rattle.spki_cert.specs.declared.entry.Entry.{Entry}
+use Rattle.std.specs.List.{AllZip, AllByRecursion}
+use Rattle.spki_cert.specs.{declared.{entry.Entry.{Entry}, principal.Policy.{Policy, TheVariants.{Open, Strict}}}, Time.{IsLimit}}
 use Rattle.spki_reduce.specs.Reduction.{Tuple, five, entry_tuple, IsSupported, nodes_product, own, five_tuple, issuer_of}
 use Rattle.spki_reduce.specs.Chain.{TooLargeAt, all_tags, FoldsTo, HasMet, StopsAt, Excludes, IsWork, IsWorkOf, IsOverworked}
-use Rattle.spki_cert.specs.declared.principal.Policy.{Policy}
-use Rattle.spki_case.specs.Case.{Case, Verified, Shown, certificates}
-use Rattle.spki_decision.specs.Spared.{is_spared}
-use Rattle.spki_decision.specs.declared.decision.Decision.{Decision}
-use Rattle.spki_decision.specs.declared.decision.Decision.TheVariants.{Yes, No}
-use Rattle.spki_cert.specs.declared.principal.Policy.TheVariants.{Open, Strict}
-use Rattle.spki_decision.specs.CertificateTests.{AreShown, FailsAt}
-use Rattle.std.specs.List.{AllZip, AllByRecursion}
-use Rattle.spki_cert.specs.Time.{IsLimit}
 use Rattle.spki_reduce.specs.declared.fold.Cause.{Cause}
-use Rattle.spki_decision.specs.declared.evidence.Stop.{Stop}
-use Rattle.spki_decision.specs.declared.reduction.EntryFold.{EntryFold}
-use Rattle.spki_decision.specs.declared.reduction.EntryFold.TheVariants.{Done, Stopped}
-use Rattle.spki_decision.specs.declared.reduction.Reduction.{Reduction}
-use Rattle.spki_decision.specs.declared.reduction.Reduction.TheVariants.{Evidence, Entries}
+use Rattle.spki_case.specs.Case.{Case, Verified, Shown, certificates}
+use Rattle.spki_decision.specs.declared.reduction.EntryFold.{EntryFold, TheVariants.{Done, Stopped}}
+use Rattle.spki_decision.specs.declared.reduction.Reduction.{Reduction, TheVariants.{Evidence, Entries}}
+use Rattle.spki_decision.specs.declared.{decision.Decision.{Decision, TheVariants.{Yes, No}}, evidence.Stop.{Stop}}
+use Rattle.spki_decision.specs.{Spared.{is_spared}, CertificateTests.{AreShown, FailsAt}}
 
 -- ---- which entries support the request, if the tuples of the certificates are known
 

@@ -1,27 +1,19 @@
 -- The results of `judge` and of its steps: the key of an issuer, the tests of a certificate, and the evidence of a
 -- sequence.
-use Rattle.std.specs.Prelude.{List, map, ◌≡◌, ℕ, [], ◌∷◌, Option, Some, None, Bool, true, false, ◌<◌, slice_get, Vec, find}
-use Rattle.spki_cert.specs.declared.principal.Policy.{Policy}
-use Rattle.spki_cert.specs.declared.certificate.SeqItem.{SeqItem}
+use Rattle.std.specs.{Prelude.{List, map, ◌≡◌, ℕ, [], ◌∷◌, Option, Some, None, Bool, true, false, ◌<◌, slice_get, Vec, find}, Fn.{Shared}}
+use Rattle.std.specs.{BTreeMap.{BTreeMap}, declared.alloc.Global.{Global}}
+use Rattle.spki_cert.specs.declared.principal.{Policy.{Policy}, Principal.{Principal}}
+use Rattle.spki_cert.specs.declared.{certificate.SeqItem.{SeqItem, TheVariants.{DoHash, Auth, Name, Signature}}, hash.HashAlg.{HashAlg}}
+use Rattle.spki_cert.specs.Naming.{is_digest}
 use Rattle.spki_reduce.specs.Reduction.{step_tuple}
 use Rattle.spki_decision.specs.declared.evidence.Evidence.{Evidence}
-use Rattle.spki_decision.specs.declared.evidence.Evidence.TheVariants as evidence
-use Rattle.spki_decision.specs.declared.examination.Unverified.{Unverified}
-use Rattle.spki_decision.specs.declared.examination.Unverified.TheVariants as unverified
-use Rattle.spki_case.specs.Case.{Verified, Certificate, auth, name, Shown, octets_of, signature_in}
+use Rattle.spki_decision.specs.declared.examination.{Unverified.{Unverified}, Tested.{Tested, TheVariants.{Passes, Fails}}}
 use Rattle.spki_decision.specs.CertificateTests.{AreShown, FailsAt, signed_of, Signed, every, PassesTests, FailsBy}
-use Rattle.spki_cert.specs.declared.certificate.SeqItem.TheVariants.{DoHash, Auth, Name, Signature}
-use Rattle.spki_decision.specs.declared.examination.Tested.{Tested}
-use Rattle.spki_decision.specs.declared.examination.Tested.TheVariants.{Passes, Fails}
+use Rattle.spki_case.specs.{Case.{Verified, Certificate, auth, name, Shown, octets_of, signature_in}, Lookups.{at_digest}}
+use Rattle.spki_decision.specs.declared.evidence.Evidence.TheVariants as evidence
+use Rattle.spki_decision.specs.declared.examination.Unverified.TheVariants as unverified
 use Rattle.spki_cert.specs.declared.certificate.Signature as signature
 use denote.Ref.{Bor}
-use Rattle.std.specs.Fn.{Shared}
-use Rattle.spki_cert.specs.declared.principal.Principal.{Principal}
-use Rattle.std.specs.BTreeMap.{BTreeMap}
-use Rattle.std.specs.declared.alloc.Global.{Global}
-use Rattle.spki_cert.specs.declared.hash.HashAlg.{HashAlg}
-use Rattle.spki_cert.specs.Naming.{is_digest}
-use Rattle.spki_case.specs.Lookups.{at_digest}
 
 -- ---- the evidence of a sequence
 

@@ -1,26 +1,15 @@
 -- What the certificates of a case require of an entry: the key that its principal names, its subject, tag and window,
 -- and the numbers of nodes for which no step is too large (RFC 2693, sections 6.3 and 6.4).
 use Rattle.std.specs.Prelude.{◌≡◌, ℕ, suc, ◌⊎◌, List, [], ◌∷◌, Option, Some, None, IsTrue, slice_get, map, ◌↔◌, true, Bool, ◌≤◌, ◌<◌, false, MatchOption, Result, Ok, Err}
-use Rattle.spki_cert.specs.declared.principal.Policy.{Policy}
-use Rattle.spki_cert.specs.declared.entry.Entry.{Entry}
-use Rattle.spki_cert.specs.Naming.{names}
+use Rattle.spki_cert.specs.{declared.{principal.{Policy.{Policy}, Principal.{Principal}}, entry.Entry.{Entry}}, Naming.{names}, Time.{within}}
 use Rattle.spki_reduce.specs.Reduction.{Issuer, own, key, Tuple, five, four, FiveTuple, IsFor, Joins, Derives, from_left, entry_tuple, tags_of, nodes_product}
-use Rattle.spki_case.specs.Case.{Case, Verified}
-use Rattle.spki_decision.specs.CertificateTests.{AreShown, with_entries}
-use Rattle.spki_decision.specs.declared.decision.Decision.{Decision}
-use Rattle.spki_decision.specs.declared.fault.GuardFault.{GuardFault}
-use Rattle.spki_decision.specs.declared.decision.Decision.TheVariants.{Yes, No}
-use Rattle.spki_cert.specs.declared.principal.Principal.{Principal}
-use Rattle.spki_cert.specs.Time.{within}
-use Rattle.spki_tag.specs.Tag.{contains, Tag, tags, some_nests_set}
-use Rattle.spki_decision.specs.declared.chain_requirement.ChainRequirement.{ChainRequirement}
-use Rattle.spki_decision.specs.declared.required_subject.RequiredSubject.{RequiredSubject}
-use Rattle.spki_decision.specs.Granted.{Supported}
 use Rattle.spki_reduce.specs.Chain.{all_tags, TooLargeAt, left_of}
-use Rattle.spki_decision.specs.Spared.{nodes_together, most_of_one}
-use Rattle.spki_decision.specs.declared.budget.Budget.{Budget}
-use Rattle.spki_decision.specs.declared.sizes.Sizes.{Sizes}
-use Rattle.spki_decision.specs.declared.sizes.PlainNodes.{PlainNodes}
+use Rattle.spki_case.specs.Case.{Case, Verified}
+use Rattle.spki_decision.specs.declared.{decision.Decision.{Decision, TheVariants.{Yes, No}}, fault.GuardFault.{GuardFault}}
+use Rattle.spki_decision.specs.declared.{chain_requirement.ChainRequirement.{ChainRequirement}, required_subject.RequiredSubject.{RequiredSubject}}
+use Rattle.spki_decision.specs.declared.{budget.Budget.{Budget}, sizes.{Sizes.{Sizes}, PlainNodes.{PlainNodes}}}
+use Rattle.spki_decision.specs.{CertificateTests.{AreShown, with_entries}, Granted.{Supported}, Spared.{nodes_together, most_of_one}}
+use Rattle.spki_tag.specs.Tag.{contains, Tag, tags, some_nests_set}
 
 -- ---- the entries that a question is about
 

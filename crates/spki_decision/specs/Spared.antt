@@ -2,8 +2,7 @@
 -- large (RFC 2693, section 6.3.1).
 use Rattle.std.specs.Prelude.{ℕ, ◌+◌, ◌*◌, List, [], ◌∷◌, Bool, not, ◌&&◌, ◌||◌, nat_le, max}
 use Rattle.spki_tag.specs.Tag.{Tag, tags, nodes, nodes_all, nests_set, some_nests_set}
-use Rattle.spki_reduce.specs.Reduction.{Tuple, five, four, tags_of, nodes_product}
-use Rattle.spki_reduce.specs.Chain.{all_tags}
+use Rattle.spki_reduce.specs.{Reduction.{Tuple, five, four, tags_of, nodes_product}, Chain.{all_tags}}
 
 -- the nodes of a tuple's tags; a definition counts as one node
 abbrev pub nodes_in : Tuple → ℕ

@@ -1,19 +1,12 @@
 -- Until when a yes holds: the least not-after of the windows of an entry and of all certificates (RFC 2693, section 6.3.2).
 use Rattle.std.specs.Prelude.{◌≡◌, ℕ, suc, true, List, [], ◌∷◌, Option, Some, None, IsSome, slice_get}
 use Rattle.spki_cert.specs.Time.{upto}
-use Rattle.spki_cert.specs.declared.window.Window.{Window}
-use Rattle.spki_cert.specs.declared.certificate.SeqItem.{SeqItem}
-use Rattle.spki_cert.specs.declared.certificate.SeqItem.TheVariants.{Auth, Name}
-use Rattle.spki_cert.specs.declared.entry.Entry.{Entry}
-use Rattle.spki_reduce.specs.Reduction.{Tuple}
-use Rattle.spki_reduce.specs.Chain.{all_windows}
+use Rattle.spki_cert.specs.declared.{window.Window.{Window}, certificate.SeqItem.{SeqItem, TheVariants.{Auth, Name}}, entry.Entry.{Entry}}
+use Rattle.spki_reduce.specs.{Reduction.{Tuple}, Chain.{all_windows}}
 use Rattle.spki_case.specs.Case.{Case}
-use Rattle.spki_decision.specs.Granted.{Supported}
-use Rattle.spki_decision.specs.Requirements.{IsChainRequirement}
-use Rattle.spki_decision.specs.declared.decision.Decision.{Decision}
-use Rattle.spki_decision.specs.declared.decision.Decision.TheVariants.{Yes, No}
-use Rattle.spki_decision.specs.declared.grant.Grant.{Grant}
+use Rattle.spki_decision.specs.declared.{decision.Decision.{Decision, TheVariants.{Yes, No}}, grant.Grant.{Grant}}
 use Rattle.spki_decision.specs.declared.chain_requirement.ChainRequirement.{ChainRequirement}
+use Rattle.spki_decision.specs.{Granted.{Supported}, Requirements.{IsChainRequirement}}
 
 -- ---- the least not-after of windows
 

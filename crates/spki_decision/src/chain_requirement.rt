@@ -6,13 +6,10 @@
 
 ghost use Rattle.std.specs.Prelude.{◌≡◌, ◌↔◌, ◌≤◌, ◌<◌, ◌+◌, ◌++◌, ◌∷◌, [], true, List, length, IsTrue, IfOk};
 ghost use Rattle.spki_case.specs.View.{model};
-ghost use Rattle.spki_cert.specs.declared.window.Window.{Window};
+ghost use Rattle.spki_cert.specs.{declared.window.Window.{Window}, Cost.{entry_weight}};
 ghost use Rattle.spki_reduce.specs.Reduction.{Tuple, tags_of, windows_of, step_tuple, in_each, within_each};
 ghost use Rattle.spki_reduce.specs.Chain.{tuples_of, all_tags, all_windows};
-ghost use Rattle.spki_decision.specs.Granted.{Supported};
-ghost use Rattle.spki_decision.specs.Requirements.{IsChainRequirement};
-ghost use Rattle.spki_decision.specs.Until.{IsLeastEnd, HasEnd, IsUntil};
-ghost use Rattle.spki_cert.specs.Cost.{entry_weight};
+ghost use Rattle.spki_decision.specs.{Granted.{Supported}, Requirements.{IsChainRequirement}, Until.{IsLeastEnd, HasEnd, IsUntil}};
 ghost use Rattle.spki_decision.specs.Cost.{content_weight, contents_weight, tuples_weight};
 
 use crate::required_subject::{RequiredSubject, required_subject};

@@ -2,8 +2,7 @@
 
 ghost use Rattle.std.specs.Prelude.{◌≡◌, ◌<◌, ◌↔◌, ◌⊎◌, ℕ, IfOk, OnOk, IsErrOf, IsTrue};
 ghost use Rattle.spki_case.specs.View.{model};
-ghost use Rattle.spki_reduce.specs.Reduction.{five, entry_tuple};
-ghost use Rattle.spki_reduce.specs.Chain.{tuples_of, TooLargeAt, Takes};
+ghost use Rattle.spki_reduce.specs.{Reduction.{five, entry_tuple}, Chain.{tuples_of, TooLargeAt, Takes}};
 ghost use Rattle.spki_decision.specs.Granted.{IsYes, Names, HasLarge, SmallUpTo, IsTooLarge, IsDecision, IsUnrefused, IsCharge, IsOvercharged};
 ghost use Rattle.spki_decision.specs.Requirements.{work_left, IsBudgetFor};
 

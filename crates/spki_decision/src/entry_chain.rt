@@ -3,9 +3,7 @@
 ghost use Rattle.std.specs.Prelude.{◌≡◌, ◌⊎◌, ◌≤◌, ◌+◌, ℕ, [], length, IfOk, OnOk, IsErrOf};
 ghost use Rattle.spki_reduce.specs.Reduction.{five, own, entry_tuple, five_tuple, issuer_of};
 ghost use Rattle.spki_reduce.specs.Chain.{tuples_of, FoldsTo, StopsAt, HasMet, TooLargeAt, Excludes, MatchFold, Takes};
-ghost use Rattle.spki_decision.specs.Granted.{IsCharge, IsOvercharged};
-ghost use Rattle.spki_decision.specs.Cost.{AreTicksOfEntry};
-ghost use Rattle.spki_decision.specs.Requirements.{work_left, IsBudgetFor};
+ghost use Rattle.spki_decision.specs.{Granted.{IsCharge, IsOvercharged}, Cost.{AreTicksOfEntry}, Requirements.{work_left, IsBudgetFor}};
 
 use crate::budget::Budget;
 use spki_case::Case;

@@ -2,8 +2,7 @@
 
 ghost use Rattle.std.specs.Prelude.{◌↔◌, map, IfOk, IsTrue};
 ghost use Rattle.spki_case.specs.Case.{AreSigned};
-ghost use Rattle.spki_decision.specs.CertificateTests.{signed_of, IsAccepted, IsFirstRefused};
-ghost use Rattle.spki_decision.specs.Judged.{IsEvidence};
+ghost use Rattle.spki_decision.specs.{CertificateTests.{signed_of, IsAccepted, IsFirstRefused}, Judged.{IsEvidence}};
 
 use crate::examination::examine;
 use crate::signed::Signed;

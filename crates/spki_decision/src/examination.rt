@@ -2,10 +2,8 @@
 //! asked about. A value with many parts is freed by a call of `drop`, so that the proof does not go through its parts at each exit.
 
 ghost use Rattle.std.specs.Prelude.{◌≡◌, ◌++◌, ◌∷◌, [], List, map, IfOk, OnOk, IsSome};
-ghost use Rattle.spki_cert.specs.declared.principal.Policy.{Policy};
-ghost use Rattle.spki_cert.specs.declared.certificate.SeqItem.{SeqItem};
-ghost use Rattle.spki_reduce.specs.declared.tuple.Step.{Step};
-ghost use Rattle.spki_reduce.specs.Reduction.{step_tuple};
+ghost use Rattle.spki_cert.specs.declared.{principal.Policy.{Policy}, certificate.SeqItem.{SeqItem}};
+ghost use Rattle.spki_reduce.specs.{declared.tuple.Step.{Step}, Reduction.{step_tuple}};
 ghost use Rattle.spki_case.specs.Case.{AreSigned, certificates, keys_of};
 ghost use Rattle.spki_decision.specs.CertificateTests.{shown_of, signed_of, asked_in, every, tuple_of, certificate_of};
 ghost use Rattle.spki_decision.specs.Judged.{IsEvidence, IsUnverified, IsTested};

@@ -2,8 +2,7 @@
 
 ghost use Rattle.std.specs.Prelude.{◌≡◌, IfOk, IsErrOf};
 ghost use Rattle.spki_case.specs.View.{model};
-ghost use Rattle.spki_decision.specs.Granted.{SomeTooLarge};
-ghost use Rattle.spki_decision.specs.Explained.{IsExplanation, reason_of, TakesReasons, IsReasonFor, no_reasons};
+ghost use Rattle.spki_decision.specs.{Granted.{SomeTooLarge}, Explained.{IsExplanation, reason_of, TakesReasons, IsReasonFor, no_reasons}};
 
 use crate::evidence::{Evidence, Stop, judge};
 use crate::fault::GuardFault;

@@ -1,8 +1,7 @@
 //! Takes what the entries of an access list become, one after another (RFC 2693, section 6.3).
 
 ghost use Rattle.std.specs.Prelude.{◌≡◌, ◌∷◌, [], ◌++◌, suc, List, length, OnOk};
-ghost use Rattle.spki_decision.specs.declared.reduction.EntryFold.{EntryFold};
-ghost use Rattle.spki_decision.specs.Explained.{TakesFolds, no_folds};
+ghost use Rattle.spki_decision.specs.{declared.reduction.EntryFold.{EntryFold}, Explained.{TakesFolds, no_folds}};
 
 use crate::reduction::EntryFold;
 use std::alloc::{AllocError, Global};

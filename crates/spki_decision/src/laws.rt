@@ -2,27 +2,18 @@
 //! Each function is a law: it does nothing, and its contract is the fact.
 
 ghost use Rattle.std.specs.Prelude.{◌≡◌, ◌≢◌, ◌⊎◌, ℕ, suc, ◌<◌, ◌≤◌, ◌++◌, length, true, false, List, Result, Ok, Err, Some, slice_get, drop};
-ghost use Rattle.spki_case.specs.Case.{Case, Certificate, accepted_by, IsCaseText};
-ghost use Rattle.spki_decision.specs.declared.decision.Decision.{Decision};
-ghost use Rattle.spki_decision.specs.declared.decision.Decision.TheVariants.{Yes, No};
-ghost use Rattle.spki_decision.specs.declared.fault.GuardFault.{GuardFault};
-ghost use Rattle.spki_decision.specs.declared.explanation.Explanation.{Explanation};
-ghost use Rattle.spki_decision.specs.declared.reduction.Reduction.{Reduction};
-ghost use Rattle.spki_decision.specs.Granted.{Granted, IsTooLarge, strict, opened, IsDecision, IsUnrefused, IsSameReduction, Supported};
-ghost use Rattle.spki_decision.specs.Explained.{IsExplanation, IsSameExplanation, Agrees};
-ghost use Rattle.spki_decision.specs.Answered.{IsDecided, IsExplained, IsReduced, AreSame};
-ghost use Rattle.spki_cert.specs.declared.entry.Entry.{Entry};
-ghost use Rattle.spki_cert.specs.Time.{upto, is_until, within};
-ghost use Rattle.spki_tag.specs.Tag.{is_date};
-ghost use Rattle.spki_tag.specs.Request.{IsRequest};
-ghost use Rattle.spki_reduce.specs.Chain.{all_windows, TooLargeAt};
-ghost use Rattle.spki_reduce.specs.Reduction.{Tuple, five, entry_tuple, within_each};
 ghost use Rattle.std.specs.List.{AllZip};
-ghost use Rattle.spki_decision.specs.CertificateTests.{Signed, asked, IsAccepted, AgreeOn, with_entries};
+ghost use Rattle.spki_case.specs.Case.{Case, Certificate, accepted_by, IsCaseText};
+ghost use Rattle.spki_decision.specs.declared.{decision.Decision.{Decision, TheVariants.{Yes, No}}, fault.GuardFault.{GuardFault}};
+ghost use Rattle.spki_decision.specs.declared.{explanation.Explanation.{Explanation}, reduction.Reduction.{Reduction}, grant.Grant.{Grant}};
+ghost use Rattle.spki_decision.specs.Granted.{Granted, IsTooLarge, strict, opened, IsDecision, IsUnrefused, IsSameReduction, Supported};
+ghost use Rattle.spki_decision.specs.{Explained.{IsExplanation, IsSameExplanation, Agrees}, Answered.{IsDecided, IsExplained, IsReduced, AreSame}};
 ghost use Rattle.spki_decision.specs.Audited.{item_of, IsSignedByIssuer, IsHeldThroughout, IsHeldByAll, HaveIssuers, AreAmong, IsNarrower, IsNarrowerEntry, IsNarrowerCase, at_moment, AreTimely};
-ghost use Rattle.spki_decision.specs.declared.grant.Grant.{Grant};
-ghost use Rattle.spki_decision.specs.Until.{HoldsUntil};
+ghost use Rattle.spki_decision.specs.{CertificateTests.{Signed, asked, IsAccepted, AgreeOn, with_entries}, Until.{HoldsUntil}};
 ghost use Rattle.spki_decision.specs.Requirements.{IsLeftOut, IsKept, AreKept, kept_case, IsRenumbered, IsSameAnswer};
+ghost use Rattle.spki_cert.specs.{declared.entry.Entry.{Entry}, Time.{upto, is_until, within}};
+ghost use Rattle.spki_tag.specs.{Tag.{is_date}, Request.{IsRequest}};
+ghost use Rattle.spki_reduce.specs.{Chain.{all_windows, TooLargeAt}, Reduction.{Tuple, five, entry_tuple, within_each}};
 
 use spki_case::Verifier;
 

@@ -1,17 +1,12 @@
 //! What the entries of a case become (RFC 2693, section 6.3).
 
-ghost use Rattle.std.specs.Prelude.{◌≡◌, ◌<◌, List, map, length, IfOk, OnOk, IsErrOf, ◌⊎◌, ℕ};
-ghost use Rattle.std.specs.List.{AllByRecursion};
-ghost use Rattle.spki_case.specs.View.{model};
-ghost use Rattle.spki_decision.specs.CertificateTests.{shown_of, with_entries};
-ghost use Rattle.spki_case.specs.Case.{certificates};
-ghost use Rattle.spki_cert.specs.declared.entry.Entry.{Entry};
-ghost use Rattle.spki_reduce.specs.Reduction.{five, entry_tuple};
-ghost use Rattle.spki_reduce.specs.Chain.{tuples_of, TooLargeAt, Takes};
-ghost use Rattle.spki_decision.specs.declared.reduction.EntryFold.{EntryFold};
+ghost use Rattle.std.specs.{Prelude.{◌≡◌, ◌<◌, List, map, length, IfOk, OnOk, IsErrOf, ◌⊎◌, ℕ}, List.{AllByRecursion}};
+ghost use Rattle.spki_case.specs.{View.{model}, Case.{certificates}};
 ghost use Rattle.spki_decision.specs.Granted.{IsEntryFold, IsOwn, IsReduction, IsDated, EndsAtDate, AreDated, EndAtDates, AreFoldsOf, HasLargeTags, HasMuchWork, SomeTooLarge, IsCharge, IsOvercharged};
-ghost use Rattle.spki_decision.specs.Requirements.{work_left, IsBudgetFor};
-ghost use Rattle.spki_decision.specs.Cost.{AreTicksOfEntry, CountsSteps};
+ghost use Rattle.spki_decision.specs.{CertificateTests.{shown_of, with_entries}, declared.reduction.EntryFold.{EntryFold}};
+ghost use Rattle.spki_decision.specs.{Requirements.{work_left, IsBudgetFor}, Cost.{AreTicksOfEntry, CountsSteps}};
+ghost use Rattle.spki_cert.specs.declared.entry.Entry.{Entry};
+ghost use Rattle.spki_reduce.specs.{Reduction.{five, entry_tuple}, Chain.{tuples_of, TooLargeAt, Takes}};
 
 use crate::budget::Budget;
 use crate::certificates::{ShownCert, certificates_of};

@@ -1,12 +1,9 @@
 //! The subject that certificates require of an entry, whatever their tags and windows are (RFC 2693, sections 6.3 and 6.4).
 
 ghost use Rattle.std.specs.Prelude.{◌≡◌, ◌≢◌, ◌≤◌, ◌<◌, ◌+◌, ◌↔◌, ◌∷◌, ◌++◌, ℕ, List, drop, length, IsTrue, IfOk, IfNone, IfSome};
-ghost use Rattle.spki_reduce.specs.Reduction.{five, four, five_tuple, four_tuple, step_tuple};
-ghost use Rattle.spki_reduce.specs.Chain.{tuples_of};
-ghost use Rattle.spki_cert.specs.Naming.{names};
-ghost use Rattle.spki_cert.specs.Cost.{names_weight, principal_weight, subject_weight};
-ghost use Rattle.spki_decision.specs.Requirements.{Meets, IsRequiredBefore, IsRequiredBy};
-ghost use Rattle.spki_decision.specs.Cost.{path_weight, paths_weight};
+ghost use Rattle.spki_reduce.specs.{Reduction.{five, four, five_tuple, four_tuple, step_tuple}, Chain.{tuples_of}};
+ghost use Rattle.spki_cert.specs.{Naming.{names}, Cost.{names_weight, principal_weight, subject_weight}};
+ghost use Rattle.spki_decision.specs.{Requirements.{Meets, IsRequiredBefore, IsRequiredBy}, Cost.{path_weight, paths_weight}};
 
 use spki_cert::{Key, Names, Octets, Policy, Principal, Subject};
 use spki_reduce::{Five, Four, Issuer, Step};

@@ -1,12 +1,9 @@
 //! The keys of a sequence, which are found by their digests.
 
-ghost use Rattle.std.specs.Prelude.{◌≡◌, ◌∷◌, [], ℕ, List, IfOk, OnOk, IfSome, find};
-ghost use Rattle.std.specs.Option.{option_or};
-ghost use Rattle.spki_cert.specs.declared.hash.HashAlg.{HashAlg};
-ghost use Rattle.spki_cert.specs.Naming.{digest_of, is_digest};
-ghost use Rattle.spki_decision.specs.CertificateTests.{issuer_key};
+ghost use Rattle.std.specs.{Prelude.{◌≡◌, ◌∷◌, [], ℕ, List, IfOk, OnOk, IfSome, find}, Option.{option_or}};
+ghost use Rattle.spki_cert.specs.{declared.hash.HashAlg.{HashAlg}, Naming.{digest_of, is_digest}};
+ghost use Rattle.spki_decision.specs.{CertificateTests.{issuer_key}, Judged.{HasFirstKeys}};
 ghost use Rattle.spki_case.specs.Lookups.{at_digest};
-ghost use Rattle.spki_decision.specs.Judged.{HasFirstKeys};
 
 use spki_cert::{HashAlg, Key, Policy, Principal};
 use std::alloc::{AllocError, Global};

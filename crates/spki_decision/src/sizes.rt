@@ -2,10 +2,8 @@
 
 ghost use Rattle.std.specs.Prelude.{◌≡◌, ◌≤◌, ◌<◌, ◌⊎◌, false, true, MatchOption};
 ghost use Rattle.spki_tag.specs.Tag.{tags, some_nests_set};
-ghost use Rattle.spki_reduce.specs.Reduction.{tags_of, step_tuple, nodes_product};
-ghost use Rattle.spki_reduce.specs.Chain.{tuples_of, all_tags};
-ghost use Rattle.spki_decision.specs.Requirements.{AreSizes, ArePlain};
-ghost use Rattle.spki_decision.specs.Spared.{nodes_in, nodes_together, has_small_product, is_plain, is_spared};
+ghost use Rattle.spki_reduce.specs.{Reduction.{tags_of, step_tuple, nodes_product}, Chain.{tuples_of, all_tags}};
+ghost use Rattle.spki_decision.specs.{Requirements.{AreSizes, ArePlain}, Spared.{nodes_in, nodes_together, has_small_product, is_plain, is_spared}};
 
 use spki_reduce::Step;
 use spki_tag::Tag;

@@ -2,33 +2,22 @@
 -- large, and for cases and accepted lists that are read from canonical texts.
 use Rattle.std.proofs.Common.{◌≡◌, ◌≢◌, inl, inr, List, [], ◌∷◌, Option, Some, None, MatchOption, sym, ap, ◌∙◌, rules, ℕ, refl, Result, Ok, Err, IfErr, subst, IfOk}
 use Rattle.std.specs.Prelude.{codes, IsErrAnd}
-use Rattle.sexpr_core.specs.Value.{Value, canon}
-use Rattle.spki_tag.specs.declared.fault.TagFault.{TagFault}
-use Rattle.spki_tag.specs.declared.fault.TagFault.TheVariants as tag_faults
-use Rattle.spki_tag.specs.Faults.{IsNamed, tag_fault}
-use Rattle.spki_tag.specs.Reading.{ReadsAs, IsNoTag}
-use Rattle.spki_tag.specs.Tag.{Tag}
+use Rattle.sexpr_core.specs.{Value.{Value, canon}, declared.fault.FormFault.{FormFault}}
+use Rattle.spki_tag.specs.{declared.fault.TagFault.{TagFault}, Faults.{IsNamed, tag_fault}, Reading.{ReadsAs, IsNoTag}, Tag.{Tag}}
 use Rattle.spki_tag.proofs.Named.{named-sure}
-use Rattle.spki_case.specs.Case.{headed, IsOuter, Case, accepted_by, IsCaseText, IsTextOf}
-use Rattle.spki_guard.specs.Intersect.{intersect_value, ValueNotMet}
-use Rattle.spki_guard.specs.declared.intersection.IntersectFault.{IntersectFault}
-use Rattle.spki_guard.specs.declared.intersection.IntersectFault.TheVariants as intersect
-use Rattle.spki_guard.specs.declared.intersection.Operands.{Operands}
-use Rattle.spki_case.proofs.Building.{behind_head}
-use Rattle.spki_case.proofs.OneCase.{one_text}
-use Rattle.spki_decision.specs.declared.fault.GuardFault.{GuardFault}
-use Rattle.spki_decision.specs.declared.fault.GuardFault.TheVariants as guard
-use Rattle.spki_words.specs.declared.commands.Command.{Command}
-use Rattle.spki_guard.specs.declared.refusals.Refusal.{Refusal}
-use Rattle.spki_guard.specs.declared.refusals.Refusal.TheVariants as refusals
+use Rattle.spki_case.{specs.Case.{headed, IsOuter, Case, accepted_by, IsCaseText, IsTextOf}, proofs.{Building.{behind_head}, OneCase.{one_text}}}
+use Rattle.spki_guard.specs.declared.{intersection.{IntersectFault.{IntersectFault}, Operands.{Operands}}, refusals.Refusal.{Refusal}}
+use Rattle.spki_guard.specs.declared.{queries.Query.{Query}, answers.Answer.{Answer}}
 use Rattle.spki_guard.specs.TextAnswers.{RefusesValue, HasTooLarge, IsOnCase, AnswersValue, AnswersRead, RefusesAnswer, ReadsCase, DecidesApart, DecidesBy, RefusesApart, RefusesBy}
-use Rattle.sexpr_core.specs.declared.fault.FormFault.{FormFault}
-use Rattle.sexpr_text.specs.AdvancedForm.{IsTextWithin}
-use Rattle.sexpr_text.specs.CanonicalTexts.{IsReadAs, RefusesForm}
-use Rattle.spki_guard.specs.declared.queries.Query.{Query}
+use Rattle.spki_guard.specs.{Intersect.{intersect_value, ValueNotMet}, Inner.Prints.{PrintsAs, command_of}}
+use Rattle.spki_decision.specs.declared.fault.GuardFault.{GuardFault}
+use Rattle.spki_words.specs.declared.commands.Command.{Command}
+use Rattle.sexpr_text.specs.{AdvancedForm.{IsTextWithin}, CanonicalTexts.{IsReadAs, RefusesForm}}
+use Rattle.spki_tag.specs.declared.fault.TagFault.TheVariants as tag_faults
+use Rattle.spki_guard.specs.declared.intersection.IntersectFault.TheVariants as intersect
+use Rattle.spki_decision.specs.declared.fault.GuardFault.TheVariants as guard
+use Rattle.spki_guard.specs.declared.refusals.Refusal.TheVariants as refusals
 use Rattle.spki_guard.specs.declared.queries.Query.TheVariants as query
-use Rattle.spki_guard.specs.declared.answers.Answer.{Answer}
-use Rattle.spki_guard.specs.Inner.Prints.{PrintsAs, command_of}
 
 -- ---- the two operands of an intersection
 

@@ -1,38 +1,24 @@
 -- Answers to a question that is asked of a guard: those of its case. There is one, unless memory ran out.
 use Rattle.std.proofs.Common.{◌≡◌, ◌≢◌, ◌⊎◌, ◌↔◌, ◌<◌, ◌≤◌, ℕ, List, [], Bool, IsTrue, Option, Some, None, IsSome, length, inl, inr, refl, ap, ◌∙◌, subst, arith, rules, Ok, Err, sym}
 use Rattle.spki_case.specs.Case.{Case}
-use Rattle.spki_decision.specs.declared.decision.Decision.{Decision}
-use Rattle.spki_decision.specs.CertificateTests.{every, with_entries}
-use Rattle.spki_decision.specs.declared.grant.Grant.{Grant}
-use Rattle.spki_decision.specs.Until.{decision_of}
-use Rattle.spki_decision.specs.declared.explanation.Explanation.{Explanation}
-use Rattle.spki_decision.specs.Explained.{IsSameExplanation}
-use Rattle.spki_decision.specs.declared.fault.GuardFault.TheVariants.{TooLarge}
-use Rattle.spki_service.specs.AccessLists.{GuardModel, AreEntries}
-use Rattle.spki_service.specs.GuardQuestions.{PreparedModel, Decides, DecidesMarked, GrantsMarked, ExplainsMarked, ReducesMarked, AreReducedMarked, IsReadFrom, IsOpened, AreReduced}
-use Rattle.spki_service.specs.Questions.{certificates_in, HasFewStrings, IsRefused, IsAskedCase, asked_octets}
-use Rattle.spki_service.specs.declared.owned_question.OwnedQuestion.{OwnedQuestion}
-use Rattle.spki_service.specs.declared.question.Question.{Question}
-use Rattle.spki_service.specs.declared.question.AskFault.{AskFault}
-use Rattle.spki_service.specs.declared.question.AskFault.TheVariants as faults
-use Rattle.spki_guard.specs.declared.printed.Printed.{Printed}
-use Rattle.spki_guard.specs.declared.answers.Verdict.{Verdict}
-use Rattle.spki_guard.specs.declared.answers.Verdict.TheVariants.{Done, No, Refused}
-use Rattle.spki_guard.specs.declared.queries.Query.{Query}
-use Rattle.spki_guard.specs.declared.queries.Query.TheVariants.{Decide, Explain, Reduce}
-use Rattle.spki_guard.specs.TextAnswers.{written_by, IsLineOf, RefusesForMemory}
-use Rattle.spki_guard.specs.HeldQuestions.{ReadsQuestion, AnswersAsked, IsUnreadQuestion, IsAnswerHeld, HasGrant, GrantsHeld, MayGrant, IsUnreadFor, WritesAsked, IsTooLargeFor, AnswersHeld, beside}
-use Rattle.spki_guard.specs.Lines.{refused_question, refused_memory, ReportsReduced, IsExplanationReport}
-use Rattle.spki_cert.specs.declared.entry.Entry.{Entry}
-use Rattle.spki_decision.specs.declared.reduction.EntryFold.{EntryFold}
+use Rattle.spki_decision.specs.declared.{decision.Decision.{Decision}, grant.Grant.{Grant}, explanation.Explanation.{Explanation}}
+use Rattle.spki_decision.specs.declared.{fault.GuardFault.TheVariants.{TooLarge}, reduction.EntryFold.{EntryFold}}
+use Rattle.spki_decision.specs.{CertificateTests.{every, with_entries}, Until.{decision_of}, Explained.{IsSameExplanation}}
 use Rattle.spki_decision.specs.Granted.{SomeTooLarge, IsYes}
-use Rattle.spki_decision.proofs.OneDecision.{explained_one, explained_small, folds_small, one_answer}
-use Rattle.spki_service.proofs.MarkedPlaces.{by_both}
-use Rattle.spki_service.proofs.AnswerLaws.{decided_marked_one, marked_one}
-use Rattle.spki_decision.proofs.Explanations.{one_failure}
+use Rattle.spki_decision.proofs.{OneDecision.{explained_one, explained_small, folds_small, one_answer}, Explanations.{one_failure}}
+use Rattle.spki_service.specs.GuardQuestions.{PreparedModel, Decides, DecidesMarked, GrantsMarked, ExplainsMarked, ReducesMarked, AreReducedMarked, IsReadFrom, IsOpened, AreReduced}
+use Rattle.spki_service.specs.declared.{owned_question.OwnedQuestion.{OwnedQuestion}, question.{Question.{Question}, AskFault.{AskFault}}}
 use Rattle.spki_service.specs.declared.failure.Failure.{Failure}
-use Rattle.spki_service.proofs.OneAsking.{case-one, unrefused-one, refusal-one}
+use Rattle.spki_service.specs.{AccessLists.{GuardModel, AreEntries}, Questions.{certificates_in, HasFewStrings, IsRefused, IsAskedCase, asked_octets}}
+use Rattle.spki_service.proofs.{MarkedPlaces.{by_both}, AnswerLaws.{decided_marked_one, marked_one}, OneAsking.{case-one, unrefused-one, refusal-one}}
+use Rattle.spki_guard.specs.declared.{printed.Printed.{Printed}, answers.Verdict.{Verdict, TheVariants.{Done, No, Refused}}}
+use Rattle.spki_guard.specs.declared.queries.Query.{Query, TheVariants.{Decide, Explain, Reduce}}
+use Rattle.spki_guard.specs.HeldQuestions.{ReadsQuestion, AnswersAsked, IsUnreadQuestion, IsAnswerHeld, HasGrant, GrantsHeld, MayGrant, IsUnreadFor, WritesAsked, IsTooLargeFor, AnswersHeld, beside}
+use Rattle.spki_guard.specs.TextAnswers.{written_by, IsLineOf, RefusesForMemory}
+use Rattle.spki_guard.specs.Lines.{refused_question, refused_memory, ReportsReduced, IsExplanationReport}
 use Rattle.spki_guard.proofs.OneLine.{decision_line, explanation_line, reported_line}
+use Rattle.spki_cert.specs.declared.entry.Entry.{Entry}
+use Rattle.spki_service.specs.declared.question.AskFault.TheVariants as faults
 
 -- ---- answers to questions that are asked of a guard, from those of the questions' cases
 

@@ -1,7 +1,6 @@
 -- Lines of the worked examples, as the definitions compute them.
 use Rattle.std.proofs.Common.{◌≡◌, [], ◌∷◌, ◌++◌, codes, refl}
-use Rattle.sexpr_core.specs.declared.fault.FormFault.TheVariants.{Short, Bad, Trailing}
-use Rattle.sexpr_core.specs.Value.{decimal}
+use Rattle.sexpr_core.specs.{declared.fault.FormFault.TheVariants.{Short, Bad, Trailing}, Value.{decimal}}
 use Rattle.spki_tag.specs.declared.fault.TagFault.TheVariants.{RangeOrdering}
 use Rattle.spki_guard.specs.Lines.{yes_entry, no_line, refused_memory, refused_part, refused_item, refused_tag, refused_form, tag_kind}
 

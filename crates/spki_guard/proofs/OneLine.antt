@@ -3,40 +3,26 @@ use Rattle.std.proofs.Common.{◌≡◌, ◌≢◌, ℕ, ◌*◌, ◌<◌, ◌�
 use Rattle.std.specs.Prelude.{codes}
 use Rattle.sexpr_core.specs.Value.{Value, canon}
 use Rattle.sexpr_text.specs.AdvancedForm.{adv, IsTextWithin}
-use Rattle.spki_tag.specs.Tag.{Tag, tag_value, nodes}
-use Rattle.spki_tag.specs.Meet.{meet}
-use Rattle.spki_tag.specs.Reading.{ReadsAs}
-use Rattle.spki_tag.proofs.TagReading.{reading-one}
+use Rattle.spki_tag.{specs.{Tag.{Tag, tag_value, nodes}, Meet.{meet}, Reading.{ReadsAs}}, proofs.TagReading.{reading-one}}
 use Rattle.spki_case.specs.Case.{Case, accepted_by, IsCaseText}
-use Rattle.spki_case.proofs.Building.{behind_head}
-use Rattle.spki_case.proofs.OneCase.{text-one, one_text, well_formed, case_unrefused}
-use Rattle.spki_decision.specs.declared.decision.Decision.{Decision}
-use Rattle.spki_decision.specs.declared.decision.Decision.TheVariants as decision
-use Rattle.spki_decision.specs.declared.fault.GuardFault.{GuardFault}
-use Rattle.spki_decision.specs.declared.fault.GuardFault.TheVariants.{TooLarge}
-use Rattle.spki_decision.specs.declared.reduction.Reduction.{Reduction}
-use Rattle.spki_decision.specs.declared.reduction.Reduction.TheVariants as reduction
-use Rattle.spki_decision.specs.declared.reduction.EntryFold.{EntryFold}
-use Rattle.spki_decision.specs.declared.explanation.Explanation.{Explanation}
-use Rattle.spki_decision.specs.declared.explanation.Explanation.TheVariants as explanation
-use Rattle.spki_decision.specs.declared.explanation.Reason.{Reason}
-use Rattle.spki_decision.specs.Explained.{IsSameExplanation}
-use Rattle.spki_decision.specs.Granted.{IsSameReduction}
-use Rattle.spki_decision.specs.Answered.{IsDecided, IsExplained, IsReduced, AreSame}
+use Rattle.spki_case.proofs.{Building.{behind_head}, OneCase.{text-one, one_text, well_formed, case_unrefused}}
+use Rattle.spki_decision.specs.declared.{decision.Decision.{Decision}, fault.GuardFault.{GuardFault, TheVariants.{TooLarge}}}
+use Rattle.spki_decision.specs.declared.reduction.{Reduction.{Reduction}, EntryFold.{EntryFold}}
+use Rattle.spki_decision.specs.declared.explanation.{Explanation.{Explanation}, Reason.{Reason}}
+use Rattle.spki_decision.specs.{Explained.{IsSameExplanation}, Granted.{IsSameReduction}, Answered.{IsDecided, IsExplained, IsReduced, AreSame}}
 use Rattle.spki_decision.proofs.OneDecision.{decided_one, explained_one, explained_small, reduced_one, reduced_small, own_of_text, not_both}
-use Rattle.spki_service.proofs.OneAsking.{text_one}
-use Rattle.spki_words.specs.declared.commands.Command.{Command}
-use Rattle.spki_words.specs.declared.commands.Command.TheVariants.{Intersect, Reduce, Check, Explain}
-use Rattle.spki_guard.specs.declared.refusals.Refusal.{Refusal}
-use Rattle.spki_guard.specs.declared.refusals.Refusal.TheVariants as refusals
-use Rattle.spki_guard.specs.declared.answers.Verdict.{Verdict}
-use Rattle.spki_guard.specs.declared.intersection.IntersectFault.{IntersectFault}
-use Rattle.spki_guard.specs.declared.intersection.IntersectFault.TheVariants as intersect
+use Rattle.spki_service.{proofs.OneAsking.{text_one}, specs.declared.failure.Failure.{Failure}}
+use Rattle.spki_words.specs.declared.commands.Command.{Command, TheVariants.{Intersect, Reduce, Check, Explain}}
+use Rattle.spki_guard.specs.declared.{refusals.Refusal.{Refusal}, answers.Verdict.{Verdict}, intersection.IntersectFault.{IntersectFault}}
 use Rattle.spki_guard.specs.Lines.{item_line, ReportsFolds, IsReductionReport, ReportsReduced, ReportsReasons, IsExplanationReport}
-use Rattle.spki_service.specs.declared.failure.Failure.{Failure}
-use Rattle.spki_guard.proofs.ReportLines.{folds_once}
-use Rattle.spki_guard.specs.Intersect.{intersect_value, Intersects, AreTooLarge, ValueNotMet, IsMetText, TextNotMet}
 use Rattle.spki_guard.specs.TextAnswers.{IsLineOf, Decides, Reduces, Explains, WritesMeet, HasTooLarge, IsOnCase, AnswersValue, AnswersRead, RefusesValue, RefusesAnswer}
+use Rattle.spki_guard.specs.Intersect.{intersect_value, Intersects, AreTooLarge, ValueNotMet, IsMetText, TextNotMet}
+use Rattle.spki_guard.proofs.ReportLines.{folds_once}
+use Rattle.spki_decision.specs.declared.decision.Decision.TheVariants as decision
+use Rattle.spki_decision.specs.declared.reduction.Reduction.TheVariants as reduction
+use Rattle.spki_decision.specs.declared.explanation.Explanation.TheVariants as explanation
+use Rattle.spki_guard.specs.declared.refusals.Refusal.TheVariants as refusals
+use Rattle.spki_guard.specs.declared.intersection.IntersectFault.TheVariants as intersect
 
 -- the same verdict and output
 abbrev Same : Verdict → Verdict → List ℕ → List ℕ → Type 0

@@ -1,39 +1,27 @@
 -- A text has one refusal, and a case with a separate accepted list has one answer, unless memory ran out.
 use Rattle.std.proofs.Common.{◌≡◌, ◌≢◌, ℕ, ◌+◌, ◌<◌, inl, inr, List, [], ◌++◌, length, take, drop, Some, refl, sym, ap, subst, ◌∙◌, arith, append-nil, length-drop, rules, Result, Ok}
 use Rattle.std.proofs.lemmas.List.{take-append-drop}
-use Rattle.sexpr_core.specs.declared.fault.FormFault.{FormFault}
-use Rattle.sexpr_core.specs.declared.fault.FormFault.TheVariants.{TooLong, TooDeep, Short, Bad, Trailing, Memory}
-use Rattle.sexpr_core.specs.Reading.{Begins, Front, IsCanon, IsShallowText, Refused}
-use Rattle.sexpr_core.specs.Value.{Value, canon, IsShallow}
-use Rattle.sexpr_core.proofs.Refusals.{shallow_text}
-use Rattle.sexpr_core.proofs.Texts.{canon_one}
-use Rattle.sexpr_text.specs.AdvancedForm.{IsTextWithin}
-use Rattle.spki_tag.specs.declared.fault.TagFault.{TagFault}
-use Rattle.spki_tag.specs.Faults.{tag_fault}
+use Rattle.sexpr_core.specs.declared.fault.FormFault.{FormFault, TheVariants.{TooLong, TooDeep, Short, Bad, Trailing, Memory}}
+use Rattle.sexpr_core.specs.{Reading.{Begins, Front, IsCanon, IsShallowText, Refused}, Value.{Value, canon, IsShallow}}
+use Rattle.sexpr_core.proofs.{Refusals.{shallow_text}, Texts.{canon_one}}
+use Rattle.sexpr_text.specs.{AdvancedForm.{IsTextWithin}, CanonicalTexts.{RefusesForm}}
+use Rattle.spki_tag.specs.{declared.fault.TagFault.{TagFault}, Faults.{tag_fault}}
 use Rattle.spki_case.specs.Case.{Case, accepted_by, ValueRefused, TextRefused, Row, IsCaseText}
-use Rattle.spki_case.specs.declared.cases.CaseFault.{CaseFault}
-use Rattle.spki_case.specs.declared.cases.CaseFault.TheVariants as case_faults
-use Rattle.spki_case.proofs.OneCase.{one-fault, one_text, well_formed, case_unrefused, one-rows_fault, text-one, rows_unrefused, one_list}
-use Rattle.spki_words.specs.declared.commands.Command.{Command}
-use Rattle.spki_words.specs.declared.commands.Command.TheVariants.{Intersect, Reduce, Check, Explain}
-use Rattle.spki_guard.specs.declared.refusals.Refusal.{Refusal}
-use Rattle.spki_guard.specs.declared.refusals.Refusal.TheVariants as refusals
-use Rattle.sexpr_text.specs.CanonicalTexts.{RefusesForm}
-use Rattle.spki_service.proofs.OneAsking.{text_one, refuses_one}
-use Rattle.spki_guard.specs.declared.intersection.IntersectFault.{IntersectFault}
-use Rattle.spki_guard.specs.declared.intersection.IntersectFault.TheVariants as intersect
-use Rattle.spki_guard.specs.Intersect.{ValueNotMet, TextNotMet}
-use Rattle.spki_guard.specs.TextAnswers.{IsOnCase, HasTooLarge, RefusesValue, RefusesRead, RefusesAnswer, IsLineOf, ReadsCase, ReadsRows, LacksCase, RefusesRows, DecidesApart, DecidesBy, IsUndecidedBy, RefusesApart}
-use Rattle.spki_guard.proofs.OneLine.{large_one, operands, decision_line}
+use Rattle.spki_case.specs.declared.{cases.CaseFault.{CaseFault}, rows.RowsFault.{RowsFault}}
 use Rattle.spki_case.specs.RowsForm.{IsRowsText, NoRows, RowsTextRefused, stated_by}
-use Rattle.spki_case.specs.declared.rows.RowsFault.{RowsFault}
-use Rattle.spki_case.specs.declared.rows.RowsFault.TheVariants as rows_faults
-use Rattle.spki_decision.specs.declared.decision.Decision.{Decision}
-use Rattle.spki_decision.specs.declared.fault.GuardFault.{GuardFault}
-use Rattle.spki_decision.specs.Granted.{IsTooLarge}
-use Rattle.spki_decision.specs.Answered.{IsDecided}
+use Rattle.spki_case.proofs.OneCase.{one-fault, one_text, well_formed, case_unrefused, one-rows_fault, text-one, rows_unrefused, one_list}
+use Rattle.spki_words.specs.declared.commands.Command.{Command, TheVariants.{Intersect, Reduce, Check, Explain}}
+use Rattle.spki_guard.specs.declared.{refusals.Refusal.{Refusal}, intersection.IntersectFault.{IntersectFault}, answers.Verdict.{Verdict}}
+use Rattle.spki_guard.specs.TextAnswers.{IsOnCase, HasTooLarge, RefusesValue, RefusesRead, RefusesAnswer, IsLineOf, ReadsCase, ReadsRows, LacksCase, RefusesRows, DecidesApart, DecidesBy, IsUndecidedBy, RefusesApart}
+use Rattle.spki_guard.specs.Intersect.{ValueNotMet, TextNotMet}
+use Rattle.spki_guard.proofs.OneLine.{large_one, operands, decision_line}
+use Rattle.spki_service.proofs.OneAsking.{text_one, refuses_one}
+use Rattle.spki_decision.specs.{declared.{decision.Decision.{Decision}, fault.GuardFault.{GuardFault}}, Granted.{IsTooLarge}, Answered.{IsDecided}}
 use Rattle.spki_decision.proofs.OneDecision.{decided_one, of_text, not_both}
-use Rattle.spki_guard.specs.declared.answers.Verdict.{Verdict}
+use Rattle.spki_case.specs.declared.cases.CaseFault.TheVariants as case_faults
+use Rattle.spki_guard.specs.declared.refusals.Refusal.TheVariants as refusals
+use Rattle.spki_guard.specs.declared.intersection.IntersectFault.TheVariants as intersect
+use Rattle.spki_case.specs.declared.rows.RowsFault.TheVariants as rows_faults
 
 -- ---- a text has one refusal of a command, unless memory ran out
 

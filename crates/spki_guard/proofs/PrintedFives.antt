@@ -2,13 +2,10 @@
 use Rattle.std.proofs.Common.{◌≡◌, ◌≢◌, ℕ, ◌+◌, List, [], ◌∷◌, ◌++◌, take, slice_get, Option, Some, None, refl, sym, ap, ◌∙◌, append_assoc, rules}
 use Rattle.std.specs.Prelude.{codes}
 use Rattle.sexpr_core.specs.Value.{Value, values, plain}
-use Rattle.sexpr_text.specs.AdvancedForm.{printed_string, adv}
-use Rattle.sexpr_text.proofs.Printed.{past_first}
+use Rattle.sexpr_text.{specs.AdvancedForm.{printed_string, adv}, proofs.Printed.{past_first}}
 use Rattle.spki_tag.specs.Tag.{Tag, tag_value}
-use Rattle.spki_cert.specs.declared.window.Window.{Window}
-use Rattle.spki_reduce.specs.Written.{headed, named, limit_values, in_valid, window_limits}
-use Rattle.spki_cert.specs.Fields.{plains}
-use Rattle.spki_reduce.proofs.WrittenNames.{names_more}
+use Rattle.spki_cert.specs.{declared.window.Window.{Window}, Fields.{plains}}
+use Rattle.spki_reduce.{specs.Written.{headed, named, limit_values, in_valid, window_limits}, proofs.WrittenNames.{names_more}}
 use Rattle.spki_guard.proofs.PrintedTags.{spaced, spaced_append, spaced_one}
 
 five_begins : (vs : List Value) → adv (headed (codes "five") vs) ≡ codes "(five" ++ (spaced vs ++ 41 ∷ [])

@@ -1,10 +1,9 @@
 -- Tags in advanced form, member by member.
 use Rattle.std.proofs.Common.{◌≡◌, ℕ, suc, ◌+◌, ◌<◌, List, [], ◌∷◌, ◌++◌, Option, length, map, take, get_or, refl, sym, ap, ◌∙◌, append_assoc, append-nil, arith, rules}
-use Rattle.std.specs.Prelude.{codes}
 use Rattle.std.proofs.lemmas.List.{take_more, map-append}
+use Rattle.std.specs.Prelude.{codes}
 use Rattle.sexpr_core.specs.Value.{Value, plain, values}
-use Rattle.sexpr_text.specs.AdvancedForm.{printed_string, adv, adv_all}
-use Rattle.sexpr_text.proofs.Printed.{adv_all-append, past_first}
+use Rattle.sexpr_text.{specs.AdvancedForm.{printed_string, adv, adv_all}, proofs.Printed.{adv_all-append, past_first}}
 use Rattle.spki_tag.proofs.TagReading.{tag_values-tags}
 use Rattle.spki_tag.specs.Tag.{Tag, Limit, Ordering, tags, star, prefix, range, list, set, ordering_name, limit_values, tag_value, tag_values}
 

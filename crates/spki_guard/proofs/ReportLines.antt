@@ -1,27 +1,19 @@
 -- The lines of entries: their numbers and words, one line behind another, and what a printer of folds has of them.
 use Rattle.std.proofs.Common.{◌≡◌, ℕ, zero, suc, ◌<◌, ◌^◌, [], ◌∷◌, refl, sym, ◌∙◌, arith, ◌+◌, List, ◌++◌, length, take, get_or, map, ap, append_assoc, append-nil, length-take-le, rules, false, Option, Some, None, IfSome, subst, Bool, true, ◌||◌, true≢false}
-use Rattle.std.proofs.lemmas.Fmt.{decimal-digits_of}
-use Rattle.std.specs.Fmt.{digits}
-use Rattle.std.specs.Fmt as std_fmt
-use Rattle.sexpr_core.proofs.Texts.{decimal_zero, decimal_suc}
-use Rattle.sexpr_core.specs.Value.{decimal, Value}
-use Rattle.std.specs.Prelude.{codes}
-use Rattle.std.proofs.lemmas.List.{take_more, length-append, flat_map_more}
-use Rattle.std.specs.List.{flat_map}
+use Rattle.std.proofs.lemmas.{Fmt.{decimal-digits_of}, List.{take_more, length-append, flat_map_more}}
+use Rattle.std.specs.{Fmt.{digits}, Prelude.{codes}, List.{flat_map}}
+use Rattle.sexpr_core.{proofs.Texts.{decimal_zero, decimal_suc}, specs.Value.{decimal, Value}}
 use Rattle.spki_guard.specs.Lines.{line, entry_line, reason_line, verdict_of, IsFoldLine, AreFoldLines, ReportsFolds, some_done, reason_lines, no_entries, is_done}
+use Rattle.spki_guard.specs.declared.answers.{Verdict.{Verdict, TheVariants.{No}}, Answer.{Answer}}
+use Rattle.spki_guard.specs.declared.answers.Output.{Output, TheVariants.{Octets, Line, Made, Tag, Item, NoEntries, Folds, Reasons}}
+use Rattle.spki_guard.specs.declared.fold_printer.FoldPrinter.{FoldPrinter}
+use Rattle.spki_guard.specs.Inner.Prints.{PrintsOutput, Prints, HasPrinted, AreLongFolds}
 use Rattle.sexpr_text.specs.AdvancedForm.{adv}
 use Rattle.spki_reduce.proofs.Uniqueness.{written_one}
-use Rattle.spki_decision.specs.declared.reduction.EntryFold.{EntryFold}
+use Rattle.spki_decision.specs.declared.{reduction.EntryFold.{EntryFold}, explanation.Reason.{Reason}}
+use Rattle.std.specs.Fmt as std_fmt
 use Rattle.spki_decision.specs.declared.reduction.EntryFold.TheVariants as folded
-use Rattle.spki_decision.specs.declared.explanation.Reason.{Reason}
-use Rattle.spki_guard.specs.declared.answers.Verdict.{Verdict}
-use Rattle.spki_guard.specs.declared.answers.Answer.{Answer}
 use Rattle.spki_guard.specs.declared.answers.Answer.TheVariants as answer
-use Rattle.spki_guard.specs.declared.answers.Output.{Output}
-use Rattle.spki_guard.specs.declared.answers.Output.TheVariants.{Octets, Line, Made, Tag, Item, NoEntries, Folds, Reasons}
-use Rattle.spki_guard.specs.Inner.Prints.{PrintsOutput, Prints, HasPrinted, AreLongFolds}
-use Rattle.spki_guard.specs.declared.fold_printer.FoldPrinter.{FoldPrinter}
-use Rattle.spki_guard.specs.declared.answers.Verdict.TheVariants.{No}
 
 -- ---- decimal numbers, as the definition has them and as std writes them
 

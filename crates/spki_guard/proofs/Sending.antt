@@ -1,24 +1,18 @@
 -- What is sent: the answer that it is, the status that it has, and where writing page by page ends.
 use Rattle.std.proofs.Common.{◌≡◌, ℕ, List, Option, Bool, IsTrue, inl, inr, ◌⊎◌, refl, subst, sym, ◌∙◌, rules, ◌+◌, ◌<◌, ◌≤◌, max, [], ◌++◌, length, true, false, Result, Ok, Err, OnErr, ap, append_assoc, arith}
-use Rattle.spki_words.specs.declared.commands.Command.{Command}
-use Rattle.spki_guard.specs.declared.answers.Verdict.{Verdict}
-use Rattle.spki_guard.specs.declared.answers.Verdict.TheVariants.{Refused}
-use Rattle.spki_guard.specs.TextAnswers.{IsReply, IsAnswer, RefusesAnswer, IsAnswerApart, RefusesApart, RefusesAsLong, RefusesLong, RefusesForMemory, IsWritten, IsCutOff, IsFaulty}
-use Rattle.spki_guard.specs.declared.answers.Answer.{Answer}
-use Rattle.spki_guard.specs.declared.answers.Answer.TheVariants as answer
-use Rattle.sexpr_core.specs.declared.fault.FormFault.TheVariants.{TooLong}
-use Rattle.spki_guard.specs.declared.refusals.Refusal.{Refusal}
-use Rattle.spki_guard.specs.declared.refusals.Refusal.TheVariants as refusals
-use Rattle.spki_guard.specs.Lines.{refused_line}
-use Rattle.spki_guard.specs.Inner.Prints.{answer_verdict, Prints, PrintsAs, Sends}
-use Rattle.metered_io.specs.declared.meters.Metered.{Metered}
-use Rattle.metered_io.specs.MeteredCalls.{inner_of, faults_of, counted, asks_of, Takes, TakesNone, SendsFront}
-use Rattle.spki_guard.specs.declared.statuses.Status.{Status}
-use Rattle.spki_guard.specs.declared.statuses.Status.TheVariants.{Answered, ReadFault, WriteFault}
 use Rattle.std.proofs.KnownBytes.{Appends-trans}
-use Rattle.metered_io.proofs.Sent.{SendsFront-all}
-use Rattle.spki_guard.specs.declared.pages.PageSink.{PageSink}
+use Rattle.spki_words.specs.declared.commands.Command.{Command}
+use Rattle.spki_guard.specs.declared.{answers.{Verdict.{Verdict, TheVariants.{Refused}}, Answer.{Answer}}, refusals.Refusal.{Refusal}}
+use Rattle.spki_guard.specs.declared.{statuses.Status.{Status, TheVariants.{Answered, ReadFault, WriteFault}}, pages.PageSink.{PageSink}}
+use Rattle.spki_guard.specs.TextAnswers.{IsReply, IsAnswer, RefusesAnswer, IsAnswerApart, RefusesApart, RefusesAsLong, RefusesLong, RefusesForMemory, IsWritten, IsCutOff, IsFaulty}
+use Rattle.spki_guard.specs.Inner.Prints.{answer_verdict, Prints, PrintsAs, Sends}
 use Rattle.spki_guard.specs.Inner.Pages.{writer_of, page_of, most_of, has_failed, IsCutAfter, PageTakes}
+use Rattle.spki_guard.specs.Lines.{refused_line}
+use Rattle.sexpr_core.specs.declared.fault.FormFault.TheVariants.{TooLong}
+use Rattle.metered_io.specs.{declared.meters.Metered.{Metered}, MeteredCalls.{inner_of, faults_of, counted, asks_of, Takes, TakesNone, SendsFront}}
+use Rattle.metered_io.proofs.Sent.{SendsFront-all}
+use Rattle.spki_guard.specs.declared.answers.Answer.TheVariants as answer
+use Rattle.spki_guard.specs.declared.refusals.Refusal.TheVariants as refusals
 
 -- ---- what a reply tells
 

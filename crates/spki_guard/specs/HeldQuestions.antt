@@ -1,25 +1,16 @@
 -- Questions that are asked of a guard: their answers, where a service marks the signatures that it has verified, and
 -- the lines of their refusals (RFC 2693, section 6).
 use Rattle.std.specs.Prelude.{ℕ, List, [], ◌≡◌, ◌⊎◌, ◌<◌, ◌≤◌, length, Bool, Option, None, IsSome, Ok, Err}
-use Rattle.spki_service.specs.declared.question.AskFault.{AskFault}
-use Rattle.spki_service.specs.declared.question.AskFault.TheVariants as faults
-use Rattle.spki_guard.specs.Lines.{refused_question, refused_large, IsExplanationReport, ReportsReduced}
-use Rattle.spki_case.specs.Case.{Case}
-use Rattle.spki_decision.specs.declared.decision.Decision.{Decision}
-use Rattle.spki_decision.specs.declared.grant.Grant.{Grant}
-use Rattle.spki_decision.specs.declared.explanation.Explanation.{Explanation}
-use Rattle.spki_decision.specs.declared.reduction.EntryFold.{EntryFold}
-use Rattle.spki_decision.specs.declared.fault.GuardFault.TheVariants.{TooLarge}
-use Rattle.spki_service.specs.declared.failure.Failure.{Failure}
 use Rattle.spki_service.specs.GuardQuestions.{PreparedModel, DecidesMarked, ExplainsMarked, ReducesMarked, AreReducedMarked, GrantsMarked, IsGranted, IsPossible}
-use Rattle.spki_service.specs.AccessLists.{GuardModel}
+use Rattle.spki_service.specs.{declared.{question.{AskFault.{AskFault}, Question.{Question}}, failure.Failure.{Failure}}, AccessLists.{GuardModel}}
 use Rattle.spki_service.specs.Questions.{certificates_in, HasFewStrings, IsRefused, IsAskedCase, asked_octets}
-use Rattle.spki_service.specs.declared.question.Question.{Question}
-use Rattle.spki_guard.specs.declared.answers.Verdict.{Verdict}
-use Rattle.spki_guard.specs.declared.answers.Verdict.TheVariants.{Done, Refused}
-use Rattle.spki_guard.specs.declared.queries.Query.{Query}
-use Rattle.spki_guard.specs.declared.queries.Query.TheVariants.{Decide, Explain, Reduce}
-use Rattle.spki_guard.specs.TextAnswers.{IsLineOf, RefusesForMemory}
+use Rattle.spki_guard.specs.declared.answers.Verdict.{Verdict, TheVariants.{Done, Refused}}
+use Rattle.spki_guard.specs.declared.queries.Query.{Query, TheVariants.{Decide, Explain, Reduce}}
+use Rattle.spki_guard.specs.{Lines.{refused_question, refused_large, IsExplanationReport, ReportsReduced}, TextAnswers.{IsLineOf, RefusesForMemory}}
+use Rattle.spki_case.specs.Case.{Case}
+use Rattle.spki_decision.specs.declared.{decision.Decision.{Decision}, grant.Grant.{Grant}, explanation.Explanation.{Explanation}}
+use Rattle.spki_decision.specs.declared.{reduction.EntryFold.{EntryFold}, fault.GuardFault.TheVariants.{TooLarge}}
+use Rattle.spki_service.specs.declared.question.AskFault.TheVariants as faults
 
 -- ---- answers to questions
 

@@ -1,17 +1,12 @@
 -- The intersection of two written tags (RFC 2693, section 6.3.1).
 use Rattle.std.specs.Prelude.{◌≡◌, ◌≢◌, ℕ, ◌*◌, ◌<◌, ◌≤◌, max, ◌&&◌, ◌⊎◌, List, [], ◌∷◌, Some, codes}
 use Rattle.sexpr_core.specs.Value.{Value}
-use Rattle.spki_tag.specs.declared.fault.TagFault.{TagFault}
-use Rattle.spki_tag.specs.declared.fault.TagFault.TheVariants as tag_faults
-use Rattle.spki_tag.specs.declared.fault.MeetFault.{MeetFault}
-use Rattle.spki_tag.specs.declared.fault.MeetFault.TheVariants as meet_faults
-use Rattle.spki_tag.specs.Request.{Request, IsRequest}
-use Rattle.spki_tag.specs.Tag.{Tag, IsNormalTag, contains, nodes, ldepth}
-use Rattle.spki_tag.specs.Meet.{meet}
-use Rattle.spki_tag.specs.Faults.{tag_fault}
-use Rattle.spki_tag.specs.Reading.{ReadsAs, IsNoTag}
+use Rattle.spki_tag.specs.{declared.fault.{TagFault.{TagFault}, MeetFault.{MeetFault}}, Request.{Request, IsRequest}}
+use Rattle.spki_tag.specs.{Tag.{Tag, IsNormalTag, contains, nodes, ldepth}, Meet.{meet}, Faults.{tag_fault}, Reading.{ReadsAs, IsNoTag}}
 use Rattle.spki_case.specs.Case.{headed, IsTextOf, IsMalformed}
 use Rattle.spki_guard.specs.declared.intersection.IntersectFault.{IntersectFault}
+use Rattle.spki_tag.specs.declared.fault.TagFault.TheVariants as tag_faults
+use Rattle.spki_tag.specs.declared.fault.MeetFault.TheVariants as meet_faults
 use Rattle.spki_guard.specs.declared.intersection.IntersectFault.TheVariants as faults
 
 -- (intersect A B)

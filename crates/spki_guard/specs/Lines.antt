@@ -1,47 +1,35 @@
 -- The lines of decisions, reductions, explanations and refusals: words with one space between two of them, and a line
 -- feed. Numbers are decimal.
 use Rattle.std.specs.Prelude.{ℕ, List, [], ◌∷◌, ◌++◌, codes, ◌≡◌, suc, Bool, true, false, ◌||◌, Option, Some, None}
-use Rattle.sexpr_core.specs.declared.fault.FormFault.{FormFault}
-use Rattle.sexpr_core.specs.declared.fault.FormFault.TheVariants.{TooLong, TooDeep, Short, Bad, Trailing, Memory}
-use Rattle.sexpr_core.specs.Characters.{char}
+use Rattle.sexpr_core.specs.{declared.fault.FormFault.{FormFault, TheVariants.{TooLong, TooDeep, Short, Bad, Trailing, Memory}}, Characters.{char}}
 use Rattle.sexpr_core.specs.Value.{decimal, Value}
 use Rattle.spki_tag.specs.declared.fault.TagFault.{TagFault}
-use Rattle.spki_tag.specs.declared.fault.TagFault.TheVariants as tag
 use Rattle.spki_cert.specs.declared.fault.CertFaultKind.{CertFaultKind}
-use Rattle.spki_cert.specs.declared.fault.CertFaultKind.TheVariants as kind
-use Rattle.spki_case.specs.declared.cases.CaseFault.{CaseFault}
-use Rattle.spki_case.specs.declared.cases.CaseFault.TheVariants as faults
-use Rattle.spki_case.specs.declared.rows.RowsFault.{RowsFault}
-use Rattle.spki_case.specs.declared.rows.RowsFault.TheVariants as rows
-use Rattle.spki_decision.specs.declared.fault.GuardFault.{GuardFault}
-use Rattle.spki_decision.specs.declared.fault.GuardFault.TheVariants as guard
-use Rattle.spki_reduce.specs.declared.fold.Cause.{Cause}
-use Rattle.spki_reduce.specs.declared.fold.Cause.TheVariants as cause
-use Rattle.spki_decision.specs.declared.evidence.Stop.{Stop}
-use Rattle.spki_decision.specs.declared.evidence.Stop.TheVariants as stop
-use Rattle.spki_decision.specs.declared.explanation.Reason.{Reason}
-use Rattle.spki_decision.specs.declared.explanation.Reason.TheVariants as reason
-use Rattle.spki_guard.specs.declared.intersection.IntersectFault.{IntersectFault}
-use Rattle.spki_guard.specs.declared.intersection.IntersectFault.TheVariants as intersect
+use Rattle.spki_case.specs.declared.{cases.CaseFault.{CaseFault}, rows.RowsFault.{RowsFault}}
+use Rattle.spki_decision.specs.declared.{fault.GuardFault.{GuardFault}, evidence.Stop.{Stop}}
+use Rattle.spki_decision.specs.declared.explanation.{Reason.{Reason}, Explanation.{Explanation}}
+use Rattle.spki_decision.specs.declared.reduction.{Reduction.{Reduction}, EntryFold.{EntryFold}}
+use Rattle.spki_reduce.specs.{declared.fold.Cause.{Cause}, Written.{IsWrittenFive}}
+use Rattle.spki_guard.specs.declared.{intersection.IntersectFault.{IntersectFault}, refusals.Refusal.{Refusal}}
+use Rattle.spki_guard.specs.declared.answers.Verdict.{Verdict, TheVariants.{Done, No}}
 use Rattle.sexpr_text.specs.AdvancedForm.{adv}
-use Rattle.spki_reduce.specs.Written.{IsWrittenFive}
-use Rattle.spki_decision.specs.declared.reduction.Reduction.{Reduction}
+use Rattle.spki_service.specs.declared.{failure.Failure.{Failure}, list_fault.AclFault.{AclFault}, question.{Part.{Part}, AskFault.{AskFault}}}
+use Rattle.spki_tag.specs.declared.fault.TagFault.TheVariants as tag
+use Rattle.spki_cert.specs.declared.fault.CertFaultKind.TheVariants as kind
+use Rattle.spki_case.specs.declared.cases.CaseFault.TheVariants as faults
+use Rattle.spki_case.specs.declared.rows.RowsFault.TheVariants as rows
+use Rattle.spki_decision.specs.declared.fault.GuardFault.TheVariants as guard
+use Rattle.spki_reduce.specs.declared.fold.Cause.TheVariants as cause
+use Rattle.spki_decision.specs.declared.evidence.Stop.TheVariants as stop
+use Rattle.spki_decision.specs.declared.explanation.Reason.TheVariants as reason
+use Rattle.spki_guard.specs.declared.intersection.IntersectFault.TheVariants as intersect
 use Rattle.spki_decision.specs.declared.reduction.Reduction.TheVariants as reduction
-use Rattle.spki_decision.specs.declared.reduction.EntryFold.{EntryFold}
 use Rattle.spki_decision.specs.declared.reduction.EntryFold.TheVariants as folded
-use Rattle.spki_decision.specs.declared.explanation.Explanation.{Explanation}
 use Rattle.spki_decision.specs.declared.explanation.Explanation.TheVariants as explanation
-use Rattle.spki_service.specs.declared.failure.Failure.{Failure}
-use Rattle.spki_service.specs.declared.list_fault.AclFault.{AclFault}
 use Rattle.spki_service.specs.declared.list_fault.AclFault.TheVariants as lists
-use Rattle.spki_service.specs.declared.question.Part.{Part}
 use Rattle.spki_service.specs.declared.question.Part.TheVariants as parts
-use Rattle.spki_service.specs.declared.question.AskFault.{AskFault}
 use Rattle.spki_service.specs.declared.question.AskFault.TheVariants as questions
-use Rattle.spki_guard.specs.declared.refusals.Refusal.{Refusal}
 use Rattle.spki_guard.specs.declared.refusals.Refusal.TheVariants as refusals
-use Rattle.spki_guard.specs.declared.answers.Verdict.{Verdict}
-use Rattle.spki_guard.specs.declared.answers.Verdict.TheVariants.{Done, No}
 
 -- ---- lines
 

@@ -1,20 +1,13 @@
 -- The program: the exit statuses, and the result for a command line, for what is read and for what is written.
 use Rattle.std.specs.Prelude.{ℕ, ◌≡◌, ◌≢◌, ◌⊎◌, ◌≤◌, List, [], ◌∷◌, ◌++◌, length, codes, string_bytes, Option, Some, Result, Ok, Err, IfOk, MatchResult, IsTrue}
-use Rattle.spki_guard.specs.declared.answers.Verdict.{Verdict}
+use Rattle.std.specs.declared.io.ErrorKind.{ErrorKind, TheVariants.{InvalidData}}
+use Rattle.spki_guard.specs.declared.{answers.Verdict.{Verdict}, statuses.Status.{Status, TheVariants.{Answered, ReadFault, WriteFault}}}
+use Rattle.spki_guard.specs.{Lines.{refused_memory}, TextAnswers.{IsReply, IsFaulty, IsWritten, IsCutOff}}
+use Rattle.metered_io.specs.{declared.meters.Metered.{Metered}, MeteredCalls.{inner_of, asks_of, faults_of, ended_of, Gives, GivesNone, TakesNone}}
+use Rattle.spki_words.specs.{declared.{commands.Command.{Command}, words.WordsFault.{WordsFault}}, Words.{word_of, subcommand_in, IsFaultOf}}
 use Rattle.spki_guard.specs.declared.answers.Verdict.TheVariants as verdict
-use Rattle.spki_guard.specs.declared.statuses.Status.{Status}
-use Rattle.spki_guard.specs.declared.statuses.Status.TheVariants.{Answered, ReadFault, WriteFault}
-use Rattle.std.specs.declared.io.ErrorKind.{ErrorKind}
-use Rattle.std.specs.declared.io.ErrorKind.TheVariants.{InvalidData}
-use Rattle.metered_io.specs.declared.meters.Metered.{Metered}
-use Rattle.metered_io.specs.MeteredCalls.{inner_of, asks_of, faults_of, ended_of, Gives, GivesNone, TakesNone}
-use Rattle.spki_words.specs.declared.commands.Command.{Command}
-use Rattle.spki_words.specs.declared.words.WordsFault.{WordsFault}
 use Rattle.spki_words.specs.declared.words.WordsFault.TheVariants as words
-use Rattle.spki_words.specs.Words.{word_of, subcommand_in, IsFaultOf}
 use Rattle.spki_words.specs.Words as of_words
-use Rattle.spki_guard.specs.Lines.{refused_memory}
-use Rattle.spki_guard.specs.TextAnswers.{IsReply, IsFaulty, IsWritten, IsCutOff}
 
 -- ---- how a run ends, and the exit statuses
 

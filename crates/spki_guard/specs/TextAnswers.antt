@@ -1,41 +1,28 @@
 -- The answer of a command to a text, also to a case with a separate accepted list, the reply if the text comes from a
 -- reader, and how the output is written.
 use Rattle.std.specs.Prelude.{◌≡◌, ◌⊎◌, ℕ, List, [], ◌∷◌, ◌++◌, ◌+◌, ◌<◌, ◌≤◌, length, Option, Some, None, IfSome, Bool, IsTrue, Vec}
-use Rattle.sexpr_core.specs.declared.fault.FormFault.TheVariants as form
-use Rattle.sexpr_core.specs.Value.{Value, canon}
-use Rattle.sexpr_core.specs.Reading.{transport}
-use Rattle.sexpr_text.specs.AdvancedForm.{adv, IsTextWithin}
-use Rattle.sexpr_text.specs.declared.converter.Form.{Form}
-use Rattle.sexpr_text.specs.declared.converter.Form.TheVariants as forms
+use Rattle.std.specs.{declared.alloc.Global.{Global}, Io.KnownBytes.{Consumes}}
+use Rattle.sexpr_core.specs.{Value.{Value, canon}, Reading.{transport}, declared.fault.FormFault.{FormFault}}
+use Rattle.sexpr_text.specs.{AdvancedForm.{adv, IsTextWithin}, declared.converter.Form.{Form}, CanonicalTexts.{RefusesForm}}
 use Rattle.spki_tag.specs.Tag.{Tag, tag_value}
 use Rattle.spki_case.specs.Case.{Case, Verified, accepted_by, IsCaseText, TextRefused, Row}
-use Rattle.spki_guard.specs.declared.refusals.Refusal.{Refusal}
-use Rattle.spki_guard.specs.declared.refusals.Refusal.TheVariants as refusals
-use Rattle.std.specs.declared.alloc.Global.{Global}
-use Rattle.spki_guard.specs.declared.printed.Printed.{Printed}
-use Rattle.spki_words.specs.declared.commands.Command.{Command}
-use Rattle.spki_words.specs.declared.commands.Command.TheVariants.{Canonical, Advanced, Transport, Intersect, Reduce, Check, Explain}
-use Rattle.spki_guard.specs.declared.answers.Verdict.{Verdict}
-use Rattle.spki_guard.specs.declared.answers.Verdict.TheVariants.{Done, No, Refused}
-use Rattle.spki_decision.specs.declared.decision.Decision.{Decision}
-use Rattle.spki_decision.specs.declared.decision.Decision.TheVariants as decision
-use Rattle.spki_decision.specs.declared.fault.GuardFault.{GuardFault}
-use Rattle.spki_decision.specs.declared.fault.GuardFault.TheVariants as guard
-use Rattle.spki_decision.specs.declared.reduction.Reduction.{Reduction}
+use Rattle.spki_case.specs.{declared.{cases.CaseFault.{CaseFault}, rows.RowsFault.{RowsFault}}, RowsForm.{IsRowsText, RowsTextRefused, stated_by}}
+use Rattle.spki_guard.specs.declared.{refusals.Refusal.{Refusal}, printed.Printed.{Printed}}
+use Rattle.spki_guard.specs.declared.answers.Verdict.{Verdict, TheVariants.{Done, No, Refused}}
+use Rattle.spki_guard.specs.Lines.{IsReductionReport, IsExplanationReport, yes_entry, no_line, refused_form, refused_line, refused_memory}
+use Rattle.spki_guard.specs.Intersect.{IsMetText, TextNotMet}
+use Rattle.spki_words.specs.declared.commands.Command.{Command, TheVariants.{Canonical, Advanced, Transport, Intersect, Reduce, Check, Explain}}
+use Rattle.spki_decision.specs.declared.{decision.Decision.{Decision}, fault.GuardFault.{GuardFault}, reduction.Reduction.{Reduction}}
 use Rattle.spki_decision.specs.declared.explanation.Explanation.{Explanation}
 use Rattle.spki_decision.specs.Granted.{IsDecision, IsUnrefused, IsTooLarge, IsReduction, AreDated, EndAtDates, SomeTooLarge}
 use Rattle.spki_decision.specs.Explained.{IsExplanation}
-use Rattle.sexpr_text.specs.CanonicalTexts.{RefusesForm}
-use Rattle.spki_guard.specs.Lines.{IsReductionReport, IsExplanationReport, yes_entry, no_line, refused_form, refused_line, refused_memory}
-use Rattle.spki_guard.specs.Intersect.{IsMetText, TextNotMet}
-use Rattle.sexpr_core.specs.declared.fault.FormFault.{FormFault}
-use Rattle.spki_case.specs.declared.cases.CaseFault.{CaseFault}
-use Rattle.spki_case.specs.RowsForm.{IsRowsText, RowsTextRefused, stated_by}
-use Rattle.spki_case.specs.declared.rows.RowsFault.{RowsFault}
+use Rattle.metered_io.specs.{declared.meters.Metered.{Metered}, MeteredCalls.{asks_of, faults_of, flushed_of, Takes, SendsFront}}
+use Rattle.sexpr_core.specs.declared.fault.FormFault.TheVariants as form
+use Rattle.sexpr_text.specs.declared.converter.Form.TheVariants as forms
+use Rattle.spki_guard.specs.declared.refusals.Refusal.TheVariants as refusals
+use Rattle.spki_decision.specs.declared.decision.Decision.TheVariants as decision
+use Rattle.spki_decision.specs.declared.fault.GuardFault.TheVariants as guard
 use Rattle.spki_case.specs.declared.rows.RowsFault.TheVariants as rows_faults
-use Rattle.std.specs.Io.KnownBytes.{Consumes}
-use Rattle.metered_io.specs.declared.meters.Metered.{Metered}
-use Rattle.metered_io.specs.MeteredCalls.{asks_of, faults_of, flushed_of, Takes, SendsFront}
 
 -- ---- the answer to a text that was read to its end
 

@@ -2,8 +2,7 @@
 ghost use Rattle.std.specs.Prelude.{◌≡◌, ℕ, List, [], ◌∷◌, ◌++◌, ◌+◌, ◌<◌, length, IfSome};
 ghost use Rattle.sexpr_text.specs.AdvancedForm.{adv};
 ghost use Rattle.spki_tag.specs.Tag.{tag_value};
-ghost use Rattle.spki_guard.specs.Lines.{IsReductionReport, IsExplanationReport};
-ghost use Rattle.spki_guard.specs.TextAnswers.{IsLineOf};
+ghost use Rattle.spki_guard.specs.{Lines.{IsReductionReport, IsExplanationReport}, TextAnswers.{IsLineOf}};
 ghost use Rattle.spki_guard.specs.Inner.Prints.{output_verdict, answer_verdict, PrintsOutput, Prints, PrintsAs};
 
 use crate::entry_lines::print_item;

@@ -3,8 +3,7 @@
 ghost use Rattle.std.specs.Prelude.{◌≡◌, List, ◌<◌, ℕ, length, IfOk, IfErr, IsErrOf};
 ghost use Rattle.sexpr_core.specs.Value.{Value, canon};
 ghost use Rattle.sexpr_text.specs.AdvancedForm.{written};
-ghost use Rattle.spki_case.specs.Case.{IsCaseText};
-ghost use Rattle.spki_case.specs.View.{model};
+ghost use Rattle.spki_case.specs.{Case.{IsCaseText}, View.{model}};
 ghost use Rattle.spki_guard.specs.TextAnswers.{form_of, IsAnswer, IsOnCase, AnswersValue, RefusesValue, AnswersRead, RefusesAnswer, RefusesAsLong, Decides, Reduces, Explains, written_by};
 ghost use Rattle.spki_guard.specs.Inner.Prints.{PrintsAs, command_of, IsShortText, IsSourceOf};
 

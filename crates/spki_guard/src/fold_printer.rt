@@ -2,8 +2,7 @@
 //! A value with many parts is freed by a call of `drop`, so that the proof does not go through its parts at each exit.
 ghost use Rattle.std.specs.Prelude.{◌≡◌, ◌++◌, ◌+◌, ◌<◌, ◌≤◌, false, ℕ, List, length, IfOk, IsErrOf};
 ghost use Rattle.spki_decision.specs.declared.reduction.EntryFold.{EntryFold};
-ghost use Rattle.spki_guard.specs.TextAnswers.{written_by};
-ghost use Rattle.spki_guard.specs.Lines.{IsFoldLine, ReportsFolds};
+ghost use Rattle.spki_guard.specs.{TextAnswers.{written_by}, Lines.{IsFoldLine, ReportsFolds}};
 ghost use Rattle.spki_guard.specs.Inner.Prints.{HasPrinted, PrintsFolds, IsUnused, room_of, nothing_printed, AreLongFolds};
 
 use crate::answers::{Answer, Output};

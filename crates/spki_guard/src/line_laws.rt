@@ -3,17 +3,13 @@
 
 ghost use Rattle.std.specs.Prelude.{◌≡◌, ◌≢◌, ℕ, List, Bool};
 ghost use Rattle.spki_cert.specs.declared.entry.Entry.{Entry};
-ghost use Rattle.spki_decision.specs.declared.fault.GuardFault.TheVariants as guard;
-ghost use Rattle.spki_service.specs.AccessLists.{GuardModel, AreEntries};
-ghost use Rattle.spki_service.specs.declared.question.Question.{Question};
-ghost use Rattle.spki_guard.specs.declared.refusals.Refusal.{Refusal};
-ghost use Rattle.spki_guard.specs.declared.refusals.Refusal.TheVariants as refusals;
-ghost use Rattle.spki_guard.specs.declared.answers.Verdict.{Verdict};
-ghost use Rattle.spki_guard.specs.declared.queries.Query.{Query};
-ghost use Rattle.spki_guard.specs.declared.intersection.IntersectFault.TheVariants as intersect;
-ghost use Rattle.spki_guard.specs.TextAnswers.{AnswersRead, RefusesAnswer, RefusesForMemory};
-ghost use Rattle.spki_guard.specs.HeldQuestions.{IsAnswerHeld, IsUnreadQuestion};
+ghost use Rattle.spki_service.specs.{AccessLists.{GuardModel, AreEntries}, declared.question.Question.{Question}};
+ghost use Rattle.spki_guard.specs.declared.{refusals.Refusal.{Refusal}, answers.Verdict.{Verdict}, queries.Query.{Query}};
+ghost use Rattle.spki_guard.specs.{TextAnswers.{AnswersRead, RefusesAnswer, RefusesForMemory}, HeldQuestions.{IsAnswerHeld, IsUnreadQuestion}};
 ghost use Rattle.spki_words.specs.declared.commands.Command.{Command};
+ghost use Rattle.spki_decision.specs.declared.fault.GuardFault.TheVariants as guard;
+ghost use Rattle.spki_guard.specs.declared.refusals.Refusal.TheVariants as refusals;
+ghost use Rattle.spki_guard.specs.declared.intersection.IntersectFault.TheVariants as intersect;
 
 /// A text has one answer of a command, unless memory ran out. It has at most one output and verdict and no refusal, or one refusal,
 /// and so one line.

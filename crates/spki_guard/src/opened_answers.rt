@@ -1,8 +1,7 @@
 //! The answers to questions that were opened for a guard, as lines.
 //! A value with many parts is freed by a call of `drop`, so that the proof does not go through its parts at each exit.
 ghost use Rattle.std.specs.Prelude.{◌≡◌, ◌⊎◌, None, IfOk, IfErr};
-ghost use Rattle.spki_service.specs.GuardQuestions.{IsOpened, NoneMarked};
-ghost use Rattle.spki_service.specs.declared.question.Question.{Question};
+ghost use Rattle.spki_service.specs.{GuardQuestions.{IsOpened, NoneMarked}, declared.question.Question.{Question}};
 ghost use Rattle.spki_decision.specs.Until.{decision_of};
 ghost use Rattle.spki_guard.specs.TextAnswers.{IsLineOf, RefusesForMemory, written_by};
 ghost use Rattle.spki_guard.specs.HeldQuestions.{IsAnswerHeld, IsGrantFor, GrantsHeld, MayGrant, IsUnreadQuestion};

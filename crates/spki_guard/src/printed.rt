@@ -1,7 +1,6 @@
 //! Answers that are printed into memory.
 ghost use Rattle.std.specs.Prelude.{◌≡◌, ℕ, List, ◌⊎◌, ◌<◌, ◌≤◌, length, IfOk, IsErrOf};
-ghost use Rattle.spki_guard.specs.TextAnswers.{written_by, RefusesForMemory};
-ghost use Rattle.spki_guard.specs.Inner.Prints.{answer_verdict, Prints};
+ghost use Rattle.spki_guard.specs.{TextAnswers.{written_by, RefusesForMemory}, Inner.Prints.{answer_verdict, Prints}};
 
 use crate::answers::{Answer, Verdict, print_answer};
 use crate::capped_sink::CappedSink;

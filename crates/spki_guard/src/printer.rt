@@ -4,8 +4,7 @@ ghost use Rattle.std.specs.Prelude.{◌≡◌, List, [], ◌∷◌, codes};
 ghost use Rattle.sexpr_core.specs.Value.{Value, values, plain, canon};
 ghost use Rattle.sexpr_text.specs.AdvancedForm.{adv, adv_all};
 ghost use Rattle.spki_tag.specs.Tag.{tag_value};
-ghost use Rattle.spki_cert.specs.Readings.{alg_name};
-ghost use Rattle.spki_cert.specs.Fields.{plains};
+ghost use Rattle.spki_cert.specs.{Readings.{alg_name}, Fields.{plains}};
 ghost use Rattle.spki_reduce.specs.Written.{headed, IsWrittenPrincipal, IsWrittenSubject, IsWrittenIssuer, delegation_values, limit_values, in_valid, window_limits, IsWrittenFive};
 
 use crate::tag_printer::print_tag;

@@ -1,8 +1,6 @@
 //! The program, from the words of a command line to its exit status.
-ghost use Rattle.std.specs.Prelude.{◌≡◌, ◌≢◌, Result, map, string_bytes, MatchResult};
-ghost use Rattle.spki_words.specs.declared.commands.Command.{Command};
-ghost use Rattle.spki_words.specs.declared.words.WordsFault.{WordsFault};
-ghost use Rattle.std.specs.IoError.{error_kind};
+ghost use Rattle.std.specs.{Prelude.{◌≡◌, ◌≢◌, Result, map, string_bytes, MatchResult}, IoError.{error_kind}};
+ghost use Rattle.spki_words.specs.declared.{commands.Command.{Command}, words.WordsFault.{WordsFault}};
 ghost use Rattle.spki_guard.specs.Program.{IsAskedCommand, IsNoText, IsUnasked, AreUnreadWords, IsSaid, IsReported, IsRefused, DoesCommand, SaysFault};
 
 use crate::lines::REFUSED_MEMORY;

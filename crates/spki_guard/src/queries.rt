@@ -1,7 +1,6 @@
 //! What is asked of a case: by a command for its text, or in a question to a guard.
 ghost use Rattle.std.specs.Prelude.{◌≡◌, MatchOption};
-ghost use Rattle.spki_guard.specs.TextAnswers.{IsOnCase};
-ghost use Rattle.spki_guard.specs.Inner.Prints.{command_of};
+ghost use Rattle.spki_guard.specs.{TextAnswers.{IsOnCase}, Inner.Prints.{command_of}};
 
 use spki_words::Command;
 

@@ -1,7 +1,6 @@
 //! The answers to questions that are asked of a guard, as lines.
 ghost use Rattle.std.specs.Prelude.{◌≡◌, ◌⊎◌, IfOk, IsErrOf};
-ghost use Rattle.spki_guard.specs.TextAnswers.{written_by, RefusesForMemory};
-ghost use Rattle.spki_guard.specs.HeldQuestions.{AnswersAsked, WritesAsked, IsTooLargeFor};
+ghost use Rattle.spki_guard.specs.{TextAnswers.{written_by, RefusesForMemory}, HeldQuestions.{AnswersAsked, WritesAsked, IsTooLargeFor}};
 ghost use Rattle.spki_guard.specs.Lines.{refused_list, refused_question, refused_memory};
 
 use crate::answers::{Answer, Output, Verdict, answer_of_decision, answer_of_explanation};

@@ -53,8 +53,7 @@ impl From<FormFault> for Refusal {
 }
 
 impl From<IntersectFault> for Refusal {
-    ghost use Rattle.spki_guard.specs.declared.intersection.IntersectFault.{IntersectFault};
-    ghost use Rattle.spki_guard.specs.declared.refusals.Refusal.{Refusal};
+    ghost use Rattle.spki_guard.specs.declared.{intersection.IntersectFault.{IntersectFault}, refusals.Refusal.{Refusal}};
 
     ghost from_gives = { λ fault refusal.
         IsOuter (fault ≡ IntersectFault.Memory) Refusal.Memory (Refusal.Intersect fault) refusal };

@@ -3,8 +3,7 @@
 ghost use Rattle.std.specs.Prelude.{◌≡◌, ℕ, ◌+◌, ◌<◌, ◌≤◌, ◌⊎◌, List, length, max, Option, Bool, IsTrue, IfNone, IfSome, OnSome};
 ghost use Rattle.metered_io.specs.MeteredCalls.{inner_of, asks_of, faults_of, ended_of, Gives, TakesNone};
 ghost use Rattle.spki_guard.specs.TextAnswers.{IsAnswer, IsReply, IsFaulty, IsWritten, IsCutOff, RefusesForMemory};
-ghost use Rattle.spki_guard.specs.declared.answers.Verdict.{Verdict};
-ghost use Rattle.spki_guard.specs.Inner.Prints.{answer_verdict, Prints, IsTextRead, Sends};
+ghost use Rattle.spki_guard.specs.{declared.answers.Verdict.{Verdict}, Inner.Prints.{answer_verdict, Prints, IsTextRead, Sends}};
 
 use crate::answers::{Answer, count_with, print_answer};
 use crate::commands::answer_source;

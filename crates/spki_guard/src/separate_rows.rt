@@ -1,12 +1,9 @@
 //! Decisions on cases by separate accepted lists.
 ghost use Rattle.std.specs.Prelude.{◌≡◌, ◌≢◌, ◌<◌, ℕ, List, length, IfOk, IfErr, IsErrOf};
-ghost use Rattle.sexpr_text.specs.AdvancedForm.{IsTextWithin};
-ghost use Rattle.sexpr_text.specs.CanonicalTexts.{IsReadAs, RefusesForm};
+ghost use Rattle.sexpr_text.specs.{AdvancedForm.{IsTextWithin}, CanonicalTexts.{IsReadAs, RefusesForm}};
 ghost use Rattle.spki_case.specs.View.{model, rows_of};
 ghost use Rattle.spki_guard.specs.TextAnswers.{RefusesAsLong, written_by, IsAnswerApart, DecidesApart, DecidesBy, ReadsRows, RefusesApart, RefusesBy, RefusesRows};
-ghost use Rattle.spki_guard.specs.Inner.Prints.{PrintsAs};
-ghost use Rattle.spki_guard.specs.declared.refusals.Refusal.{Refusal};
-ghost use Rattle.spki_guard.specs.declared.answers.Verdict.{Verdict};
+ghost use Rattle.spki_guard.specs.{Inner.Prints.{PrintsAs}, declared.{refusals.Refusal.{Refusal}, answers.Verdict.{Verdict}}};
 
 use crate::answers::{Answer, answer_of_decision};
 use crate::printed::Printed;

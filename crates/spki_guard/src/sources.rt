@@ -1,8 +1,7 @@
 //! What a command reads of a text.
 ghost use Rattle.std.specs.Prelude.{◌≡◌, ◌<◌, List, ℕ, length, IfOk, IfErr, IsErrOf};
 ghost use Rattle.spki_case.specs.View.{model};
-ghost use Rattle.spki_guard.specs.TextAnswers.{form_of, RefusesAnswer, ReadsCase};
-ghost use Rattle.spki_guard.specs.Inner.Prints.{IsShortText, IsSourceOf, RefusesCase};
+ghost use Rattle.spki_guard.specs.{TextAnswers.{form_of, RefusesAnswer, ReadsCase}, Inner.Prints.{IsShortText, IsSourceOf, RefusesCase}};
 ghost use Rattle.spki_guard.specs.declared.refusals.Refusal.{Refusal};
 
 use crate::queries::{Query, query_of};

@@ -3,8 +3,7 @@
 ghost use Rattle.std.specs.Prelude.{◌≡◌, [], ◌∷◌, if◌then◌else◌};
 ghost use Rattle.sexpr_core.specs.Value.{plain, values};
 ghost use Rattle.sexpr_text.specs.AdvancedForm.{adv, adv_all};
-ghost use Rattle.spki_tag.specs.Limits.{ordering_of};
-ghost use Rattle.spki_tag.specs.Tag.{prefix, range, ordering_name, limit_values, tag_value, tag_values, tags};
+ghost use Rattle.spki_tag.specs.{Limits.{ordering_of}, Tag.{prefix, range, ordering_name, limit_values, tag_value, tag_values, tags}};
 ghost use Rattle.spki_tag.specs.TagForms.{limit_shown};
 
 use sexpr_text::{Sink, print_octets};

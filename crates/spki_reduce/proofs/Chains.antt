@@ -1,28 +1,20 @@
 -- What a chain that stops says of its tuples in any bracketing.
 use Rattle.std.proofs.Common.{◌≡◌, ℕ, suc, ◌+◌, ◌*◌, ◌≤◌, ◌<◌, Bool, true, false, List, [], ◌∷◌, ◌++◌, Some, sym, ◌∙◌, ap, subst, arith, flat_map, append-nil, take, drop, slice_get, length, get_or, add-one, option_map, rules}
-use Rattle.std.proofs.Math.Nat.{mul-le-mul_left, mul-le-mul_right}
-use Rattle.std.proofs.Math.Seq.{take-suc}
-use Rattle.std.proofs.lemmas.Bool.{and_left, both_ways}
-use Rattle.std.proofs.lemmas.List.{take-append-drop}
-use Rattle.std.proofs.lemmas.List.Folds.{list_all-append}
-use Rattle.std.proofs.lemmas.Grind.{flat_map-append}
+use Rattle.std.proofs.lemmas.{Bool.{and_left, both_ways}, List.{take-append-drop, Folds.{list_all-append}}, Grind.{flat_map-append}}
 use Rattle.std.proofs.lemmas.Option.{slice_get_within, get_or_from_slice_get, slice_get-map, slice_get-get_or}
-use Rattle.spki_cert.specs.declared.principal.Policy.{Policy}
-use Rattle.spki_cert.specs.Time.{within}
-use Rattle.spki_tag.specs.Tag.{Tag, contains, set, none}
-use Rattle.spki_tag.proofs.MeetSizes.{nodes-some}
-use Rattle.spki_reduce.specs.declared.fold.Cause.{Cause}
-use Rattle.spki_reduce.specs.declared.fold.Cause.TheVariants.{NotIssuer, NotTheName, NoDelegation, NoValidity, NoTag}
-use Rattle.spki_reduce.specs.declared.tuple.Five.{Five}
-use Rattle.spki_reduce.specs.declared.tuple.Step.{Step}
-use Rattle.spki_reduce.specs.Reduction.{FiveTuple, Tuple, five, four, tags_of, windows_of, Joins, Tree, leaf, join, leaves, Derives, from_left, NoMoment, NoRequest, met, nodes_product, five_tuple, step_tuple}
+use Rattle.std.proofs.Math.{Nat.{mul-le-mul_left, mul-le-mul_right}, Seq.{take-suc}}
 use Rattle.std.specs.List.{list_all}
-use Rattle.spki_reduce.specs.Joining.{Stops, TooLargeFor, BecomesFive}
+use Rattle.spki_cert.specs.{declared.principal.Policy.{Policy}, Time.{within}}
+use Rattle.spki_tag.{specs.Tag.{Tag, contains, set, none}, proofs.MeetSizes.{nodes-some}}
+use Rattle.spki_reduce.specs.declared.fold.Cause.{Cause, TheVariants.{NotIssuer, NotTheName, NoDelegation, NoValidity, NoTag}}
+use Rattle.spki_reduce.specs.declared.tuple.{Five.{Five}, Step.{Step}}
+use Rattle.spki_reduce.specs.Reduction.{FiveTuple, Tuple, five, four, tags_of, windows_of, Joins, Tree, leaf, join, leaves, Derives, from_left, NoMoment, NoRequest, met, nodes_product, five_tuple, step_tuple}
 use Rattle.spki_reduce.specs.Chain.{tuples_of, FoldsTo, GoesThrough, StopsAt, HasMet, TooLargeAt, NoDerivation, Excludes, SupportsNothing, all_tags, all_windows}
+use Rattle.spki_reduce.specs.Joining.{Stops, TooLargeFor, BecomesFive}
 use Rattle.spki_reduce.proofs.Derivations.{from_left-more, from_left-leaves, front, one_root}
+use Rattle.spki_reduce.proofs.ReducedForms.{nodes_product-append, met_more, stops, grown}
 use Rattle.spki_reduce.proofs.Derivations as parts
 use Rattle.spki_reduce.proofs.ReducedForms as folding
-use Rattle.spki_reduce.proofs.ReducedForms.{nodes_product-append, met_more, stops, grown}
 
 -- ---- lists
 

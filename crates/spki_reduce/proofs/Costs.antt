@@ -1,18 +1,11 @@
 -- What a step costs, as it is counted.
 use Rattle.std.proofs.Common.{◌≡◌, ℕ, ◌+◌, ◌*◌, ◌<◌, ◌≤◌, ◌^◌, List, length, arith, inl, mul-le-mul_right, Option, Some, None, ◌∙◌, ap, sym, inr, refl, subst, false, Result, Ok, Err, IfErr}
-use Rattle.std.specs.Option.{SomeIff}
-use Rattle.std.specs.Result.{is_ok}
-use Rattle.spki_cert.specs.declared.principal.Policy.{Policy}
-use Rattle.spki_cert.specs.declared.window.Window.{Window}
-use Rattle.spki_reduce.specs.declared.fold.Cause.{Cause}
-use Rattle.spki_reduce.specs.declared.tuple.Step.{Step}
-use Rattle.spki_tag.specs.Tag.{Tag, nodes}
-use Rattle.spki_tag.specs.Cost.{weight, meet_cost}
-use Rattle.spki_tag.proofs.MeetSizes.{nodes-some}
-use Rattle.spki_reduce.specs.declared.tuple.Five.{Five}
-use Rattle.spki_reduce.specs.declared.tuple.Four.{Four}
+use Rattle.std.specs.{Option.{SomeIff}, Result.{is_ok}}
+use Rattle.spki_cert.specs.declared.{principal.Policy.{Policy}, window.Window.{Window}}
+use Rattle.spki_reduce.specs.declared.{fold.Cause.{Cause}, tuple.{Step.{Step}, Five.{Five}, Four.{Four}}}
 use Rattle.spki_reduce.specs.Reduction.{Tuple, FiveTuple, five, four, five_tuple, four_tuple, step_tuple}
 use Rattle.spki_reduce.specs.Chain.{meet_costs, step_cost, IsNumber, Reaches, IsCostOf}
+use Rattle.spki_tag.{specs.{Tag.{Tag, nodes}, Cost.{weight, meet_cost}}, proofs.MeetSizes.{nodes-some}}
 
 module _ (tag : Tag) (next : Five) (path : List (List ℕ)) where
   -- the cost of one node of the tag

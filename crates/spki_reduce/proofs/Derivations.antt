@@ -1,15 +1,12 @@
 -- Derivations: they may be bracketed from the left, though not in any way. Their leaves determine their root and its
 -- tags and windows. Those that the strict policy allows, the open one allows.
 use Rattle.std.proofs.Common.{◌≡◌, ℕ, List, [], ◌∷◌, ◌++◌, refl, sym, ◌∙◌, ap, append_assoc, append-nil, rules, flat_map, true, false, IsTrue}
-use Rattle.spki_cert.specs.declared.principal.Policy.{Policy}
-use Rattle.spki_cert.specs.declared.principal.Principal.{Principal}
+use Rattle.std.proofs.lemmas.Grind.{flat_map-append}
+use Rattle.spki_cert.specs.declared.principal.{Policy.{Policy, TheVariants.{Open, Strict}}, Principal.{Principal, TheVariants.{Key, Hash}}}
+use Rattle.spki_cert.specs.declared.hash.HashAlg.TheVariants.{Sha1}
+use Rattle.spki_cert.specs.Naming.{names}
 use Rattle.spki_tag.specs.Request.{Request}
 use Rattle.spki_reduce.specs.Reduction.{FiveTuple, FourTuple, Tuple, five, four, Begins, Delegate, Resolve, Link, Joins, delegated, resolved, linked, Tree, leaf, join, leaves, Derives, extended, from_left, Supports, tags_of, windows_of, own, key}
-use Rattle.std.proofs.lemmas.Grind.{flat_map-append}
-use Rattle.spki_cert.specs.declared.principal.Principal.TheVariants.{Key, Hash}
-use Rattle.spki_cert.specs.declared.hash.HashAlg.TheVariants.{Sha1}
-use Rattle.spki_cert.specs.declared.principal.Policy.TheVariants.{Open, Strict}
-use Rattle.spki_cert.specs.Naming.{names}
 
 -- ---- a derivation may be bracketed from the left, and its leaves determine its root
 

@@ -1,13 +1,9 @@
 -- The definitions at the values of worked examples.
 use Rattle.std.proofs.Common.{◌≡◌, ℕ, List, [], ◌∷◌, true, false, None, refl, sym, ◌∙◌, codes, rules}
-use Rattle.spki_cert.specs.declared.principal.Policy.TheVariants.{Open}
-use Rattle.spki_cert.specs.declared.principal.Principal.TheVariants.{Key}
-use Rattle.spki_tag.specs.Tag.{star}
-use Rattle.spki_tag.specs.Request.{Request}
-use Rattle.spki_cert.specs.declared.window.Window.{Window}
+use Rattle.spki_cert.specs.declared.{principal.{Policy.TheVariants.{Open}, Principal.TheVariants.{Key}}, window.Window.{Window}}
+use Rattle.spki_tag.specs.{Tag.{star}, Request.{Request}}
 use Rattle.spki_reduce.specs.Reduction.{FiveTuple, FourTuple, Tuple, own, key, five, four, Joins, Delegate, delegated, Tree, leaf, join, leaves, Derives, from_left, Supports}
-use Rattle.spki_reduce.specs.declared.fold.Cause.TheVariants.{NotTheName, NoDelegation}
-use Rattle.spki_reduce.specs.Joining.{Stops}
+use Rattle.spki_reduce.specs.{declared.fold.Cause.TheVariants.{NotTheName, NoDelegation}, Joining.{Stops}}
 use Rattle.spki_reduce.proofs.Derivations.{bracketed}
 
 -- the keys a, b and c

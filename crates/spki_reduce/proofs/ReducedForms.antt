@@ -1,32 +1,19 @@
 -- Authorizations in reduced form. What the code joins is joined in the model. One more tuple joins the reduced form
 -- as it joins the root, and what the reduced form lacks, the root lacks.
 use Rattle.std.proofs.Common.{◌≡◌, ◌≢◌, ℕ, ◌*◌, ◌≤◌, max, Bool, true, ◌&&◌, List, [], ◌∷◌, ◌++◌, refl, sym, ◌∙◌, ap, arith, IsTrue, IfOk, Result, Ok, Err, rules, ◌<◌, fold, subst, append-nil, ◌↔◌, false, Option, Some, None, IsNone}
-use Rattle.spki_cert.specs.declared.principal.Policy.{Policy}
-use Rattle.std.proofs.Math.Bool.{and-true}
-use Rattle.std.proofs.lemmas.Bool.{both_ways}
-use Rattle.spki_cert.specs.declared.window.Window.{Window}
-use Rattle.spki_cert.specs.declared.entry.Subject.{Subject}
-use Rattle.spki_cert.specs.Naming.{names}
+use Rattle.std.proofs.Math.{Bool.{and-true}, Nat.{mul-le-mul_right}}
+use Rattle.std.proofs.lemmas.{Bool.{both_ways}, List.{Folds.{list_all-append}, Sums.{fold-append}}, Grind.{flat_map-append}}
+use Rattle.spki_cert.specs.{declared.{principal.Policy.{Policy}, window.Window.{Window}, entry.Subject.{Subject}}, Naming.{names}}
 use Rattle.spki_cert.specs.Time.{within, IsMeet, Overlap}
-use Rattle.spki_tag.specs.Request.{Request, IsRequest}
-use Rattle.spki_tag.specs.Tag.{Tag, contains, nodes, ldepth, set, none, star}
-use Rattle.spki_reduce.specs.declared.fold.Cause.{Cause}
-use Rattle.spki_reduce.specs.declared.fold.Cause.TheVariants.{NoTag, NotIssuer, NotTheName, NoDelegation, NoValidity}
-use Rattle.spki_reduce.specs.declared.fold.Joined.{Joined}
-use Rattle.spki_reduce.specs.declared.fold.Joined.TheVariants.{Done, Stopped}
-use Rattle.spki_reduce.specs.declared.tuple.Five.{Five}
-use Rattle.spki_reduce.specs.declared.tuple.Four.{Four}
+use Rattle.spki_tag.specs.{Request.{Request, IsRequest}, Tag.{Tag, contains, nodes, ldepth, set, none, star}, Meet.{meet}}
+use Rattle.spki_reduce.specs.declared.fold.Cause.{Cause, TheVariants.{NoTag, NotIssuer, NotTheName, NoDelegation, NoValidity}}
+use Rattle.spki_reduce.specs.declared.fold.Joined.{Joined, TheVariants.{Done, Stopped}}
+use Rattle.spki_reduce.specs.declared.tuple.{Five.{Five}, Four.{Four}}
+use Rattle.spki_reduce.specs.declared.last_tests.MissingGrant.{MissingGrant, TheVariants.{NotTheKey, TagLacks, WindowLacks}}
 use Rattle.spki_reduce.specs.Reduction.{five, four, SomeMoment, Issues, resolved, linked, five_tuple, four_tuple, FiveTuple, FourTuple, Tuple, tags_of, IsFor, Begins, Joins, Delegate, Resolve, in_each, within_each, NoMoment, met, nodes_product, deepest, issuer_of, own, Grants, IsMissingGrant, IsSupported}
 use Rattle.spki_reduce.specs.Joining.{JoinButForTags, Stops, IsHandedOn, BecomesFive, BecomesFour, MatchJoined, TooLargeFor, ReducesToFive}
-use Rattle.std.proofs.Math.Nat.{mul-le-mul_right}
-use Rattle.std.proofs.lemmas.List.Folds.{list_all-append}
-use Rattle.std.proofs.lemmas.List.Sums.{fold-append}
-use Rattle.std.proofs.lemmas.Grind.{flat_map-append}
-use Rattle.spki_tag.specs.Meet.{meet}
 use Rattle.spki_reduce.specs.Chain.{Reaches, FoldsTo}
 use Rattle.spki_reduce.proofs.Derivations.{from_left-more, from_left-leaves, one_root}
-use Rattle.spki_reduce.specs.declared.last_tests.MissingGrant.{MissingGrant}
-use Rattle.spki_reduce.specs.declared.last_tests.MissingGrant.TheVariants.{NotTheKey, TagLacks, WindowLacks}
 
 -- ---- what joins of the code are in the model
 

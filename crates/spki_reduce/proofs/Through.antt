@@ -1,26 +1,16 @@
 -- A chain that goes through a step is not stopped there, so it stops at one step alone, for one cause.
 use Rattle.std.proofs.Common.{◌≡◌, ◌≢◌, ◌⊎◌, inl, inr, ℕ, zero, suc, ◌+◌, ◌≤◌, ◌<◌, List, [], ◌∷◌, ◌++◌, fold, Some, refl, sym, ◌∙◌, ap, subst, arith, append_assoc, take, drop, slice_get, length, get_or, rules}
 use Rattle.std.proofs.lemmas.Bool.{cases_lt, and_left, both_ways}
-use Rattle.std.proofs.lemmas.List.{take-append-drop, take-take, take_all}
-use Rattle.std.proofs.lemmas.Option.{slice_get_within}
-use Rattle.std.proofs.lemmas.List.Folds.{list_all-append}
-use Rattle.std.proofs.lemmas.List.Sums.{fold-append}
+use Rattle.std.proofs.lemmas.{List.{take-append-drop, take-take, take_all, Folds.{list_all-append}, Sums.{fold-append}}, Option.{slice_get_within}}
 use Rattle.std.proofs.lemmas.Grind.{flat_map-append}
-use Rattle.spki_cert.specs.declared.principal.Policy.{Policy}
-use Rattle.spki_cert.specs.declared.window.Window.{Window}
-use Rattle.spki_cert.specs.Time.{within}
-use Rattle.spki_tag.specs.Tag.{Tag, star, range, set, none}
-use Rattle.spki_tag.specs.Meet.{meet}
-use Rattle.spki_reduce.specs.declared.fold.Cause.{Cause}
-use Rattle.spki_reduce.specs.declared.fold.Cause.TheVariants.{NotIssuer, NotTheName, NoDelegation, NoValidity, NoTag}
-use Rattle.spki_reduce.specs.declared.tuple.Five.{Five}
-use Rattle.spki_reduce.specs.declared.tuple.Step.{Step}
-use Rattle.spki_reduce.specs.declared.tuple.Step.TheVariants.{Auth, Name}
+use Rattle.spki_cert.specs.{declared.{principal.Policy.{Policy}, window.Window.{Window}}, Time.{within}}
+use Rattle.spki_tag.specs.{Tag.{Tag, star, range, set, none}, Meet.{meet}}
+use Rattle.spki_reduce.specs.declared.fold.Cause.{Cause, TheVariants.{NotIssuer, NotTheName, NoDelegation, NoValidity, NoTag}}
+use Rattle.spki_reduce.specs.declared.tuple.{Five.{Five}, Step.{Step, TheVariants.{Auth, Name}}}
 use Rattle.spki_reduce.specs.Reduction.{five_tuple, four_tuple, step_tuple, FiveTuple, Tuple, five, four, tags_of, windows_of, Derives, from_left, within_each, SomeMoment, NoMoment, met}
 use Rattle.spki_reduce.specs.Joining.{Stops, TooLargeFor}
 use Rattle.spki_reduce.specs.Chain.{tuples_of, FoldsTo, HasMet, GoesThrough, StopsAt, TooLargeAt, all_tags, all_windows}
-use Rattle.spki_reduce.proofs.Derivations.{from_left-leaves, one_root}
-use Rattle.spki_reduce.proofs.ReducedForms.{too_large_back}
+use Rattle.spki_reduce.proofs.{Derivations.{from_left-leaves, one_root}, ReducedForms.{too_large_back}}
 use Rattle.spki_reduce.proofs.Chains.{IsMisfit, up_to, windows_so_far, underivable, excluded, one_more}
 
 -- ---- tags

@@ -1,30 +1,19 @@
 -- Where there is only one authorization: those with one tuple are one, and are written as one value, and what a chain
 -- becomes is one, since windows of the same moments are one.
 use Rattle.std.proofs.Common.{◌≡◌, ℕ, List, [], ◌∷◌, ◌++◌, refl, sym, ap, ◌∙◌, rules, ◌≢◌, Bool, true, false, ◌&&◌, Option, Some, None, subst}
-use Rattle.std.specs.Prelude.{codes}
-use Rattle.sexpr_core.specs.Value.{Value, canon}
-use Rattle.sexpr_core.proofs.Texts.{canon_one}
-use Rattle.spki_cert.specs.declared.principal.Principal.{Principal}
-use Rattle.spki_cert.specs.declared.principal.Principal.TheVariants as principal
-use Rattle.spki_reduce.specs.declared.tuple.Issuer.{Issuer}
-use Rattle.spki_reduce.specs.declared.tuple.Issuer.TheVariants.{Own, Key}
-use Rattle.spki_reduce.specs.declared.tuple.Five.{Five}
-use Rattle.spki_reduce.specs.Reduction.{issuer_of, five_tuple, Tuple, five, from_left}
-use Rattle.spki_reduce.specs.Written.{headed, IsWrittenPrincipal, IsWrittenSubject, IsWrittenIssuer, delegation_values, in_valid, window_limits, five_value, IsWrittenFive}
-use Rattle.std.specs.Cmp.Lexicographic.{slice_cmp}
-use Rattle.std.specs.declared.cmp.Ordering.{Ordering}
-use Rattle.std.specs.declared.cmp.Ordering.TheVariants.{Equal}
+use Rattle.std.proofs.lemmas.{Cmp.{nat_list_cmp_total}, Map.Lookups.{exact_bytes}, Bool.{and_parts}}
+use Rattle.std.specs.{Prelude.{codes}, Cmp.Lexicographic.{slice_cmp}, declared.cmp.Ordering.{Ordering, TheVariants.{Equal}}}
 use Rattle.std.specs.Ordering.{nat_cmp, is_le, ordering_reverse}
-use Rattle.std.proofs.lemmas.Cmp.{nat_list_cmp_total}
-use Rattle.std.proofs.lemmas.Map.Lookups.{exact_bytes}
-use Rattle.std.proofs.lemmas.Bool.{and_parts}
-use Rattle.spki_tag.specs.Tag.{is_date}
-use Rattle.spki_cert.specs.declared.principal.Policy.{Policy}
-use Rattle.spki_cert.specs.declared.window.Window.{Window}
+use Rattle.sexpr_core.{specs.Value.{Value, canon}, proofs.Texts.{canon_one}}
+use Rattle.spki_cert.specs.declared.{principal.{Principal.{Principal}, Policy.{Policy}}, window.Window.{Window}}
 use Rattle.spki_cert.specs.Time.{upto, is_from, is_until, within, IsLimit}
 use Rattle.spki_cert.proofs.Order.{upto-self, upto-then, upto-turned}
-use Rattle.spki_reduce.specs.Chain.{FoldsTo, HasMet}
+use Rattle.spki_reduce.specs.declared.tuple.{Issuer.{Issuer, TheVariants.{Own, Key}}, Five.{Five}}
+use Rattle.spki_reduce.specs.Written.{headed, IsWrittenPrincipal, IsWrittenSubject, IsWrittenIssuer, delegation_values, in_valid, window_limits, five_value, IsWrittenFive}
+use Rattle.spki_reduce.specs.{Reduction.{issuer_of, five_tuple, Tuple, five, from_left}, Chain.{FoldsTo, HasMet}}
 use Rattle.spki_reduce.proofs.Derivations.{one_root}
+use Rattle.spki_tag.specs.Tag.{is_date}
+use Rattle.spki_cert.specs.declared.principal.Principal.TheVariants as principal
 
 -- ---- authorizations with one tuple are one, and are written as one value
 

@@ -1,18 +1,13 @@
 -- The work of folding a chain: what a step adds to it, and that a chain has one.
 use Rattle.std.proofs.Common.{◌≡◌, ◌⊎◌, inl, inr, ℕ, zero, suc, ◌+◌, ◌≤◌, ◌<◌, List, ◌∷◌, Option, Some, None, refl, sym, ◌∙◌, ap, subst, arith, add-one, length, take, slice_get, get_or, rules}
-use Rattle.std.proofs.lemmas.Bool.{cases_lt}
-use Rattle.std.proofs.lemmas.Option.{same_Some}
+use Rattle.std.proofs.lemmas.{Bool.{cases_lt}, Option.{same_Some}}
 use Rattle.spki_cert.specs.declared.principal.Policy.{Policy}
-use Rattle.spki_reduce.specs.declared.fold.Cause.{Cause}
-use Rattle.spki_reduce.specs.declared.tuple.Five.{Five}
-use Rattle.spki_reduce.specs.declared.tuple.Step.{Step}
-use Rattle.spki_reduce.specs.Reduction.{Tuple, five, five_tuple, step_tuple, from_left, met}
-use Rattle.spki_tag.specs.Tag.{Tag}
+use Rattle.spki_reduce.specs.declared.{fold.Cause.{Cause}, tuple.{Five.{Five}, Step.{Step}}}
 use Rattle.spki_reduce.specs.Chain.{tuples_of, all_tags, FoldsTo, HasMet, StopsAt, Reaches, ReachedAt, step_cost, IsCost, IsWorkOf, IsCostOf, Takes, IsOver, IsOverworked}
-use Rattle.spki_reduce.proofs.Derivations.{one_root}
-use Rattle.spki_reduce.proofs.ReducedForms.{reaches, reaches_back}
-use Rattle.spki_reduce.proofs.Chains.{step_stands, through}
+use Rattle.spki_reduce.specs.Reduction.{Tuple, five, five_tuple, step_tuple, from_left, met}
+use Rattle.spki_reduce.proofs.{Derivations.{one_root}, ReducedForms.{reaches, reaches_back}, Chains.{step_stands, through}}
 use Rattle.spki_reduce.proofs.Through.{AreTagged, unstopped}
+use Rattle.spki_tag.specs.Tag.{Tag}
 
 -- the same tag and names cost the same
 cost_as : (one other : Tag) (left right : List (List ℕ)) (tuple : Tuple) → one ≡ other → left ≡ right

@@ -1,11 +1,8 @@
 -- What is written, one member behind another.
 use Rattle.std.proofs.Common.{◌≡◌, ℕ, ◌+◌, ◌<◌, List, [], ◌∷◌, ◌++◌, length, map, take, get_or, slice_get, Option, Some, None, refl, sym, ap, ◌∙◌, append_assoc, rules}
-use Rattle.std.proofs.lemmas.List.{take_more}
-use Rattle.std.proofs.lemmas.Option.{slice_get-get_or, slice_get_within}
-use Rattle.sexpr_core.specs.declared.tree.Sexp.{Sexp}
-use Rattle.sexpr_core.specs.Value.{sexp_value, Value, plain}
-use Rattle.spki_cert.specs.Fields.{plains}
-use Rattle.spki_cert.proofs.SubjectFaultLaws.{plains-push}
+use Rattle.std.proofs.lemmas.{List.{take_more}, Option.{slice_get-get_or, slice_get_within}}
+use Rattle.sexpr_core.specs.{declared.tree.Sexp.{Sexp}, Value.{sexp_value, Value, plain}}
+use Rattle.spki_cert.{specs.Fields.{plains}, proofs.SubjectFaultLaws.{plains-push}}
 
 map_push : (ts : List Sexp) (t : Sexp) → map sexp_value (ts ++ t ∷ []) ≡ map sexp_value ts ++ sexp_value t ∷ []
 map_push [] t = refl

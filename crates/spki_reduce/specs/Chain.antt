@@ -1,20 +1,13 @@
 -- Chains of tuples that are joined from the left (RFC 2693, section 6.3): what a chain becomes, where and why it
 -- stops, and the work of folding it.
 use Rattle.std.specs.Prelude.{◌≡◌, ◌≢◌, ℕ, ◌<◌, suc, List, [], ◌∷◌, Some, map, take, flat_map, slice_get, ◌⊎◌, zero, ◌+◌, ◌≤◌, ◌++◌, length, Option, None, ◌*◌, ◌^◌}
-use Rattle.spki_cert.specs.declared.principal.Policy.{Policy}
-use Rattle.spki_tag.specs.Request.{Request, IsRequest}
-use Rattle.spki_tag.specs.Tag.{Tag, set, none}
-use Rattle.spki_tag.specs.Cost.{meet_cost}
-use Rattle.spki_cert.specs.declared.window.Window.{Window}
-use Rattle.spki_reduce.specs.declared.fold.Cause.{Cause}
-use Rattle.spki_reduce.specs.declared.fold.Cause.TheVariants.{NotIssuer, NotTheName, NoDelegation, NoValidity, NoTag}
-use Rattle.spki_reduce.specs.declared.fold.Fold.{Fold}
-use Rattle.spki_reduce.specs.declared.fold.Fold.TheVariants.{Done, Stopped}
-use Rattle.spki_reduce.specs.declared.tuple.Five.{Five}
-use Rattle.spki_reduce.specs.declared.tuple.Step.{Step}
+use Rattle.spki_cert.specs.declared.{principal.Policy.{Policy}, window.Window.{Window}}
+use Rattle.spki_tag.specs.{Request.{Request, IsRequest}, Tag.{Tag, set, none}, Cost.{meet_cost}}
+use Rattle.spki_reduce.specs.declared.fold.Cause.{Cause, TheVariants.{NotIssuer, NotTheName, NoDelegation, NoValidity, NoTag}}
+use Rattle.spki_reduce.specs.declared.fold.Fold.{Fold, TheVariants.{Done, Stopped}}
+use Rattle.spki_reduce.specs.declared.{tuple.{Five.{Five}, Step.{Step}}, work.Work.{Work}}
 use Rattle.spki_reduce.specs.Reduction.{FiveTuple, Tuple, five, tags_of, windows_of, Tree, leaves, Derives, from_left, Supports, step_tuple, SomeMoment, NoMoment, NoRequest, met, nodes_product, FourTuple, four, Begins}
 use Rattle.spki_reduce.specs.Joining.{Stops, TooLargeFor, ReducesToFive, JoinButForTags}
-use Rattle.spki_reduce.specs.declared.work.Work.{Work}
 
 -- ---- what a chain of tuples becomes when it is joined from the left (RFC 2693, section 6.3)
 

@@ -1,24 +1,14 @@
 -- The joining of two tuples (RFC 2693, sections 6.3 and 6.4): what they become in the form that the code stores, with
 -- one tag and one window, why they do not become one, and why their joining is refused.
 use Rattle.std.specs.Prelude.{◌≡◌, ℕ, ◌<◌, true, false, List, ◌++◌, ◌≤◌}
-use Rattle.spki_cert.specs.declared.principal.Policy.{Policy}
-use Rattle.spki_cert.specs.declared.principal.Principal.{Principal}
-use Rattle.spki_cert.specs.declared.window.Window.{Window}
-use Rattle.spki_reduce.specs.declared.fold.Cause.{Cause}
-use Rattle.spki_reduce.specs.declared.fold.Cause.TheVariants.{NotIssuer, NotTheName, NoDelegation, NoValidity, NoTag}
+use Rattle.spki_cert.specs.{declared.{principal.{Policy.{Policy}, Principal.{Principal}}, window.Window.{Window}}, Time.{within}}
+use Rattle.spki_reduce.specs.declared.fold.Cause.{Cause, TheVariants.{NotIssuer, NotTheName, NoDelegation, NoValidity, NoTag}}
+use Rattle.spki_reduce.specs.declared.fold.Joined.{Joined, TheVariants.{Done, Stopped}}
+use Rattle.spki_reduce.specs.declared.tuple.{Issuer.{Issuer}, Five.{Five}, Four.{Four}}
+use Rattle.spki_reduce.specs.declared.fault.ReduceFault.{ReduceFault, TheVariants.{TooLarge, Memory}}
 use Rattle.spki_reduce.specs.Reduction.{FiveTuple, FourTuple, Tuple, five, four, Issues, Begins, SomeMoment, NoMoment, NoRequest, nodes_product, issuer_of, Joins, in_each, within_each, deepest}
-use Rattle.spki_cert.specs.Time.{within}
-use Rattle.spki_tag.specs.Request.{Request, IsRequest}
-use Rattle.spki_tag.specs.Tag.{Tag, contains, nodes, ldepth}
-use Rattle.spki_reduce.specs.declared.fold.Joined.{Joined}
-use Rattle.spki_reduce.specs.declared.fold.Joined.TheVariants.{Done, Stopped}
-use Rattle.spki_reduce.specs.declared.tuple.Issuer.{Issuer}
-use Rattle.spki_reduce.specs.declared.tuple.Five.{Five}
-use Rattle.spki_reduce.specs.declared.tuple.Four.{Four}
-use Rattle.spki_tag.specs.declared.fault.MeetFault.{MeetFault}
+use Rattle.spki_tag.specs.{Request.{Request, IsRequest}, Tag.{Tag, contains, nodes, ldepth}, declared.fault.MeetFault.{MeetFault}}
 use Rattle.spki_tag.specs.declared.fault.MeetFault.TheVariants as meet
-use Rattle.spki_reduce.specs.declared.fault.ReduceFault.{ReduceFault}
-use Rattle.spki_reduce.specs.declared.fault.ReduceFault.TheVariants.{TooLarge, Memory}
 
 -- ---- why two tuples do not become one (RFC 2693, sections 6.3 and 6.4)
 

@@ -1,28 +1,14 @@
 -- The reduction of tuples (RFC 2693, section 6): the tuples, the rules by which two become one, derivations by these
 -- rules, what a derivation grants, and what an authorization lacks to grant a request. Entries, certificates and the
 -- tuples of the code are viewed as such tuples.
-use Rattle.std.specs.Prelude.{ℕ, List, [], Bool, ◌≡◌, ◌∷◌, ◌++◌, IsTrue, ◌*◌, true, false, fold, max, Option, Some, None}
-use Rattle.spki_cert.specs.declared.principal.Principal.{Principal}
-use Rattle.spki_tag.specs.Tag.{Tag, contains, nodes, ldepth, star, is_date}
-use Rattle.spki_cert.specs.declared.window.Window.{Window}
-use Rattle.spki_cert.specs.declared.principal.Policy.{Policy}
-use Rattle.spki_cert.specs.Naming.{names}
-use Rattle.std.specs.List.{list_all}
-use Rattle.spki_tag.specs.Request.{Request, IsRequest}
-use Rattle.spki_tag.specs.Meet.{meet}
-use Rattle.spki_cert.specs.Time.{within}
-use Rattle.spki_reduce.specs.declared.last_tests.MissingGrant.{MissingGrant}
-use Rattle.spki_reduce.specs.declared.last_tests.MissingGrant.TheVariants.{NotTheKey, TagLacks, WindowLacks}
-use Rattle.spki_cert.specs.declared.entry.Subject.{Subject}
-use Rattle.spki_cert.specs.declared.entry.Entry.{Entry}
-use Rattle.spki_cert.specs.declared.certificate.AuthCert.{AuthCert}
-use Rattle.spki_cert.specs.declared.certificate.NameCert.{NameCert}
+use Rattle.std.specs.{Prelude.{ℕ, List, [], Bool, ◌≡◌, ◌∷◌, ◌++◌, IsTrue, ◌*◌, true, false, fold, max, Option, Some, None}, List.{list_all}}
+use Rattle.spki_cert.specs.declared.{principal.{Principal.{Principal}, Policy.{Policy}}, window.Window.{Window}}
+use Rattle.spki_cert.specs.declared.{entry.{Subject.{Subject}, Entry.{Entry}}, certificate.{AuthCert.{AuthCert}, NameCert.{NameCert}}}
+use Rattle.spki_cert.specs.{Naming.{names}, Time.{within}}
+use Rattle.spki_tag.specs.{Tag.{Tag, contains, nodes, ldepth, star, is_date}, Request.{Request, IsRequest}, Meet.{meet}}
+use Rattle.spki_reduce.specs.declared.last_tests.MissingGrant.{MissingGrant, TheVariants.{NotTheKey, TagLacks, WindowLacks}}
+use Rattle.spki_reduce.specs.declared.tuple.{Issuer.TheVariants.{Own, Key}, Five.{Five}, Four.{Four}, Step.{Step, TheVariants.{Auth, Name}}}
 use Rattle.spki_reduce.specs.declared.tuple.Issuer as code
-use Rattle.spki_reduce.specs.declared.tuple.Issuer.TheVariants.{Own, Key}
-use Rattle.spki_reduce.specs.declared.tuple.Five.{Five}
-use Rattle.spki_reduce.specs.declared.tuple.Four.{Four}
-use Rattle.spki_reduce.specs.declared.tuple.Step.{Step}
-use Rattle.spki_reduce.specs.declared.tuple.Step.TheVariants.{Auth, Name}
 
 -- ---- the tuples of an authorization computation (RFC 2693, section 6)
 

@@ -3,14 +3,10 @@
 use Rattle.std.specs.Prelude.{◌≡◌, ℕ, Bool, true, false, List, [], ◌∷◌, ◌++◌, Option, Some, None, codes}
 use Rattle.sexpr_core.specs.Value.{Value, plain, group, canon}
 use Rattle.spki_tag.specs.Tag.{Tag, tag_value}
-use Rattle.spki_cert.specs.declared.principal.Principal.{Principal}
+use Rattle.spki_cert.specs.{declared.{principal.Principal.{Principal}, window.Window.{Window}}, Readings.{alg_name}, Fields.{plains}}
+use Rattle.spki_reduce.specs.declared.tuple.{Issuer.{Issuer}, Five.{Five}}
 use Rattle.spki_cert.specs.declared.principal.Principal.TheVariants as principal
-use Rattle.spki_cert.specs.declared.window.Window.{Window}
-use Rattle.spki_cert.specs.Readings.{alg_name}
-use Rattle.spki_cert.specs.Fields.{plains}
-use Rattle.spki_reduce.specs.declared.tuple.Issuer.{Issuer}
 use Rattle.spki_reduce.specs.declared.tuple.Issuer.TheVariants as issuer
-use Rattle.spki_reduce.specs.declared.tuple.Five.{Five}
 
 -- (head member ..)
 abbrev pub headed : List ℕ → List Value → Value

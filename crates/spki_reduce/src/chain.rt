@@ -2,10 +2,9 @@
 
 ghost use Rattle.std.specs.Prelude.{◌≡◌, ◌∷◌, [], ◌+◌, ◌*◌, ◌<◌, ◌≤◌, ◌⊎◌, ℕ, length, IfOk, OnOk, IsErrOf};
 ghost use Rattle.spki_tag.specs.Tag.{set, none};
-ghost use Rattle.spki_reduce.specs.declared.fold.Cause.{Cause};
-ghost use Rattle.spki_reduce.specs.Reduction.{five, tags_of, issuer_of, five_tuple, step_tuple, nodes_product, met};
-ghost use Rattle.spki_reduce.specs.Joining.{Stops, TooLargeFor, BecomesFive, MatchJoined};
+ghost use Rattle.spki_reduce.specs.{declared.fold.Cause.{Cause}, Reduction.{five, tags_of, issuer_of, five_tuple, step_tuple, nodes_product, met}};
 ghost use Rattle.spki_reduce.specs.Chain.{tuples_of, all_tags, FoldsTo, StopsAt, HasMet, TooLargeAt, Excludes, SupportsNothing, MatchFold, left_of, Takes, IsWork, IsOverworked, IsCostOf, IsNumber, AreTicksOfSteps};
+ghost use Rattle.spki_reduce.specs.Joining.{Stops, TooLargeFor, BecomesFive, MatchJoined};
 
 use crate::fault::ReduceFault;
 use crate::fold::{Fold, Joined};

@@ -1,8 +1,7 @@
 //! Why a reduction was refused.
 
 ghost use Rattle.std.specs.Prelude.{◌≡◌};
-ghost use Rattle.spki_reduce.specs.declared.fault.ReduceFault.TheVariants.{Memory};
-ghost use Rattle.spki_reduce.specs.Joining.{refusal};
+ghost use Rattle.spki_reduce.specs.{declared.fault.ReduceFault.TheVariants.{Memory}, Joining.{refusal}};
 
 use spki_tag::MeetFault;
 use std::alloc::{AllocError, AllocFailed};

@@ -1,10 +1,8 @@
 //! The rules by which two tuples become one (RFC 2693, sections 6.3 and 6.4).
 
 ghost use Rattle.std.specs.Prelude.{◌≡◌, ◌≢◌, ◌↔◌, true, [], ◌∷◌, ◌++◌, ◌+◌, ◌*◌, ◌<◌, ◌≤◌, ℕ, length, IsTrue, IfOk, IfErr, drop, IsFalse, IsErrOf};
-ghost use Rattle.spki_cert.specs.Naming.{names};
-ghost use Rattle.spki_cert.specs.Time.{IsMeet, Overlap};
-ghost use Rattle.spki_tag.specs.Tag.{nodes, set, none};
-ghost use Rattle.spki_tag.specs.Meet.{meet};
+ghost use Rattle.spki_cert.specs.{Naming.{names}, Time.{IsMeet, Overlap}};
+ghost use Rattle.spki_tag.specs.{Tag.{nodes, set, none}, Meet.{meet}};
 ghost use Rattle.spki_reduce.specs.Reduction.{five, four, five_tuple, four_tuple, IsFor, Issues, Begins};
 ghost use Rattle.spki_reduce.specs.Joining.{Stops, JoinButForTags, BecomesFive, BecomesFour, IsHandedOn, MatchJoined};
 ghost use Rattle.spki_reduce.specs.Chain.{ResolvesTimely, IsCostOf};

@@ -1,8 +1,7 @@
 //! What an authorization lacks to grant a request (RFC 2693, section 6.3).
 
 ghost use Rattle.std.specs.Prelude.{◌≡◌, ◌↔◌, List, IsNone};
-ghost use Rattle.spki_reduce.specs.Reduction.{FiveTuple, Tuple, own, issuer_of, Grants, IsMissingGrant, IsSupported};
-ghost use Rattle.spki_reduce.specs.Joining.{ReducesToFive};
+ghost use Rattle.spki_reduce.specs.{Reduction.{FiveTuple, Tuple, own, issuer_of, Grants, IsMissingGrant, IsSupported}, Joining.{ReducesToFive}};
 ghost use Rattle.spki_reduce.specs.Chain.{FoldsTo};
 
 use crate::tuple::Five;

@@ -3,15 +3,10 @@
 
 ghost use Rattle.std.specs.Prelude.{◌≡◌, ◌≢◌, ℕ, List, [], ◌∷◌, ◌++◌, flat_map};
 ghost use Rattle.sexpr_core.specs.Value.{Value};
-ghost use Rattle.spki_cert.specs.declared.principal.Policy.{Policy};
-ghost use Rattle.spki_cert.specs.declared.principal.Policy.TheVariants.{Open, Strict};
-ghost use Rattle.spki_cert.specs.Time.{IsLimit};
+ghost use Rattle.spki_cert.specs.{declared.principal.Policy.{Policy, TheVariants.{Open, Strict}}, Time.{IsLimit}};
 ghost use Rattle.spki_tag.specs.Request.{Request};
 ghost use Rattle.spki_reduce.specs.Reduction.{Tuple, tags_of, windows_of, Tree, leaves, Derives, from_left, Supports};
-ghost use Rattle.spki_reduce.specs.declared.fold.Cause.{Cause};
-ghost use Rattle.spki_reduce.specs.declared.tuple.Five.{Five};
-ghost use Rattle.spki_reduce.specs.declared.tuple.Step.{Step};
-ghost use Rattle.spki_reduce.specs.Chain.{tuples_of, FoldsTo, HasMet, StopsAt};
+ghost use Rattle.spki_reduce.specs.{declared.{fold.Cause.{Cause}, tuple.{Five.{Five}, Step.{Step}}}, Chain.{tuples_of, FoldsTo, HasMet, StopsAt}};
 ghost use Rattle.spki_reduce.specs.Written.{IsWrittenFive};
 
 /// What is derived or supported in any bracketing is so when the same tuples are joined from the left, one after

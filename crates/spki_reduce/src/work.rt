@@ -2,8 +2,7 @@
 
 ghost use Rattle.std.specs.Prelude.{◌≡◌, ◌+◌, ◌<◌, OnOk, IfErr, OnErr, MatchOption, ℕ, List};
 ghost use Rattle.spki_tag.specs.Tag.{Tag as Written};
-ghost use Rattle.spki_reduce.specs.Reduction.{five, four, five_tuple, four_tuple};
-ghost use Rattle.spki_reduce.specs.Chain.{left_of, Takes, IsNumber, IsOver, step_cost};
+ghost use Rattle.spki_reduce.specs.{Reduction.{five, four, five_tuple, four_tuple}, Chain.{left_of, Takes, IsNumber, IsOver, step_cost}};
 
 use crate::fault::ReduceFault;
 use crate::tuple::{Five, Four};

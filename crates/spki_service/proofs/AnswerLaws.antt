@@ -1,45 +1,29 @@
 -- The answers to a question that was read: by a verifier, by its marks, and from the texts of the guard's entries.
 use Rattle.std.proofs.Common.{◌≡◌, ◌↔◌, IsTrue, is_some, Bool, ℕ, false, true, ◌<◌, ◌≤◌, List, Some, map, length, get_or, slice_get, sym, ap, ◌∙◌, [], ◌∷◌, refl, ◌≢◌, Result, Err, Option, None, subst, Ok, IfOk, IfSome, ℤ, ◌≤ℤ◌, ◌⊎◌, inl, inr, ◌+◌, ◌++◌}
-use Rattle.spki_decision.specs.declared.signed.Signed as examined
-use Rattle.spki_decision.specs.CertificateTests.{signed_of, Signed, IsAccepted, asked, AgreeOn, with_entries, FailsAt, AreShown, every, RefusedAt}
-use Rattle.spki_decision.proofs.CertificateTests.{decided, none_shown, one_list}
-use Rattle.spki_decision.proofs.OneDecision.{decision_one}
-use Rattle.spki_service.specs.GuardQuestions.{PreparedModel, asked_at, Decides, Grants, AllMarked, DecidesMarked, GrantsMarked, AnswersMarked, AreReducedMarked, MarksTell, Answers, OfCase, AreReduced}
-use Rattle.spki_case.specs.Case.{Verified, Case}
-use Rattle.spki_decision.specs.declared.decision.Decision.{Decision}
-use Rattle.spki_decision.proofs.ListedSignatures.{decision_by, not_accepted, agrees, refused_item, explained_by, reduced_by, failure_by, folds_by, some_large_by}
-use Rattle.spki_cert.specs.declared.entry.Entry.{Entry}
-use Rattle.spki_decision.specs.declared.fault.GuardFault.{GuardFault}
-use Rattle.spki_decision.specs.declared.fault.GuardFault.TheVariants.{TooLarge, Memory}
-use Rattle.spki_service.specs.AccessLists.{AreEntries, DecidesPartly, IsEntryText}
 use Rattle.std.proofs.lemmas.Result.{IfOk-weaker}
-use Rattle.std.specs.declared.alloc.AllocError.{AllocError}
-use Rattle.std.specs.List.{AllByRecursion}
-use Rattle.spki_reduce.specs.Reduction.{Tuple, five, entry_tuple}
-use Rattle.spki_decision.specs.declared.evidence.Stop.{Stop}
-use Rattle.spki_decision.specs.declared.evidence.Stop.TheVariants.{NotAccepted}
-use Rattle.spki_decision.specs.declared.decision.Decision.TheVariants.{Yes, No}
-use Rattle.spki_decision.specs.declared.explanation.Explanation.{Explanation}
-use Rattle.spki_decision.specs.declared.explanation.Explanation.TheVariants as explanation
-use Rattle.spki_decision.specs.declared.reduction.EntryFold.{EntryFold}
-use Rattle.spki_decision.specs.declared.reduction.Reduction.{Reduction}
-use Rattle.spki_decision.specs.declared.reduction.Reduction.TheVariants as reduction
+use Rattle.std.specs.{declared.alloc.AllocError.{AllocError}, List.{AllByRecursion}}
+use Rattle.spki_decision.specs.declared.decision.Decision.{Decision, TheVariants.{Yes, No}}
+use Rattle.spki_decision.specs.declared.fault.GuardFault.{GuardFault, TheVariants.{TooLarge, Memory}}
+use Rattle.spki_decision.specs.declared.{evidence.Stop.{Stop, TheVariants.{NotAccepted}}, explanation.Explanation.{Explanation}}
+use Rattle.spki_decision.specs.declared.{reduction.{EntryFold.{EntryFold}, Reduction.{Reduction}}, grant.Grant.{Grant}}
+use Rattle.spki_decision.specs.CertificateTests.{signed_of, Signed, IsAccepted, asked, AgreeOn, with_entries, FailsAt, AreShown, every, RefusedAt}
 use Rattle.spki_decision.specs.Requirements.{AreKept, IsKept, IsLeftOut, kept_case}
 use Rattle.spki_decision.specs.Granted.{IsYes, IsFailure, SomeTooLarge, AreFoldsOf, IsEntryFold, HasLargeTags, HasMuchWork, IsCharge, IsOvercharged}
-use Rattle.spki_decision.specs.Answered.{IsExplained, IsReduced}
-use Rattle.spki_decision.proofs.KeptEntries.{renumbered}
-use Rattle.spki_cert.specs.declared.window.Window.{Window}
-use Rattle.spki_decision.specs.declared.grant.Grant.{Grant}
-use Rattle.spki_decision.specs.Until.{decision_of, EndsWith, HoldsUntil}
-use Rattle.spki_decision.proofs.Until.{windows_are, yes_till}
-use Rattle.spki_cert.specs.Time.{upto, is_until, IsLimit}
-use Rattle.spki_service.specs.Questions.{IsDateAt, last_second}
-use Rattle.spki_service.proofs.SecondOrder.{upto_seconds, until_second}
-use Rattle.spki_decision.proofs.EntryChains.{failure, FoldedTo, one_folded, too_large_here, all_folded}
+use Rattle.spki_decision.specs.{Answered.{IsExplained, IsReduced}, Until.{decision_of, EndsWith, HoldsUntil}}
+use Rattle.spki_decision.proofs.ListedSignatures.{decision_by, not_accepted, agrees, refused_item, explained_by, reduced_by, failure_by, folds_by, some_large_by}
+use Rattle.spki_decision.proofs.{CertificateTests.{decided, none_shown, one_list}, OneDecision.{decision_one}, KeptEntries.{renumbered}}
+use Rattle.spki_decision.proofs.{Until.{windows_are, yes_till}, EntryChains.{failure, FoldedTo, one_folded, too_large_here, all_folded}}
+use Rattle.spki_service.specs.GuardQuestions.{PreparedModel, asked_at, Decides, Grants, AllMarked, DecidesMarked, GrantsMarked, AnswersMarked, AreReducedMarked, MarksTell, Answers, OfCase, AreReduced}
+use Rattle.spki_service.specs.{AccessLists.{AreEntries, DecidesPartly, IsEntryText}, Questions.{IsDateAt, last_second}}
 use Rattle.spki_service.specs.declared.failure.Failure.{Failure}
-use Rattle.spki_reduce.specs.Chain.{TooLargeAt, Takes, all_windows}
-use Rattle.spki_service.proofs.SelectedEntries.{entry_there, as_many}
+use Rattle.spki_service.proofs.{SecondOrder.{upto_seconds, until_second}, SelectedEntries.{entry_there, as_many}}
 use Rattle.spki_service.proofs.MarkedPlaces.{all_at, refused_place, by_both}
+use Rattle.spki_case.specs.Case.{Verified, Case}
+use Rattle.spki_cert.specs.{declared.{entry.Entry.{Entry}, window.Window.{Window}}, Time.{upto, is_until, IsLimit}}
+use Rattle.spki_reduce.specs.{Reduction.{Tuple, five, entry_tuple}, Chain.{TooLargeAt, Takes, all_windows}}
+use Rattle.spki_decision.specs.declared.signed.Signed as examined
+use Rattle.spki_decision.specs.declared.explanation.Explanation.TheVariants as explanation
+use Rattle.spki_decision.specs.declared.reduction.Reduction.TheVariants as reduction
 
 -- ---- the decision by marks
 

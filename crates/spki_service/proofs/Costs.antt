@@ -1,23 +1,14 @@
 -- The octets of entries that are found, by their numbers and by the test, and the weights of what is read from them; the ticks of all entries.
 use Rattle.std.proofs.Common.{◌≡◌, ℕ, zero, suc, ◌+◌, ◌*◌, ◌-◌, ◌<◌, ◌≤◌, Bool, true, false, cond, List, [], ◌∷◌, Option, Some, map, length, take, drop, get_or, add-one, refl, ap, subst, take_all, arith}
 use Rattle.std.proofs.lemmas.List.Sums.{sum_by_more, sum_by_more_le, sum_by-take-le}
-use Rattle.spki_cert.specs.declared.entry.Entry.{Entry}
-use Rattle.spki_cert.specs.Cost.{entry_weight}
-use Rattle.spki_cert.proofs.Costs.{entry_ge, sequence_ge}
+use Rattle.spki_cert.{specs.{declared.{entry.Entry.{Entry}, principal.Policy.{Policy}}, Cost.{entry_weight}}, proofs.Costs.{entry_ge, sequence_ge}}
 use Rattle.spki_service.specs.AccessLists.{IsEntryText, AreEntries, AreNumbers, kept_from, first, numbers_from}
-use Rattle.spki_service.specs.Cost.{octets_at, octets_of, found_octets, HasOctets, all_octets}
-use Rattle.spki_service.specs.GuardQuestions.{PreparedModel}
-use Rattle.spki_cert.specs.declared.principal.Policy.{Policy}
-use Rattle.spki_reduce.specs.Reduction.{Tuple}
-use Rattle.spki_reduce.specs.Chain.{Takes}
-use Rattle.spki_reduce.proofs.Working.{none_taken, taken}
-use Rattle.spki_decision.specs.Cost.{tuples_weight, AreTicksOfEntry, CountsSteps}
-use Rattle.spki_decision.specs.declared.reduction.EntryFold.{EntryFold}
-use Rattle.spki_decision.specs.declared.reduction.EntryFold.TheVariants.{Done, Stopped}
-use Rattle.spki_decision.specs.CertificateTests.{AreShown, asked, every}
-use Rattle.spki_decision.proofs.Charges.{within_limit}
-use Rattle.spki_decision.proofs.Costs.{asked_ge, shown_and_asked_ge, ticks_taken}
+use Rattle.spki_service.specs.{Cost.{octets_at, octets_of, found_octets, HasOctets, all_octets}, GuardQuestions.{PreparedModel}}
 use Rattle.spki_service.proofs.SelectedEntries.{entry_there, number_at, as_many}
+use Rattle.spki_reduce.{specs.{Reduction.{Tuple}, Chain.{Takes}}, proofs.Working.{none_taken, taken}}
+use Rattle.spki_decision.specs.Cost.{tuples_weight, AreTicksOfEntry, CountsSteps}
+use Rattle.spki_decision.specs.{declared.reduction.EntryFold.{EntryFold, TheVariants.{Done, Stopped}}, CertificateTests.{AreShown, asked, every}}
+use Rattle.spki_decision.proofs.{Charges.{within_limit}, Costs.{asked_ge, shown_and_asked_ge, ticks_taken}}
 
 -- ---- by their numbers
 

@@ -1,18 +1,10 @@
 -- Which date seconds are.
 use Rattle.std.proofs.Common.{◌≡◌, ℕ, ◌+◌, ◌-◌, ◌*◌, ◌/◌, ◌%◌, ◌<◌, ◌≤◌, true, false, ◌&&◌, nat_le, List, Option, Some, None, MatchOption, refl, sym, ap, subst, ◌∙◌, true≢false, arith, rules, inl, inr, neg_ℤ, ℤ, pos, negsuc, ◌*ℤ◌, ◌<ℤ◌, ◌≤ℤ◌, unsigned_abs}
-use Rattle.std.proofs.lemmas.Bool.Decides.{nat_tests}
-use Rattle.std.proofs.lemmas.Bool.{and_from}
-use Rattle.std.proofs.lemmas.Int.{by_lt_z}
-use Rattle.jiff_core.specs.declared.civil.time.Time.{Time}
-use Rattle.jiff_core.specs.declared.civil.date.Date.{Date}
-use Rattle.jiff_core.specs.declared.civil.datetime.DateTime.{DateTime}
-use Rattle.jiff_core.specs.Calendar.{IsCivilDate, days_from_civil}
-use Rattle.jiff_core.specs.Date.{epoch_day}
-use Rattle.jiff_core.specs.DateTime.{civil_nanos, IsCivilNanos}
-use Rattle.jiff_core.proofs.SignedLemmas.{signed_arith}
-use Rattle.jiff_core.proofs.MarchLemmas.{day_count-early}
-use Rattle.jiff_core.proofs.CalendarLemmas.{days_in_month_bounds, days_from_civil-day_count}
-use Rattle.jiff_core.proofs.DateLemmas.{civil, epoch_day_injective, epoch_day-lt}
+use Rattle.std.proofs.lemmas.{Bool.{and_from, Decides.{nat_tests}}, Int.{by_lt_z}}
+use Rattle.jiff_core.specs.declared.civil.{time.Time.{Time}, date.Date.{Date}, datetime.DateTime.{DateTime}}
+use Rattle.jiff_core.specs.{Calendar.{IsCivilDate, days_from_civil}, Date.{epoch_day}, DateTime.{civil_nanos, IsCivilNanos}}
+use Rattle.jiff_core.proofs.{SignedLemmas.{signed_arith}, MarchLemmas.{day_count-early}}
+use Rattle.jiff_core.proofs.{CalendarLemmas.{days_in_month_bounds, days_from_civil-day_count}, DateLemmas.{civil, epoch_day_injective, epoch_day-lt}}
 use Rattle.jiff_core.proofs.DateTimeLemmas.{civil_nanos-parts, civil_nanos_range, civil_nanos_injective, time_nanos_bound, time_nanos_injective}
 use Rattle.spki_tag.specs.Tag.{is_digit, is_time, is_date}
 use Rattle.spki_service.specs.Questions.{date_octets, IsDateAt, IsAtNoDate}

@@ -1,15 +1,10 @@
 -- Dates are in the order of their numbers.
 use Rattle.std.proofs.Common.{◌≡◌, ℕ, ◌+◌, ◌-◌, ◌*◌, ◌<◌, ◌≤◌, true, false, inl, inr, List, ◌∷◌, length, drop, get_or, slice_index, sym, ap, ◌∙◌, subst₂, true≢false, le_of_lt, lt_of_le_of_lt, drop_of_length-le, mul-le-mul_right, arith}
-use Rattle.std.proofs.lemmas.Bool.{cases_order}
-use Rattle.std.proofs.lemmas.List.{drop_more}
-use Rattle.std.specs.Cmp.{nat_cmp_is}
-use Rattle.std.specs.Cmp.Lexicographic.{slice_cmp}
-use Rattle.std.specs.declared.cmp.Ordering.{Ordering}
-use Rattle.std.specs.declared.cmp.Ordering.TheVariants.{Less, Equal, Greater}
+use Rattle.std.proofs.lemmas.{Bool.{cases_order}, List.{drop_more}}
+use Rattle.std.specs.{Cmp.{nat_cmp_is, Lexicographic.{slice_cmp}}, declared.cmp.Ordering.{Ordering, TheVariants.{Less, Equal, Greater}}}
 use Rattle.std.specs.Ordering.{nat_cmp, is_le, ordering_then}
 use Rattle.spki_cert.specs.Time.{upto}
-use Rattle.spki_service.specs.Questions.{number_at, IsNumberUpto}
-use Rattle.spki_service.proofs.DateSeconds.{HasNumbers}
+use Rattle.spki_service.{specs.Questions.{number_at, IsNumberUpto}, proofs.DateSeconds.{HasNumbers}}
 
 -- ---- lists in the order of numbers
 

@@ -1,11 +1,8 @@
 -- The numbers of a date.
 use Rattle.std.proofs.Common.{◌≡◌, ℕ, ◌+◌, ◌-◌, ◌*◌, ◌/◌, ◌%◌, ◌<◌, ◌≤◌, true, Bool, ◌&&◌, ◌==◌, nat_le, List, length, drop, slice_index, min, nat_lt, cond, ◌⊎◌, inl, inr, ℤ, pos, ◌+ℤ◌, ◌*ℤ◌, refl, sym, ap, ◌∙◌, subst, arith, rules}
-use Rattle.std.proofs.lemmas.Bool.Decides.{nat_tests}
-use Rattle.std.proofs.lemmas.Bool.{and_parts}
-use Rattle.std.proofs.lemmas.List.{get_or-drop}
+use Rattle.std.proofs.lemmas.{Bool.{and_parts, Decides.{nat_tests}}, List.{get_or-drop}}
 use Rattle.jiff_core.specs.Calendar.{IsCivilDate, days_in_month, days_from_civil}
-use Rattle.jiff_core.proofs.SignedLemmas.{signed_arith}
-use Rattle.jiff_core.proofs.CalendarLemmas.{days_in_month_bounds}
+use Rattle.jiff_core.proofs.{SignedLemmas.{signed_arith}, CalendarLemmas.{days_in_month_bounds}}
 use Rattle.spki_tag.specs.Tag.{is_number_at, is_time, is_date}
 use Rattle.spki_service.specs.Questions.{date_octets, IsDateAt, number_at, clock_at, last_second, IsNumberUpto}
 

@@ -1,26 +1,17 @@
 -- How a text is read as an access list. It is one list or has one fault.
 use Rattle.std.proofs.Common.{◌≡◌, ◌≢◌, inl, inr, ℕ, ◌≤◌, List, map, length, sym, subst, Result, Ok, Err, IfOk, IfErr, rules, ◌++◌, ap, ◌∙◌, codes}
-use Rattle.std.proofs.lemmas.Result.{IfOk-weaker, IfErr-weaker}
-use Rattle.std.proofs.lemmas.Slice.Zip.{AllZip-long}
-use Rattle.sexpr_core.specs.declared.fault.FormFault.{FormFault}
-use Rattle.sexpr_core.specs.Value.{Value, canon}
-use Rattle.sexpr_text.specs.AdvancedForm.{IsTextWithin}
-use Rattle.sexpr_text.specs.CanonicalTexts.{IsReadAs, RefusesForm}
-use Rattle.spki_case.proofs.OneCase.{one_text}
-use Rattle.spki_cert.specs.declared.entry.Entry.{Entry}
-use Rattle.spki_cert.specs.declared.fault.CertFault.{CertFault}
-use Rattle.spki_cert.specs.declared.fault.CertFaultKind.TheVariants as kinds
-use Rattle.spki_cert.specs.Structures.{EntryOf, AclOf}
-use Rattle.spki_case.specs.Case.{IsOuter}
-use Rattle.spki_service.specs.declared.list_fault.AclFault.{AclFault}
-use Rattle.spki_service.specs.declared.list_fault.AclFault.TheVariants as faults
-use Rattle.spki_service.specs.AccessLists.{GuardModel, AreEntries, HoldsValue, HoldsList, IsNoAcl, IsNoAccessList}
-use Rattle.spki_service.proofs.SelectedEntries.{held}
+use Rattle.std.proofs.lemmas.{Result.{IfOk-weaker, IfErr-weaker}, Slice.Zip.{AllZip-long}}
+use Rattle.sexpr_core.specs.{declared.fault.FormFault.{FormFault}, Value.{Value, canon}}
+use Rattle.sexpr_text.specs.{AdvancedForm.{IsTextWithin}, CanonicalTexts.{IsReadAs, RefusesForm}}
+use Rattle.spki_case.{proofs.OneCase.{one_text}, specs.Case.{IsOuter}}
+use Rattle.spki_cert.specs.{declared.{entry.Entry.{Entry}, fault.CertFault.{CertFault}}, Structures.{EntryOf, AclOf}}
 use Rattle.spki_cert.specs.StructureFaults.{behind_version}
-use Rattle.spki_cert.proofs.HeadedLists.{same_others}
-use Rattle.spki_cert.proofs.EntryFaultLaws.{entries-behind}
-use Rattle.spki_service.specs.Questions.{Reads}
-use Rattle.spki_service.proofs.OneAsking.{text_one, of_text, both, form_unread, form_one, some-one}
+use Rattle.spki_cert.proofs.{HeadedLists.{same_others}, EntryFaultLaws.{entries-behind}}
+use Rattle.spki_service.specs.declared.list_fault.AclFault.{AclFault}
+use Rattle.spki_service.specs.{AccessLists.{GuardModel, AreEntries, HoldsValue, HoldsList, IsNoAcl, IsNoAccessList}, Questions.{Reads}}
+use Rattle.spki_service.proofs.{SelectedEntries.{held}, OneAsking.{text_one, of_text, both, form_unread, form_one, some-one}}
+use Rattle.spki_cert.specs.declared.fault.CertFaultKind.TheVariants as kinds
+use Rattle.spki_service.specs.declared.list_fault.AclFault.TheVariants as faults
 
 -- ---- how an access list is made ready
 

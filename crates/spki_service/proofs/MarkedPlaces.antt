@@ -4,10 +4,9 @@ use Rattle.std.proofs.lemmas.Option.{slice_get_within, slice_get-get_or, slice_g
 use Rattle.std.specs.List.{AllByRecursion}
 use Rattle.spki_case.specs.Case.{Verified}
 use Rattle.spki_decision.specs.CertificateTests.{Signed, IsAccepted, asked, RefusedAt, signed_of}
-use Rattle.spki_decision.specs.declared.signed.Signed as examined
-use Rattle.spki_service.specs.AccessLists.{GuardModel}
-use Rattle.spki_service.specs.declared.texts.Texts.{Texts}
+use Rattle.spki_service.specs.{AccessLists.{GuardModel}, declared.texts.Texts.{Texts}}
 use Rattle.spki_service.specs.GuardQuestions.{PreparedModel, IsFirstUnmarked, AllMarked, IsUnmarked, ByMarks, IsReadFrom}
+use Rattle.spki_decision.specs.declared.signed.Signed as examined
 
 -- ---- signatures and their places
 

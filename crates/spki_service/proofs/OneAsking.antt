@@ -1,27 +1,20 @@
 -- A question asks one case or has one refusal.
 use Rattle.std.proofs.Common.{◌≡◌, ◌⊎◌, ℕ, List, inl, inr, Option, Some, refl, sym, ap, subst, ◌∙◌, rules, ◌≤◌, arith}
-use Rattle.sexpr_core.specs.declared.fault.FormFault.{FormFault}
-use Rattle.sexpr_core.specs.declared.fault.FormFault.TheVariants.{TooLong, Memory}
-use Rattle.sexpr_core.specs.Value.{Value}
-use Rattle.sexpr_text.specs.AdvancedForm.{IsText, IsTextWithin}
-use Rattle.sexpr_text.specs.CanonicalTexts.{RefusesForm, LacksForm}
-use Rattle.sexpr_text.proofs.OneValue.{one_value}
-use Rattle.sexpr_text.proofs.OneRefusal.{one_of_any}
+use Rattle.sexpr_core.specs.{declared.fault.FormFault.{FormFault, TheVariants.{TooLong, Memory}}, Value.{Value}}
+use Rattle.sexpr_text.specs.{AdvancedForm.{IsText, IsTextWithin}, CanonicalTexts.{RefusesForm, LacksForm}}
+use Rattle.sexpr_text.proofs.{OneValue.{one_value}, OneRefusal.{one_of_any}}
 use Rattle.spki_tag.proofs.RequestReading.{request_only}
-use Rattle.spki_cert.specs.declared.fault.CertFaultKind.{CertFaultKind}
-use Rattle.spki_cert.proofs.OneReading.{key-one, date-one, sequence-one}
+use Rattle.spki_cert.{specs.declared.fault.CertFaultKind.{CertFaultKind}, proofs.OneReading.{key-one, date-one, sequence-one}}
 use Rattle.spki_case.specs.Case.{Case}
-use Rattle.spki_service.specs.declared.question.Question.{Question}
+use Rattle.spki_service.specs.Questions.{Reads, IsNoDateFor, IsWanted, RefusesWanted, IsAskedAt, IsAskedCase, IsNoSequenceFor, IsNoKeyFor, IsNoRequestFor, ReadsSequence, ReadsKey, ReadsRequest, ReadsBefore, LacksFormOfMoment, IsAskedAtNone, IsNotAsked, certificates_in, HasFewStrings, HasManyCertificates, HasManyStrings, IsTooMany, IsRefused}
+use Rattle.spki_service.specs.declared.question.{Question.{Question}, Part.{Part}, AskFault.{AskFault}}
+use Rattle.spki_service.proofs.DateLaws.{no_date, one_date}
 use Rattle.spki_service.specs.declared.question.RequestInput as wanted
 use Rattle.spki_service.specs.declared.question.RequestInput.TheVariants as requests
 use Rattle.spki_service.specs.declared.question.Moment as of_question
 use Rattle.spki_service.specs.declared.question.Moment.TheVariants as moments
-use Rattle.spki_service.specs.declared.question.Part.{Part}
 use Rattle.spki_service.specs.declared.question.Part.TheVariants as parts
-use Rattle.spki_service.specs.declared.question.AskFault.{AskFault}
 use Rattle.spki_service.specs.declared.question.AskFault.TheVariants as faults
-use Rattle.spki_service.specs.Questions.{Reads, IsNoDateFor, IsWanted, RefusesWanted, IsAskedAt, IsAskedCase, IsNoSequenceFor, IsNoKeyFor, IsNoRequestFor, ReadsSequence, ReadsKey, ReadsRequest, ReadsBefore, LacksFormOfMoment, IsAskedAtNone, IsNotAsked, certificates_in, HasFewStrings, HasManyCertificates, HasManyStrings, IsTooMany, IsRefused}
-use Rattle.spki_service.proofs.DateLaws.{no_date, one_date}
 
 -- ---- texts
 

@@ -1,34 +1,26 @@
 -- The texts of a question's parts: what is read from them, how many strings a request has, and the text of a request
 -- that is given by its strings.
 use Rattle.std.proofs.Common.{ℤ, ◌≡◌, ◌≢◌, ℕ, List, [], inl, inr, refl, sym, subst, Result, Ok, Err, IfErr, ◌∙◌, ap, rules, ◌≤◌, ◌<◌, ◌∷◌, Bool, true, false, Option, Some, None, MatchOption, ◌+◌, ◌*◌, ◌/◌, ◌%◌, ◌++◌, length, map, take, drop, get_or, arith, length-append, IsErrAnd, Bor}
+use Rattle.std.proofs.lemmas.List.{map-append, take_all, take-append-drop, length-map}
 use Rattle.sexpr_core.specs.declared.fault.FormFault.{FormFault}
-use Rattle.sexpr_core.specs.declared.fault.FormFault.TheVariants as form
 use Rattle.sexpr_core.specs.Value.{Value, canon, values, plain, group, decimal, verbatim, canons, depths, IsShallow}
+use Rattle.sexpr_core.proofs.{Texts.{decimal_digit, decimal_more, verbatim_is}, TreeLaws.{canons-append, member_written}}
 use Rattle.sexpr_text.specs.CanonicalTexts.{RefusesForm, LacksForm, IsReadAs}
-use Rattle.spki_tag.specs.Request.{Request}
-use Rattle.spki_cert.specs.declared.certificate.SeqItem.{SeqItem}
-use Rattle.spki_cert.specs.declared.fault.CertFaultKind.TheVariants as kinds
-use Rattle.spki_cert.specs.Readings.{KeyOf, DateOf}
-use Rattle.spki_cert.specs.Structures.{SeqOf}
-use Rattle.spki_case.specs.Case.{Case, RequestOf}
-use Rattle.spki_case.proofs.OneCase.{one_text}
-use Rattle.spki_service.specs.declared.question.Question.{Question}
-use Rattle.spki_service.specs.declared.question.Moment as of_question
-use Rattle.spki_service.specs.declared.question.Moment.TheVariants as moments
-use Rattle.spki_service.specs.declared.question.Part.{Part}
-use Rattle.spki_service.specs.declared.question.Part.TheVariants as parts
-use Rattle.spki_service.specs.declared.question.AskFault.{AskFault}
-use Rattle.spki_service.specs.declared.question.AskFault.TheVariants as faults
-use Rattle.spki_service.specs.declared.texts.MomentText.{MomentText}
-use Rattle.spki_service.specs.declared.texts.MomentText.TheVariants as of_moment
-use Rattle.spki_service.specs.declared.texts.Texts.{Texts}
+use Rattle.spki_tag.{specs.Request.{Request}, proofs.TagReading.{weight, weights}}
+use Rattle.spki_cert.specs.{declared.certificate.SeqItem.{SeqItem}, Readings.{KeyOf, DateOf}, Structures.{SeqOf}}
+use Rattle.spki_case.{specs.Case.{Case, RequestOf}, proofs.OneCase.{one_text}}
+use Rattle.spki_service.specs.declared.question.{Question.{Question}, Part.{Part}, AskFault.{AskFault}}
+use Rattle.spki_service.specs.declared.texts.{MomentText.{MomentText}, Texts.{Texts}}
 use Rattle.spki_service.specs.Questions.{Reads, RefusesWanted, IsAskedAt, IsDateAt, IsAtNoDate, IsAskedCase, ReadsSequence, ReadsKey, ReadsRequest, IsNotAsked, IsWanted, strings_in, TellsStrings, HasFewStrings, IsTooMany, words_value}
 use Rattle.spki_service.specs.GuardQuestions.{IsMomentText, IsTextsOf, OfText, HasDate, NamesForm, NamesPart, NamesSequence, NamesKey, NamesRequest, NamesDate}
-use Rattle.spki_tag.proofs.TagReading.{weight, weights}
 use Rattle.spki_service.proofs.OneAsking.{form_unread, of_wanted, MomentLacks}
-use Rattle.std.proofs.lemmas.List.{map-append, take_all, take-append-drop, length-map}
-use Rattle.sexpr_core.proofs.Texts.{decimal_digit, decimal_more, verbatim_is}
-use Rattle.sexpr_core.proofs.TreeLaws.{canons-append, member_written}
+use Rattle.sexpr_core.specs.declared.fault.FormFault.TheVariants as form
+use Rattle.spki_cert.specs.declared.fault.CertFaultKind.TheVariants as kinds
+use Rattle.spki_service.specs.declared.question.Moment as of_question
+use Rattle.spki_service.specs.declared.question.Moment.TheVariants as moments
+use Rattle.spki_service.specs.declared.question.Part.TheVariants as parts
+use Rattle.spki_service.specs.declared.question.AskFault.TheVariants as faults
+use Rattle.spki_service.specs.declared.texts.MomentText.TheVariants as of_moment
 
 -- ---- what the parts of a question are read as
 

@@ -1,17 +1,13 @@
 -- A question that was asked again as a case is decided alike.
 use Rattle.std.proofs.Common.{◌≡◌, ℕ, suc, List, [], ◌∷◌, Bool, true, false, Some, slice_get, refl, sym, subst, Ok}
-use Rattle.std.specs.List.{list_any}
 use Rattle.std.proofs.lemmas.Map.Keys.{any_passes_from_place}
+use Rattle.std.specs.List.{list_any}
 use Rattle.spki_cert.specs.declared.entry.Entry.{Entry}
 use Rattle.spki_case.specs.Case.{Case, Row, Verified, accepted_by, is_row_of}
-use Rattle.spki_decision.specs.declared.decision.Decision.{Decision}
-use Rattle.spki_decision.specs.declared.decision.Decision.TheVariants.{Yes, No}
-use Rattle.spki_decision.specs.CertificateTests.{asked, with_entries}
-use Rattle.spki_decision.specs.Granted.{Granted, IsDecision}
-use Rattle.spki_decision.specs.Answered.{IsDecided}
+use Rattle.spki_decision.specs.{declared.decision.Decision.{Decision, TheVariants.{Yes, No}}, CertificateTests.{asked, with_entries}}
+use Rattle.spki_decision.specs.{Granted.{Granted, IsDecision}, Answered.{IsDecided}}
 use Rattle.spki_decision.proofs.OneDecision.{decision_one}
-use Rattle.spki_service.specs.AccessLists.{AreEntries}
-use Rattle.spki_service.specs.GuardQuestions.{PreparedModel, DecidesMarked, MarksTell}
+use Rattle.spki_service.specs.{AccessLists.{AreEntries}, GuardQuestions.{PreparedModel, DecidesMarked, MarksTell}}
 use Rattle.spki_service.specs.Replayed.{IsCaseOfParts, AreRowsOf, AreMarkedAlike}
 use Rattle.spki_service.proofs.AnswerLaws.{decided_told}
 

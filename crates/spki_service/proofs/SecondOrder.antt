@@ -1,19 +1,14 @@
 -- The order of seconds is that of dates.
 use Rattle.std.proofs.Common.{◌≡◌, ℕ, ◌+◌, ◌*◌, ◌/◌, ◌%◌, ◌<◌, ◌≤◌, true, false, min, nat_lt, cond, ◌↔◌, inl, inr, List, Option, Some, None, IfSome, ℤ, pos, ◌+ℤ◌, ◌*ℤ◌, ◌<ℤ◌, ◌≤ℤ◌, refl, sym, ap, ◌∙◌, subst, ap₂, arith}
-use Rattle.std.proofs.lemmas.Bool.Decides.{nat_tests}
-use Rattle.std.proofs.lemmas.Bool.{cases_order, cases_lt, cases_Bool}
-use Rattle.jiff_core.specs.declared.civil.date.Date.{Date}
-use Rattle.jiff_core.specs.Calendar.{days_in_month, days_from_civil}
-use Rattle.jiff_core.specs.Date.{epoch_day}
-use Rattle.jiff_core.proofs.SignedLemmas.{signed_arith}
-use Rattle.jiff_core.proofs.CalendarLemmas.{days_in_month_bounds}
+use Rattle.std.proofs.lemmas.Bool.{cases_order, cases_lt, cases_Bool, Decides.{nat_tests}}
+use Rattle.jiff_core.proofs.{SignedLemmas.{signed_arith}, CalendarLemmas.{days_in_month_bounds}}
 use Rattle.jiff_core.proofs.DateLemmas.{IsEarlier, cases_date, epoch_day-lt, epoch_day_same}
+use Rattle.jiff_core.specs.{declared.civil.date.Date.{Date}, Calendar.{days_in_month, days_from_civil}, Date.{epoch_day}}
 use Rattle.spki_tag.specs.Tag.{is_date}
 use Rattle.spki_cert.specs.Time.{upto, is_until, IsLimit}
-use Rattle.spki_service.specs.Questions.{date_octets, IsDateAt, last_second}
-use Rattle.spki_service.proofs.DateLaws.{is_some_date}
-use Rattle.spki_service.proofs.DateSeconds.{has_numbers, number_back, second_back}
+use Rattle.spki_service.proofs.{DateLaws.{is_some_date}, DateSeconds.{has_numbers, number_back, second_back}}
 use Rattle.spki_service.proofs.DateOrder.{IsInOrder, Numbers, HasRange, numbers_of, packed, dates_in_order, range_of}
+use Rattle.spki_service.specs.Questions.{date_octets, IsDateAt, last_second}
 
 -- ---- the last second of numbers
 

@@ -1,27 +1,18 @@
 -- Entries that are selected from an access list, by a test or by their numbers: their texts, and what they decide.
 use Rattle.std.proofs.Common.{◌≡◌, ℕ, suc, ◌+◌, Bool, true, false, cond, List, [], ◌∷◌, ◌++◌, Some, map, length, slice_get, refl, sym, ap, ◌∙◌, arith, subst, rules, zero, inl, inr, ◌-◌, Option, None, Result, Ok, Err, IfOk, ◌<◌, ◌≤◌, drop, get_or}
-use Rattle.std.specs.List.{AllZip, AllByRecursion}
-use Rattle.std.proofs.lemmas.Option.{slice_get_within, none-some, slice_get-get_or}
+use Rattle.std.proofs.lemmas.{Option.{slice_get_within, none-some, slice_get-get_or}, List.{length-map}}
+use Rattle.std.specs.{List.{AllZip, AllByRecursion}, declared.alloc.AllocError.{AllocError}}
 use Rattle.sexpr_core.specs.Value.{Value, canon}
-use Rattle.spki_case.proofs.OneCase.{one_text}
-use Rattle.spki_cert.specs.declared.entry.Entry.{Entry}
-use Rattle.spki_cert.specs.Structures.{EntryOf, IsVersion}
+use Rattle.spki_case.{proofs.OneCase.{one_text}, specs.Case.{Case}}
+use Rattle.spki_cert.specs.{declared.{entry.Entry.{Entry}, principal.Policy.{Policy}}, Structures.{EntryOf, IsVersion}}
 use Rattle.spki_cert.proofs.OneReading.{entry-one}
 use Rattle.spki_service.specs.AccessLists.{IsEntryText, AreEntries, kept_from, first, HasNumber, ArePicked, AreNumbers, numbers_from, is_of, DecidesKept, DecidesPartly, IsNumbered, NamesPicked}
 use Rattle.spki_service.proofs.OneAsking.{some-one}
 use Rattle.spki_decision.specs.Requirements.{second, AreKept, IsOf, IsLeftOut, first_key}
+use Rattle.spki_decision.specs.{declared.{decision.Decision.{Decision, TheVariants.{Yes, No}}, grant.Grant.{Grant}}, Granted.{Names}}
+use Rattle.spki_decision.specs.{CertificateTests.{with_entries}, Until.{decision_of}}
 use Rattle.spki_decision.proofs.KeptEntries.{listed}
-use Rattle.std.specs.declared.alloc.AllocError.{AllocError}
-use Rattle.spki_cert.specs.declared.principal.Policy.{Policy}
 use Rattle.spki_reduce.specs.Reduction.{Tuple}
-use Rattle.spki_case.specs.Case.{Case}
-use Rattle.spki_decision.specs.declared.decision.Decision.{Decision}
-use Rattle.spki_decision.specs.declared.decision.Decision.TheVariants.{Yes, No}
-use Rattle.spki_decision.specs.Granted.{Names}
-use Rattle.spki_decision.specs.CertificateTests.{with_entries}
-use Rattle.spki_decision.specs.declared.grant.Grant.{Grant}
-use Rattle.spki_decision.specs.Until.{decision_of}
-use Rattle.std.proofs.lemmas.List.{length-map}
 
 -- ---- entries that pass a test, as they are found by their numbers and read from their texts
 

@@ -1,27 +1,17 @@
 -- Rows of an index: those of the entries of a kind, what sorting leaves of them, and those that are found by halves.
 use Rattle.std.proofs.Common.{◌≡◌, ℕ, List, [], ◌∷◌, length, refl, sym, arith, suc, ◌+◌, ◌-◌, ◌<◌, ◌≤◌, Bool, true, false, cond, not, ◌&&◌, ◌⊎◌, inl, inr, map, take, drop, ◌++◌, get_or, ap, ◌∙◌, Some, slice_get, bytes_eq, zero, ltb, leb, true≢false, get_or-drop, length-drop}
-use Rattle.std.specs.Prelude.{slice_range}
-use Rattle.std.proofs.lemmas.Grind.{common_steps}
-use Rattle.std.specs.List.{filter, AllByRecursion}
-use Rattle.std.specs.List.Sorted.{IsPermutation, IsSortedByKey, IsStableBy, ties}
-use Rattle.std.specs.Ordering.{is_lt, is_eq, is_le, ordering_index, ordering_reverse, nat_cmp}
-use Rattle.std.specs.declared.cmp.Ordering.{Ordering}
-use Rattle.std.specs.declared.cmp.Ordering.TheVariants.{Less, Equal, Greater}
-use Rattle.std.specs.Cmp.{IsTotalOrder, IsStrictWeakOrder}
-use Rattle.std.specs.Cmp.Lexicographic.{slice_cmp}
-use Rattle.spki_cert.specs.declared.entry.Entry.{Entry}
-use Rattle.spki_service.specs.declared.index.Row.{Row}
-use Rattle.spki_cert.specs.declared.principal.Principal.{Principal}
-use Rattle.spki_service.specs.AccessLists.{first, numbers_from, octets_of, Kind, is_by, is_principal, row_octets, tail_of, row_key, key_order, IsInOrder, row_number, rows_from, numbers_with, owners_of}
-use Rattle.std.specs.Cmp.{tied_then, tied_itself, nat_cmp_total}
-use Rattle.std.specs.List.Sorted.{IsNonDecreasingBy, IsPartitionPoint}
-use Rattle.std.proofs.lemmas.Bool.{cases_Bool}
-use Rattle.std.proofs.lemmas.Cmp.{nat_list_cmp_total, nat_list_eq_equiv, on_total, then_total}
-use Rattle.std.proofs.lemmas.List.Elements.{All-from_recursion, recursion_from_All}
-use Rattle.std.proofs.lemmas.List.Sorted.{All-permutation, searchable_from_sorted, ranks_by}
-use Rattle.std.proofs.lemmas.Map.Text.{is_eq-slice_cmp}
-use Rattle.std.proofs.lemmas.Slice.Eq.{bytes_eq-Decides}
+use Rattle.std.proofs.lemmas.{Grind.{common_steps}, Bool.{cases_Bool}, Cmp.{nat_list_cmp_total, nat_list_eq_equiv, on_total, then_total}}
+use Rattle.std.proofs.lemmas.List.{Elements.{All-from_recursion, recursion_from_All}, Sorted.{All-permutation, searchable_from_sorted, ranks_by}}
+use Rattle.std.proofs.lemmas.{Map.Text.{is_eq-slice_cmp}, Slice.Eq.{bytes_eq-Decides}}
 use Rattle.std.proofs.Math.Bool.{and-false}
+use Rattle.std.specs.Prelude.{slice_range}
+use Rattle.std.specs.List.{filter, AllByRecursion, Sorted.{IsPermutation, IsSortedByKey, IsStableBy, ties, IsNonDecreasingBy, IsPartitionPoint}}
+use Rattle.std.specs.Ordering.{is_lt, is_eq, is_le, ordering_index, ordering_reverse, nat_cmp}
+use Rattle.std.specs.declared.cmp.Ordering.{Ordering, TheVariants.{Less, Equal, Greater}}
+use Rattle.std.specs.Cmp.{IsTotalOrder, IsStrictWeakOrder, tied_then, tied_itself, nat_cmp_total, Lexicographic.{slice_cmp}}
+use Rattle.spki_cert.specs.declared.{entry.Entry.{Entry}, principal.Principal.{Principal}}
+use Rattle.spki_service.specs.AccessLists.{first, numbers_from, octets_of, Kind, is_by, is_principal, row_octets, tail_of, row_key, key_order, IsInOrder, row_number, rows_from, numbers_with, owners_of}
+use Rattle.spki_service.specs.declared.index.Row.{Row}
 
 -- ---- filters
 

@@ -1,10 +1,8 @@
 -- A list of texts in one buffer, with one text more behind them.
 use Rattle.std.proofs.Common.{◌≡◌, ℕ, ◌+◌, ◌≤◌, List, [], ◌∷◌, ◌++◌, length, map, refl, arith, rules}
-use Rattle.std.proofs.lemmas.Grind.{common_steps}
-use Rattle.std.proofs.lemmas.List.{map-append}
+use Rattle.std.proofs.lemmas.{Grind.{common_steps}, List.{map-append}}
 use Rattle.std.specs.Prelude.{slice_range}
-use Rattle.spki_service.specs.declared.text_list.Place.{Place}
-use Rattle.spki_service.specs.TextLists.{text_at, AreWithin}
+use Rattle.spki_service.specs.{declared.text_list.Place.{Place}, TextLists.{text_at, AreWithin}}
 
 stays : (octets more : List ℕ) (start end : ℕ) → start ≤ end → end ≤ length octets
     → slice_range (octets ++ more) start end ≡ slice_range octets start end

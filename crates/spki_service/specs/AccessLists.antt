@@ -1,39 +1,21 @@
 -- Access lists (RFC 2693, section 3.4): their entries as a guard contains them, why a text is refused as a list, the
 -- index by principals, and the decision by the entries that are found in it.
 use Rattle.std.specs.Prelude.{◌≡◌, ℕ, ◌≤◌, List, map, length, ◌≢◌, ◌<◌, Some, suc, Bool, [], ◌∷◌, if◌then◌else◌, true, false, ◌&&◌, bytes_eq, slice_get, slice_index_or, drop, ltb, ◌-◌, Option, None}
-use Rattle.std.specs.List.{AllZip, AllByRecursion}
+use Rattle.std.specs.{List.{AllZip, AllByRecursion, filter, Sorted.{IsSortedByKey}}, Ordering.{nat_cmp, ordering_then}}
+use Rattle.std.specs.{declared.cmp.Ordering.{Ordering}, Cmp.Lexicographic.{slice_cmp}, Int.{from_le_bytes, w64}}
 use Rattle.sexpr_core.specs.Value.{Value, canon}
-use Rattle.sexpr_text.specs.AdvancedForm.{IsTextWithin}
-use Rattle.spki_cert.specs.declared.entry.Entry.{Entry}
-use Rattle.spki_cert.specs.declared.principal.Policy.{Policy}
-use Rattle.spki_cert.specs.Structures.{EntryOf, AclOf}
-use Rattle.spki_service.specs.declared.limits.Limits.{Limits}
-use Rattle.spki_cert.specs.declared.fault.CertFault.{CertFault}
-use Rattle.spki_cert.specs.declared.fault.CertFaultKind.TheVariants as kinds
-use Rattle.spki_cert.specs.StructureFaults.{acl_fault}
-use Rattle.spki_service.specs.declared.list_fault.AclFault.{AclFault}
-use Rattle.spki_service.specs.declared.list_fault.AclFault.TheVariants as faults
-use Rattle.sexpr_text.specs.CanonicalTexts.{RefusesForm, LacksForm}
+use Rattle.sexpr_text.specs.{AdvancedForm.{IsTextWithin}, CanonicalTexts.{RefusesForm, LacksForm}}
+use Rattle.spki_cert.specs.declared.{entry.Entry.{Entry}, principal.{Policy.{Policy}, Principal.{Principal, TheVariants.{Key, Hash}}}}
+use Rattle.spki_cert.specs.declared.{fault.CertFault.{CertFault}, hash.HashAlg.{HashAlg, TheVariants.{Sha1, Sha256, Sha512}}}
+use Rattle.spki_cert.specs.{Structures.{EntryOf, AclOf}, StructureFaults.{acl_fault}, Naming.{is_same, names}}
+use Rattle.spki_service.specs.declared.{limits.Limits.{Limits}, list_fault.AclFault.{AclFault}, index.{Row.{Row}, EntryIndex.{EntryIndex}}}
 use Rattle.spki_service.specs.Questions.{Reads}
-use Rattle.std.specs.List.{filter}
-use Rattle.std.specs.List.Sorted.{IsSortedByKey}
-use Rattle.std.specs.Ordering.{nat_cmp, ordering_then}
-use Rattle.std.specs.declared.cmp.Ordering.{Ordering}
-use Rattle.std.specs.Cmp.Lexicographic.{slice_cmp}
-use Rattle.std.specs.Int.{from_le_bytes, w64}
-use Rattle.spki_service.specs.declared.index.Row.{Row}
-use Rattle.spki_cert.specs.declared.hash.HashAlg.{HashAlg}
-use Rattle.spki_cert.specs.declared.hash.HashAlg.TheVariants.{Sha1, Sha256, Sha512}
-use Rattle.spki_cert.specs.declared.principal.Principal.{Principal}
-use Rattle.spki_cert.specs.declared.principal.Principal.TheVariants.{Key, Hash}
-use Rattle.spki_cert.specs.Naming.{is_same, names}
-use Rattle.spki_service.specs.declared.index.EntryIndex.{EntryIndex}
 use Rattle.spki_reduce.specs.Reduction.{Tuple}
 use Rattle.spki_case.specs.Case.{Case}
-use Rattle.spki_decision.specs.declared.decision.Decision.{Decision}
-use Rattle.spki_decision.specs.declared.decision.Decision.TheVariants.{Yes, No}
-use Rattle.spki_decision.specs.Granted.{Names}
+use Rattle.spki_decision.specs.{declared.decision.Decision.{Decision, TheVariants.{Yes, No}}, Granted.{Names}}
 use Rattle.spki_decision.specs.Requirements.{AreKept, IsLeftOut, kept_case, IsRenumbered}
+use Rattle.spki_cert.specs.declared.fault.CertFaultKind.TheVariants as kinds
+use Rattle.spki_service.specs.declared.list_fault.AclFault.TheVariants as faults
 
 -- ---- what a guard contains
 

@@ -1,15 +1,11 @@
 -- How many octets a question is about: those of its sequence, and those of the entries that the index finds for it; the ticks of all entries.
-use Rattle.std.specs.Prelude.{◌≡◌, ◌≤◌, ℕ, ◌+◌, ◌*◌, ◌-◌, List, [], ◌∷◌, length, Bool, slice_index_or, if◌then◌else◌}
-use Rattle.std.specs.List.{sum_by}
+use Rattle.std.specs.{Prelude.{◌≡◌, ◌≤◌, ℕ, ◌+◌, ◌*◌, ◌-◌, List, [], ◌∷◌, length, Bool, slice_index_or, if◌then◌else◌}, List.{sum_by}}
 use Rattle.sexpr_core.specs.Value.{Value, canon}
-use Rattle.spki_cert.specs.declared.entry.Entry.{Entry}
-use Rattle.spki_cert.specs.Structures.{SeqOf}
+use Rattle.spki_cert.specs.{declared.entry.Entry.{Entry}, Structures.{SeqOf}}
 use Rattle.spki_reduce.specs.Reduction.{Tuple}
 use Rattle.spki_case.specs.Case.{Case}
-use Rattle.spki_decision.specs.CertificateTests.{AreShown, every}
-use Rattle.spki_decision.specs.Requirements.{first_key}
-use Rattle.spki_service.specs.AccessLists.{AreEntries, is_of}
-use Rattle.spki_service.specs.GuardQuestions.{PreparedModel}
+use Rattle.spki_decision.specs.{CertificateTests.{AreShown, every}, Requirements.{first_key}}
+use Rattle.spki_service.specs.{AccessLists.{AreEntries, is_of}, GuardQuestions.{PreparedModel}}
 
 -- the octets of the texts with these numbers, counted from 1
 abbrev pub octets_at : List (List ℕ) → List ℕ → ℕ

@@ -1,49 +1,33 @@
 -- Questions that are put to a guard: the texts of their parts, what is kept of a question that is opened, and the
 -- answers by what a verifier accepts or has marked (RFC 2693, section 6).
-use Rattle.sexpr_core.specs.declared.fault.FormFault.{FormFault}
-use Rattle.sexpr_core.specs.Value.{Value, canon}
-use Rattle.sexpr_text.specs.AdvancedForm.{IsTextWithin}
-use Rattle.sexpr_text.specs.CanonicalTexts.{IsReadAs, RefusesForm}
-use Rattle.spki_service.specs.declared.question.Question.{Question}
-use Rattle.spki_tag.specs.declared.fault.TagFault.{TagFault}
-use Rattle.spki_cert.specs.declared.fault.CertFault.{CertFault}
-use Rattle.spki_cert.specs.declared.fault.CertFaultKind.{CertFaultKind}
-use Rattle.spki_cert.specs.declared.fault.CertFaultKind.TheVariants as kinds
-use Rattle.spki_cert.specs.Readings.{DateOf}
-use Rattle.spki_service.specs.declared.question.Part.{Part}
-use Rattle.spki_service.specs.declared.question.Part.TheVariants as parts
-use Rattle.spki_service.specs.declared.question.AskFault.{AskFault}
-use Rattle.spki_service.specs.declared.question.AskFault.TheVariants as faults
-use Rattle.spki_service.specs.declared.question.Moment as of_question
-use Rattle.spki_service.specs.declared.question.Moment.TheVariants as moments
-use Rattle.spki_service.specs.declared.texts.MomentText.{MomentText}
-use Rattle.spki_service.specs.declared.texts.MomentText.TheVariants as of_moment
-use Rattle.spki_service.specs.declared.texts.Texts.{Texts}
+use Rattle.sexpr_core.specs.{declared.fault.FormFault.{FormFault}, Value.{Value, canon}}
+use Rattle.sexpr_text.specs.{AdvancedForm.{IsTextWithin}, CanonicalTexts.{IsReadAs, RefusesForm}}
+use Rattle.spki_service.specs.declared.question.{Question.{Question}, Part.{Part}, AskFault.{AskFault}}
+use Rattle.spki_service.specs.declared.{texts.{MomentText.{MomentText}, Texts.{Texts}}, owned_question.OwnedQuestion.{OwnedQuestion}}
+use Rattle.spki_service.specs.declared.failure.Failure.{Failure}
 use Rattle.spki_service.specs.Questions.{IsDateAt, IsAtNoDate, IsWanted, RefusesWanted, IsNoSequenceFor, IsNoKeyFor, IsNoRequestFor, IsNoDateFor, asked_octets, certificates_in, HasFewStrings, IsAskedCase}
-use Rattle.spki_cert.specs.declared.entry.Entry.{Entry}
-use Rattle.spki_case.specs.Case.{Case, Verified}
-use Rattle.spki_decision.specs.declared.fault.GuardFault.{GuardFault}
-use Rattle.spki_decision.specs.declared.fault.GuardFault.TheVariants.{TooLarge, Memory}
-use Rattle.spki_decision.specs.declared.decision.Decision.{Decision}
-use Rattle.spki_decision.specs.declared.decision.Decision.TheVariants.{No}
-use Rattle.spki_decision.specs.declared.evidence.Stop.TheVariants.{NotAccepted}
-use Rattle.spki_decision.specs.declared.explanation.Explanation.{Explanation}
-use Rattle.spki_decision.specs.declared.explanation.Explanation.TheVariants as explanations
-use Rattle.spki_decision.specs.declared.reduction.Reduction.{Reduction}
-use Rattle.spki_decision.specs.declared.reduction.Reduction.TheVariants as reductions
-use Rattle.spki_decision.specs.Answered.{IsExplained, IsReduced}
-use Rattle.spki_decision.specs.Granted.{IsDecision, IsYes, AreFoldsOf, IsDated, EndsAtDate, IsFailure, AreFolds}
-use Rattle.spki_decision.specs.CertificateTests.{with_entries, Signed, IsAccepted, asked, every}
-use Rattle.spki_decision.specs.declared.grant.Grant.{Grant}
-use Rattle.spki_decision.specs.Until.{decision_of, HoldsUntil}
-use Rattle.spki_decision.specs.Audited.{at_moment}
 use Rattle.spki_service.specs.AccessLists.{AreEntries, GuardModel}
-use Rattle.spki_service.specs.declared.owned_question.OwnedQuestion.{OwnedQuestion}
+use Rattle.spki_tag.specs.declared.fault.TagFault.{TagFault}
+use Rattle.spki_cert.specs.{declared.{fault.{CertFault.{CertFault}, CertFaultKind.{CertFaultKind}}, entry.Entry.{Entry}}, Readings.{DateOf}}
+use Rattle.spki_case.specs.Case.{Case, Verified}
+use Rattle.spki_decision.specs.declared.fault.GuardFault.{GuardFault, TheVariants.{TooLarge, Memory}}
+use Rattle.spki_decision.specs.declared.{decision.Decision.{Decision, TheVariants.{No}}, evidence.Stop.TheVariants.{NotAccepted}}
+use Rattle.spki_decision.specs.declared.{explanation.Explanation.{Explanation}, reduction.{Reduction.{Reduction}, EntryFold.{EntryFold}}}
+use Rattle.spki_decision.specs.declared.grant.Grant.{Grant}
+use Rattle.spki_decision.specs.{Answered.{IsExplained, IsReduced}, Granted.{IsDecision, IsYes, AreFoldsOf, IsDated, EndsAtDate, IsFailure, AreFolds}}
+use Rattle.spki_decision.specs.{CertificateTests.{with_entries, Signed, IsAccepted, asked, every}, Until.{decision_of, HoldsUntil}}
+use Rattle.spki_decision.specs.Audited.{at_moment}
 use Rattle.std.proofs.Common.{◌≡◌, ℕ, List, [], Option, Some, None, ◌⊎◌, ◌↔◌, true, slice_get, Result, Ok, Err, Bool, ◌≤◌, ◌<◌, length, IsTrue}
 use Rattle.std.specs.List.{AllByRecursion}
 use Rattle.spki_reduce.specs.Reduction.{Tuple}
-use Rattle.spki_decision.specs.declared.reduction.EntryFold.{EntryFold}
-use Rattle.spki_service.specs.declared.failure.Failure.{Failure}
+use Rattle.spki_cert.specs.declared.fault.CertFaultKind.TheVariants as kinds
+use Rattle.spki_service.specs.declared.question.Part.TheVariants as parts
+use Rattle.spki_service.specs.declared.question.AskFault.TheVariants as faults
+use Rattle.spki_service.specs.declared.question.Moment as of_question
+use Rattle.spki_service.specs.declared.question.Moment.TheVariants as moments
+use Rattle.spki_service.specs.declared.texts.MomentText.TheVariants as of_moment
+use Rattle.spki_decision.specs.declared.explanation.Explanation.TheVariants as explanations
+use Rattle.spki_decision.specs.declared.reduction.Reduction.TheVariants as reductions
 
 -- ---- the texts of a question's parts
 

@@ -1,35 +1,24 @@
 -- The parts of a question in any of the three forms, the case that they are, and why a question is refused: a part
 -- cannot be read, or there are too many certificates or strings.
 use Rattle.std.specs.Prelude.{◌≡◌, ◌≢◌, ◌⊎◌, ◌↔◌, ℕ, ◌<◌, ◌≤◌, List, length, ◌+◌, ◌-◌, ◌*◌, ◌/◌, ◌%◌, min, nat_lt, if◌then◌else◌, slice_index, [], ◌∷◌, ◌++◌, ℤ, pos, ◌+ℤ◌, ◌*ℤ◌, ◌<ℤ◌, ◌≤ℤ◌, map, Some, Bool, IsTrue}
-use Rattle.sexpr_core.specs.declared.fault.FormFault.{FormFault}
-use Rattle.sexpr_core.specs.Value.{Value, canon, plain, group, Values, string, list, none, more}
-use Rattle.sexpr_text.specs.AdvancedForm.{IsTextWithin}
-use Rattle.sexpr_text.specs.CanonicalTexts.{RefusesForm, LacksForm}
-use Rattle.jiff_core.specs.Calendar.{IsCivilDate, days_in_month, days_from_civil}
+use Rattle.sexpr_core.specs.{declared.fault.FormFault.{FormFault}, Value.{Value, canon, plain, group, Values, string, list, none, more}}
 use Rattle.sexpr_core.specs.Characters.{char}
-use Rattle.spki_tag.specs.Request.{Request}
-use Rattle.spki_tag.specs.Faults.{request_fault}
-use Rattle.spki_tag.specs.declared.fault.TagFault.{TagFault}
-use Rattle.spki_tag.specs.declared.fault.TagFault.TheVariants as tag_faults
-use Rattle.spki_cert.specs.declared.fault.CertFault.{CertFault}
-use Rattle.spki_cert.specs.declared.fault.CertFaultKind.{CertFaultKind}
-use Rattle.spki_cert.specs.declared.fault.CertFaultKind.TheVariants as kinds
-use Rattle.spki_cert.specs.declared.certificate.SeqItem.{SeqItem}
-use Rattle.spki_cert.specs.Readings.{KeyOf, DateOf}
-use Rattle.spki_cert.specs.Structures.{SeqOf}
-use Rattle.spki_cert.specs.StructureFaults.{sequence_fault}
-use Rattle.spki_cert.specs.FieldFaults.{key_fault}
+use Rattle.sexpr_text.specs.{AdvancedForm.{IsTextWithin}, CanonicalTexts.{RefusesForm, LacksForm}}
+use Rattle.jiff_core.specs.Calendar.{IsCivilDate, days_in_month, days_from_civil}
+use Rattle.spki_tag.specs.{Request.{Request}, Faults.{request_fault}, declared.fault.TagFault.{TagFault}}
+use Rattle.spki_cert.specs.declared.fault.{CertFault.{CertFault}, CertFaultKind.{CertFaultKind}}
+use Rattle.spki_cert.specs.declared.certificate.SeqItem.{SeqItem, TheVariants.{Auth, Name}}
+use Rattle.spki_cert.specs.{Readings.{KeyOf, DateOf}, Structures.{SeqOf}, StructureFaults.{sequence_fault}, FieldFaults.{key_fault}}
 use Rattle.spki_case.specs.Case.{Case, RequestOf}
-use Rattle.spki_service.specs.declared.question.Question.{Question}
+use Rattle.spki_service.specs.declared.question.{Question.{Question}, Part.{Part}, AskFault.{AskFault}}
+use Rattle.spki_tag.specs.declared.fault.TagFault.TheVariants as tag_faults
+use Rattle.spki_cert.specs.declared.fault.CertFaultKind.TheVariants as kinds
 use Rattle.spki_service.specs.declared.question.RequestInput as wanted
 use Rattle.spki_service.specs.declared.question.RequestInput.TheVariants as requests
 use Rattle.spki_service.specs.declared.question.Moment as of_question
 use Rattle.spki_service.specs.declared.question.Moment.TheVariants as moments
-use Rattle.spki_service.specs.declared.question.Part.{Part}
 use Rattle.spki_service.specs.declared.question.Part.TheVariants as parts
-use Rattle.spki_service.specs.declared.question.AskFault.{AskFault}
 use Rattle.spki_service.specs.declared.question.AskFault.TheVariants as faults
-use Rattle.spki_cert.specs.declared.certificate.SeqItem.TheVariants.{Auth, Name}
 
 -- ---- the value that a text in any of the three forms is read as
 

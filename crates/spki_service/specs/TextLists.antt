@@ -1,6 +1,5 @@
 -- Lists of texts in one buffer.
-use Rattle.std.specs.Prelude.{ℕ, ◌≤◌, List, slice_range}
-use Rattle.std.specs.List.{AllByRecursion}
+use Rattle.std.specs.{Prelude.{ℕ, ◌≤◌, List, slice_range}, List.{AllByRecursion}}
 use Rattle.spki_service.specs.declared.text_list.Place.{Place}
 
 -- the text at a place among octets

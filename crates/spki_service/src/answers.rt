@@ -2,11 +2,8 @@
 
 ghost use Rattle.std.specs.Prelude.{◌≡◌, List, map, IfOk, IsErrOf, option_copied};
 ghost use Rattle.spki_reduce.specs.Chain.{tuples_of};
-ghost use Rattle.spki_decision.specs.CertificateTests.{asked, every, signed_of};
-ghost use Rattle.spki_decision.specs.Answered.{IsExplained, IsReduced};
-ghost use Rattle.spki_decision.specs.declared.reduction.EntryFold.{EntryFold};
-ghost use Rattle.spki_decision.specs.Granted.{EndAtDates, SomeTooLarge};
-ghost use Rattle.spki_decision.specs.Requirements.{first_key};
+ghost use Rattle.spki_decision.specs.{CertificateTests.{asked, every, signed_of}, Answered.{IsExplained, IsReduced}};
+ghost use Rattle.spki_decision.specs.{declared.reduction.EntryFold.{EntryFold}, Granted.{EndAtDates, SomeTooLarge}, Requirements.{first_key}};
 ghost use Rattle.spki_service.specs.GuardQuestions.{Answers, OfCase, Decides, Grants, AreReduced, ByMarks, IsPossible, DecidesMarked, GrantsMarked, ExplainsMarked, ReducesMarked, AreReducedMarked};
 
 use crate::failure::Failure;

@@ -4,8 +4,7 @@ ghost use Rattle.std.specs.Prelude.{◌≡◌, ◌≢◌, ◌↔◌, ◌<◌, �
 ghost use Rattle.sexpr_core.specs.Value.{values};
 ghost use Rattle.spki_case.specs.View.{model};
 ghost use Rattle.spki_service.specs.Questions.{certificate_count, certificates_in, strings_in, strings_all, TellsStrings, HasFewStrings, IsTooMany, IsAskedCase};
-ghost use Rattle.spki_service.specs.GuardQuestions.{IsTextsOf, OfText, NamesForm};
-ghost use Rattle.spki_service.specs.declared.question.Question.{Question};
+ghost use Rattle.spki_service.specs.{GuardQuestions.{IsTextsOf, OfText, NamesForm}, declared.question.Question.{Question}};
 
 use crate::limits::Limits;
 use crate::parts::opened;

@@ -3,10 +3,8 @@
 ghost use Rattle.std.specs.Prelude.{◌≡◌, ◌≤◌, ◌<◌, ◌+◌, ◌*◌, ℕ, List, length, IfOk, MatchOption};
 ghost use Rattle.spki_cert.specs.declared.entry.Entry.{Entry};
 ghost use Rattle.spki_reduce.specs.Chain.{tuples_of, all_windows};
-ghost use Rattle.spki_decision.specs.CertificateTests.{AreShown, asked, every, signed_of, with_entries};
-ghost use Rattle.spki_decision.specs.Until.{decision_of, EndsWith};
-ghost use Rattle.spki_service.specs.AccessLists.{AreEntries, DecidesPartly};
-ghost use Rattle.spki_service.specs.Cost.{HasOctets};
+ghost use Rattle.spki_decision.specs.{CertificateTests.{AreShown, asked, every, signed_of, with_entries}, Until.{decision_of, EndsWith}};
+ghost use Rattle.spki_service.specs.{AccessLists.{AreEntries, DecidesPartly}, Cost.{HasOctets}};
 ghost use Rattle.spki_service.specs.GuardQuestions.{Grants, DecidesMarked, GrantsMarked, AllMarked, IsUnmarked};
 
 use crate::answers::first_key;

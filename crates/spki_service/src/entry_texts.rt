@@ -2,8 +2,7 @@
 
 ghost use Rattle.std.specs.Prelude.{◌≡◌, ◌<◌, ◌∷◌, ◌++◌, [], ℕ, List, codes, length, map, drop, ◌+◌, slice_get, Some, IfOk};
 ghost use Rattle.sexpr_core.specs.Value.{Value, canon, group, plain};
-ghost use Rattle.spki_cert.specs.declared.entry.Entry.{Entry};
-ghost use Rattle.spki_cert.specs.Structures.{IsVersion};
+ghost use Rattle.spki_cert.specs.{declared.entry.Entry.{Entry}, Structures.{IsVersion}};
 ghost use Rattle.spki_service.specs.AccessLists.{IsEntryText};
 
 use crate::text_list::TextList;

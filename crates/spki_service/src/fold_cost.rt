@@ -4,15 +4,11 @@
 ghost use Rattle.std.specs.Prelude.{◌≡◌, ◌≤◌, ◌<◌, ◌⊎◌, ◌+◌, ◌*◌, List, length, IfOk, OnOk, IsErrOf};
 ghost use Rattle.spki_cert.specs.declared.entry.Entry.{Entry};
 ghost use Rattle.spki_reduce.specs.Chain.{tuples_of};
-ghost use Rattle.spki_case.specs.Case.{certificates};
-ghost use Rattle.spki_case.specs.View.{model};
-ghost use Rattle.spki_decision.specs.CertificateTests.{asked, every, with_entries};
-ghost use Rattle.spki_decision.specs.Answered.{IsExplained, IsReduced};
-ghost use Rattle.spki_decision.specs.declared.reduction.EntryFold.{EntryFold};
-ghost use Rattle.spki_decision.specs.Granted.{EndAtDates, SomeTooLarge, HasLargeTags, HasMuchWork};
-ghost use Rattle.spki_service.specs.AccessLists.{AreEntries};
-ghost use Rattle.spki_service.specs.Cost.{all_octets, fold_ticks};
+ghost use Rattle.spki_case.specs.{Case.{certificates}, View.{model}};
+ghost use Rattle.spki_decision.specs.{CertificateTests.{asked, every, with_entries}, Answered.{IsExplained, IsReduced}};
+ghost use Rattle.spki_decision.specs.{declared.reduction.EntryFold.{EntryFold}, Granted.{EndAtDates, SomeTooLarge, HasLargeTags, HasMuchWork}};
 ghost use Rattle.spki_service.specs.GuardQuestions.{Answers, OfCase, AreReduced, ByMarks, ExplainsMarked, ReducesMarked, AreReducedMarked, AreTextFolds};
+ghost use Rattle.spki_service.specs.{AccessLists.{AreEntries}, Cost.{all_octets, fold_ticks}};
 
 use crate::entry_texts::entry_counted;
 use crate::failure::Failure;

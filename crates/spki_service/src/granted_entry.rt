@@ -5,11 +5,8 @@ ghost use Rattle.std.specs.Prelude.{◌≡◌, ◌≤◌, ◌+◌, ◌*◌, List
 ghost use Rattle.spki_cert.specs.declared.entry.Entry.{Entry};
 ghost use Rattle.spki_reduce.specs.Chain.{tuples_of, all_windows};
 ghost use Rattle.spki_case.specs.View.{model};
-ghost use Rattle.spki_decision.specs.CertificateTests.{with_entries};
-ghost use Rattle.spki_decision.specs.Cost.{tuples_weight};
-ghost use Rattle.spki_decision.specs.Until.{decision_of, EndsWith};
-ghost use Rattle.spki_service.specs.Cost.{octets_at};
-ghost use Rattle.spki_service.specs.AccessLists.{AreEntries, NamesPicked, AreNumbers, ArePicked};
+ghost use Rattle.spki_decision.specs.{CertificateTests.{with_entries}, Cost.{tuples_weight}, Until.{decision_of, EndsWith}};
+ghost use Rattle.spki_service.specs.{Cost.{octets_at}, AccessLists.{AreEntries, NamesPicked, AreNumbers, ArePicked}};
 
 use crate::entry_texts::entry_counted;
 use crate::text_list::TextList;

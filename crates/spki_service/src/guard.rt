@@ -5,9 +5,8 @@ ghost use Rattle.spki_cert.specs.declared.entry.Entry.{Entry};
 ghost use Rattle.spki_case.specs.Case.{IsOuter};
 ghost use Rattle.spki_service.specs.AccessLists.{AreEntries, HasLimits, HoldsList, HoldsValue, numbers_from, IsNoAccessList, IsNoAcl, is_of};
 ghost use Rattle.spki_service.specs.Questions.{certificates_in, HasFewStrings, IsRefused, IsAskedCase, asked_octets};
-ghost use Rattle.spki_service.specs.GuardQuestions.{IsTextsOf, NoneMarked};
+ghost use Rattle.spki_service.specs.{GuardQuestions.{IsTextsOf, NoneMarked}, declared.question.Question.{Question}};
 ghost use Rattle.spki_decision.specs.CertificateTests.{asked};
-ghost use Rattle.spki_service.specs.declared.question.Question.{Question};
 
 use crate::counts::check_counts;
 use crate::entry_texts::entry_texts;

@@ -1,10 +1,7 @@
 //! An index of an access list's entries by the principals of their subjects.
 
-ghost use Rattle.std.specs.Prelude.{◌≡◌, [], List, ℕ, Some, map, slice_index_or, IfOk, if◌then◌else◌};
-ghost use Rattle.std.specs.List.{filter};
-ghost use Rattle.std.specs.Str.{bytes_eq};
-ghost use Rattle.spki_cert.specs.declared.entry.Entry.{Entry};
-ghost use Rattle.spki_cert.specs.Naming.{names, admits, digest_of};
+ghost use Rattle.std.specs.{Prelude.{◌≡◌, [], List, ℕ, Some, map, slice_index_or, IfOk, if◌then◌else◌}, List.{filter}, Str.{bytes_eq}};
+ghost use Rattle.spki_cert.specs.{declared.entry.Entry.{Entry}, Naming.{names, admits, digest_of}};
 ghost use Rattle.spki_service.specs.AccessLists.{numbers_from, rows_from, is_by, is_principal, octets_of, row_octets, row_number, row_key, key_order, tail_of, numbers_with, owners_of, rows_by, IsIndexOf, IsInOrder};
 ghost use Rattle.spki_tag.specs.Places.{merge};
 

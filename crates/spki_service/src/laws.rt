@@ -3,28 +3,19 @@
 
 ghost use Rattle.std.specs.Prelude.{◌≡◌, ◌≢◌, ◌≤◌, ◌≤ℤ◌, ◌↔◌, ℤ, ℕ, List, Some, IfSome, true, false, Result, Ok, Err};
 ghost use Rattle.spki_tag.specs.Tag.{is_date};
-ghost use Rattle.spki_cert.specs.declared.entry.Entry.{Entry};
-ghost use Rattle.spki_cert.specs.Time.{upto, is_until, IsLimit};
+ghost use Rattle.spki_cert.specs.{declared.entry.Entry.{Entry}, Time.{upto, is_until, IsLimit}};
 ghost use Rattle.spki_case.specs.Case.{Case, accepted_by};
-ghost use Rattle.spki_decision.specs.declared.grant.Grant.{Grant};
-ghost use Rattle.spki_decision.specs.declared.decision.Decision.{Decision};
-ghost use Rattle.spki_decision.specs.declared.explanation.Explanation.{Explanation};
-ghost use Rattle.spki_decision.specs.declared.reduction.Reduction.{Reduction};
-ghost use Rattle.spki_decision.specs.declared.fault.GuardFault.{GuardFault};
-ghost use Rattle.spki_decision.specs.declared.fault.GuardFault.TheVariants.{Memory};
-ghost use Rattle.spki_decision.specs.Answered.{IsDecided, IsExplained, IsReduced, AreSame};
-ghost use Rattle.spki_decision.specs.CertificateTests.{Signed, asked};
-ghost use Rattle.spki_decision.specs.Explained.{IsSameExplanation};
-ghost use Rattle.spki_decision.specs.Granted.{IsSameReduction};
+ghost use Rattle.spki_decision.specs.declared.{grant.Grant.{Grant}, decision.Decision.{Decision, TheVariants.{Yes, No}}};
+ghost use Rattle.spki_decision.specs.declared.{explanation.Explanation.{Explanation}, reduction.Reduction.{Reduction}};
+ghost use Rattle.spki_decision.specs.declared.fault.GuardFault.{GuardFault, TheVariants.{Memory}};
+ghost use Rattle.spki_decision.specs.{Answered.{IsDecided, IsExplained, IsReduced, AreSame}, CertificateTests.{Signed, asked}};
+ghost use Rattle.spki_decision.specs.{Explained.{IsSameExplanation}, Granted.{IsSameReduction}};
 ghost use Rattle.spki_service.specs.GuardQuestions.{PreparedModel, asked_at, Answers, Decides, DecidesMarked, GrantsMarked, ExplainsMarked, ReducesMarked, AllMarked, IsUnmarked, IsPossible, MarksTell, HasMark, IsOpened};
+ghost use Rattle.spki_service.specs.declared.{owned_question.OwnedQuestion.{OwnedQuestion}, question.{Question.{Question}, AskFault.{AskFault}}};
+ghost use Rattle.spki_service.specs.declared.list_fault.AclFault.{AclFault};
 ghost use Rattle.spki_service.specs.Replayed.{IsCaseOfParts, AreRowsOf, AreMarkedAlike};
-ghost use Rattle.spki_service.specs.declared.owned_question.OwnedQuestion.{OwnedQuestion};
-ghost use Rattle.spki_decision.specs.declared.decision.Decision.TheVariants.{Yes, No};
 ghost use Rattle.spki_service.specs.AccessLists.{GuardModel, AreEntries, HoldsList, IsNoAccessList};
 ghost use Rattle.spki_service.specs.Questions.{IsDateAt, IsAtNoDate, last_second, IsAskedCase, IsNotAsked};
-ghost use Rattle.spki_service.specs.declared.question.Question.{Question};
-ghost use Rattle.spki_service.specs.declared.question.AskFault.{AskFault};
-ghost use Rattle.spki_service.specs.declared.list_fault.AclFault.{AclFault};
 
 use spki_case::Verifier;
 

@@ -1,12 +1,9 @@
 //! Opening of questions, and the answers of those that were opened.
 
 ghost use Rattle.std.specs.Prelude.{◌≡◌, ◌≢◌, ◌↔◌, ◌<◌, List, length, false, IsTrue, IfOk, IfErr, IsErrOf};
-ghost use Rattle.spki_decision.specs.Granted.{IsYes};
-ghost use Rattle.spki_decision.specs.CertificateTests.{asked, every};
-ghost use Rattle.spki_decision.specs.Until.{decision_of};
+ghost use Rattle.spki_decision.specs.{Granted.{IsYes}, CertificateTests.{asked, every}, Until.{decision_of}};
 ghost use Rattle.spki_service.specs.GuardQuestions.{Grants, DecidesMarked, GrantsMarked, HasMark, NoneMarked, PreparedModel, IsReadFrom, IsConditionalGrant, IsOpened, IsTextsOf};
-ghost use Rattle.spki_service.specs.Questions.{IsRefused, asked_octets};
-ghost use Rattle.spki_service.specs.declared.question.Question.{Question};
+ghost use Rattle.spki_service.specs.{Questions.{IsRefused, asked_octets}, declared.question.Question.{Question}};
 
 use crate::guard::Guard;
 use crate::marks::{first_unmarked, mark_at, no_marks};

@@ -3,13 +3,10 @@
 ghost use Rattle.std.specs.Prelude.{◌≡◌, ◌≢◌, IfOk, IfErr};
 ghost use Rattle.sexpr_core.specs.Value.{canon};
 ghost use Rattle.sexpr_text.specs.CanonicalTexts.{opened_value};
-ghost use Rattle.spki_cert.specs.Readings.{KeyOf, DateOf};
-ghost use Rattle.spki_cert.specs.Structures.{SeqOf};
-ghost use Rattle.spki_case.specs.Case.{RequestOf, AreSigned, IsOuter};
-ghost use Rattle.spki_case.specs.View.{model};
-ghost use Rattle.spki_service.specs.Questions.{IsAskedCase, IsNotAsked, IsDateAt, IsAtNoDate};
+ghost use Rattle.spki_cert.specs.{Readings.{KeyOf, DateOf}, Structures.{SeqOf}};
+ghost use Rattle.spki_case.specs.{Case.{RequestOf, AreSigned, IsOuter}, View.{model}};
 ghost use Rattle.spki_service.specs.GuardQuestions.{IsTextsOf, OfText, HasDate, NamesForm, NamesPart, NamesSequence, NamesKey, NamesRequest, NamesMoment, NamesDate};
-ghost use Rattle.spki_service.specs.declared.question.Question.{Question};
+ghost use Rattle.spki_service.specs.{Questions.{IsAskedCase, IsNotAsked, IsDateAt, IsAtNoDate}, declared.question.Question.{Question}};
 
 use crate::date::date_at;
 use crate::limits::Limits;

@@ -53,14 +53,12 @@ impl<'a> PreparedQuestion<'a> {
 }
 
 impl<'a> Model for PreparedQuestion<'a> {
-    ghost use Rattle.std.specs.Prelude.{◌≡◌, map};
-    ghost use Rattle.std.specs.Coded.{codes};
+    ghost use Rattle.std.specs.{Prelude.{◌≡◌, map}, Coded.{codes}};
+    ghost use Rattle.spki_case.specs.View.{model};
+    ghost use Rattle.spki_decision.specs.{CertificateTests.{asked, signed_of}, Judged.{IsUnverified}};
+    ghost use Rattle.spki_service.specs.GuardQuestions.{PreparedModel};
     ghost use Rattle.spki_tag.specs.contracts.tag.Tag as tag;
     ghost use Rattle.spki_tag.specs.contracts.request.Ground as ground;
-    ghost use Rattle.spki_case.specs.View.{model};
-    ghost use Rattle.spki_decision.specs.CertificateTests.{asked, signed_of};
-    ghost use Rattle.spki_decision.specs.Judged.{IsUnverified};
-    ghost use Rattle.spki_service.specs.GuardQuestions.{PreparedModel};
 
     ghost Value = { PreparedModel };
 

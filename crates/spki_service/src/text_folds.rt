@@ -4,13 +4,9 @@
 ghost use Rattle.std.specs.Prelude.{◌≡◌, ◌⊎◌, List, length, OnOk, IsErrOf};
 ghost use Rattle.spki_cert.specs.declared.entry.Entry.{Entry};
 ghost use Rattle.spki_reduce.specs.Chain.{tuples_of};
-ghost use Rattle.spki_case.specs.Case.{certificates};
-ghost use Rattle.spki_case.specs.View.{model};
-ghost use Rattle.spki_decision.specs.declared.reduction.EntryFold.{EntryFold};
-ghost use Rattle.spki_decision.specs.Granted.{HasLargeTags, HasMuchWork};
-ghost use Rattle.spki_decision.specs.CertificateTests.{with_entries};
-ghost use Rattle.spki_service.specs.GuardQuestions.{AreTextFolds};
-ghost use Rattle.spki_service.specs.AccessLists.{AreEntries};
+ghost use Rattle.spki_case.specs.{Case.{certificates}, View.{model}};
+ghost use Rattle.spki_decision.specs.{declared.reduction.EntryFold.{EntryFold}, Granted.{HasLargeTags, HasMuchWork}, CertificateTests.{with_entries}};
+ghost use Rattle.spki_service.specs.{GuardQuestions.{AreTextFolds}, AccessLists.{AreEntries}};
 
 use crate::entry_texts::entry_in;
 use crate::text_list::TextList;

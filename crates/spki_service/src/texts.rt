@@ -2,8 +2,7 @@
 
 ghost use Rattle.std.specs.Prelude.{◌≡◌, ◌<◌, ◌⊎◌, ◌↔◌, IfOk, IfErr, IsErrOf};
 ghost use Rattle.sexpr_text.specs.CanonicalTexts.{IsReadAs};
-ghost use Rattle.spki_service.specs.Questions.{asked_octets, IsWanted, RefusesWanted};
-ghost use Rattle.spki_service.specs.GuardQuestions.{IsTextsOf, IsMomentText};
+ghost use Rattle.spki_service.specs.{Questions.{asked_octets, IsWanted, RefusesWanted}, GuardQuestions.{IsTextsOf, IsMomentText}};
 
 use crate::measure::octets_within;
 use crate::question::{AskFault, Moment, Question, RequestInput};

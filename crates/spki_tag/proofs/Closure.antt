@@ -1,13 +1,10 @@
 -- Two tags without sets leave a tag without sets together, or nothing.
 use Rattle.std.proofs.Common.{ℕ, Bool, true, false, List, [], ◌∷◌, rules, ◌≡◌, ◌⊎◌, inl, inr, ◌+◌, ◌≤◌, refl, ap, arith}
-use Rattle.std.specs.Prelude.{◌||◌}
+use Rattle.std.proofs.lemmas.Bool.{or_from, both_ways, cond_both}
+use Rattle.std.specs.{Prelude.{◌||◌}, List.{AllByRecursion}, Str.{bytes_eq}}
 use Rattle.spki_tag.specs.Tag.{Tag, Tags, tags, star, string, prefix, range, list, set, none, more, is_nothing, nodes, nodes_all, nests_set, some_nests_set}
 use Rattle.spki_tag.specs.Meet.{nothing, items, list_meet, across, meet, each_meet, has_nothing, listed}
-use Rattle.std.specs.List.{AllByRecursion}
-use Rattle.std.specs.Str.{bytes_eq}
-use Rattle.std.proofs.lemmas.Bool.{or_from, both_ways, cond_both}
-use Rattle.spki_tag.proofs.MeetSizes.{nodes-some}
-use Rattle.spki_tag.proofs.Exact.{IsBare, string-bare, range-bare, prefix-bare, tags-items}
+use Rattle.spki_tag.proofs.{MeetSizes.{nodes-some}, Exact.{IsBare, string-bare, range-bare, prefix-bare, tags-items}}
 
 -- ---- two tags without sets leave a tag without sets, or nothing, and it has no more nodes than both together
 

@@ -1,16 +1,13 @@
 -- What two tags leave together contains a request exactly if both do.
 use Rattle.std.proofs.Common.{◌≡◌, inl, inr, ℕ, Bool, true, false, ◌&&◌, ◌||◌, not, List, [], ◌∷◌, ◌++◌, length, Option, Some, None, refl, sym, ap, ◌∙◌, subst, true≢false, arith, eqb-true, rules}
-use Rattle.std.specs.Prelude.{if◌then◌else◌, nat_eq}
-use Rattle.std.specs.List.{starts_with}
-use Rattle.std.specs.Str.{bytes_eq}
-use Rattle.std.specs.Cmp.Lexicographic.{same_text, bytes_decides}
 use Rattle.std.proofs.Math.Bool.{and_self, and-true, and-false, and_comm, or-false, or_assoc, and-or_distrib_left, and-or_distrib_right}
 use Rattle.std.proofs.lemmas.Bool.{and_parts, not-true, or_cases, cond_both}
+use Rattle.std.specs.{Prelude.{if◌then◌else◌, nat_eq}, List.{starts_with}, Str.{bytes_eq}, Cmp.Lexicographic.{same_text, bytes_decides}}
 use Rattle.spki_tag.specs.Tag.{is_time, is_date, Tag, Tags, tags, Limit, Ordering, alpha, time, date, star, string, prefix, range, list, set, none, more, contains, contain_each, some_contains, is_above, is_below, is_ordered, is_nothing, is_normal, each_normal, is_set_or_star}
-use Rattle.spki_tag.specs.Request as request
-use Rattle.spki_tag.specs.Request.{Request, Requests, IsRequest, AreRequests}
 use Rattle.spki_tag.specs.Meet.{greater_low, lesser_up, exclude, ordering_meet, nothing, ranged, string_meet, range_meet, prefix_meet, items, kept, row, gather, has_nothing, listed, list_meet, across, set_across, meet, each_meet, pairs}
+use Rattle.spki_tag.specs.Request.{Request, Requests, IsRequest, AreRequests}
 use Rattle.spki_tag.proofs.Limits.{and_left, and_never, greater_low-exact, lesser_up-exact, exclude-none, least_above_exact, prefixes-exact}
+use Rattle.spki_tag.specs.Request as request
 
 -- ---- truth values
 

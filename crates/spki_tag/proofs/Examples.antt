@@ -1,15 +1,11 @@
 -- The definitions at worked examples.
-use Rattle.std.proofs.Common.{◌≡◌, ℕ, true, false, List, [], ◌∷◌, Option, Some, None, refl}
-use Rattle.std.specs.Prelude.{codes}
-use Rattle.sexpr_core.specs.Value as value
+use Rattle.std.{proofs.Common.{◌≡◌, ℕ, true, false, List, [], ◌∷◌, Option, Some, None, refl}, specs.Prelude.{codes}}
 use Rattle.sexpr_core.specs.Value.{Value, plain, group, canon, verbatim, decimal}
 use Rattle.spki_tag.specs.declared.fault.TagFault.TheVariants.{EmptyList, ListHead, Hint, UnknownStar, RangeOrdering, RangeLimit, TooManyNodes, StarInRequest}
-use Rattle.spki_tag.specs.Faults.{first_fault, looks, tag_fault, request_fault}
 use Rattle.spki_tag.specs.Tag.{is_time, is_date, Tag, Limit, alpha, time, date, star, string, prefix, range, list, set, tags, contains, is_normal, nodes, ldepth, tag_value}
+use Rattle.spki_tag.specs.{Faults.{first_fault, looks, tag_fault, request_fault}, Request.{Request}, Meet.{nothing}, Reading.{normal}}
+use Rattle.sexpr_core.specs.Value as value
 use Rattle.spki_tag.specs.Request as request
-use Rattle.spki_tag.specs.Request.{Request}
-use Rattle.spki_tag.specs.Meet.{nothing}
-use Rattle.spki_tag.specs.Reading.{normal}
 
 abbrev text_request : List ℕ → Request
 text_request octets = request.string octets

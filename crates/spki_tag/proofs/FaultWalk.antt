@@ -1,18 +1,14 @@
 -- The walk over the tags in a value, and what is found on it.
 use Rattle.std.proofs.Common.{◌≡◌, ℕ, ◌+◌, ◌≤◌, ◌<◌, false, List, [], ◌∷◌, ◌++◌, length, Option, Some, None, refl, sym, ap, subst, ◌∙◌, arith, length-append, nat_lt, rules}
-use Rattle.std.specs.Prelude.{codes, if◌then◌else◌}
-use Rattle.std.specs.List.{AllByRecursion}
-use Rattle.std.specs.Str.{bytes_eq}
-use Rattle.std.specs.Cmp.Lexicographic.{bytes_decides}
 use Rattle.std.proofs.lemmas.Bool.{lt-ltb, le-ltb, false_from_ne_true, cond_both}
-use Rattle.sexpr_core.specs.Value as value
+use Rattle.std.specs.{Prelude.{codes, if◌then◌else◌}, List.{AllByRecursion}, Str.{bytes_eq}, Cmp.Lexicographic.{bytes_decides}}
 use Rattle.sexpr_core.specs.Value.{Value, Values, plain, members}
 use Rattle.spki_tag.specs.declared.fault.TagFault.{TagFault}
-use Rattle.spki_tag.specs.declared.fault.TagFault.TheVariants as faults
-use Rattle.spki_tag.specs.Faults.{first_fault, tags_in, tags_in_all, own_fault, star_fault, range_fault, limits_fault, looks}
-use Rattle.spki_tag.specs.Request.{IsHead}
 use Rattle.spki_tag.specs.Tag.{Tag, Tags, Limit, Ordering, alpha, range, list, set, none, more, IsTag, AreTags, tag_value, tag_values, ordering_name, low_values, up_values, nodes, nodes_all}
+use Rattle.spki_tag.specs.{Faults.{first_fault, tags_in, tags_in_all, own_fault, star_fault, range_fault, limits_fault, looks}, Request.{IsHead}}
 use Rattle.spki_tag.specs.Reading.{most_read}
+use Rattle.sexpr_core.specs.Value as value
+use Rattle.spki_tag.specs.declared.fault.TagFault.TheVariants as faults
 
 -- ---- the first fault of two lists of looks
 

@@ -1,25 +1,18 @@
 -- A value without a fault is one that is written as a tag, or as a request.
 use Rattle.std.proofs.Common.{◌≡◌, ℕ, ◌+◌, ◌≤◌, ◌<◌, Bool, true, false, not, ◌↔◌, List, [], ◌∷◌, ◌++◌, map, length, Option, Some, None, Result, Ok, Err, inl, inr, refl, sym, ap, ◌∙◌, subst, arith, nat_lt, rules}
-use Rattle.std.specs.Prelude.{codes, if◌then◌else◌, slice_index, IfErr}
-use Rattle.std.specs.List.{AllByRecursion, list_any}
-use Rattle.std.specs.Str.{bytes_eq}
+use Rattle.std.proofs.lemmas.{Bool.{not-true, Decides.{nat_tests}}, List.{get_or_default}}
+use Rattle.std.specs.{Prelude.{codes, if◌then◌else◌, slice_index, IfErr}, List.{AllByRecursion, list_any}, Str.{bytes_eq}}
 use Rattle.std.specs.Cmp.Lexicographic.{same_text, other_text}
-use Rattle.std.proofs.lemmas.Bool.Decides.{nat_tests}
-use Rattle.sexpr_core.specs.Nodes.{values-members}
-use Rattle.std.proofs.lemmas.Bool.{not-true}
-use Rattle.std.proofs.lemmas.List.{get_or_default}
-use Rattle.sexpr_core.specs.Value.{HasOctets, HaveOctets, Value, Values, plain, values, members}
-use Rattle.sexpr_core.specs.Value as value
-use Rattle.spki_tag.specs.declared.fault.TagFault.{TagFault}
-use Rattle.spki_tag.specs.declared.fault.TagFault.TheVariants as faults
+use Rattle.sexpr_core.specs.{Nodes.{values-members}, Value.{HasOctets, HaveOctets, Value, Values, plain, values, members}}
 use Rattle.spki_tag.specs.Faults.{first_fault, unless, tags_in, tags_in_list, tags_in_set, tags_in_all, own_fault, list_fault, star_fault, form_fault, prefix_fault, range_fault, limits_fault, are_limits, is_ordering, is_hinted, looks, tag_fault, part_fault, request_fault, IsNamed}
-use Rattle.spki_tag.specs.Request as request
+use Rattle.spki_tag.specs.declared.fault.TagFault.{TagFault}
 use Rattle.spki_tag.specs.Request.{Request, Requests, AreOctets, IsHead, IsRequest, AreRequests, request_value, request_values}
 use Rattle.spki_tag.specs.Tag.{Tag, Tags, star, string, prefix, range, list, set, none, more, IsTag, AreTags, tag_value, tag_values, starred, nodes}
 use Rattle.spki_tag.specs.Reading.{most_read, IsNoTag, IsNoRequest}
-use Rattle.spki_tag.proofs.FaultWalk.{IsFine, tags_count, tag-past}
-use Rattle.spki_tag.proofs.Named.{ordering-of, limits-of}
-use Rattle.spki_tag.proofs.RequestReading.{IsFinePart, request-faultless}
+use Rattle.spki_tag.proofs.{FaultWalk.{IsFine, tags_count, tag-past}, Named.{ordering-of, limits-of}, RequestReading.{IsFinePart, request-faultless}}
+use Rattle.sexpr_core.specs.Value as value
+use Rattle.spki_tag.specs.declared.fault.TagFault.TheVariants as faults
+use Rattle.spki_tag.specs.Request as request
 
 -- ---- what was looked at
 

@@ -1,18 +1,14 @@
 -- What limits and prefixes leave together: two limits, a prefix as the range to below the least string above all that
 -- start with it, and two prefixes.
 use Rattle.std.proofs.Common.{◌≡◌, ℕ, Bool, true, false, ◌&&◌, ◌||◌, not, List, Option, Some, None, refl, sym, ap, ◌∙◌, true≢false, Ordering as Order, Less, Equal, Greater, is_lt, is_le, nat_cmp, ◌+◌, ◌<◌, ◌≤◌, [], ◌∷◌, ◌++◌, lt-ltb, le-ltb, rules, suc, subst, arith, eq-eqb, ne_eqb, ltb-false, ◌⊎◌, inl, inr, length, take, length-take}
+use Rattle.std.proofs.{Math.Bool.{and-true, and-false, or_comm, or-not_self}, lemmas.{Bool.{cond_both, cases_lt, cases_order}, List.{take-take}}}
 use Rattle.std.specs.Prelude.{if◌then◌else◌, nat_eq, nat_lt}
-use Rattle.std.specs.Cmp.{IsTotalOrder, alike_right, nat_cmp_is}
-use Rattle.std.specs.Ordering.{ordering_reverse, ordering_then}
-use Rattle.std.specs.Cmp.Lexicographic.{slice_cmp, nat_list_cmp_total, bytes_decides}
-use Rattle.std.proofs.Math.Bool.{and-true, and-false, or_comm, or-not_self}
-use Rattle.std.proofs.lemmas.Bool.{cond_both, cases_lt, cases_order}
-use Rattle.std.proofs.lemmas.List.{take-take}
+use Rattle.std.specs.Cmp.{IsTotalOrder, alike_right, nat_cmp_is, Lexicographic.{slice_cmp, nat_list_cmp_total, bytes_decides}}
+use Rattle.std.specs.{Ordering.{ordering_reverse, ordering_then}, List.{starts_with}}
 use Rattle.spki_tag.specs.Tag.{Tag, prefix, contains, Limit, is_within, is_above, is_below}
 use Rattle.spki_tag.specs.Meet.{greater_low, lesser_up, exclude, least_above, above_from, strict_limit, from, nothing, prefixes_meet}
-use Rattle.spki_tag.specs.Request as request
-use Rattle.std.specs.List.{starts_with}
 use Rattle.spki_tag.specs.Request.{AreOctets}
+use Rattle.spki_tag.specs.Request as request
 
 -- ---- what limits leave together
 

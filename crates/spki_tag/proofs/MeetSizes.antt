@@ -1,10 +1,9 @@
 -- How large what two tags leave together is, in nodes.
-use Rattle.std.proofs.Common.{◌≡◌, ℕ, ◌+◌, ◌*◌, ◌≤◌, List, [], ◌∷◌, ◌++◌, refl, ap, arith, rules}
-use Rattle.std.proofs.Math.Nat.{mul-add, one-mul}
+use Rattle.std.proofs.{Common.{◌≡◌, ℕ, ◌+◌, ◌*◌, ◌≤◌, List, [], ◌∷◌, ◌++◌, refl, ap, arith, rules}, Math.Nat.{mul-add, one-mul}}
 use Rattle.std.proofs.lemmas.Bool.{cond_both}
 use Rattle.std.specs.Str.{bytes_eq}
-use Rattle.spki_tag.specs.Tag.{Tag, Tags, tags, star, string, prefix, range, list, set, none, more, nodes, nodes_all, is_nothing}
 use Rattle.spki_tag.specs.Meet.{nothing, string_meet, range_meet, prefix_meet, kept, row, gather, has_nothing, listed, list_meet, across, set_across, meet, each_meet, pairs}
+use Rattle.spki_tag.specs.Tag.{Tag, Tags, tags, star, string, prefix, range, list, set, none, more, nodes, nodes_all, is_nothing}
 use Rattle.spki_tag.proofs.Exact.{IsBare, string-bare, range-bare, prefix-bare, tags-items}
 
 -- ---- how large what two tags leave together is

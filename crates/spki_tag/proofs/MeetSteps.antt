@@ -1,18 +1,12 @@
 -- The steps of the intersection, with what they need and what they find, and the rules that it follows.
 use Rattle.std.proofs.Common.{◌≡◌, ℕ, zero, suc, ◌+◌, ◌*◌, ◌<◌, ◌≤◌, min, Bool, true, false, ◌||◌, List, [], ◌∷◌, ◌++◌, length, take, drop, get_or, refl, sym, ap, ◌∙◌, true≢false, append_assoc, arith, le_trans, rules, not, map, nat_eq, length-take, append-nil}
-use Rattle.std.proofs.lemmas.Nat.{mul-le}
-use Rattle.std.proofs.lemmas.List.{drop_more, take_all}
-use Rattle.std.proofs.lemmas.List.Elements.{filter-append}
+use Rattle.std.proofs.lemmas.{Nat.{mul-le}, List.{drop_more, take_all, Elements.{filter-append}}}
 use Rattle.std.proofs.lemmas.Bool.{and_parts, or_parts, or_from, or_right, cond_both, cond-true, cond-false}
+use Rattle.std.specs.{Prelude.{if◌then◌else◌}, List.{filter, flat_map, starts_with}, Str.{bytes_eq}}
+use Rattle.std.specs.Cmp.Lexicographic.{bytes_decides, nat_list_eq_equiv}
 use Rattle.spki_tag.specs.Tag.{Tag, Tags, tags, star, string, prefix, range, list, set, none, more, IsNormalTag, is_star, is_set, is_nothing, is_set_or_star, is_normal, each_normal, is_none_or_many, nodes, nodes_all, most_nodes, alpha, time, date}
 use Rattle.spki_tag.specs.Meet.{nothing, row, gather, has_nothing, across, meet, each_meet, pairs, members, kept, listed, SetRule, StringRule, PrefixRule, RangeRule, OrderingRule, side_by_side, ListRule, ListsAndStrings}
-use Rattle.spki_tag.proofs.Exact.{three_parts, tags-items, items_tags}
-use Rattle.spki_tag.proofs.NormalForms.{meet-normal_tag}
-use Rattle.spki_tag.proofs.Members.{nodes_le-of_read}
-use Rattle.std.specs.Prelude.{if◌then◌else◌}
-use Rattle.std.specs.List.{filter, flat_map, starts_with}
-use Rattle.std.specs.Str.{bytes_eq}
-use Rattle.std.specs.Cmp.Lexicographic.{bytes_decides, nat_list_eq_equiv}
+use Rattle.spki_tag.proofs.{Exact.{three_parts, tags-items, items_tags}, NormalForms.{meet-normal_tag}, Members.{nodes_le-of_read}}
 
 -- ---- the steps of the intersection: what they need and what they find
 

@@ -1,11 +1,7 @@
 -- The members of a tag, one after the other, as loops visit them. Where members differ, the tags do.
 use Rattle.std.proofs.Common.{◌≡◌, ℕ, zero, suc, ◌≤◌, ◌<◌, false, List, [], ◌∷◌, length, get_or, refl, arith, rules, ◌≢◌, ◌↔◌, IsTrue, sym, ap, ◌∙◌}
-use Rattle.std.proofs.Math.Bool.{and-false}
-use Rattle.spki_tag.specs.Request.{Request, requests}
-use Rattle.spki_tag.specs.Tag.{Tag, tags, contain_each, nodes, nodes_all}
-use Rattle.std.proofs.lemmas.List.{get_or_default}
-use Rattle.spki_tag.specs.Meet.{items}
-use Rattle.spki_tag.proofs.Exact.{items_tags}
+use Rattle.std.proofs.{Math.Bool.{and-false}, lemmas.List.{get_or_default}}
+use Rattle.spki_tag.{specs.{Request.{Request, requests}, Tag.{Tag, tags, contain_each, nodes, nodes_all}, Meet.{items}}, proofs.Exact.{items_tags}}
 
 -- ---- the members of a tag one after the other, as loops visit them
 

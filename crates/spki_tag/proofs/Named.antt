@@ -1,22 +1,17 @@
 -- Which fault a reader names.
 use Rattle.std.proofs.Common.{◌≡◌, ◌≢◌, ℕ, ◌+◌, ◌≤◌, ◌<◌, Bool, true, false, ◌||◌, not, inl, inr, List, [], ◌∷◌, ◌++◌, length, Option, Some, None, Result, Ok, Err, refl, sym, ap, ◌∙◌, subst, rules, append_assoc, true≢false}
-use Rattle.std.specs.Prelude.{codes, if◌then◌else◌, IfErr}
-use Rattle.std.specs.Result.{IsErrAnd}
-use Rattle.std.specs.List.{list_any}
-use Rattle.std.specs.Str.{bytes_eq}
-use Rattle.std.specs.Cmp.Lexicographic.{same_text, bytes_decides}
 use Rattle.std.proofs.lemmas.Bool.{and_parts, or_cases, false_from_ne_true}
-use Rattle.sexpr_core.specs.Nodes.{members-values}
-use Rattle.sexpr_core.specs.Value as value
-use Rattle.sexpr_core.specs.Value.{Value, plain, values, group}
-use Rattle.spki_tag.specs.declared.fault.TagFault.{TagFault}
-use Rattle.spki_tag.specs.declared.fault.TagFault.TheVariants as faults
+use Rattle.std.specs.{Prelude.{codes, if◌then◌else◌, IfErr}, Result.{IsErrAnd}, List.{list_any}, Str.{bytes_eq}}
+use Rattle.std.specs.Cmp.Lexicographic.{same_text, bytes_decides}
+use Rattle.sexpr_core.specs.{Nodes.{members-values}, Value.{Value, plain, values, group}}
 use Rattle.spki_tag.specs.Faults.{first_fault, unless, IsNamed, tags_in, tags_in_list, tags_in_all, own_fault, list_fault, star_fault, form_fault, prefix_fault, range_fault, limits_fault, group_fault, are_limits, is_ordering, is_hinted, is_limit, looks, tag_fault}
-use Rattle.spki_tag.specs.Request.{IsHead}
+use Rattle.spki_tag.specs.{declared.fault.TagFault.{TagFault}, Request.{IsHead}}
 use Rattle.spki_tag.specs.Reading.{IsRead, AreNoLimits, fault_after, fault_after_all, most_read}
 use Rattle.spki_tag.specs.Tag.{Tag, starred, Limit, limit_values, low_values, up_values, Ordering, alpha, time, date, ordering_name}
 use Rattle.spki_tag.proofs.FaultWalk.{first-none, first-some, looks-append, look-past, look-own, look-full, tag-past, tags-past, tags-count_all, list-fine, tags_in-list}
 use Rattle.spki_tag.proofs.TagReading.{IsReadSoFar, tag_values-tags}
+use Rattle.sexpr_core.specs.Value as value
+use Rattle.spki_tag.specs.declared.fault.TagFault.TheVariants as faults
 
 -- a string with a display hint
 abbrev pub IsHinted : Value → Type 0

@@ -1,17 +1,13 @@
 -- Tags in normal form: sets and lists of such tags have one, and what two tags in normal form leave together is in
 -- normal form, so that two tags of the type leave a tag of the type, where it isn't too large.
 use Rattle.std.proofs.Common.{◌≡◌, ℕ, zero, suc, max, ◌≤◌, Bool, true, false, ◌||◌, List, [], ◌∷◌, ◌++◌, refl, sym, ap, ◌∙◌, true≢false, length, append-nil, arith, le_trans, rules, not, ◌*◌}
-use Rattle.std.specs.List.{list_any, AllByRecursion}
-use Rattle.std.specs.Str.{bytes_eq}
-use Rattle.std.proofs.Math.Bool.{or-false, or-true}
-use Rattle.std.proofs.lemmas.Bool.{and_parts, or_parts, or_from, cond_both}
-use Rattle.spki_tag.specs.Request.{Request, IsHead}
+use Rattle.std.proofs.{Math.Bool.{or-false, or-true}, lemmas.Bool.{and_parts, or_parts, or_from, cond_both}}
+use Rattle.std.specs.{List.{list_any, AllByRecursion}, Str.{bytes_eq}}
 use Rattle.spki_tag.specs.Tag.{Tag, Tags, tags, star, list, set, none, more, IsTag, AreTags, contains, some_contains, nodes, nodes_all, ldepth, ldepth_most, is_star, is_set, is_nothing, is_set_or_star, is_normal, each_normal, most_nodes, IsNormalTag, string, prefix, range}
 use Rattle.spki_tag.specs.Meet.{items, gather, nothing, has_nothing, listed, members as in_place, string_meet, range_meet, prefix_meet, kept, row, list_meet, across, set_across, meet, each_meet, pairs}
-use Rattle.spki_tag.specs.Reading.{IsNormalOf, AreNormal, spread, set_of}
+use Rattle.spki_tag.specs.{Request.{Request, IsHead}, Reading.{IsNormalOf, AreNormal, spread, set_of}}
 use Rattle.spki_tag.proofs.Exact.{IsBare, string-bare, range-bare, prefix-bare, three_parts, all_three, append-exact, gather-exact, tags-items, items_tags, listed-exact}
-use Rattle.spki_tag.proofs.FaultWalk.{both}
-use Rattle.spki_tag.proofs.MeetSizes.{append-nodes, gather-le, meet_le}
+use Rattle.spki_tag.proofs.{FaultWalk.{both}, MeetSizes.{append-nodes, gather-le, meet_le}}
 
 -- ---- sets and lists of tags in normal form, and their own normal form
 

@@ -1,25 +1,16 @@
 -- The places in an index: those of the members that pass a test, two lists of places joined in one, what one more
 -- place changes, and what a tag leaves of the members at such places.
 use Rattle.std.proofs.Common.{◌≡◌, ℕ, ◌*◌, ◌<◌, ◌≤◌, List, [], ◌∷◌, ◌++◌, length, take, drop, refl, sym, ap, ◌∙◌, arith, ◌-◌, append-nil, append_assoc, ◌⊎◌, inl, inr, rules, suc, ◌+◌, Bool, true, false, ◌||◌, ◌&&◌, get_or, subst, length-take, Vec, Option, Some, None}
-use Rattle.std.proofs.lemmas.Bool.{lt-ltb, le-ltb, cond_both}
-use Rattle.std.proofs.lemmas.List.{take_rest, drop_all, take_more}
-use Rattle.spki_tag.specs.Places.{merge, is_any, has_many_strings, is_one, is_lists, has_strings, place_if, ArePlacesOf, IsAdded}
-use Rattle.std.specs.Prelude.{if◌then◌else◌, slice_index_or, All}
-use Rattle.std.specs.Str.{bytes_eq}
+use Rattle.std.proofs.lemmas.{Bool.{lt-ltb, le-ltb, cond_both}, List.{take_rest, drop_all, take_more, Elements.{All-cons}}}
+use Rattle.std.proofs.lemmas.Map.Text.{btree_map_str_after}
 use Rattle.std.proofs.Math.Bool.{and-false, or-false}
-use Rattle.spki_tag.specs.Tag.{Tag, tags, star, string, prefix, range, list}
-use Rattle.spki_tag.specs.Cost.{node_costs}
+use Rattle.std.specs.{Prelude.{if◌then◌else◌, slice_index_or, All}, Str.{bytes_eq}, Borrow.{Bor}, BTreeMap.{is_at}}
+use Rattle.std.specs.{Cmp.Lexicographic.{slice_cmp, nat_list_eq_equiv}, Map.{lookup, KeepsOthers}, Option.{option_map_or, UnwrapsOrElse}}
+use Rattle.std.specs.{Ordering.{nat_cmp, eq_by_cmp}, declared.alloc.Global.{Global}}
+use Rattle.spki_tag.specs.Places.{merge, is_any, has_many_strings, is_one, is_lists, has_strings, place_if, ArePlacesOf, IsAdded}
+use Rattle.spki_tag.specs.{Tag.{Tag, tags, star, string, prefix, range, list}, Cost.{node_costs}}
 use Rattle.spki_tag.specs.Meet.{Kind, one, lists, kind, kinds_share, places_where, nothing, meet, kept, row, listed, each_meet, may_share, tags_at}
 use Rattle.spki_tag.specs.declared.index.PlacesByKind.{PlacesByKind}
-use Rattle.std.specs.Borrow.{Bor}
-use Rattle.std.specs.BTreeMap.{is_at}
-use Rattle.std.specs.Cmp.Lexicographic.{slice_cmp, nat_list_eq_equiv}
-use Rattle.std.specs.Map.{lookup, KeepsOthers}
-use Rattle.std.specs.Option.{option_map_or, UnwrapsOrElse}
-use Rattle.std.specs.Ordering.{nat_cmp, eq_by_cmp}
-use Rattle.std.specs.declared.alloc.Global.{Global}
-use Rattle.std.proofs.lemmas.Map.Text.{btree_map_str_after}
-use Rattle.std.proofs.lemmas.List.Elements.{All-cons}
 
 -- ---- two increasing lists in one
 

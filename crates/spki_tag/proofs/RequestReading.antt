@@ -1,19 +1,15 @@
 -- Which request is written as a value, and which fault a reader of requests names.
 use Rattle.std.proofs.Common.{◌≡◌, ℕ, List, [], ◌∷◌, ◌++◌, map, refl, ap, append_assoc, ◌≤◌, rules, not, Option, Some, None, Result, Ok, Err, ◌∙◌}
 use Rattle.std.proofs.lemmas.List.{map_push, map-append}
-use Rattle.sexpr_core.specs.Value as value
-use Rattle.sexpr_core.specs.Value.{Value, plain, values, group, Values}
+use Rattle.std.specs.{Prelude.{codes, IfOk}, List.{AllByRecursion}}
+use Rattle.sexpr_core.specs.{Value.{Value, plain, values, group, Values}, Nodes.{members-values}}
 use Rattle.spki_tag.specs.Request.{Request, Requests, requests, string, list, none, more, IsRequest, AreRequests, request_value, request_values, IsHead}
-use Rattle.spki_tag.specs.Reading.{AreReadRequests, fault_of_requests}
-use Rattle.spki_tag.proofs.TagReading.{weight, weights, weight_le-weights}
-use Rattle.std.specs.Prelude.{codes, IfOk}
-use Rattle.std.specs.List.{AllByRecursion}
-use Rattle.sexpr_core.specs.Nodes.{members-values}
-use Rattle.spki_tag.specs.declared.fault.TagFault.{TagFault}
-use Rattle.spki_tag.specs.declared.fault.TagFault.TheVariants as faults
+use Rattle.spki_tag.specs.{Reading.{AreReadRequests, fault_of_requests}, declared.fault.TagFault.{TagFault}}
 use Rattle.spki_tag.specs.Faults.{first_fault, unless, IsNamed, part_fault, group_fault, request_fault}
-use Rattle.spki_tag.proofs.FaultWalk.{first-none, first-some, head-apart, both}
+use Rattle.spki_tag.proofs.{TagReading.{weight, weights, weight_le-weights}, FaultWalk.{first-none, first-some, head-apart, both}}
 use Rattle.spki_tag.proofs.Named.{named-by, named_first, out_of_memory, passed}
+use Rattle.sexpr_core.specs.Value as value
+use Rattle.spki_tag.specs.declared.fault.TagFault.TheVariants as faults
 
 -- ---- which requests are written as a value
 

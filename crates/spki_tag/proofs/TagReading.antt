@@ -1,21 +1,15 @@
 -- Which tag is written as a value, and which is read from it: only one is written so, and the one that is read,
 -- member by member, is its normal form.
 use Rattle.std.proofs.Common.{◌≡◌, ℕ, Bool, true, false, List, ◌++◌, Option, Some, None, refl, sym, ap, rules, ◌≤◌, ◌&&◌, ◌||◌, [], ◌∷◌, ◌∙◌, arith, ◌+◌, map, append_assoc, append-nil, true≢false, subst}
-use Rattle.std.specs.Prelude.{codes, if◌then◌else◌}
-use Rattle.std.specs.Str.{bytes_eq}
-use Rattle.std.specs.Cmp.Lexicographic.{other_text}
+use Rattle.std.proofs.lemmas.{Bool.{or_parts}, List.{map_push, Folds.{list_any-append}}}
+use Rattle.std.specs.{Prelude.{codes, if◌then◌else◌}, Str.{bytes_eq}, Cmp.Lexicographic.{other_text}, List.{list_any, AllByRecursion}}
 use Rattle.sexpr_core.specs.Value.{Values, values, Value, plain, group}
 use Rattle.spki_tag.specs.Tag.{Tag, Tags, Limit, Ordering, alpha, time, date, star, string, prefix, range, list, set, none, more, IsTag, AreTags, tag_value, tag_values, ordering_name, low_values, up_values, starred, tags, contains, contain_each, some_contains, nodes_all, nodes, most_nodes, is_star, IsNormalTag}
-use Rattle.spki_tag.specs.Request as request
-use Rattle.spki_tag.specs.Request.{Request, Requests, IsHead}
 use Rattle.spki_tag.specs.Reading.{IsNormalOf, AreNormal, normal, normals, ReadsAs, spread, set_of, most_read, IsRead, AreRead, MakeSame, IsPut, ArePut}
-use Rattle.std.specs.List.{list_any, AllByRecursion}
-use Rattle.std.proofs.lemmas.Bool.{or_parts}
-use Rattle.std.proofs.lemmas.List.Folds.{list_any-append}
+use Rattle.spki_tag.specs.{Request.{Request, Requests, IsHead}, Meet.{listed, gather, members as in_place}}
 use Rattle.spki_tag.proofs.NormalForms.{set_of-normal, listed-normal, spread-members, in_place-gather, IsMember, IsNormalTag-of}
+use Rattle.spki_tag.specs.Request as request
 use Rattle.sexpr_core.specs.Value as value
-use Rattle.std.proofs.lemmas.List.{map_push}
-use Rattle.spki_tag.specs.Meet.{listed, gather, members as in_place}
 
 -- ---- one tag is written as a value
 

@@ -1,16 +1,13 @@
 -- The weight of a tag is at most the octets of its canonical text.
 use Rattle.std.proofs.Common.{◌≡◌, ℕ, ◌+◌, ◌≤◌, List, [], ◌∷◌, ◌++◌, length, length-append, arith, Option, Some, None, codes, ap}
-use Rattle.sexpr_core.specs.Value as value
-use Rattle.sexpr_core.specs.Value.{Value, Values, plain, canon, canons, values, verbatim, decimal}
-use Rattle.sexpr_core.proofs.Texts.{verbatim_is}
-use Rattle.spki_tag.specs.Tag.{Tag, Tags, tags, Limit, is_star, star, string, prefix, range, list, set, none, more, tag_value, tag_values, starred, limit_values, low_values, up_values, ordering_name}
-use Rattle.spki_tag.specs.Cost.{weight, weight_all, limit_octets}
-use Rattle.std.specs.Prelude.{if◌then◌else◌}
-use Rattle.std.specs.List.{list_any}
 use Rattle.std.proofs.lemmas.Bool.{cond_both}
-use Rattle.spki_tag.specs.Meet.{gather, nothing, has_nothing, members as in_place}
+use Rattle.std.specs.{Prelude.{if◌then◌else◌}, List.{list_any}}
+use Rattle.sexpr_core.{specs.Value.{Value, Values, plain, canon, canons, values, verbatim, decimal}, proofs.Texts.{verbatim_is}}
+use Rattle.spki_tag.specs.Tag.{Tag, Tags, tags, Limit, is_star, star, string, prefix, range, list, set, none, more, tag_value, tag_values, starred, limit_values, low_values, up_values, ordering_name}
+use Rattle.spki_tag.specs.{Cost.{weight, weight_all, limit_octets}, Meet.{gather, nothing, has_nothing, members as in_place}}
 use Rattle.spki_tag.specs.Reading.{spread, normal, normals}
 use Rattle.spki_tag.proofs.Exact.{tags-items}
+use Rattle.sexpr_core.specs.Value as value
 
 pub verbatim_ge : (octets : List ℕ) → 1 + length octets ≤ length (verbatim octets)
 verbatim_ge octets = rw (verbatim_is octets) (omega (arith, length-append (decimal (length octets)) (58 ∷ octets)))

@@ -1,11 +1,10 @@
 -- The fault for which a value is refused as a tag or as a request: the first that a reader finds, depth first from
 -- the left (RFC 2693, section 6.3.1).
 use Rattle.std.specs.Prelude.{Bool, true, false, List, [], ◌∷◌, Option, Some, None, ◌≡◌, ◌⊎◌, ℕ, ◌+◌, not, ◌&&◌, ◌||◌, if◌then◌else◌, nat_lt, ◌++◌, map, codes}
-use Rattle.std.specs.List.{list_any}
-use Rattle.std.specs.Str.{bytes_eq}
+use Rattle.std.specs.{List.{list_any}, Str.{bytes_eq}}
 use Rattle.sexpr_core.specs.Value.{Value, Values, string, list, none, more, members, nodes}
-use Rattle.spki_tag.specs.declared.fault.TagFault.{TagFault}
 use Rattle.spki_tag.specs.declared.fault.TagFault.TheVariants.{EmptyList, ListHead, Hint, UnknownStar, RangeOrdering, RangeLimit, TooManyNodes, StarInRequest, Memory}
+use Rattle.spki_tag.specs.declared.fault.TagFault.{TagFault}
 
 -- ---- the first fault that a reader finds, in a list of tests in their order, each with its fault or None
 

@@ -1,12 +1,9 @@
 -- Each member of a request is smaller than the request.
-use Rattle.std.specs.Prelude.{◌+◌, ◌≤◌, max, List, [], ◌∷◌}
-use Rattle.std.proofs.Common.{arith}
+use Rattle.std.{specs.Prelude.{◌+◌, ◌≤◌, max, List, [], ◌∷◌}, proofs.Common.{arith}}
+use Rattle.spki_tag.specs.declared.request.{GroundNode.{GroundNode}, Ground.TheDeep.{deep-GroundNode}}
+use Rattle.spki_tag.specs.{Request.{Request, requests, request_size, requests_size}, Grounds.{ground_request}}
 use denote.Param.Weighed.{most}
-use Rattle.spki_tag.specs.declared.request.GroundNode.{GroundNode}
 use Rattle.spki_tag.specs.declared.request.GroundNode.TheVariants as source
-use Rattle.spki_tag.specs.declared.request.Ground.TheDeep.{deep-GroundNode}
-use Rattle.spki_tag.specs.Request.{Request, requests, request_size, requests_size}
-use Rattle.spki_tag.specs.Grounds.{ground_request}
 
 pub most_le-requests_size : (gs : List Request)
     → most (λ g. request_size g + 1) gs ≤ requests_size (requests gs) + 1

@@ -1,7 +1,5 @@
 -- How the parts of a request are represented.
-use Rattle.spki_tag.specs.declared.request.GroundNode.{GroundNode}
-use Rattle.spki_tag.specs.declared.request.GroundNode.TheVariants.{String, List}
-use Rattle.spki_tag.specs.Request.{Request, requests, string, list}
+use Rattle.spki_tag.specs.{declared.request.GroundNode.{GroundNode, TheVariants.{String, List}}, Request.{Request, requests, string, list}}
 
 abbrev pub ground_request : GroundNode → Request
 ground_request (String octets) = string octets.items

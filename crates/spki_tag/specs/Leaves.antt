@@ -1,12 +1,8 @@
 -- How a tag without members is represented.
-use Rattle.std.specs.Prelude.{Option, Some, None}
-use Rattle.std.specs.Arc.{arc_value}
-use Rattle.spki_tag.specs.declared.range.Range.{Range}
-use Rattle.spki_tag.specs.declared.leaf.Leaf.{Leaf}
-use Rattle.spki_tag.specs.declared.leaf.Leaf.TheVariants as leaves
-use Rattle.spki_tag.specs.Limits.{ordering_of, limit_of}
-use Rattle.spki_tag.specs.Meet.{nothing}
+use Rattle.std.specs.{Prelude.{Option, Some, None}, Arc.{arc_value}}
+use Rattle.spki_tag.specs.{declared.{range.Range.{Range}, leaf.Leaf.{Leaf}}, Limits.{ordering_of, limit_of}, Meet.{nothing}}
 use Rattle.spki_tag.specs.Tag.{Tag, star, string, prefix, range}
+use Rattle.spki_tag.specs.declared.leaf.Leaf.TheVariants as leaves
 
 abbrev pub range_tag : Range → Tag
 range_tag r = range (ordering_of r.ordering) (limit_of r.low) (limit_of r.up)

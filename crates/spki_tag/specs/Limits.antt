@@ -1,10 +1,8 @@
 -- How an ordering and a limit of a range are represented.
-use Rattle.std.specs.Prelude.{Option, Some, None}
-use Rattle.std.specs.Arc.{arc_slice_items}
-use Rattle.spki_tag.specs.declared.leaf.RangeOrdering.{RangeOrdering}
+use Rattle.std.specs.{Prelude.{Option, Some, None}, Arc.{arc_slice_items}}
+use Rattle.spki_tag.specs.{declared.leaf.RangeOrdering.{RangeOrdering}, Tag.{Limit, Ordering, alpha, time, date}}
 use Rattle.spki_tag.specs.declared.leaf.RangeOrdering.TheVariants as orderings
 use Rattle.spki_tag.specs.declared.leaf.Limit as source
-use Rattle.spki_tag.specs.Tag.{Limit, Ordering, alpha, time, date}
 
 abbrev pub ordering_of : RangeOrdering → Ordering
 ordering_of orderings.Alpha = alpha

@@ -1,10 +1,9 @@
 -- The intersection of two tags (RFC 2693, section 6.3.1), its rules as equations, and which members of a tag can have
 -- a request in common with another tag, by kind and string alone.
 use Rattle.std.specs.Prelude.{ℕ, ◌+◌, Bool, true, false, ◌||◌, not, nat_eq, nat_lt, if◌then◌else◌, List, [], ◌∷◌, ◌++◌, Option, Some, None, ◌-◌, slice_index_or, ◌≡◌, length, map}
-use Rattle.std.specs.List.{starts_with, filter, flat_map}
-use Rattle.std.specs.Str.{bytes_eq}
-use Rattle.spki_tag.specs.Request as request
+use Rattle.std.specs.{List.{starts_with, filter, flat_map}, Str.{bytes_eq}}
 use Rattle.spki_tag.specs.Tag.{Tag, Tags, tags, Limit, Ordering, alpha, time, date, star, string, prefix, range, list, set, none, more, contains, is_within, is_nothing, is_star, is_set, is_normal}
+use Rattle.spki_tag.specs.Request as request
 
 -- ---- the intersection
 

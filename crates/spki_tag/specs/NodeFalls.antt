@@ -1,12 +1,8 @@
 -- Each member has fewer nodes than the tag that contains it.
-use Rattle.std.specs.Prelude.{◌+◌, ◌≤◌, max, List, [], ◌∷◌}
-use Rattle.std.proofs.Common.{arith}
+use Rattle.std.{specs.Prelude.{◌+◌, ◌≤◌, max, List, [], ◌∷◌}, proofs.Common.{arith}}
+use Rattle.spki_tag.specs.{declared.tag.{Node.{Node}, Tag.TheDeep.{deep-Node}}, Tag.{Tag, tags, nodes, nodes_all}, Nodes.{node_tag}}
 use denote.Param.Weighed.{most}
-use Rattle.spki_tag.specs.declared.tag.Node.{Node}
 use Rattle.spki_tag.specs.declared.tag.Node.TheVariants as source
-use Rattle.spki_tag.specs.declared.tag.Tag.TheDeep.{deep-Node}
-use Rattle.spki_tag.specs.Tag.{Tag, tags, nodes, nodes_all}
-use Rattle.spki_tag.specs.Nodes.{node_tag}
 
 pub most_le-nodes_all : (ts : List Tag) → most (λ t. nodes t + 1) ts ≤ nodes_all (tags ts) + 1
 most_le-nodes_all [] = omega arith

@@ -1,10 +1,6 @@
 -- How a node of a tag is represented.
-use Rattle.std.specs.Prelude.{◌≡◌}
-use Rattle.std.specs.Arc.{arc_slice_items}
-use Rattle.spki_tag.specs.declared.tag.Node.{Node}
-use Rattle.spki_tag.specs.declared.tag.Node.TheVariants.{Leaf, List, Set}
-use Rattle.spki_tag.specs.Tag.{Tag, tags, list, set, nodes}
-use Rattle.spki_tag.specs.Leaves.{leaf_tag}
+use Rattle.std.specs.{Prelude.{◌≡◌}, Arc.{arc_slice_items}}
+use Rattle.spki_tag.specs.{declared.tag.Node.{Node, TheVariants.{Leaf, List, Set}}, Tag.{Tag, tags, list, set, nodes}, Leaves.{leaf_tag}}
 
 abbrev pub node_tag : Node → Tag
 node_tag (Leaf leaf) = leaf_tag leaf

@@ -1,16 +1,7 @@
 -- What an index of the members of a tag contains, and how two increasing lists, such as its places, become one.
-use Rattle.std.specs.Prelude.{◌≡◌, ℕ, ◌++◌, Bool, true, false, if◌then◌else◌, List, [], ◌∷◌, Vec, nat_lt}
-use Rattle.std.specs.Borrow.{Bor}
-use Rattle.std.specs.BTreeMap.{BTreeMap, get_by}
-use Rattle.std.specs.Cmp.Lexicographic.{slice_cmp}
-use Rattle.std.specs.Option.{option_map_or}
-use Rattle.std.specs.Ordering.{nat_cmp}
-use Rattle.std.specs.Str.{bytes_eq}
-use Rattle.std.specs.declared.alloc.Global.{Global}
-use Rattle.spki_tag.specs.declared.index.Kind.{Kind as KindSeen}
-use Rattle.spki_tag.specs.declared.index.Kind.TheVariants.{Any, Strings, One, Lists}
-use Rattle.spki_tag.specs.declared.index.PlacesByKind.{PlacesByKind}
-use Rattle.spki_tag.specs.Tag.{Tag}
+use Rattle.std.specs.{Prelude.{◌≡◌, ℕ, ◌++◌, Bool, true, false, if◌then◌else◌, List, [], ◌∷◌, Vec, nat_lt}, Borrow.{Bor}, BTreeMap.{BTreeMap, get_by}}
+use Rattle.std.specs.{Cmp.Lexicographic.{slice_cmp}, Option.{option_map_or}, Ordering.{nat_cmp}, Str.{bytes_eq}, declared.alloc.Global.{Global}}
+use Rattle.spki_tag.specs.{declared.index.{Kind.{Kind as KindSeen, TheVariants.{Any, Strings, One, Lists}}, PlacesByKind.{PlacesByKind}}, Tag.{Tag}}
 use Rattle.spki_tag.specs.Meet.{Kind, any, strings, one, lists, kind, kinds_share, places_where}
 
 -- ---- what an index of the members of a tag contains

@@ -1,15 +1,12 @@
 -- The reading of tags and of requests (RFC 2693, section 6.3.1): the normal form of a tag that is read, what reading
 -- returns, and the results of its steps.
-use Rattle.std.specs.Prelude.{◌≡◌, ◌≤◌, true, false, List, [], ◌∷◌, ◌++◌, if◌then◌else◌, ℕ, ◌≢◌, ◌+◌, map, Option, Some}
-use Rattle.spki_tag.specs.Request.{Request, IsRequest, request_value, requests, AreRequests}
+use Rattle.std.specs.{Prelude.{◌≡◌, ◌≤◌, true, false, List, [], ◌∷◌, ◌++◌, if◌then◌else◌, ℕ, ◌≢◌, ◌+◌, map, Option, Some}, List.{list_any}}
 use Rattle.spki_tag.specs.Tag.{Tag, IsTag, contains, nodes, is_normal, Tags, star, string, prefix, range, list, set, none, more, is_star, tag_value, Limit, AreTags, tags, limit_values, low_values, up_values, nodes_all}
-use Rattle.std.specs.List.{list_any}
-use Rattle.spki_tag.specs.Meet.{gather, listed, members}
-use Rattle.spki_tag.specs.declared.fault.TagFault.{TagFault}
-use Rattle.spki_tag.specs.declared.fault.TagFault.TheVariants as faults
+use Rattle.spki_tag.specs.{Request.{Request, IsRequest, request_value, requests, AreRequests}, Meet.{gather, listed, members}}
+use Rattle.spki_tag.specs.{declared.fault.TagFault.{TagFault}, Faults.{first_fault, tags_in, tags_in_all, looks, part_fault}}
 use Rattle.sexpr_core.specs.Value.{Value, values}
+use Rattle.spki_tag.specs.declared.fault.TagFault.TheVariants as faults
 use Rattle.sexpr_core.specs.Value as value
-use Rattle.spki_tag.specs.Faults.{first_fault, tags_in, tags_in_all, looks, part_fault}
 
 -- ---- what a normal form of a tag is
 

@@ -1,7 +1,7 @@
 -- Requests, and which requests a tag contains (RFC 2693, section 6.3.1).
 use Rattle.std.specs.Prelude.{◌≢◌, ℕ, ◌+◌, ◌<◌, List, [], ◌∷◌, All, codes}
-use Rattle.sexpr_core.specs.Value as value
 use Rattle.sexpr_core.specs.Value.{Value, Values, plain}
+use Rattle.sexpr_core.specs.Value as value
 
 mutual
   -- A string, or a list of a head and further requests. There are no display hints.

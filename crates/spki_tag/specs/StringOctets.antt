@@ -1,8 +1,6 @@
 -- How the octets of a string are represented.
-use Rattle.std.specs.Prelude.{ℕ, List, [], ◌∷◌}
-use Rattle.std.specs.Arc.{arc_slice_items}
-use Rattle.spki_tag.specs.declared.string_octets.Held.{Held}
-use Rattle.spki_tag.specs.declared.string_octets.Held.TheVariants.{Nothing, One, Shared}
+use Rattle.std.specs.{Prelude.{ℕ, List, [], ◌∷◌}, Arc.{arc_slice_items}}
+use Rattle.spki_tag.specs.declared.string_octets.Held.{Held, TheVariants.{Nothing, One, Shared}}
 
 abbrev pub octets_of : Held → List ℕ
 octets_of Nothing = []

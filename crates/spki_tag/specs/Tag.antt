@@ -1,14 +1,11 @@
 -- Tags as they are written, the strings in their ranges of times and of dates, and the requests that they contain
 -- (RFC 2693, section 6.3.1).
 use Rattle.std.specs.Prelude.{ℕ, ◌+◌, ◌-◌, ◌*◌, Bool, ◌&&◌, ◌==◌, nat_le, List, length, drop, slice_index, ◌≡◌, ◌≤◌, max, [], ◌∷◌, ◌++◌, Option, Some, None, true, false, ◌||◌, codes, not, nat_eq, if◌then◌else◌}
-use Rattle.std.specs.Ordering.{nat_cmp, is_lt, is_le}
-use Rattle.std.specs.Cmp.Lexicographic.{slice_cmp}
-use Rattle.std.specs.List.{starts_with}
-use Rattle.std.specs.Str.{bytes_eq}
-use Rattle.sexpr_core.specs.Value as value
+use Rattle.std.specs.{Ordering.{nat_cmp, is_lt, is_le}, Cmp.Lexicographic.{slice_cmp}, List.{starts_with}, Str.{bytes_eq}}
 use Rattle.sexpr_core.specs.Value.{Value, Values, plain, group}
-use Rattle.spki_tag.specs.Request as request
 use Rattle.spki_tag.specs.Request.{Request, Requests, IsHead}
+use Rattle.sexpr_core.specs.Value as value
+use Rattle.spki_tag.specs.Request as request
 
 -- ---- the strings in ranges of times and of dates (RFC 2693, section 6.3.1, on "* range")
 

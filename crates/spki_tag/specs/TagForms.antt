@@ -1,9 +1,7 @@
 -- How the form of a tag is shown.
 use Rattle.std.specs.Prelude.{◌≡◌, Option, Some, None}
-use Rattle.spki_tag.specs.Tag.{Tag, Limit, tags, star, string, prefix, range, list, set}
-use Rattle.spki_tag.specs.Limits.{ordering_of}
+use Rattle.spki_tag.specs.{Tag.{Tag, Limit, tags, star, string, prefix, range, list, set}, Limits.{ordering_of}, declared.form.TagForm.{TagForm}}
 use Rattle.spki_tag.specs.declared.form.TagLimit as shown
-use Rattle.spki_tag.specs.declared.form.TagForm.{TagForm}
 use Rattle.spki_tag.specs.declared.form.TagForm.TheVariants as form
 
 -- a limit as it is shown

@@ -1,10 +1,7 @@
 //! Whether two tags are the same.
 
 ghost use Rattle.std.specs.Prelude.{◌≡◌, ◌↔◌, IsTrue};
-ghost use Rattle.spki_tag.specs.Leaves.{leaf_tag};
-ghost use Rattle.spki_tag.specs.Limits.{limit_of, ordering_of};
-ghost use Rattle.spki_tag.specs.Nodes.{node_tag};
-ghost use Rattle.spki_tag.specs.Tag.{tags};
+ghost use Rattle.spki_tag.specs.{Leaves.{leaf_tag}, Limits.{limit_of, ordering_of}, Nodes.{node_tag}, Tag.{tags}};
 
 use crate::leaf::{Leaf, Limit, RangeOrdering};
 use crate::tag::{Node, Tag};

@@ -1,11 +1,8 @@
 //! The form of a tag, for callers that examine its members.
 
-ghost use Rattle.std.specs.Prelude.{◌≡◌, ◌↔◌, ◌||◌, IsTrue};
-ghost use Rattle.std.specs.List.{list_any};
+ghost use Rattle.std.specs.{Prelude.{◌≡◌, ◌↔◌, ◌||◌, IsTrue}, List.{list_any}};
+ghost use Rattle.spki_tag.specs.{Leaves.{leaf_tag}, Limits.{limit_of}, TagForms.{IsFormOf, limit_shown}};
 ghost use Rattle.spki_tag.specs.Tag as spec;
-ghost use Rattle.spki_tag.specs.Leaves.{leaf_tag};
-ghost use Rattle.spki_tag.specs.Limits.{limit_of};
-ghost use Rattle.spki_tag.specs.TagForms.{IsFormOf, limit_shown};
 
 use crate::leaf::{Leaf, Limit, RangeOrdering};
 use crate::tag::{Node, Tag};

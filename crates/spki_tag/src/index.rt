@@ -1,10 +1,8 @@
 //! An index of the members of a tag by kind and string. With it, a tag is intersected only with those that can have a request
 //! in common with it.
 
-ghost use Rattle.std.specs.Prelude.{◌≡◌, ◌++◌, [], ℕ, List, IfOk, OnOk};
-ghost use Rattle.std.specs.Str.{bytes_eq};
-ghost use Rattle.spki_tag.specs.Meet.{kind, may_share, members, places_where};
-ghost use Rattle.spki_tag.specs.Places.{kind_of, found_at, place_if, ArePlacesOf, IsAdded};
+ghost use Rattle.std.specs.{Prelude.{◌≡◌, ◌++◌, [], ℕ, List, IfOk, OnOk}, Str.{bytes_eq}};
+ghost use Rattle.spki_tag.specs.{Meet.{kind, may_share, members, places_where}, Places.{kind_of, found_at, place_if, ArePlacesOf, IsAdded}};
 
 use crate::leaf::Leaf;
 use crate::merge::merged;
@@ -158,10 +156,8 @@ pub struct Index<'a> {
 }
 
 impl<'a> Model for Index<'a> {
-    ghost use Rattle.std.specs.Prelude.{List};
-    ghost use Rattle.std.specs.Coded.{coded_list};
-    ghost use Rattle.spki_tag.specs.Tag.{Tag as Written};
-    ghost use Rattle.spki_tag.specs.Inner.Codes.{tag_code};
+    ghost use Rattle.std.specs.{Prelude.{List}, Coded.{coded_list}};
+    ghost use Rattle.spki_tag.specs.{Tag.{Tag as Written}, Inner.Codes.{tag_code}};
 
     ghost Value = { List Written };
 

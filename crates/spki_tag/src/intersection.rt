@@ -2,9 +2,8 @@
 
 ghost use Rattle.std.specs.Prelude.{◌≡◌, ◌+◌, ◌*◌, ◌<◌, ◌≤◌, ◌↔◌, ◌++◌, ◌&&◌, [], max, true, false, IfOk, OnOk, IsErrOf, MatchOption, All, length};
 ghost use Rattle.std.specs.Arc.{arc_slice_items};
-ghost use Rattle.spki_tag.specs.Request.{Request, IsRequest};
 ghost use Rattle.spki_tag.specs.Tag.{IsNormalTag, contains, each_normal, is_nothing, is_set_or_star, most_nodes, nodes, nodes_all, ldepth, list, tags};
-ghost use Rattle.spki_tag.specs.Meet.{meet, each_meet, pairs, row, gather, has_nothing, tags_at};
+ghost use Rattle.spki_tag.specs.{Request.{Request, IsRequest}, Meet.{meet, each_meet, pairs, row, gather, has_nothing, tags_at}};
 ghost use Rattle.spki_tag.specs.Cost.{meet_cost, node_costs};
 
 use crate::fault::MeetFault;

@@ -1,15 +1,11 @@
 //! Laws of tags and requests: how they are written, their intersection, and what tags can have in common.
 //! Each function is a law: it does nothing, and its contract is the fact. A reading of a value is the tag or request that it is read as.
 
-ghost use Rattle.std.specs.Prelude.{◌≡◌, ◌*◌, ◌≤◌, ◌↔◌, ◌&&◌, ℕ, List, None, Some, true, false, length, nat_eq};
-ghost use Rattle.std.specs.List.{starts_with};
+ghost use Rattle.std.specs.{Prelude.{◌≡◌, ◌*◌, ◌≤◌, ◌↔◌, ◌&&◌, ℕ, List, None, Some, true, false, length, nat_eq}, List.{starts_with}};
 ghost use Rattle.sexpr_core.specs.Value.{HasOctets, Value, canon};
-ghost use Rattle.spki_tag.specs.Cost.{weight};
-ghost use Rattle.spki_tag.specs.Faults.{request_fault, tag_fault, tags_in};
-ghost use Rattle.spki_tag.specs.declared.fault.TagFault.{TagFault};
 ghost use Rattle.spki_tag.specs.Meet.{may_share, places_where, tags_at, least_above, strict_limit, from, meet, nothing, row, StarRule, SetRule, StringRule, PrefixRule, PrefixesApart, RangeRule, PrefixAsRange, OrderingRule, TimesAndDates, ListRule, HeadsApart, ListsAndStrings};
-ghost use Rattle.spki_tag.specs.Reading.{normal, IsNormalOf, ReadsAs};
-ghost use Rattle.spki_tag.specs.Request.{AreOctets, Request, IsRequest, request_value};
+ghost use Rattle.spki_tag.specs.{Cost.{weight}, Faults.{request_fault, tag_fault, tags_in}, declared.fault.TagFault.{TagFault}};
+ghost use Rattle.spki_tag.specs.{Reading.{normal, IsNormalOf, ReadsAs}, Request.{AreOctets, Request, IsRequest, request_value}};
 ghost use Rattle.spki_tag.specs.Tag.{Tag, IsTag, tag_value, tags, contains, is_above, is_below, is_normal, nodes};
 
 /// A value is the written form of at most one tag.

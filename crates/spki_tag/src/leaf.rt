@@ -1,10 +1,7 @@
 //! Tags without members (RFC 2693, section 6.3.1).
 
 ghost use Rattle.std.specs.Prelude.{◌≡◌, ◌+◌, ℕ, List, IfOk};
-ghost use Rattle.spki_tag.specs.Cost.{limit_octets, weight};
-ghost use Rattle.spki_tag.specs.Leaves.{leaf_tag};
-ghost use Rattle.spki_tag.specs.Limits.{ordering_of, limit_of};
-ghost use Rattle.spki_tag.specs.Request.{Requests, string, list};
+ghost use Rattle.spki_tag.specs.{Cost.{limit_octets, weight}, Leaves.{leaf_tag}, Limits.{ordering_of, limit_of}, Request.{Requests, string, list}};
 ghost use Rattle.spki_tag.specs.Tag.{contains, is_ordered, is_within, is_above, is_below};
 
 use crate::moment::{is_date, is_time};

@@ -1,9 +1,7 @@
 //! The intersection of tags without members.
 
 ghost use Rattle.std.specs.Prelude.{◌≡◌, ◌+◌, ◌*◌, IfOk};
-ghost use Rattle.spki_tag.specs.Cost.{weight};
-ghost use Rattle.spki_tag.specs.Leaves.{leaf_tag, leaf_or_nothing, range_tag};
-ghost use Rattle.spki_tag.specs.Meet.{prefixes_meet, string_meet, meet};
+ghost use Rattle.spki_tag.specs.{Cost.{weight}, Leaves.{leaf_tag, leaf_or_nothing, range_tag}, Meet.{prefixes_meet, string_meet, meet}};
 
 use crate::leaf::Leaf;
 use crate::prefix::Prefix;

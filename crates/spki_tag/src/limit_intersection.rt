@@ -1,8 +1,7 @@
 //! The intersection of limits of ranges.
 
 ghost use Rattle.std.specs.Prelude.{◌≡◌, MatchBool};
-ghost use Rattle.spki_tag.specs.Limits.{limit_of};
-ghost use Rattle.spki_tag.specs.Meet.{greater_low, lesser_up, exclude};
+ghost use Rattle.spki_tag.specs.{Limits.{limit_of}, Meet.{greater_low, lesser_up, exclude}};
 
 use crate::leaf::{Limit, is_within};
 

@@ -1,9 +1,8 @@
 //! Whether a tag contains a request.
 
 ghost use Rattle.std.specs.Prelude.{◌≡◌, ◌≤◌, ◌+◌, ◌<◌, IsTrue, false, length};
+ghost use Rattle.spki_tag.specs.{Tag.{tags, contains, contain_each, some_contains}, Cost.{weight, weight_all}};
 ghost use Rattle.spki_tag.specs.Request as spec;
-ghost use Rattle.spki_tag.specs.Tag.{tags, contains, contain_each, some_contains};
-ghost use Rattle.spki_tag.specs.Cost.{weight, weight_all};
 
 use crate::request::{Ground, GroundNode};
 use crate::tag::{Node, Tag};

@@ -1,10 +1,7 @@
 //! Makes tags in normal form, from the inside out.
 
-ghost use Rattle.std.specs.Prelude.{◌≡◌, ◌≤◌, ◌++◌, OnOk};
-ghost use Rattle.std.specs.Arc.{arc_slice_items};
-ghost use Rattle.spki_tag.specs.Request.{IsHead};
-ghost use Rattle.spki_tag.specs.Tag.{IsNormalTag, tags, list, nodes, most_nodes};
-ghost use Rattle.spki_tag.specs.Reading.{AreNormal, set_of};
+ghost use Rattle.std.specs.{Prelude.{◌≡◌, ◌≤◌, ◌++◌, OnOk}, Arc.{arc_slice_items}};
+ghost use Rattle.spki_tag.specs.{Request.{IsHead}, Tag.{IsNormalTag, tags, list, nodes, most_nodes}, Reading.{AreNormal, set_of}};
 ghost use Rattle.spki_tag.specs.Meet.{listed, members as in_place};
 
 use crate::form::{has_everything, has_nothing};

@@ -1,9 +1,7 @@
 //! The parts of an intersection.
 
 ghost use Rattle.std.specs.Prelude.{◌≡◌, ◌+◌, ◌≤◌, ◌++◌, [], length, OnOk};
-ghost use Rattle.spki_tag.specs.Leaves.{leaf_or_nothing};
-ghost use Rattle.spki_tag.specs.Meet.{kept};
-ghost use Rattle.spki_tag.specs.Tag.{tags, nodes_all};
+ghost use Rattle.spki_tag.specs.{Leaves.{leaf_or_nothing}, Meet.{kept}, Tag.{tags, nodes_all}};
 
 use crate::leaf::Leaf;
 use crate::tag::Tag;

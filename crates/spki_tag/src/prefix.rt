@@ -1,11 +1,7 @@
 //! Prefixes, and the limits of the strings that start with one.
 
-ghost use Rattle.std.specs.Prelude.{◌≡◌, IfOk, option_map};
-ghost use Rattle.std.specs.Arc.{arc_slice_items};
-ghost use Rattle.spki_tag.specs.Leaves.{range_tag};
-ghost use Rattle.spki_tag.specs.Limits.{limit_of};
-ghost use Rattle.spki_tag.specs.Meet.{least_above, from, strict_limit};
-ghost use Rattle.spki_tag.specs.Tag.{alpha, range};
+ghost use Rattle.std.specs.{Prelude.{◌≡◌, IfOk, option_map}, Arc.{arc_slice_items}};
+ghost use Rattle.spki_tag.specs.{Leaves.{range_tag}, Limits.{limit_of}, Meet.{least_above, from, strict_limit}, Tag.{alpha, range}};
 
 use crate::leaf::{Limit, RangeOrdering, SharedOctets};
 use crate::range::Range;
@@ -21,8 +17,7 @@ pub(crate) struct Prefix {
 }
 
 impl Model for Prefix {
-    ghost use Rattle.std.specs.Prelude.{◌≡◌, ℕ, List, option_map};
-    ghost use Rattle.std.specs.Arc.{arc_slice_items};
+    ghost use Rattle.std.specs.{Prelude.{◌≡◌, ℕ, List, option_map}, Arc.{arc_slice_items}};
     ghost use Rattle.spki_tag.specs.Meet.{least_above};
 
     ghost Value = { List ℕ };

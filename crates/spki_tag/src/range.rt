@@ -1,8 +1,7 @@
 //! Ranges of strings (RFC 2693, section 6.3.1), and their intersection.
 
 ghost use Rattle.std.specs.Prelude.{◌≡◌, option_map};
-ghost use Rattle.spki_tag.specs.Limits.{limit_of, ordering_of};
-ghost use Rattle.spki_tag.specs.Meet.{exclude, ordering_meet};
+ghost use Rattle.spki_tag.specs.{Limits.{limit_of, ordering_of}, Meet.{exclude, ordering_meet}};
 
 use crate::leaf::{Limit, RangeOrdering, copied_limit};
 use crate::limit_intersection::{exclude, is_greater_low, is_lesser_up};
@@ -40,9 +39,7 @@ fn common_ordering(one: RangeOrdering, other: RangeOrdering) -> Option<RangeOrde
 
 impl Range {
     ghost use Rattle.std.specs.Prelude.{false, IfOk, Some};
-    ghost use Rattle.spki_tag.specs.Leaves.{range_tag, range_or_nothing};
-    ghost use Rattle.spki_tag.specs.Meet.{greater_low, lesser_up, ranged};
-    ghost use Rattle.spki_tag.specs.Tag.{range};
+    ghost use Rattle.spki_tag.specs.{Leaves.{range_tag, range_or_nothing}, Meet.{greater_low, lesser_up, ranged}, Tag.{range}};
 
     /// The range of an ordering with these limits.
     pub(crate) fn of(ordering: RangeOrdering, low: Option<Limit>, up: Option<Limit>) -> Range

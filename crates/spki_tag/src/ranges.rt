@@ -1,13 +1,9 @@
 //! Reads ranges (RFC 2693, section 6.3.1).
 
-ghost use Rattle.std.specs.Prelude.{◌≡◌, ◌≢◌, ◌∷◌, [], Some, List, ℕ, IfOk, IfErr, MatchOption, codes};
-ghost use Rattle.std.specs.List.{list_any};
+ghost use Rattle.std.specs.{Prelude.{◌≡◌, ◌≢◌, ◌∷◌, [], Some, List, ℕ, IfOk, IfErr, MatchOption, codes}, List.{list_any}};
 ghost use Rattle.sexpr_core.specs.Value.{Value, plain, values};
-ghost use Rattle.spki_tag.specs.Leaves.{leaf_tag};
-ghost use Rattle.spki_tag.specs.Limits.{ordering_of, limit_of};
-ghost use Rattle.spki_tag.specs.Tag.{Ordering, tag_value, starred, ordering_name, limit_values};
-ghost use Rattle.spki_tag.specs.Faults.{IsNamed, is_hinted, limits_fault, range_fault};
-ghost use Rattle.spki_tag.specs.Reading.{AreLimits, AreNoLimits, IsNoLimit};
+ghost use Rattle.spki_tag.specs.{Leaves.{leaf_tag}, Limits.{ordering_of, limit_of}, Tag.{Ordering, tag_value, starred, ordering_name, limit_values}};
+ghost use Rattle.spki_tag.specs.{Faults.{IsNamed, is_hinted, limits_fault, range_fault}, Reading.{AreLimits, AreNoLimits, IsNoLimit}};
 
 use crate::fault::TagFault;
 use crate::leaf::{Leaf, Limit, RangeOrdering};

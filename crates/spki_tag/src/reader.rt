@@ -3,9 +3,7 @@
 
 ghost use Rattle.std.specs.Prelude.{◌≡◌, ◌+◌, ◌≤◌, ◌<◌, ◌∷◌, List, Some, None, IfOk, IfErr, IfSome, IsSome, IsOkUnless, codes};
 ghost use Rattle.sexpr_core.specs.Value.{Value, plain, group, values, node};
-ghost use Rattle.spki_tag.specs.Leaves.{leaf_tag};
-ghost use Rattle.spki_tag.specs.Tag.{Tag, IsTag, tag_value, starred, nodes};
-ghost use Rattle.spki_tag.specs.Request.{IsHead};
+ghost use Rattle.spki_tag.specs.{Leaves.{leaf_tag}, Tag.{Tag, IsTag, tag_value, starred, nodes}, Request.{IsHead}};
 ghost use Rattle.spki_tag.specs.Reading.{ReadsAs, IsNoTag, most_read, IsRead, AreRead, IsPut, ArePut, fault_after, fault_after_all};
 ghost use Rattle.spki_tag.specs.Faults.{IsNamed, group_fault, list_fault, prefix_fault, tag_fault};
 

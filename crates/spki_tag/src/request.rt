@@ -3,10 +3,9 @@
 
 ghost use Rattle.std.specs.Prelude.{◌≡◌, ◌∷◌, None, IfOk, IfErr, IfSome, IsSome};
 ghost use Rattle.sexpr_core.specs.Value.{plain, group, node};
-ghost use Rattle.spki_tag.specs.Faults.{IsNamed, request_fault};
-ghost use Rattle.spki_tag.specs.Reading.{IsNoRequest, AreReadRequests, fault_of_requests};
-ghost use Rattle.spki_tag.specs.Request as spec;
+ghost use Rattle.spki_tag.specs.{Faults.{IsNamed, request_fault}, Reading.{IsNoRequest, AreReadRequests, fault_of_requests}};
 ghost use Rattle.spki_tag.specs.Request.{IsHead, IsRequest, request_value};
+ghost use Rattle.spki_tag.specs.Request as spec;
 
 use crate::fault::TagFault;
 use crate::reader::head_of;
@@ -31,8 +30,7 @@ pub(crate) enum GroundNode {
 }
 
 impl Model for Ground {
-    ghost use Rattle.spki_tag.specs.Request.{Request, IsRequest, request_size};
-    ghost use Rattle.spki_tag.specs.Inner.Codes.{request_code};
+    ghost use Rattle.spki_tag.specs.{Request.{Request, IsRequest, request_size}, Inner.Codes.{request_code}};
 
     ghost Value = { Request };
 

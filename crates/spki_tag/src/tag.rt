@@ -1,10 +1,8 @@
 //! Tags.
 
-ghost use Rattle.std.specs.Prelude.{◌≡◌, ◌+◌, ◌<◌, ◌≤◌, length, IfOk};
-ghost use Rattle.std.specs.Arc.{arc_slice_items};
+ghost use Rattle.std.specs.{Prelude.{◌≡◌, ◌+◌, ◌<◌, ◌≤◌, length, IfOk}, Arc.{arc_slice_items}};
+ghost use Rattle.spki_tag.specs.{Leaves.{leaf_tag}, Meet.{gather}};
 ghost use Rattle.spki_tag.specs.Tag as spec;
-ghost use Rattle.spki_tag.specs.Leaves.{leaf_tag};
-ghost use Rattle.spki_tag.specs.Meet.{gather};
 
 use crate::leaf::{Leaf, SharedOctets};
 use crate::string_octets::StringOctets;
@@ -32,8 +30,7 @@ pub(crate) enum Node {
 }
 
 impl Model for Tag {
-    ghost use Rattle.spki_tag.specs.Tag.{Tag as Written, IsNormalTag, nodes};
-    ghost use Rattle.spki_tag.specs.Inner.Codes.{tag_code};
+    ghost use Rattle.spki_tag.specs.{Tag.{Tag as Written, IsNormalTag, nodes}, Inner.Codes.{tag_code}};
 
     ghost Value = { Written };
 

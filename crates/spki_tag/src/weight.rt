@@ -1,11 +1,7 @@
 //! How much of a tag there is to compare or copy.
 
-ghost use Rattle.std.specs.Prelude.{◌≡◌, ◌^◌, ◌<◌};
-ghost use Rattle.std.specs.Option.{SomeIff};
-ghost use Rattle.spki_tag.specs.Cost.{limit_octets, weight, weight_all};
-ghost use Rattle.spki_tag.specs.Leaves.{leaf_tag};
-ghost use Rattle.spki_tag.specs.Limits.{limit_of};
-ghost use Rattle.spki_tag.specs.Tag.{tags};
+ghost use Rattle.std.specs.{Prelude.{◌≡◌, ◌^◌, ◌<◌}, Option.{SomeIff}};
+ghost use Rattle.spki_tag.specs.{Cost.{limit_octets, weight, weight_all}, Leaves.{leaf_tag}, Limits.{limit_of}, Tag.{tags}};
 
 use crate::leaf::{Leaf, Limit};
 use crate::tag::{Node, Tag};

@@ -2,9 +2,7 @@
 
 ghost use Rattle.std.specs.Prelude.{◌≡◌, ◌++◌, ◌∷◌, [], IfOk, OnOk, map, codes};
 ghost use Rattle.sexpr_core.specs.Value.{plain, sexp_value};
-ghost use Rattle.spki_tag.specs.Leaves.{leaf_tag, range_tag};
-ghost use Rattle.spki_tag.specs.Limits.{ordering_of, limit_of};
-ghost use Rattle.spki_tag.specs.Tag.{tag_value, ordering_name, limit_values};
+ghost use Rattle.spki_tag.specs.{Leaves.{leaf_tag, range_tag}, Limits.{ordering_of, limit_of}, Tag.{tag_value, ordering_name, limit_values}};
 
 use crate::leaf::{Leaf, Limit, RangeOrdering};
 use crate::range::Range;

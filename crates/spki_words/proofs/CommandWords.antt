@@ -1,20 +1,15 @@
 -- The command or the fault that a parse of the words finds. Each command has a word of its own.
 use Rattle.std.proofs.Common.{◌≡◌, [], ◌∷◌, true, Some, refl, ◌∙◌, List, Bool, false, Option, None, is_some, map, find, drop, get_or, option_map, inl, inr, ap, sym, All, option_and_then, bytes_eq, arith, ◌⊎◌, subst}
-use Rattle.clap.specs.Words.{Text, takes, is_simple, is_simple_and_free, Row, Shape, built, found_of, has_subcommand, rows_of, subcommand_name_of, subcommand_of, subcommand_rows_of, IsAmong}
-use Rattle.clap.proofs.OnLiterals.{clap_on_literals}
-use Rattle.spki_words.specs.Words.{word_of, spki, subcommand_in, commands, IsFault, IsFaultOf, faults_of}
-use Rattle.spki_words.specs.declared.commands.Command.{Command}
-use Rattle.spki_words.specs.declared.commands.Command.TheVariants.{Canonical, Advanced, Transport, Intersect, Reduce, Check, Explain}
 use Rattle.std.proofs.lemmas.Bool.{cases_Bool}
-use Rattle.clap.specs.Simple.{argument_words, entered, label_of, names_of, rows_at}
-use Rattle.clap.specs.Walk.{answers_to, stop_after}
-use Rattle.clap.specs.declared.parser.matches.ArgMatches.{ArgMatches}
-use Rattle.clap.specs.declared.parser.matches.ArgMatches.TheViews.{out-ArgMatches, out-SubCommand}
 use Rattle.std.specs.Box.{box_value}
-use Rattle.clap.specs.declared.error.kind.ErrorKind.{ErrorKind}
-use Rattle.clap.specs.declared.error.kind.ErrorKind.TheVariants.{DisplayHelp, OutOfMemory}
-use Rattle.spki_words.specs.declared.words.WordsFault.{WordsFault}
-use Rattle.spki_words.specs.declared.words.WordsFault.TheVariants.{Refused, Help, Memory}
+use Rattle.clap.specs.Words.{Text, takes, is_simple, is_simple_and_free, Row, Shape, built, found_of, has_subcommand, rows_of, subcommand_name_of, subcommand_of, subcommand_rows_of, IsAmong}
+use Rattle.clap.specs.declared.parser.matches.ArgMatches.{ArgMatches, TheViews.{out-ArgMatches, out-SubCommand}}
+use Rattle.clap.specs.declared.error.kind.ErrorKind.{ErrorKind, TheVariants.{DisplayHelp, OutOfMemory}}
+use Rattle.clap.specs.{Simple.{argument_words, entered, label_of, names_of, rows_at}, Walk.{answers_to, stop_after}}
+use Rattle.clap.proofs.OnLiterals.{clap_on_literals}
+use Rattle.spki_words.specs.declared.commands.Command.{Command, TheVariants.{Canonical, Advanced, Transport, Intersect, Reduce, Check, Explain}}
+use Rattle.spki_words.specs.declared.words.WordsFault.{WordsFault, TheVariants.{Refused, Help, Memory}}
+use Rattle.spki_words.specs.Words.{word_of, spki, subcommand_in, commands, IsFault, IsFaultOf, faults_of}
 
 -- ---- what `clap` reads in the program's name and the word of a command, by computation
 

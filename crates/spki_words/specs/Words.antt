@@ -1,15 +1,11 @@
 -- The commands, and how `clap` parses the words of a command line. The first word is the program's name.
 use Rattle.std.specs.Prelude.{ℕ, List, [], ◌∷◌, codes, ◌≡◌, ◌≢◌, ⊤, true, false, Option, fold, option_map}
-use Rattle.spki_words.specs.declared.commands.Command.{Command}
-use Rattle.spki_words.specs.declared.commands.Command.TheVariants.{Canonical, Advanced, Transport, Intersect, Reduce, Check, Explain}
-use Rattle.clap.specs.Words.{App, Kinds, IsAmong, Text, new_app, with_subcommand, subcommand_of, fault_of, app_of}
-use Rattle.clap.specs.Simple.{on_top}
-use Rattle.clap.specs.declared.error.kind.ErrorKind.{ErrorKind}
-use Rattle.clap.specs.declared.error.kind.ErrorKind.TheVariants.{DisplayHelp, OutOfMemory}
-use Rattle.clap.specs.declared.builder.command.Command as clap
+use Rattle.spki_words.specs.declared.commands.Command.{Command, TheVariants.{Canonical, Advanced, Transport, Intersect, Reduce, Check, Explain}}
+use Rattle.spki_words.specs.declared.words.WordsFault.{WordsFault, TheVariants.{Refused, Help, Memory}}
+use Rattle.clap.specs.declared.error.kind.ErrorKind.{ErrorKind, TheVariants.{DisplayHelp, OutOfMemory}}
 use Rattle.clap.specs.declared.builder.command.Command.TheViews.{out-Command as fields_of}
-use Rattle.spki_words.specs.declared.words.WordsFault.{WordsFault}
-use Rattle.spki_words.specs.declared.words.WordsFault.TheVariants.{Refused, Help, Memory}
+use Rattle.clap.specs.{Words.{App, Kinds, IsAmong, Text, new_app, with_subcommand, subcommand_of, fault_of, app_of}, Simple.{on_top}}
+use Rattle.clap.specs.declared.builder.command.Command as clap
 
 -- ---- the commands and their words
 

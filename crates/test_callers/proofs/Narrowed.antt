@@ -1,12 +1,9 @@
 -- Tags that are not met.
 use Rattle.std.proofs.Common.{◌≡◌, ◌*◌, ◌<◌, refl}
 use Rattle.sexpr_core.specs.Value.{Value}
-use Rattle.spki_tag.specs.declared.fault.MeetFault.{MeetFault}
-use Rattle.spki_tag.specs.declared.fault.MeetFault.TheVariants.{TooLarge, Memory}
-use Rattle.spki_tag.specs.Tag.{Tag, nodes}
-use Rattle.spki_tag.specs.Reading.{ReadsAs}
-use Rattle.test_callers.specs.declared.tags.NarrowFault.TheVariants as faults
+use Rattle.spki_tag.specs.{declared.fault.MeetFault.{MeetFault, TheVariants.{TooLarge, Memory}}, Tag.{Tag, nodes}, Reading.{ReadsAs}}
 use Rattle.test_callers.specs.Service.{IsNotNarrowed}
+use Rattle.test_callers.specs.declared.tags.NarrowFault.TheVariants as faults
 
 -- two tags that are read and not met, where the fault of size says what it does
 pub not_met : (own : Tag) (v : Value) (t : Tag) (fault : MeetFault) → ReadsAs v t

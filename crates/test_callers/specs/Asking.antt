@@ -1,8 +1,6 @@
 -- A question to a service.
 use Rattle.std.specs.Prelude.{List, []}
-use Rattle.spki_cert.specs.declared.entry.Entry.{Entry}
-use Rattle.spki_cert.specs.declared.certificate.SeqItem.{SeqItem}
-use Rattle.spki_cert.specs.declared.principal.Policy.TheVariants.{Strict}
+use Rattle.spki_cert.specs.declared.{entry.Entry.{Entry}, certificate.SeqItem.{SeqItem}, principal.Policy.TheVariants.{Strict}}
 use Rattle.spki_case.specs.Case.{Case}
 use Rattle.test_callers.specs.declared.cases.Question.{Question}
 

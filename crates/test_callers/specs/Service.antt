@@ -1,18 +1,11 @@
 -- A service: its answer to a question, what a verifier states if keys are revoked, and why its tag is not narrowed.
 use Rattle.std.specs.Prelude.{◌≡◌, ℕ, List, Contains, ◌*◌, ◌<◌}
-use Rattle.spki_cert.specs.declared.entry.Entry.{Entry}
-use Rattle.spki_cert.specs.declared.principal.Policy.{Policy}
+use Rattle.spki_cert.specs.declared.{entry.Entry.{Entry}, principal.Policy.{Policy}}
 use Rattle.spki_case.specs.Case.{Case, Verified}
-use Rattle.spki_decision.specs.declared.decision.Decision.{Decision}
-use Rattle.spki_decision.specs.Granted.{IsDecision}
-use Rattle.spki_decision.specs.CertificateTests.{with_entries}
-use Rattle.spki_service.specs.declared.question.Question.{Question}
-use Rattle.spki_service.specs.AccessLists.{AreEntries}
-use Rattle.spki_service.specs.Questions.{IsAskedCase}
+use Rattle.spki_decision.specs.{declared.decision.Decision.{Decision}, Granted.{IsDecision}, CertificateTests.{with_entries}}
+use Rattle.spki_service.specs.{declared.question.Question.{Question}, AccessLists.{AreEntries}, Questions.{IsAskedCase}}
 use Rattle.sexpr_core.specs.Value.{Value}
-use Rattle.spki_tag.specs.declared.fault.MeetFault.TheVariants.{TooLarge, Memory}
-use Rattle.spki_tag.specs.Tag.{Tag, nodes}
-use Rattle.spki_tag.specs.Reading.{ReadsAs, IsNoTag}
+use Rattle.spki_tag.specs.{declared.fault.MeetFault.TheVariants.{TooLarge, Memory}, Tag.{Tag, nodes}, Reading.{ReadsAs, IsNoTag}}
 use Rattle.test_callers.specs.declared.tags.NarrowFault.{NarrowFault}
 use Rattle.test_callers.specs.declared.tags.NarrowFault.TheVariants as faults
 

@@ -1,9 +1,7 @@
 //! An example of a caller of `spki_case`, which makes a case of its parts.
 
 ghost use Rattle.std.specs.Prelude.{◌≡◌, ◌≢◌, List, Some, IfOk, IfErr};
-ghost use Rattle.spki_cert.specs.declared.certificate.SeqItem.{SeqItem};
-ghost use Rattle.spki_cert.specs.Structures.{SeqOf};
-ghost use Rattle.spki_cert.specs.StructureFaults.{sequence_fault};
+ghost use Rattle.spki_cert.specs.{declared.certificate.SeqItem.{SeqItem}, Structures.{SeqOf}, StructureFaults.{sequence_fault}};
 ghost use Rattle.spki_case.specs.View.{model};
 ghost use Rattle.test_callers.specs.Asking.{asked_case};
 

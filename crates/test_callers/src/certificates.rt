@@ -1,10 +1,7 @@
 //! An example of a caller of `spki_cert`, which its `CALLING.md` quotes.
 
 ghost use Rattle.std.specs.Prelude.{◌≡◌, ◌≢◌, ℕ, List, Some, IfOk, IfErr, OnErr, MatchOption};
-ghost use Rattle.spki_cert.specs.declared.hash.HashAlg.TheVariants.{Sha256};
-ghost use Rattle.spki_cert.specs.Naming.{digest_of};
-ghost use Rattle.spki_cert.specs.Readings.{KeyOf, IsNoKey};
-ghost use Rattle.spki_cert.specs.FieldFaults.{key_fault};
+ghost use Rattle.spki_cert.specs.{declared.hash.HashAlg.TheVariants.{Sha256}, Naming.{digest_of}, Readings.{KeyOf, IsNoKey}, FieldFaults.{key_fault}};
 
 use sexpr_core::Doc;
 use spki_cert::{CertFaultKind, HashAlg, Key, key_of};

@@ -3,8 +3,7 @@
 //! enough by the law `any_bracketing`.
 
 ghost use Rattle.std.specs.Prelude.{◌≡◌, ◌↔◌, ◌∷◌, ◌<◌, IsTrue, IfOk, IsErrOf};
-ghost use Rattle.spki_reduce.specs.Reduction.{own, five, issuer_of, five_tuple, nodes_product, IsSupported};
-ghost use Rattle.spki_reduce.specs.Chain.{tuples_of, all_tags};
+ghost use Rattle.spki_reduce.specs.{Reduction.{own, five, issuer_of, five_tuple, nodes_product, IsSupported}, Chain.{tuples_of, all_tags}};
 
 use spki_cert::{Date, Key, Policy};
 use spki_reduce::{Five, Fold, ReduceFault, Step, fold_chain};

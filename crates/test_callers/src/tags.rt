@@ -1,9 +1,7 @@
 //! An example of a caller of `spki_tag`, which its `CALLING.md` quotes.
 
 ghost use Rattle.std.specs.Prelude.{◌≡◌, ◌&&◌, IfOk, IfErr};
-ghost use Rattle.spki_tag.specs.Request.{Request, IsRequest};
-ghost use Rattle.spki_tag.specs.Tag.{Tag, contains};
-ghost use Rattle.spki_tag.specs.Reading.{ReadsAs};
+ghost use Rattle.spki_tag.specs.{Request.{Request, IsRequest}, Tag.{Tag, contains}, Reading.{ReadsAs}};
 ghost use Rattle.test_callers.specs.Service.{IsNotNarrowed};
 
 use sexpr_core::syntax::Node;

@@ -2,8 +2,7 @@
 
 ghost use Rattle.std.specs.Prelude.{◌≡◌, ◌↔◌, ◌⊎◌, IsTrue, IfOk, IfErr};
 ghost use Rattle.sexpr_core.specs.Value.{Value};
-ghost use Rattle.sexpr_text.specs.AdvancedForm.{IsText};
-ghost use Rattle.sexpr_text.specs.Refusal.{RefusesText};
+ghost use Rattle.sexpr_text.specs.{AdvancedForm.{IsText}, Refusal.{RefusesText}};
 
 use sexpr_core::FormFault;
 use sexpr_text::{laws, read_any};

@@ -1,10 +1,7 @@
 //! An example of a caller of `sexpr_core`, which its `CALLING.md` quotes.
 
-ghost use Rattle.std.specs.Prelude.{◌≡◌, IfOk, IfErr, IsOkUnless, option_map};
-ghost use Rattle.std.specs.Option.{option_copied};
-ghost use Rattle.sexpr_core.specs.Value.{Value, canon, IsWithinLimits};
-ghost use Rattle.sexpr_core.specs.Nodes.{part_at};
-ghost use Rattle.sexpr_core.specs.Reading.{Refused};
+ghost use Rattle.std.specs.{Prelude.{◌≡◌, IfOk, IfErr, IsOkUnless, option_map}, Option.{option_copied}};
+ghost use Rattle.sexpr_core.specs.{Value.{Value, canon, IsWithinLimits}, Nodes.{part_at}, Reading.{Refused}};
 
 use sexpr_core::syntax::NodeKind;
 use sexpr_core::{Doc, FormFault};

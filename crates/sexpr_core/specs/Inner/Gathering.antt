@@ -1,6 +1,5 @@
 -- What is kept of a body in base64: everything except its whitespace.
-use Rattle.std.specs.Prelude.{◌≡◌, ℕ, ◌<◌, ◌≤◌, true, false, List, [], ◌∷◌, ◌++◌, length, drop}
-use Rattle.std.specs.List.{AllByRecursion}
+use Rattle.std.specs.{Prelude.{◌≡◌, ℕ, ◌<◌, ◌≤◌, true, false, List, [], ◌∷◌, ◌++◌, length, drop}, List.{AllByRecursion}}
 use Rattle.sexpr_core.specs.Reading.{visible, is_symbol, AreBodyOctets}
 
 -- the first octet, if there is one, is no symbol

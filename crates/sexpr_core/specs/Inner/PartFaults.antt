@@ -1,8 +1,6 @@
 -- What a fault means while a part of a text is read.
 use Rattle.std.specs.Prelude.{◌≡◌, ℕ, suc, ◌+◌, ◌<◌, List, ◌++◌, length, take}
-use Rattle.sexpr_core.specs.declared.fault.FormFault.{FormFault}
-use Rattle.sexpr_core.specs.declared.fault.FormFault.TheVariants.{TooDeep, Short, Bad, Memory}
-use Rattle.sexpr_core.specs.Reading.{Front}
+use Rattle.sexpr_core.specs.{declared.fault.FormFault.{FormFault, TheVariants.{TooDeep, Short, Bad, Memory}}, Reading.{Front}}
 
 -- no text of T agrees with the octets up to the end of the shorter of both
 pub record Barred (T : List ℕ → Type 0) (xs : List ℕ) : Type 0 where

@@ -1,13 +1,9 @@
 -- Which octets of a part were read when a fault was found in it.
 use Rattle.std.specs.Prelude.{◌≡◌, ℕ, suc, ◌+◌, ◌≤◌, Bool, ◌⊎◌, List, [], ◌∷◌, ◌++◌, length, drop}
-use Rattle.sexpr_core.specs.Characters.{char}
-use Rattle.sexpr_core.specs.declared.fault.FormFault.{FormFault}
-use Rattle.sexpr_core.specs.declared.fault.FormFault.TheVariants.{TooDeep, Short, Bad, Memory}
-use Rattle.sexpr_core.specs.Reading.{Begins, StopsAt}
-use Rattle.sexpr_core.specs.Value.{Value, Values, depth, depths}
+use Rattle.sexpr_core.specs.{Characters.{char}, declared.fault.FormFault.{FormFault, TheVariants.{TooDeep, Short, Bad, Memory}}}
+use Rattle.sexpr_core.specs.{Reading.{Begins, StopsAt}, Value.{Value, Values, depth, depths}}
 use Rattle.sexpr_text.specs.AdvancedForm.{Simple, IsPiece, Piece, piece_text, SpellsAs, SpellsMembers}
-use Rattle.sexpr_text.specs.Refusal.{IsUnclosed, IsUnclosedString, UnclosedMembers, UnclosedValue, depth_open}
-use Rattle.sexpr_text.specs.Reads.{ValueAt, MembersAt}
+use Rattle.sexpr_text.specs.{Refusal.{IsUnclosed, IsUnclosedString, UnclosedMembers, UnclosedValue, depth_open}, Reads.{ValueAt, MembersAt}}
 
 -- the octets from one offset up to another are in G
 pub record Begun (G : List ℕ → Type 0) (text : List ℕ) (at to : ℕ) : Type 0 where

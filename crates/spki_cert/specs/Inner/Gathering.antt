@@ -1,32 +1,21 @@
 -- What is known while subjects and fields are read.
-use Rattle.std.specs.Prelude.{◌≡◌, ◌≢◌, ℕ, ◌⊎◌, Bool, true, false, List, [], ◌∷◌, Option, Some, None, codes, is_some, not}
-use Rattle.std.specs.Str.{bytes_eq}
+use Rattle.std.specs.{Prelude.{◌≡◌, ◌≢◌, ℕ, ◌⊎◌, Bool, true, false, List, [], ◌∷◌, Option, Some, None, codes, is_some, not}, Str.{bytes_eq}}
 use Rattle.std.specs.List.{list_any}
 use Rattle.sexpr_core.specs.Value.{Value, plain, group}
-use Rattle.spki_tag.specs.Reading.{ReadsAs}
-use Rattle.spki_cert.specs.declared.principal.Principal.{Principal}
-use Rattle.spki_cert.specs.declared.window.Window.{Window}
-use Rattle.spki_cert.specs.declared.principal_reader.Issuer.{Issuer}
-use Rattle.spki_cert.specs.declared.principal_reader.WrittenSubject.{WrittenSubject}
-use Rattle.spki_cert.specs.declared.fields.FieldValues.{FieldValues}
-use Rattle.spki_cert.specs.declared.fields.Place.{Place}
-use Rattle.spki_cert.specs.declared.fields.Place.TheVariants as places
-use Rattle.spki_cert.specs.declared.fields.FieldValue.{FieldValue}
-use Rattle.spki_cert.specs.declared.fields.FieldValue.TheVariants as field_value
-use Rattle.spki_tag.specs.declared.fault.TagFault.{TagFault}
-use Rattle.spki_tag.specs.declared.fault.TagFault.TheVariants as tag_faults
-use Rattle.spki_cert.specs.declared.fault.CertFaultKind.{CertFaultKind}
-use Rattle.spki_cert.specs.declared.fault.CertFaultKind.TheVariants as kinds
-use Rattle.spki_cert.specs.declared.entry.Subject.{Subject}
-use Rattle.spki_cert.specs.declared.certificate_reader.CertParts.{CertParts}
-use Rattle.spki_cert.specs.declared.certificate.SeqItem.{SeqItem}
-use Rattle.spki_cert.specs.declared.certificate.SeqItem.TheVariants as items
-use Rattle.spki_tag.specs.Faults.{first_fault, unless}
+use Rattle.spki_tag.specs.{Reading.{ReadsAs}, declared.fault.TagFault.{TagFault}, Faults.{first_fault, unless}}
+use Rattle.spki_cert.specs.declared.{principal.Principal.{Principal}, window.Window.{Window}}
+use Rattle.spki_cert.specs.declared.principal_reader.{Issuer.{Issuer}, WrittenSubject.{WrittenSubject}}
+use Rattle.spki_cert.specs.declared.{fields.{FieldValues.{FieldValues}, Place.{Place}, FieldValue.{FieldValue}}, fault.CertFaultKind.{CertFaultKind}}
+use Rattle.spki_cert.specs.declared.{entry.Subject.{Subject}, certificate_reader.CertParts.{CertParts}, certificate.SeqItem.{SeqItem}}
 use Rattle.spki_cert.specs.declared.hash.HashAlg.{HashAlg}
 use Rattle.spki_cert.specs.FieldFaults.{is_plain, any_octets, is_sized, is_again, limit_fault, has, fields_fault, entry_field_fault, cert_field_fault, is_both_ways}
-use Rattle.spki_cert.specs.Readings.{DateOf}
 use Rattle.spki_cert.specs.Fields.{PrincipalOf, plains, is_headed, Sole, Given, IssuerIn, WrittenSubjectIn, LimitsAre, ValidOf, IsField, IsCertField, AreFields, propagates, WindowOf}
-use Rattle.spki_cert.specs.Structures.{IssuedBy, IssuedFor, AuthCertOf, NameCertOf, waits_after}
+use Rattle.spki_cert.specs.{Readings.{DateOf}, Structures.{IssuedBy, IssuedFor, AuthCertOf, NameCertOf, waits_after}}
+use Rattle.spki_cert.specs.declared.fields.Place.TheVariants as places
+use Rattle.spki_cert.specs.declared.fields.FieldValue.TheVariants as field_value
+use Rattle.spki_tag.specs.declared.fault.TagFault.TheVariants as tag_faults
+use Rattle.spki_cert.specs.declared.fault.CertFaultKind.TheVariants as kinds
+use Rattle.spki_cert.specs.declared.certificate.SeqItem.TheVariants as items
 
 -- ---- subjects
 

@@ -1,10 +1,8 @@
 -- What a sink takes that keeps at most so many octets, in one call and in several.
-use Rattle.std.specs.Prelude.{◌+◌, ◌-◌, ◌^◌, ◌<◌, nat_lt, length, Bool, false}
-use Rattle.std.specs.Borrow.{GName}
-use Rattle.sexpr_text.specs.declared.sinks.Counter.{Counter}
-use Rattle.sexpr_text.specs.Sinks.{count_of}
-use Rattle.spki_guard.specs.declared.capped_sink.CappedSink.{CappedSink}
+use Rattle.std.specs.{Prelude.{◌+◌, ◌-◌, ◌^◌, ◌<◌, nat_lt, length, Bool, false}, Borrow.{GName}}
 use Rattle.std.proofs.Common.{◌≡◌, ℕ, ◌≤◌, true, List, [], ◌++◌, refl, sym, ap, ◌∙◌, append_assoc, append-nil, length-append, arith}
+use Rattle.sexpr_text.specs.{declared.sinks.Counter.{Counter}, Sinks.{count_of}}
+use Rattle.spki_guard.specs.declared.capped_sink.CappedSink.{CappedSink}
 
 -- ---- what a sink has taken that keeps at most so many octets
 

@@ -1,12 +1,9 @@
 -- What is written page by page, in one call and in several.
-use Rattle.std.specs.Prelude.{◌⊎◌, ◌<◌, ◌≤◌, max, false}
-use Rattle.std.specs.Borrow.{GName}
-use Rattle.metered_io.specs.declared.meters.Metered.{Metered}
-use Rattle.metered_io.specs.MeteredCalls.{asks_of, faults_of, Takes, SendsFront, inner_of}
-use Rattle.spki_guard.specs.declared.pages.PageSink.{PageSink}
 use Rattle.std.proofs.Common.{◌≡◌, ℕ, List, [], ◌++◌, Option, None, Some, Bool, true, true≢false, inl, inr, refl, sym, ap, ◌∙◌, append_assoc, append-nil, arith}
 use Rattle.std.proofs.KnownBytes.{Appends-trans}
-use Rattle.std.specs.Io.KnownBytes.{Appends}
+use Rattle.std.specs.{Prelude.{◌⊎◌, ◌<◌, ◌≤◌, max, false}, Borrow.{GName}, Io.KnownBytes.{Appends}}
+use Rattle.metered_io.specs.{declared.meters.Metered.{Metered}, MeteredCalls.{asks_of, faults_of, Takes, SendsFront, inner_of}}
+use Rattle.spki_guard.specs.declared.pages.PageSink.{PageSink}
 
 -- ---- what is written page by page
 

@@ -1,34 +1,22 @@
 -- Answers, what is printed of them, and what a printer of folds has printed.
 use Rattle.std.proofs.Common.{◌≡◌, ℕ, ◌+◌, ◌<◌, List, [], length, true, false, true≢false, refl, sym, ◌∙◌, arith}
+use Rattle.std.specs.{Prelude.{◌⊎◌, ◌≤◌, ◌∷◌, ◌++◌, Option, IfSome, Bool, IsTrue, Result, Ok, Err, Vec}, declared.alloc.Global.{Global}}
 use Rattle.spki_decision.specs.declared.reduction.EntryFold.{EntryFold}
-use Rattle.spki_guard.specs.declared.fold_printer.FoldPrinter.{FoldPrinter}
+use Rattle.spki_guard.specs.declared.answers.{Verdict.{Verdict}, Answer.{Answer, TheVariants.{Yes, No, Done, Refused}}}
+use Rattle.spki_guard.specs.declared.answers.Output.{Output, TheVariants.{Octets, Line, Made, Tag, Item, NoEntries, Folds, Reasons}}
+use Rattle.spki_guard.specs.declared.{fold_printer.FoldPrinter.{FoldPrinter}, queries.Query.{Query}, refusals.Refusal.{Refusal}}
+use Rattle.spki_guard.specs.declared.{sources.Source.{Source}, statuses.Status.{Status, TheVariants.{Answered, WriteFault}}}
 use Rattle.spki_guard.specs.Lines.{yes_entry, no_line, refused_line, AreFoldLines, some_done, item_line, no_entries, verdict_of, ReportsFolds, some_grant, reason_lines}
-use Rattle.std.specs.Prelude.{◌⊎◌, ◌≤◌, ◌∷◌, ◌++◌, Option, IfSome, Bool, IsTrue, Result, Ok, Err, Vec}
-use Rattle.std.specs.declared.alloc.Global.{Global}
-use Rattle.metered_io.specs.declared.meters.Metered.{Metered}
-use Rattle.metered_io.specs.MeteredCalls.{faults_of}
-use Rattle.sexpr_core.specs.declared.fault.FormFault.{FormFault}
-use Rattle.sexpr_core.specs.Value.{Value}
-use Rattle.sexpr_text.specs.AdvancedForm.{adv, IsTextWithin, written}
-use Rattle.sexpr_text.specs.CanonicalTexts.{IsReadAs, RefusesForm}
-use Rattle.spki_tag.specs.Tag.{tag_value}
-use Rattle.spki_words.specs.declared.commands.Command.{Command}
-use Rattle.spki_words.specs.declared.commands.Command.TheVariants.{Reduce, Check, Explain}
-use Rattle.spki_guard.specs.declared.answers.Verdict.{Verdict}
-use Rattle.spki_guard.specs.declared.answers.Verdict.TheVariants as verdict
-use Rattle.spki_guard.specs.declared.answers.Answer.{Answer}
-use Rattle.spki_guard.specs.declared.answers.Answer.TheVariants.{Yes, No, Done, Refused}
-use Rattle.spki_guard.specs.declared.answers.Output.{Output}
-use Rattle.spki_guard.specs.declared.answers.Output.TheVariants.{Octets, Line, Made, Tag, Item, NoEntries, Folds, Reasons}
-use Rattle.spki_guard.specs.declared.queries.Query.{Query}
-use Rattle.spki_guard.specs.declared.queries.Query.TheVariants as query
-use Rattle.spki_guard.specs.declared.refusals.Refusal.{Refusal}
-use Rattle.spki_guard.specs.declared.refusals.Refusal.TheVariants as refusals
-use Rattle.spki_guard.specs.declared.sources.Source.{Source}
-use Rattle.spki_guard.specs.declared.sources.Source.TheVariants as source
-use Rattle.spki_guard.specs.declared.statuses.Status.{Status}
-use Rattle.spki_guard.specs.declared.statuses.Status.TheVariants.{Answered, WriteFault}
 use Rattle.spki_guard.specs.TextAnswers.{form_of, IsOnCase, RefusesAnswer, RefusesApart, RefusesLong, IsWritten, IsCutOff}
+use Rattle.metered_io.specs.{declared.meters.Metered.{Metered}, MeteredCalls.{faults_of}}
+use Rattle.sexpr_core.specs.{declared.fault.FormFault.{FormFault}, Value.{Value}}
+use Rattle.sexpr_text.specs.{AdvancedForm.{adv, IsTextWithin, written}, CanonicalTexts.{IsReadAs, RefusesForm}}
+use Rattle.spki_tag.specs.Tag.{tag_value}
+use Rattle.spki_words.specs.declared.commands.Command.{Command, TheVariants.{Reduce, Check, Explain}}
+use Rattle.spki_guard.specs.declared.answers.Verdict.TheVariants as verdict
+use Rattle.spki_guard.specs.declared.queries.Query.TheVariants as query
+use Rattle.spki_guard.specs.declared.refusals.Refusal.TheVariants as refusals
+use Rattle.spki_guard.specs.declared.sources.Source.TheVariants as source
 
 -- ---- what a printer of folds has printed
 

@@ -1,7 +1,5 @@
 use Rattle.std.proofs.Common.{◌≡◌, ◌+◌, ◌*◌, ◌≤◌, drop}
-use Rattle.spki_tag.specs.Request.{requests}
-use Rattle.spki_tag.specs.Tag.{tags, contain_each, some_contains, nodes, nodes_all}
-use Rattle.spki_tag.specs.Cost.{weight_all}
+use Rattle.spki_tag.specs.{Request.{requests}, Tag.{tags, contain_each, some_contains, nodes, nodes_all}, Cost.{weight_all}}
 use Rattle.spki_tag.proofs.+holds.Given as goal
 
 abbrev pub invariant-membership::each_holds-loop-i : goal.invariant-membership::each_holds-loop-i

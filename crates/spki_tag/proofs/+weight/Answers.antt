@@ -1,8 +1,5 @@
-use Rattle.std.proofs.Common.{◌≡◌, ap, arith, rules, drop, List}
-use Rattle.std.proofs.lemmas.List.{drop_all}
-use Rattle.spki_tag.specs.Tag.{Tag, tags}
-use Rattle.spki_tag.specs.Cost.{weight_all}
-use Rattle.spki_tag.proofs.Members.{nodes_le-of_read}
+use Rattle.std.proofs.{Common.{◌≡◌, ap, arith, rules, drop, List}, lemmas.List.{drop_all}}
+use Rattle.spki_tag.{specs.{Tag.{Tag, tags}, Cost.{weight_all}}, proofs.Members.{nodes_le-of_read}}
 use Rattle.spki_tag.proofs.+weight.Goals as goal
 
 pub weight::weight_of-weight-requires : goal.weight::weight_of-weight-requires

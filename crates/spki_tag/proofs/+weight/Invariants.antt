@@ -1,6 +1,5 @@
 use Rattle.std.proofs.Common.{◌≡◌, ◌+◌, ◌*◌, ◌^◌, ◌<◌, drop}
-use Rattle.spki_tag.specs.Tag.{tags, nodes, nodes_all}
-use Rattle.spki_tag.specs.Cost.{weight_all}
+use Rattle.spki_tag.specs.{Tag.{tags, nodes, nodes_all}, Cost.{weight_all}}
 use Rattle.spki_tag.proofs.+weight.Given as goal
 
 abbrev pub invariant-weight::weight_of-loop-member : goal.invariant-weight::weight_of-loop-member

@@ -1,11 +1,11 @@
 -- Tags and requests as lists of labels, by which proofs distinguish them. The label of a value comes after those of its
 -- members, and the members are in order from the last to the first.
 use Rattle.std.specs.Prelude.{◌≡◌, ℕ, zero, suc, List, [], ◌∷◌, Option, None, Bool, refl}
-use Rattle.std.proofs.Common.{ap, ◌∙◌}
 use Rattle.std.specs.Coded.{Coded, code_by, coded×, coded_ℕ, coded_bool, coded_list, coded_option}
-use Rattle.spki_tag.specs.Request as request
+use Rattle.std.proofs.Common.{ap, ◌∙◌}
 use Rattle.spki_tag.specs.Request.{Request, Requests}
 use Rattle.spki_tag.specs.Tag.{Tag, Tags, Limit, Ordering, alpha, time, date, star, string, prefix, range, list, set, none, more}
+use Rattle.spki_tag.specs.Request as request
 
 -- ---- labels
 

@@ -1,9 +1,7 @@
-use Rattle.std.proofs.Common.{refl, sym, subst, ◌∙◌, arith, rules}
-use Rattle.std.proofs.lemmas.Result.{err_from_is_err_and}
-use Rattle.sexpr_core.specs.Reading.{AreSpaces}
+use Rattle.std.proofs.{Common.{refl, sym, subst, ◌∙◌, arith, rules}, lemmas.Result.{err_from_is_err_and}}
 use Rattle.sexpr_core.proofs.BraceLaws.{no_opening, opens, body_is, read_once, read_short, braced_limits, not_opened, body_missed, body_unread, braced_before}
-use Rattle.sexpr_core.proofs.BraceRefusals.{brace_short, not_opened_bad, body_end, octets_end, behind_end}
-use Rattle.sexpr_core.proofs.Errors.{err_kept}
+use Rattle.sexpr_core.proofs.{BraceRefusals.{brace_short, not_opened_bad, body_end, octets_end, behind_end}, Errors.{err_kept}}
+use Rattle.sexpr_core.specs.Reading.{AreSpaces}
 use Rattle.sexpr_core.proofs.braces.octets_in_braces.Goals as goal
 
 pub returns-in_default-clause-only : goal.returns-in_default-clause-only

@@ -1,8 +1,6 @@
 use Rattle.std.proofs.Common.{sym, subst, rules}
 use Rattle.sexpr_core.specs.Reading.{IsBase64}
-use Rattle.sexpr_core.proofs.BraceLaws.{body_octets, body_not_packed, packed_refused}
-use Rattle.sexpr_core.proofs.Spans.{same_body, unpacked_end}
-use Rattle.sexpr_core.proofs.Errors.{err_kept}
+use Rattle.sexpr_core.proofs.{BraceLaws.{body_octets, body_not_packed, packed_refused}, Spans.{same_body, unpacked_end}, Errors.{err_kept}}
 use Rattle.sexpr_core.proofs.braces.read_base64.Goals as goal
 
 pub returns-in_err-symbols-clause-only : goal.returns-in_err-symbols-clause-only

@@ -1,5 +1,4 @@
-use Rattle.std.proofs.Common.{rules}
-use Rattle.std.proofs.lemmas.Result.{err_from_is_err_and}
+use Rattle.std.proofs.{Common.{rules}, lemmas.Result.{err_from_is_err_and}}
 use Rattle.sexpr_core.proofs.BraceLaws.{braced_limits}
 use Rattle.sexpr_core.proofs.braces.unwrap_braces.Goals as goal
 

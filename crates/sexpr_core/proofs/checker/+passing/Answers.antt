@@ -1,5 +1,4 @@
-use Rattle.std.proofs.Common.{[], refl, arith, rules}
-use Rattle.std.proofs.lemmas.Result.{err_from_is_err_and}
+use Rattle.std.proofs.{Common.{[], refl, arith, rules}, lemmas.Result.{err_from_is_err_and}}
 use Rattle.sexpr_core.proofs.Faults.{value_ended, list_deep, list_fault}
 use Rattle.sexpr_core.proofs.ValueSteps.{string_value, list_passed, no_members, member_passed, members_passed, members_end, in_member}
 use Rattle.sexpr_core.proofs.Errors.{err_matched}

@@ -1,7 +1,6 @@
 -- Each list that opens leaves room for one less.
 use Rattle.std.proofs.Common.{ℕ, ◌+◌, ◌*◌, ◌-◌, List, [], length}
-use Rattle.sexpr_core.specs.declared.layout.Record.{Record}
-use Rattle.sexpr_core.proofs.ValueSteps.{HasMembers}
+use Rattle.sexpr_core.{specs.declared.layout.Record.{Record}, proofs.ValueSteps.{HasMembers}}
 use Rattle.sexpr_core.proofs.checker.+passing.Given as goal
 
 abbrev pub decreases-pass_value : goal.decreases-pass_value

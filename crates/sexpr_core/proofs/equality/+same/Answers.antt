@@ -1,5 +1,4 @@
-use Rattle.sexpr_core.specs.Value.{sexp_value}
-use Rattle.sexpr_core.proofs.TreeLaws.{member_differs, lists_same}
+use Rattle.sexpr_core.{specs.Value.{sexp_value}, proofs.TreeLaws.{member_differs, lists_same}}
 use Rattle.sexpr_core.proofs.equality.+same.Goals as goal
 
 pub same_trees-returns-in-List-other-2 : goal.same_trees-returns-in-List-other-2

@@ -1,6 +1,5 @@
 use Rattle.std.proofs.Common.{◌+◌, ◌-◌, ◌*◌, arith, rules}
-use Rattle.sexpr_core.proofs.Faults.{length_short}
-use Rattle.sexpr_core.proofs.Steps.{first_spelled, more_capped, more_spelled, later_bad}
+use Rattle.sexpr_core.proofs.{Faults.{length_short}, Steps.{first_spelled, more_capped, more_spelled, later_bad}}
 use Rattle.sexpr_core.proofs.parser.read_length.Goals as goal
 
 pub loop-octet-init : goal.loop-octet-init

@@ -1,8 +1,6 @@
 use Rattle.std.proofs.Common.{arith, rules}
-use Rattle.sexpr_core.proofs.Faults.{value_first, plain_fault}
-use Rattle.sexpr_core.proofs.Steps.{plain_read}
+use Rattle.sexpr_core.proofs.{Faults.{value_first, plain_fault}, Steps.{plain_read}, Errors.{err_matched}}
 use Rattle.sexpr_core.proofs.parser.read_string.Goals as goal
-use Rattle.sexpr_core.proofs.Errors.{err_matched}
 
 pub returns-then-octet-lt48 : goal.returns-then-octet-lt48
 returns-then-octet-lt48 c = search (rules, value_first)

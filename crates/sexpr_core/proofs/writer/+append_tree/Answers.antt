@@ -1,5 +1,4 @@
-use Rattle.sexpr_core.specs.Value.{sexp_value}
-use Rattle.sexpr_core.proofs.TreeLaws.{member_written, list_written}
+use Rattle.sexpr_core.{specs.Value.{sexp_value}, proofs.TreeLaws.{member_written, list_written}}
 use Rattle.sexpr_core.proofs.writer.+append_tree.Goals as goal
 
 pub loop-member-preserved : goal.loop-member-preserved

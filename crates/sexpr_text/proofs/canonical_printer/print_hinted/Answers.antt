@@ -1,7 +1,5 @@
 use Rattle.std.proofs.Common.{[], ◌∷◌, ◌++◌, ◌∙◌, ap, append_assoc}
-use Rattle.sexpr_text.specs.AdvancedForm.{printed_string}
-use Rattle.sexpr_text.proofs.Converted.{behind_first}
-use Rattle.sexpr_text.proofs.Printed.{in_two}
+use Rattle.sexpr_text.{specs.AdvancedForm.{printed_string}, proofs.{Converted.{behind_first}, Printed.{in_two}}}
 use Rattle.sexpr_text.proofs.canonical_printer.print_hinted.Goals as goal
 
 pub returns : goal.returns

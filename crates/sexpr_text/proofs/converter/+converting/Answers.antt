@@ -1,5 +1,4 @@
-use Rattle.std.proofs.Common.{◌-◌, refl, arith, rules}
-use Rattle.std.proofs.lemmas.Result.{IfOk-weaker, IfErr-weaker}
+use Rattle.std.proofs.{Common.{◌-◌, refl, arith, rules}, lemmas.Result.{IfOk-weaker, IfErr-weaker}}
 use Rattle.sexpr_text.proofs.RefusedParts.{part_fault, string_missed, members_missed, member_missed}
 use Rattle.sexpr_text.proofs.Trees.{no_value, string_at, inside_list, member_at, no_members_end}
 use Rattle.sexpr_text.proofs.Converted.{string_converted, roomier, none_converted, more_converted, members_converted, list_converted}

@@ -1,6 +1,5 @@
 -- Each list that opens leaves room for one less.
-use Rattle.std.proofs.Common.{◌+◌, ◌*◌, ◌-◌, length}
-use Rattle.std.specs.Option.{option_to_list}
+use Rattle.std.{proofs.Common.{◌+◌, ◌*◌, ◌-◌, length}, specs.Option.{option_to_list}}
 use Rattle.sexpr_text.proofs.Converted.{HasConverted}
 use Rattle.sexpr_text.proofs.converter.+converting.Given as goal
 

@@ -1,8 +1,5 @@
-use Rattle.std.proofs.Common.{inl, inr, rules}
-use Rattle.std.proofs.lemmas.Bool.{both_ways}
-use Rattle.std.proofs.lemmas.Result.{IfOk-weaker, IfErr-weaker}
-use Rattle.sexpr_text.proofs.WholeTexts.{braced_text, spelled_text}
-use Rattle.sexpr_text.proofs.OneRefusal.{spelling_refused, braces_refused}
+use Rattle.std.proofs.{Common.{inl, inr, rules}, lemmas.{Bool.{both_ways}, Result.{IfOk-weaker, IfErr-weaker}}}
+use Rattle.sexpr_text.proofs.{WholeTexts.{braced_text, spelled_text}, OneRefusal.{spelling_refused, braces_refused}}
 use Rattle.sexpr_text.proofs.converter.convert.Goals as goal
 
 pub returns-then-opens_braces-clause-read : goal.returns-then-opens_braces-clause-read

@@ -1,5 +1,4 @@
-use Rattle.std.proofs.Common.{rules}
-use Rattle.std.proofs.lemmas.Result.{IfOk-weaker, IfErr-weaker, IfErr-at_err}
+use Rattle.std.proofs.{Common.{rules}, lemmas.Result.{IfOk-weaker, IfErr-weaker, IfErr-at_err}}
 use Rattle.sexpr_core.proofs.BraceLaws.{braced_limits}
 use Rattle.sexpr_text.proofs.converter.convert_braces.Goals as goal
 

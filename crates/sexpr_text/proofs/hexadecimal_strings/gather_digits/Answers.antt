@@ -1,5 +1,4 @@
-use Rattle.sexpr_text.proofs.Marked.{hexadecimal_octets, kept_refused, kept_end}
-use Rattle.sexpr_text.proofs.RefusedParts.{octet_refused}
+use Rattle.sexpr_text.proofs.{Marked.{hexadecimal_octets, kept_refused, kept_end}, RefusedParts.{octet_refused}}
 use Rattle.sexpr_core.proofs.Errors.{err_kept}
 use Rattle.sexpr_text.proofs.hexadecimal_strings.gather_digits.Goals as goal
 

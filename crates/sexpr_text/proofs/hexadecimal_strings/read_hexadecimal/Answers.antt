@@ -1,6 +1,5 @@
 use Rattle.std.proofs.Common.{rules}
-use Rattle.sexpr_text.proofs.Marked.{digits_refused, hexadecimal_read}
-use Rattle.sexpr_text.proofs.RefusedParts.{body_refused, mark_refused}
+use Rattle.sexpr_text.proofs.{Marked.{digits_refused, hexadecimal_read}, RefusedParts.{body_refused, mark_refused}}
 use Rattle.sexpr_text.proofs.hexadecimal_strings.read_hexadecimal.Goals as goal
 
 pub returns-clause-only : goal.returns-clause-only

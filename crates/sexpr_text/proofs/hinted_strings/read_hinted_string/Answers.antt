@@ -1,10 +1,7 @@
 use Rattle.std.proofs.Common.{subst}
-use Rattle.sexpr_core.specs.Reading.{StandsAt}
-use Rattle.sexpr_text.proofs.Trees.{nothing_at, octet_is}
-use Rattle.sexpr_text.proofs.WholeTexts.{hinted_at, hint_at, closing_at, body_at, hinted_read}
-use Rattle.sexpr_text.proofs.RefusedParts.{hint_missed, closing_missed, body_missed}
-use Rattle.sexpr_text.proofs.ValueEnds.{hint_ends, closing_short, closing_ends, body_ends}
-use Rattle.sexpr_core.proofs.Errors.{err_kept}
+use Rattle.sexpr_core.{specs.Reading.{StandsAt}, proofs.Errors.{err_kept}}
+use Rattle.sexpr_text.proofs.{Trees.{nothing_at, octet_is}, WholeTexts.{hinted_at, hint_at, closing_at, body_at, hinted_read}}
+use Rattle.sexpr_text.proofs.{RefusedParts.{hint_missed, closing_missed, body_missed}, ValueEnds.{hint_ends, closing_short, closing_ends, body_ends}}
 use Rattle.sexpr_text.proofs.hinted_strings.read_hinted_string.Goals as goal
 
 pub returns-in_err-hint-clause-only : goal.returns-in_err-hint-clause-only

@@ -1,5 +1,4 @@
-use Rattle.sexpr_core.specs.Value.{sexp_value}
-use Rattle.sexpr_core.proofs.TreeLaws.{more_octets, list_octets}
+use Rattle.sexpr_core.{specs.Value.{sexp_value}, proofs.TreeLaws.{more_octets, list_octets}}
 use Rattle.sexpr_text.proofs.Printed.{member_behind, list_between, in_three}
 use Rattle.sexpr_text.proofs.printer.+print_tree.Goals as goal
 

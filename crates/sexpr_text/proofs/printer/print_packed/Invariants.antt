@@ -1,6 +1,5 @@
 use Rattle.std.proofs.Common.{◌≡◌, ◌++◌, List, ℕ, length}
-use Rattle.base64.specs.Engines.{standard}
-use Rattle.base64.specs.GeneralPurpose.{encode_of}
+use Rattle.base64.specs.{Engines.{standard}, GeneralPurpose.{encode_of}}
 use Rattle.sexpr_text.proofs.printer.print_packed.Given as goal
 
 -- what was printed, and the rest in base64, are all octets in base64

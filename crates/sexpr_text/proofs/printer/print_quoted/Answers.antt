@@ -1,7 +1,5 @@
-use Rattle.std.proofs.Common.{[], ◌∷◌, ◌++◌, ap}
-use Rattle.std.proofs.lemmas.List.{take_all}
-use Rattle.sexpr_text.specs.AdvancedForm.{quoted_body}
-use Rattle.sexpr_text.proofs.Printed.{quoted_one, in_two, in_three}
+use Rattle.std.proofs.{Common.{[], ◌∷◌, ◌++◌, ap}, lemmas.List.{take_all}}
+use Rattle.sexpr_text.{specs.AdvancedForm.{quoted_body}, proofs.Printed.{quoted_one, in_two, in_three}}
 use Rattle.sexpr_text.proofs.printer.print_quoted.Goals as goal
 
 pub loop-octet-preserved : goal.loop-octet-preserved

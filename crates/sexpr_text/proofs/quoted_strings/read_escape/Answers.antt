@@ -1,7 +1,5 @@
-use Rattle.std.proofs.Common.{[], ◌∷◌, rules}
-use Rattle.std.proofs.lemmas.Result.{IfErr-weaker}
-use Rattle.sexpr_text.proofs.RefusedParts.{piece_refused, letter_refused}
-use Rattle.sexpr_text.proofs.StringEnds.{nothing_left, letter_goes, octet_end}
+use Rattle.std.proofs.{Common.{[], ◌∷◌, rules}, lemmas.Result.{IfErr-weaker}}
+use Rattle.sexpr_text.proofs.{RefusedParts.{piece_refused, letter_refused}, StringEnds.{nothing_left, letter_goes, octet_end}}
 use Rattle.sexpr_text.proofs.quoted_strings.read_escape.Goals as goal
 
 pub returns-in-120-clause-refused : goal.returns-in-120-clause-refused

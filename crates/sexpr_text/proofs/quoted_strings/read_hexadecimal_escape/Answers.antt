@@ -1,9 +1,7 @@
 use Rattle.std.proofs.Common.{rules}
-use Rattle.sexpr_text.proofs.Marked.{hexadecimal_piece}
-use Rattle.sexpr_text.proofs.StringLaws.{second_octet, hexadecimal_escape}
-use Rattle.sexpr_text.proofs.StringEnds.{high_end, low_end}
-use Rattle.sexpr_core.proofs.Errors.{err_kept}
+use Rattle.sexpr_text.proofs.{Marked.{hexadecimal_piece}, StringLaws.{second_octet, hexadecimal_escape}, StringEnds.{high_end, low_end}}
 use Rattle.sexpr_text.proofs.RefusedParts.{low_refused}
+use Rattle.sexpr_core.proofs.Errors.{err_kept}
 use Rattle.sexpr_text.proofs.quoted_strings.read_hexadecimal_escape.Goals as goal
 
 pub returns-in_err-high-clause-only : goal.returns-in_err-high-clause-only

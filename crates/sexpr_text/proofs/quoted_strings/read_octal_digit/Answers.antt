@@ -1,7 +1,7 @@
 use Rattle.std.proofs.Common.{arith}
+use Rattle.sexpr_text.proofs.quoted_strings.read_octal_digit.Goals.{then-octet-lt48-via-then-octet-lt48, then-octet-lt48-via-else-octet-lt48+then-octet-gt55}
 use Rattle.sexpr_text.proofs.RefusedParts.{octal_refused}
 use Rattle.sexpr_text.proofs.quoted_strings.read_octal_digit.Goals as goal
-use Rattle.sexpr_text.proofs.quoted_strings.read_octal_digit.Goals.{then-octet-lt48-via-then-octet-lt48, then-octet-lt48-via-else-octet-lt48+then-octet-gt55}
 
 pub returns-then-octet-lt48-clause-refused : goal.returns-then-octet-lt48-clause-refused
 returns-then-octet-lt48-clause-refused c = octal_refused _ _ _ c.in-Some.ensures (elim c.then-octet-lt48.branch [

@@ -1,8 +1,6 @@
 use Rattle.std.proofs.Common.{rules}
-use Rattle.sexpr_text.proofs.RefusedParts.{second_refused, third_refused}
-use Rattle.sexpr_text.proofs.StringEnds.{second_end, third_end}
+use Rattle.sexpr_text.proofs.{RefusedParts.{second_refused, third_refused}, StringEnds.{second_end, third_end}, StringLaws.{octal_escape}}
 use Rattle.sexpr_core.proofs.Errors.{err_kept}
-use Rattle.sexpr_text.proofs.StringLaws.{octal_escape}
 use Rattle.sexpr_text.proofs.quoted_strings.read_octal_escape.Goals as goal
 
 pub returns-in_err-second-clause-refused : goal.returns-in_err-second-clause-refused

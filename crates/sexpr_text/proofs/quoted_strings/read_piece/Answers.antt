@@ -1,6 +1,5 @@
 use Rattle.std.proofs.Common.{[]}
-use Rattle.sexpr_text.proofs.RefusedParts.{piece_refused}
-use Rattle.sexpr_text.proofs.StringEnds.{octet_end}
+use Rattle.sexpr_text.proofs.{RefusedParts.{piece_refused}, StringEnds.{octet_end}}
 use Rattle.sexpr_core.proofs.Errors.{err_kept}
 use Rattle.sexpr_text.proofs.quoted_strings.read_piece.Goals as goal
 

@@ -1,6 +1,5 @@
 use Rattle.std.proofs.Common.{rules}
-use Rattle.sexpr_text.proofs.StringLaws.{more_quoted, quoted_read, quoted_left, left_ended, left_next}
-use Rattle.sexpr_text.proofs.RefusedParts.{quoted_refused}
+use Rattle.sexpr_text.proofs.{StringLaws.{more_quoted, quoted_read, quoted_left, left_ended, left_next}, RefusedParts.{quoted_refused}}
 use Rattle.sexpr_text.proofs.StringEnds.{quoted_end, quoted_short}
 use Rattle.sexpr_core.proofs.Errors.{err_kept}
 use Rattle.sexpr_text.proofs.quoted_strings.read_quoted.Goals as goal

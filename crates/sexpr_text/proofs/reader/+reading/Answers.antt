@@ -1,11 +1,9 @@
-use Rattle.std.proofs.Common.{◌-◌, arith, rules}
-use Rattle.std.proofs.lemmas.Result.{IfErr-weaker}
-use Rattle.sexpr_core.specs.Value.{sexp_value}
+use Rattle.std.proofs.{Common.{◌-◌, arith, rules}, lemmas.Result.{IfErr-weaker}}
+use Rattle.sexpr_core.{specs.Value.{sexp_value}, proofs.Errors.{err_kept}}
 use Rattle.sexpr_text.proofs.RefusedParts.{part_fault, string_missed, members_missed, member_missed}
 use Rattle.sexpr_text.proofs.Trees.{no_value, string_at, inside_list, tree_read, no_members, more_members, members_end, member_at, no_members_end}
 use Rattle.sexpr_text.proofs.StringEnds.{nothing_left}
 use Rattle.sexpr_text.proofs.ValueEnds.{none_value, string_ends, flat_ends, list_too_deep, list_ends, members_short, member_ends}
-use Rattle.sexpr_core.proofs.Errors.{err_kept}
 use Rattle.sexpr_text.proofs.reader.+reading.Goals as goal
 
 pub read_list-returns-then-room-eq0-clause-only : goal.read_list-returns-then-room-eq0-clause-only

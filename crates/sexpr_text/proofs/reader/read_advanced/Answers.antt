@@ -1,8 +1,6 @@
 use Rattle.std.proofs.Common.{sym, subst, arith}
-use Rattle.sexpr_core.specs.Reading.{AreSpaces}
-use Rattle.sexpr_text.proofs.WholeTexts.{trailing_refused, value_refused, whole_at}
-use Rattle.sexpr_text.proofs.Trees.{same_value}
-use Rattle.sexpr_core.proofs.Errors.{err_kept}
+use Rattle.sexpr_core.{specs.Reading.{AreSpaces}, proofs.Errors.{err_kept}}
+use Rattle.sexpr_text.proofs.{WholeTexts.{trailing_refused, value_refused, whole_at}, Trees.{same_value}}
 use Rattle.sexpr_text.proofs.reader.read_advanced.Goals as goal
 
 pub returns-in_err-tree-clause-only : goal.returns-in_err-tree-clause-only

@@ -1,5 +1,4 @@
-use Rattle.std.proofs.Common.{sym, ◌∙◌, arith}
-use Rattle.std.proofs.lemmas.Result.{IfOk-weaker, IfErr-weaker}
+use Rattle.std.proofs.{Common.{sym, ◌∙◌, arith}, lemmas.Result.{IfOk-weaker, IfErr-weaker}}
 use Rattle.sexpr_text.proofs.CountedLaws.{counted_ended, marked_stands, verbatim_fits, verbatim_string, counted_string, octets_few, counted_elsewhere}
 use Rattle.sexpr_text.proofs.RefusedParts.{short_refused, marked_missed, count_missed}
 use Rattle.sexpr_text.proofs.MarkedEnds.{count_short, verbatim_end, counted_end, count_end}

@@ -1,9 +1,6 @@
-use Rattle.std.proofs.Common.{rules}
-use Rattle.std.proofs.lemmas.Result.{IfErr-weaker}
-use Rattle.sexpr_text.proofs.StringLaws.{packed_read, packed_marked}
-use Rattle.sexpr_text.proofs.Marked.{quoted_of, hexadecimal_of, packed_of, behind_opening}
-use Rattle.sexpr_text.proofs.RefusedParts.{quoted_missed, hexadecimal_missed, packed_missed, mark_missed}
-use Rattle.sexpr_text.proofs.StringEnds.{IfErr-both}
+use Rattle.std.proofs.{Common.{rules}, lemmas.Result.{IfErr-weaker}}
+use Rattle.sexpr_text.proofs.{StringLaws.{packed_read, packed_marked}, Marked.{quoted_of, hexadecimal_of, packed_of, behind_opening}}
+use Rattle.sexpr_text.proofs.{RefusedParts.{quoted_missed, hexadecimal_missed, packed_missed, mark_missed}, StringEnds.{IfErr-both}}
 use Rattle.sexpr_text.proofs.MarkedEnds.{quoted_marked_end, hexadecimal_marked_end, packed_marked_end, no_mark_end}
 use Rattle.sexpr_core.proofs.Errors.{err_kept}
 use Rattle.sexpr_text.proofs.strings.read_marked.Goals as goal

@@ -1,9 +1,7 @@
 use Rattle.std.proofs.Common.{sym, arith, rules}
-use Rattle.sexpr_text.proofs.CountedLaws.{nothing_stands, uncounted_stands, marked_string}
-use Rattle.sexpr_text.proofs.StringEnds.{nothing_left}
-use Rattle.sexpr_text.proofs.MarkedEnds.{none_string, uncounted_end}
+use Rattle.sexpr_text.proofs.{CountedLaws.{nothing_stands, uncounted_stands, marked_string}, StringEnds.{nothing_left}}
+use Rattle.sexpr_text.proofs.{MarkedEnds.{none_string, uncounted_end}, RefusedParts.{uncounted_missed}}
 use Rattle.sexpr_core.proofs.Errors.{err_kept}
-use Rattle.sexpr_text.proofs.RefusedParts.{uncounted_missed}
 use Rattle.sexpr_text.proofs.strings.read_string.Goals as goal
 
 pub returns-in_default-clause-only : goal.returns-in_default-clause-only

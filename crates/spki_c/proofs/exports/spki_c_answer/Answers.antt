@@ -1,8 +1,7 @@
 use Rattle.std.proofs.Common.{◌≡◌, ℕ, List, sym, ap, subst, ◌∙◌}
 use Rattle.spki_words.specs.declared.commands.Command.{Command}
 use Rattle.spki_guard.specs.TextAnswers.{written_by}
-use Rattle.spki_c.specs.Results.{status_of, AnswersText, IsHanded}
-use Rattle.spki_c.proofs.OneCommand.{one_command}
+use Rattle.spki_c.{specs.Results.{status_of, AnswersText, IsHanded}, proofs.OneCommand.{one_command}}
 use Rattle.spki_c.proofs.exports.spki_c_answer.Goals as goal
 
 of_status : {old new : List ℕ} {needed status a b : ℕ} {output : List ℕ} → a ≡ b → IsHanded old new needed status a output → IsHanded old new needed status b output

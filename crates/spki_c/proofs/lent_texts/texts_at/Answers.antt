@@ -1,7 +1,5 @@
 use Rattle.std.proofs.Common.{◌≡◌, rules, sym, ap, ◌∙◌, ◌++◌, [], ◌∷◌, take, ◌+◌, true, refl, List, subst}
-use Rattle.spki_c.specs.declared.text.Text.{Text}
-use Rattle.spki_c.specs.Asking.{IsLent}
-use Rattle.spki_c.proofs.Reading.{next_at, others_at, taken_at, lent_at, unlent_at}
+use Rattle.spki_c.{specs.{declared.text.Text.{Text}, Asking.{IsLent}}, proofs.Reading.{next_at, others_at, taken_at, lent_at, unlent_at}}
 use Rattle.spki_c.proofs.lent_texts.texts_at.Goals as goal
 
 pub next-text-requires : goal.next-text-requires

@@ -1,6 +1,5 @@
 use Rattle.std.proofs.Common.{List, map, inr}
-use Rattle.spki_c.specs.declared.text.Text.{Text}
-use Rattle.spki_c.proofs.Answering.{question_by, is_question_by, one_line}
+use Rattle.spki_c.{specs.declared.text.Text.{Text}, proofs.Answering.{question_by, is_question_by, one_line}}
 use Rattle.spki_c.proofs.opening.open_parts.Goals as goal
 
 pub returns-in_default-clause-refused : goal.returns-in_default-clause-refused

@@ -1,10 +1,7 @@
 use Rattle.std.proofs.Common.{◌≡◌, rules, arith, w64, FitsSigned, to_z-of_z, sym, ap, subst}
-use Rattle.spki_service.specs.GuardQuestions.{IsOpened}
-use Rattle.spki_service.specs.declared.owned_question.OwnedQuestion.{OwnedQuestion}
+use Rattle.spki_service.specs.{GuardQuestions.{IsOpened}, declared.owned_question.OwnedQuestion.{OwnedQuestion}}
 use Rattle.spki_guard.specs.TextAnswers.{written_by}
-use Rattle.spki_c.specs.Until.{IsHeldUntil}
-use Rattle.spki_c.proofs.Answering.{answered}
-use Rattle.spki_c.proofs.Until.{held_until}
+use Rattle.spki_c.{specs.Until.{IsHeldUntil}, proofs.{Answering.{answered}, Until.{held_until}}}
 use Rattle.spki_c.proofs.question_exports.spki_c_asked_answer.Goals as goal
 
 pub returns-clause-answered : goal.returns-clause-answered

@@ -1,12 +1,7 @@
 use Rattle.std.proofs.Common.{◌≡◌, rules, ℕ, ℤ, List, map, inl, inr, ap, subst, ◌∙◌, Some, refl}
-use Rattle.spki_service.specs.AccessLists.{GuardModel}
-use Rattle.spki_service.specs.GuardQuestions.{IsOpened}
-use Rattle.spki_service.specs.declared.question.Question.{Question}
-use Rattle.spki_guard.specs.TextAnswers.{written_by}
-use Rattle.spki_guard.specs.HeldQuestions.{IsUnreadQuestion}
-use Rattle.spki_c.specs.Asking.{IsQuestionOf}
-use Rattle.spki_c.specs.declared.parts.Parts.{Parts}
-use Rattle.spki_c.specs.declared.text.Text.{Text}
+use Rattle.spki_service.specs.{AccessLists.{GuardModel}, GuardQuestions.{IsOpened}, declared.question.Question.{Question}}
+use Rattle.spki_guard.specs.{TextAnswers.{written_by}, HeldQuestions.{IsUnreadQuestion}}
+use Rattle.spki_c.specs.{Asking.{IsQuestionOf}, declared.{parts.Parts.{Parts}, text.Text.{Text}}}
 use Rattle.spki_c.proofs.Answering.{question_by, is_question_by, one_line}
 use Rattle.spki_c.proofs.question_exports.spki_c_guard_ask.Goals as goal
 

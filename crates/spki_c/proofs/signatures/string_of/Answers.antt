@@ -1,8 +1,6 @@
 use Rattle.std.proofs.Common.{◌≡◌, ◌++◌, List, ℕ, [], sym, ap, subst, ◌∙◌}
-use Rattle.sexpr_core.specs.Value.{Value, canon}
-use Rattle.sexpr_core.proofs.Texts.{canon_one}
-use Rattle.spki_c.specs.Strings.{octets_of, StandsIn}
-use Rattle.spki_c.proofs.Places.{string_at}
+use Rattle.sexpr_core.{specs.Value.{Value, canon}, proofs.Texts.{canon_one}}
+use Rattle.spki_c.{specs.Strings.{octets_of, StandsIn}, proofs.Places.{string_at}}
 use Rattle.spki_c.proofs.signatures.string_of.Goals as goal
 
 same_value : (text : List ℕ) (read v : Value) → text ≡ canon read → text ≡ canon v → read ≡ v

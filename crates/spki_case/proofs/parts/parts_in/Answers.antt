@@ -1,7 +1,6 @@
 use Rattle.std.proofs.Common.{◌≡◌, ◌∷◌, [], refl, rules}
+use Rattle.spki_case.{specs.Case.{headed, part_values}, proofs.Building.{after, inside, joined}}
 use Rattle.spki_case.specs.Case as spec
-use Rattle.spki_case.specs.Case.{headed, part_values}
-use Rattle.spki_case.proofs.Building.{after, inside, joined}
 use Rattle.spki_case.proofs.parts.parts_in.Goals as goal
 
 pub returns-in_err-acl : goal.returns-in_err-acl

@@ -1,5 +1,4 @@
-use Rattle.spki_case.specs.Case.{part_values}
-use Rattle.spki_case.proofs.Building.{lifted}
+use Rattle.spki_case.{specs.Case.{part_values}, proofs.Building.{lifted}}
 use Rattle.spki_case.proofs.parts.parts_of.Goals as goal
 
 pub returns-in_err-headed : goal.returns-in_err-headed

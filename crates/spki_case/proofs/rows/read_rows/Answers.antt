@@ -1,8 +1,5 @@
-use Rattle.std.proofs.Common.{[], ◌∷◌, ◌∙◌, append_assoc, append-nil, length-append, rules}
-use Rattle.std.proofs.lemmas.List.{map-append}
-use Rattle.spki_case.specs.Case.{rows_fault}
-use Rattle.spki_case.specs.View.{row_of}
-use Rattle.spki_case.proofs.RowFaults.{row-none}
+use Rattle.std.proofs.{Common.{[], ◌∷◌, ◌∙◌, append_assoc, append-nil, length-append, rules}, lemmas.List.{map-append}}
+use Rattle.spki_case.{specs.{Case.{rows_fault}, View.{row_of}}, proofs.RowFaults.{row-none}}
 use Rattle.spki_case.proofs.rows.read_rows.Goals as goal
 
 pub loop-member-init : goal.loop-member-init

@@ -1,9 +1,7 @@
-use Rattle.std.proofs.Common.{◌≡◌, ◌+◌, ◌++◌, List, map, length}
-use Rattle.std.specs.List.{AllZip}
+use Rattle.std.{proofs.Common.{◌≡◌, ◌+◌, ◌++◌, List, map, length}, specs.List.{AllZip}}
 use Rattle.spki_tag.specs.Faults.{first_fault}
 use Rattle.spki_cert.specs.StructureFaults.{each_looked}
-use Rattle.spki_case.specs.Case.{Row, RowOf, row_fault, rows_fault}
-use Rattle.spki_case.specs.View.{row_of}
+use Rattle.spki_case.specs.{Case.{Row, RowOf, row_fault, rows_fault}, View.{row_of}}
 use Rattle.spki_case.proofs.rows.read_rows.Given as goal
 
 -- what is read of the rest stands behind the rows so far, and the first fault is that among the rest

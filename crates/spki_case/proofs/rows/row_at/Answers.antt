@@ -1,12 +1,8 @@
-use Rattle.std.proofs.Common.{◌≡◌, List, [], ◌∷◌, Some, None, refl, ap, ◌∙◌, rules}
-use Rattle.std.specs.Prelude.{codes}
+use Rattle.std.{proofs.Common.{◌≡◌, List, [], ◌∷◌, Some, None, refl, ap, ◌∙◌, rules}, specs.Prelude.{codes}}
 use Rattle.sexpr_core.specs.Value.{Value, plain, group}
-use Rattle.spki_cert.specs.declared.fault.CertFaultKind.TheVariants.{Shape}
-use Rattle.spki_cert.specs.FieldFaults.{key_fault}
-use Rattle.spki_cert.proofs.HeadedLists.{carried}
-use Rattle.spki_cert.proofs.SequenceFaultLaws.{triple-unheaded, triple-form}
-use Rattle.spki_case.specs.Case.{row_fault, sha256_fault}
-use Rattle.spki_case.proofs.RowFaults.{row-looks, sha256-none}
+use Rattle.spki_cert.specs.{declared.fault.CertFaultKind.TheVariants.{Shape}, FieldFaults.{key_fault}}
+use Rattle.spki_cert.proofs.{HeadedLists.{carried}, SequenceFaultLaws.{triple-unheaded, triple-form}}
+use Rattle.spki_case.{specs.Case.{row_fault, sha256_fault}, proofs.RowFaults.{row-looks, sha256-none}}
 use Rattle.spki_case.proofs.rows.row_at.Goals as goal
 
 pub returns-in_default-clause-named : goal.returns-in_default-clause-named

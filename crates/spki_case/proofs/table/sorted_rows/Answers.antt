@@ -1,6 +1,5 @@
 use Rattle.std.proofs.Common.{◌≡◌, ◌∙◌, ◌∷◌, [], ap, sym, refl, map, take, rules}
-use Rattle.std.proofs.lemmas.List.{take_more, take_all, map-append}
-use Rattle.std.proofs.lemmas.List.Sorted.{IsPermutation-map, list_any-IsPermutation}
+use Rattle.std.proofs.lemmas.List.{take_more, take_all, map-append, Sorted.{IsPermutation-map, list_any-IsPermutation}}
 use Rattle.spki_case.specs.Lookups.{SortedRow, row_of, sorted_row}
 use Rattle.spki_case.proofs.table.sorted_rows.Goals as goal
 

@@ -1,7 +1,5 @@
 use Rattle.std.proofs.Common.{◌≡◌, ◌∙◌, sym}
-use Rattle.spki_case.proofs.Lookups.{accepts_found}
-use Rattle.spki_case.specs.Case.{accepts}
-use Rattle.spki_case.specs.View.{rows_of}
+use Rattle.spki_case.{proofs.Lookups.{accepts_found}, specs.{Case.{accepts}, View.{rows_of}}}
 use Rattle.spki_case.proofs.verifier.some_accepts.Goals as goal
 
 pub returns : goal.returns

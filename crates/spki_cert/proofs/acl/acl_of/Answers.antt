@@ -1,6 +1,5 @@
 use Rattle.std.proofs.Common.{rules}
-use Rattle.spki_cert.proofs.EntryFaultLaws.{acl-read, acl-entries}
-use Rattle.spki_cert.proofs.EntryFaultNone.{outer-well}
+use Rattle.spki_cert.proofs.{EntryFaultLaws.{acl-read, acl-entries}, EntryFaultNone.{outer-well}}
 use Rattle.spki_cert.proofs.acl.acl_of.Goals as goal
 
 pub returns-in-Ok-clause-acl : goal.returns-in-Ok-clause-acl

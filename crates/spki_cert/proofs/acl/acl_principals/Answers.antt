@@ -1,7 +1,5 @@
-use Rattle.std.proofs.Common.{rules}
-use Rattle.std.proofs.lemmas.Result.{IfOk-weaker}
-use Rattle.spki_cert.proofs.EntryFaultLaws.{acl-read, acl-entries}
-use Rattle.spki_cert.proofs.EntryFaultNone.{outer-well}
+use Rattle.std.proofs.{Common.{rules}, lemmas.Result.{IfOk-weaker}}
+use Rattle.spki_cert.proofs.{EntryFaultLaws.{acl-read, acl-entries}, EntryFaultNone.{outer-well}}
 use Rattle.spki_cert.proofs.acl.acl_principals.Goals as goal
 
 pub returns-in-Ok-clause-acl : goal.returns-in-Ok-clause-acl

@@ -1,7 +1,5 @@
-use Rattle.std.proofs.Common.{◌∙◌}
-use Rattle.std.specs.Prelude.{codes}
-use Rattle.spki_cert.proofs.HeadedLists.{same_others}
-use Rattle.spki_cert.proofs.EntryFaultLaws.{unversioned}
+use Rattle.std.{proofs.Common.{◌∙◌}, specs.Prelude.{codes}}
+use Rattle.spki_cert.proofs.{HeadedLists.{same_others}, EntryFaultLaws.{unversioned}}
 use Rattle.spki_cert.proofs.acl.behind_version.Goals as goal
 
 pub returns-in_default-headed-2-clause-found : goal.returns-in_default-headed-2-clause-found

@@ -1,6 +1,5 @@
 use Rattle.std.proofs.Common.{◌≡◌, [], ◌∷◌, None, ◌∙◌, append_assoc, append-nil, length-append}
-use Rattle.spki_cert.specs.Structures.{EntryOf}
-use Rattle.spki_cert.specs.StructureFaults.{entry_fault}
+use Rattle.spki_cert.specs.{Structures.{EntryOf}, StructureFaults.{entry_fault}}
 use Rattle.spki_cert.proofs.acl.entries_of.Goals as goal
 
 pub loop-member-preserved : goal.loop-member-preserved

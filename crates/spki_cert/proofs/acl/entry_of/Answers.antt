@@ -1,15 +1,8 @@
-use Rattle.std.proofs.Common.{◌≡◌, ◌≢◌, ap, ◌∙◌, Some, Option, refl, rules}
-use Rattle.spki_cert.specs.declared.fault.CertFaultKind.{CertFaultKind}
-use Rattle.spki_cert.specs.declared.fault.CertFaultKind.TheVariants.{Memory}
-use Rattle.spki_cert.proofs.HeadedLists.{carried}
-use Rattle.std.proofs.lemmas.Result.{IfErr-weaker}
-use Rattle.spki_cert.proofs.EntryFaultNone.{entry-refused}
-use Rattle.spki_cert.proofs.SubjectFaultNone.{entry_subject-none}
-use Rattle.std.specs.Prelude.{is_some}
+use Rattle.std.{proofs.{Common.{◌≡◌, ◌≢◌, ap, ◌∙◌, Some, Option, refl, rules}, lemmas.Result.{IfErr-weaker}}, specs.Prelude.{is_some}}
+use Rattle.spki_cert.proofs.{HeadedLists.{carried}, EntryFaultNone.{entry-refused}, SubjectFaultNone.{entry_subject-none}}
+use Rattle.spki_cert.proofs.{FieldFaultLaws.{both-ways, one-way, has-tag}, EntryFaultLaws.{entry-unheaded, entry-form, entry-looked}}
+use Rattle.spki_cert.specs.{declared.fault.CertFaultKind.{CertFaultKind, TheVariants.{Memory}}, StructureFaults.{entry_fault}}
 use Rattle.spki_tag.specs.Tag as tags
-use Rattle.spki_cert.specs.StructureFaults.{entry_fault}
-use Rattle.spki_cert.proofs.FieldFaultLaws.{both-ways, one-way, has-tag}
-use Rattle.spki_cert.proofs.EntryFaultLaws.{entry-unheaded, entry-form, entry-looked}
 use Rattle.spki_cert.proofs.acl.entry_of.Goals as goal
 
 pub returns-in_default-clause-named : goal.returns-in_default-clause-named

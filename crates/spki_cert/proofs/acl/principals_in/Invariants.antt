@@ -1,9 +1,6 @@
-use Rattle.std.proofs.Common.{◌≡◌, ◌+◌, ◌++◌, List, length, map}
-use Rattle.std.specs.List.{AllZip}
+use Rattle.std.{proofs.Common.{◌≡◌, ◌+◌, ◌++◌, List, length, map}, specs.List.{AllZip}}
 use Rattle.spki_tag.specs.Faults.{first_fault}
-use Rattle.spki_cert.specs.declared.entry.Entry.{Entry}
-use Rattle.spki_cert.specs.Structures.{EntryOf}
-use Rattle.spki_cert.specs.StructureFaults.{entry_fault, each_looked, entries_fault}
+use Rattle.spki_cert.specs.{declared.entry.Entry.{Entry}, Structures.{EntryOf}, StructureFaults.{entry_fault, each_looked, entries_fault}}
 use Rattle.spki_cert.proofs.acl.principals_in.Given as goal
 
 -- what is read of the rest stands behind the entries so far, whose principals are kept, and the first fault is that among the rest

@@ -1,5 +1,4 @@
-use Rattle.std.proofs.Common.{sym, ◌∙◌}
-use Rattle.std.proofs.lemmas.Result.{IfErr-weaker}
+use Rattle.std.proofs.{Common.{sym, ◌∙◌}, lemmas.Result.{IfErr-weaker}}
 use Rattle.spki_cert.proofs.EntryFaultNone.{acl-refused}
 use Rattle.spki_cert.proofs.acl.read_acl.Goals as goal
 

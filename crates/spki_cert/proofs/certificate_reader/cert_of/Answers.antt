@@ -1,12 +1,7 @@
-use Rattle.std.proofs.Common.{◌≢◌, Option, ℕ, List, ◌≡◌, Some, true, false, refl, ap}
+use Rattle.std.{proofs.Common.{◌≢◌, Option, ℕ, List, ◌≡◌, Some, true, false, refl, ap}, specs.Prelude.{is_some}}
+use Rattle.spki_cert.specs.{declared.fault.CertFaultKind.{CertFaultKind, TheVariants.{Memory}}, StructureFaults.{cert_fault}}
+use Rattle.spki_cert.proofs.{HeadedLists.{carried}, SequenceFaultLaws.{cert-unheaded, cert-looked}, SequenceFaultNone.{cert-parts}}
 use Rattle.spki_tag.specs.Tag as tags
-use Rattle.spki_cert.specs.declared.fault.CertFaultKind.{CertFaultKind}
-use Rattle.spki_cert.specs.declared.fault.CertFaultKind.TheVariants.{Memory}
-use Rattle.spki_cert.proofs.HeadedLists.{carried}
-use Rattle.std.specs.Prelude.{is_some}
-use Rattle.spki_cert.specs.StructureFaults.{cert_fault}
-use Rattle.spki_cert.proofs.SequenceFaultLaws.{cert-unheaded, cert-looked}
-use Rattle.spki_cert.proofs.SequenceFaultNone.{cert-parts}
 use Rattle.spki_cert.proofs.certificate_reader.cert_of.Goals as goal
 
 pub returns-in_default-clause-named : goal.returns-in_default-clause-named

@@ -1,7 +1,5 @@
 use Rattle.std.proofs.Common.{None, true, false, refl, rules}
-use Rattle.spki_cert.proofs.HeadedLists.{carried}
-use Rattle.spki_cert.proofs.FieldFaultLaws.{both-ways, one-way}
-use Rattle.spki_cert.proofs.SequenceFaultLaws.{parts-tested, parts-known}
+use Rattle.spki_cert.proofs.{HeadedLists.{carried}, FieldFaultLaws.{both-ways, one-way}, SequenceFaultLaws.{parts-tested, parts-known}}
 use Rattle.spki_cert.proofs.certificate_reader.parts_of.Goals as goal
 
 pub returns-in_err-propagate-clause-named : goal.returns-in_err-propagate-clause-named

@@ -1,6 +1,5 @@
 use Rattle.std.proofs.Common.{arith}
-use Rattle.spki_cert.proofs.HeadedLists.{none-some}
-use Rattle.spki_cert.proofs.SubjectFaultNone.{issuer-none}
+use Rattle.spki_cert.proofs.{HeadedLists.{none-some}, SubjectFaultNone.{issuer-none}}
 use Rattle.spki_cert.proofs.fields.issuer_in.Goals as goal
 
 pub returns-else-is_empty-clause-named : goal.returns-else-is_empty-clause-named

@@ -1,5 +1,4 @@
-use Rattle.std.proofs.Common.{◌∙◌}
-use Rattle.std.proofs.lemmas.Result.{IfErr-weaker}
+use Rattle.std.proofs.{Common.{◌∙◌}, lemmas.Result.{IfErr-weaker}}
 use Rattle.spki_cert.proofs.FieldFaultLaws.{version-faultless, cert-issuer_field, cert-subject_field, cert-version_field, cert-common}
 use Rattle.spki_cert.proofs.FieldFaultNone.{issuers-none, subjects-none}
 use Rattle.spki_cert.proofs.fields.read_certificate_field.Goals as goal

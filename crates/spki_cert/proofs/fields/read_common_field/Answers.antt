@@ -1,6 +1,5 @@
 use Rattle.std.proofs.Common.{◌∙◌}
-use Rattle.spki_cert.proofs.FieldFaultLaws.{entry-tag_field}
-use Rattle.spki_cert.proofs.FieldFaultNone.{tags-none}
+use Rattle.spki_cert.proofs.{FieldFaultLaws.{entry-tag_field}, FieldFaultNone.{tags-none}}
 use Rattle.spki_cert.proofs.fields.read_common_field.Goals as goal
 
 pub returns-in-Some-clause-faultless : goal.returns-in-Some-clause-faultless

@@ -1,9 +1,7 @@
 use Rattle.std.proofs.Common.{◌≡◌, ◌∷◌, ◌++◌, [], ℕ, List, sym, ap, subst, ◌∙◌, rules}
-use Rattle.spki_cert.specs.declared.fields.FieldValues.{FieldValues}
+use Rattle.spki_cert.specs.declared.{fields.FieldValues.{FieldValues}, fault.CertFaultKind.TheVariants.{Shape}}
 use Rattle.spki_cert.specs.Inner.Gathering.{AreRead, IsNew, gather, fault_in}
-use Rattle.spki_cert.proofs.HeadedLists.{carried, split, moved}
-use Rattle.spki_cert.proofs.FieldLaws.{read-none, read-more}
-use Rattle.spki_cert.specs.declared.fault.CertFaultKind.TheVariants.{Shape}
+use Rattle.spki_cert.proofs.{HeadedLists.{carried, split, moved}, FieldLaws.{read-none, read-more}}
 use Rattle.spki_cert.proofs.FieldFaultLaws.{left-all, left-fault, left-next, left-none, field-new, field-not_new, field-is_new}
 use Rattle.spki_cert.proofs.fields.read_fields.Goals as goal
 

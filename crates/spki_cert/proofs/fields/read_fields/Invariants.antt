@@ -1,7 +1,6 @@
 use Rattle.std.proofs.Common.{◌≡◌, ◌++◌, List, length}
 use Rattle.sexpr_core.specs.Value.{Value}
-use Rattle.spki_cert.specs.Inner.Gathering.{AreRead, fault_in}
-use Rattle.spki_cert.proofs.FieldFaultLaws.{Left}
+use Rattle.spki_cert.{specs.Inner.Gathering.{AreRead, fault_in}, proofs.FieldFaultLaws.{Left}}
 use Rattle.spki_cert.proofs.fields.read_fields.Given as goal
 
 abbrev pub invariant-loop-field : goal.invariant-loop-field

@@ -1,6 +1,5 @@
 use Rattle.std.proofs.Common.{◌∙◌, rules}
-use Rattle.spki_cert.proofs.HeadedLists.{carried}
-use Rattle.spki_cert.proofs.FieldFaultLaws.{time-valid as time-valid_field}
+use Rattle.spki_cert.proofs.{HeadedLists.{carried}, FieldFaultLaws.{time-valid as time-valid_field}}
 use Rattle.spki_cert.proofs.fields.read_validity_field.Goals as goal
 
 pub returns-in_err-valid_in-clause-named : goal.returns-in_err-valid_in-clause-named

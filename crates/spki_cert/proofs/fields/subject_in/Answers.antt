@@ -1,6 +1,5 @@
 use Rattle.std.proofs.Common.{arith}
-use Rattle.spki_cert.proofs.HeadedLists.{none-some}
-use Rattle.spki_cert.proofs.SubjectFaultNone.{subject-none}
+use Rattle.spki_cert.proofs.{HeadedLists.{none-some}, SubjectFaultNone.{subject-none}}
 use Rattle.spki_cert.proofs.fields.subject_in.Goals as goal
 
 pub returns-clause-named : goal.returns-clause-named

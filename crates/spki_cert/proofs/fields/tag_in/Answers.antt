@@ -1,7 +1,5 @@
-use Rattle.spki_cert.specs.declared.fault.CertFaultKind.TheVariants.{Shape}
-use Rattle.spki_cert.specs.FieldFaults.{kind_of_tag}
-use Rattle.spki_cert.proofs.HeadedLists.{sole-found}
-use Rattle.spki_cert.proofs.FieldFaultLaws.{tag-named}
+use Rattle.spki_cert.specs.{declared.fault.CertFaultKind.TheVariants.{Shape}, FieldFaults.{kind_of_tag}}
+use Rattle.spki_cert.proofs.{HeadedLists.{sole-found}, FieldFaultLaws.{tag-named}}
 use Rattle.spki_cert.proofs.fields.tag_in.Goals as goal
 
 pub returns-in-Err-clause-named : goal.returns-in-Err-clause-named

@@ -1,5 +1,4 @@
-use Rattle.spki_cert.proofs.HeadedLists.{carried}
-use Rattle.spki_cert.proofs.SubjectFaultLaws.{IsNoPrincipal, no-principal, unheaded-is_no_hash}
+use Rattle.spki_cert.proofs.{HeadedLists.{carried}, SubjectFaultLaws.{IsNoPrincipal, no-principal, unheaded-is_no_hash}}
 use Rattle.std.proofs.Common.{rules}
 use Rattle.spki_cert.proofs.principal_reader.principal_of.Goals as goal
 

@@ -1,7 +1,5 @@
 use Rattle.std.proofs.Common.{[], ◌∷◌, None, append_assoc, append-nil, length-append, rules}
-use Rattle.spki_cert.specs.Structures.{ItemOf}
-use Rattle.spki_cert.specs.StructureFaults.{items_fault}
-use Rattle.spki_cert.proofs.SequenceFaultNone.{item-none, items-read}
+use Rattle.spki_cert.{specs.{Structures.{ItemOf}, StructureFaults.{items_fault}}, proofs.SequenceFaultNone.{item-none, items-read}}
 use Rattle.spki_cert.proofs.sequence.items_of.Goals as goal
 
 pub loop-member-preserved : goal.loop-member-preserved

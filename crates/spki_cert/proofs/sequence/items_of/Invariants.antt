@@ -1,9 +1,6 @@
-use Rattle.std.proofs.Common.{◌≡◌, ◌+◌, ◌++◌, List, length}
-use Rattle.std.specs.List.{AllZip}
+use Rattle.std.{proofs.Common.{◌≡◌, ◌+◌, ◌++◌, List, length}, specs.List.{AllZip}}
 use Rattle.spki_tag.specs.Faults.{first_fault}
-use Rattle.spki_cert.specs.declared.certificate.SeqItem.{SeqItem}
-use Rattle.spki_cert.specs.Structures.{ItemOf}
-use Rattle.spki_cert.specs.StructureFaults.{items_looked, items_fault}
+use Rattle.spki_cert.specs.{declared.certificate.SeqItem.{SeqItem}, Structures.{ItemOf}, StructureFaults.{items_looked, items_fault}}
 use Rattle.spki_cert.proofs.sequence.items_of.Given as goal
 
 -- what is read of the rest stands behind the items so far, and the first fault is that among the rest

@@ -1,5 +1,4 @@
-use Rattle.std.proofs.Common.{sym, ◌∙◌}
-use Rattle.std.proofs.lemmas.Result.{IfErr-weaker}
+use Rattle.std.proofs.{Common.{sym, ◌∙◌}, lemmas.Result.{IfErr-weaker}}
 use Rattle.spki_cert.proofs.SequenceFaultNone.{sequence-refused}
 use Rattle.spki_cert.proofs.sequence.read_sequence.Goals as goal
 

@@ -1,8 +1,6 @@
-use Rattle.std.proofs.Common.{◌≡◌, List, [], ◌∷◌, Some, None, refl, ap, ◌∙◌}
-use Rattle.std.specs.Prelude.{codes}
+use Rattle.std.{proofs.Common.{◌≡◌, List, [], ◌∷◌, Some, None, refl, ap, ◌∙◌}, specs.Prelude.{codes}}
 use Rattle.sexpr_core.specs.Value.{Value, plain, group}
-use Rattle.spki_cert.specs.declared.fault.CertFaultKind.TheVariants.{Shape}
-use Rattle.spki_cert.specs.FieldFaults.{hash_fault, principal_fault}
+use Rattle.spki_cert.specs.{declared.fault.CertFaultKind.TheVariants.{Shape}, FieldFaults.{hash_fault, principal_fault}}
 use Rattle.spki_cert.specs.StructureFaults.{signature_fault}
 use Rattle.spki_cert.proofs.signature.signature_of.Goals as goal
 

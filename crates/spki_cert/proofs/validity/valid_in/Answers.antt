@@ -1,9 +1,7 @@
 use Rattle.std.proofs.Common.{◌≡◌, ◌∷◌, ◌++◌, [], refl, Some, rules}
-use Rattle.spki_cert.specs.declared.fault.CertFaultKind.{CertFaultKind}
-use Rattle.spki_cert.proofs.HeadedLists.{carried, split, moved}
-use Rattle.spki_cert.proofs.FieldLaws.{valid-none, valid-more}
-use Rattle.spki_cert.specs.FieldFaults.{limit_fault, fields_fault}
+use Rattle.spki_cert.proofs.{HeadedLists.{carried, split, moved}, FieldLaws.{valid-none, valid-more}}
 use Rattle.spki_cert.proofs.FieldFaultLaws.{left-all, left-fault, left-next, left-none}
+use Rattle.spki_cert.specs.{declared.fault.CertFaultKind.{CertFaultKind}, FieldFaults.{limit_fault, fields_fault}}
 use Rattle.spki_cert.proofs.validity.valid_in.Goals as goal
 
 pub loop-field-preserved : goal.loop-field-preserved

@@ -1,8 +1,6 @@
 use Rattle.std.proofs.Common.{◌≡◌, ◌++◌, List, length}
 use Rattle.sexpr_core.specs.Value.{Value}
-use Rattle.spki_cert.specs.Fields.{ValidOf}
-use Rattle.spki_cert.specs.FieldFaults.{limit_fault}
-use Rattle.spki_cert.proofs.FieldFaultLaws.{Left}
+use Rattle.spki_cert.{specs.{Fields.{ValidOf}, FieldFaults.{limit_fault}}, proofs.FieldFaultLaws.{Left}}
 use Rattle.spki_cert.proofs.validity.valid_in.Given as goal
 
 abbrev pub invariant-loop-field : goal.invariant-loop-field

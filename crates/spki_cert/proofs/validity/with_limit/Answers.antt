@@ -1,12 +1,8 @@
-use Rattle.spki_cert.specs.declared.fault.CertFaultKind.{CertFaultKind}
-use Rattle.std.proofs.Common.{◌≡◌, List, ℕ, sym, refl, Option, Some, None, false, ◌∙◌, rules}
-use Rattle.std.specs.Prelude.{codes, is_some}
-use Rattle.spki_cert.specs.Inner.Gathering.{first, last, LimitLook}
-use Rattle.spki_cert.proofs.HeadedLists.{carried}
-use Rattle.spki_cert.specs.Readings.{DateOf}
-use Rattle.spki_cert.specs.Fields.{Sole}
+use Rattle.spki_cert.specs.{declared.fault.CertFaultKind.{CertFaultKind}, Inner.Gathering.{first, last, LimitLook}, Readings.{DateOf}, Fields.{Sole}}
 use Rattle.spki_cert.specs.FieldFaults.{limit_fault}
 use Rattle.spki_cert.proofs.FieldFaultLaws.{limit-first as looked-first, limit-last as looked-last, limit-online, limit-other, field-again, field-new, field-misfit, again-limit, online-new}
+use Rattle.spki_cert.proofs.HeadedLists.{carried}
+use Rattle.std.{proofs.Common.{◌≡◌, List, ℕ, sym, refl, Option, Some, None, false, ◌∙◌, rules}, specs.Prelude.{codes, is_some}}
 use Rattle.spki_cert.proofs.validity.with_limit.Goals as goal
 
 no-limit : (o : Option (List ℕ)) → is_some o ≡ false → o ≡ None

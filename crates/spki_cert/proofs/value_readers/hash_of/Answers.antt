@@ -1,10 +1,7 @@
 use Rattle.std.proofs.Common.{◌≡◌, ◌∷◌, Some, refl}
 use Rattle.sexpr_core.specs.Value.{plain}
-use Rattle.spki_cert.specs.Readings.{alg_name}
-use Rattle.spki_cert.specs.declared.fault.CertFaultKind.{CertFaultKind}
-use Rattle.spki_cert.specs.FieldFaults.{hash_fault}
-use Rattle.spki_cert.proofs.HeadedLists.{carried}
-use Rattle.spki_cert.proofs.SubjectFaultLaws.{hash-digest, uris-are, others-are}
+use Rattle.spki_cert.specs.{Readings.{alg_name}, declared.fault.CertFaultKind.{CertFaultKind}, FieldFaults.{hash_fault}}
+use Rattle.spki_cert.proofs.{HeadedLists.{carried}, SubjectFaultLaws.{hash-digest, uris-are, others-are}}
 use Rattle.spki_cert.proofs.value_readers.hash_of.Goals as goal
 
 pub returns-in_default-clause-refused : goal.returns-in_default-clause-refused

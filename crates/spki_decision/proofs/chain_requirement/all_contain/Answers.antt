@@ -1,11 +1,8 @@
 use Rattle.std.proofs.Common.{◌≡◌, true, false, List, ◌++◌, take_all, sym, subst, ◌∙◌, arith}
 use Rattle.spki_case.specs.View.{model}
-use Rattle.spki_reduce.specs.declared.tuple.Step.{Step}
-use Rattle.spki_reduce.specs.Chain.{tuples_of, all_windows}
+use Rattle.spki_reduce.specs.{declared.tuple.Step.{Step}, Chain.{tuples_of, all_windows}}
 use Rattle.spki_decision.specs.Until.{IsLeastEnd}
-use Rattle.spki_decision.proofs.Costs.{contents_first}
-use Rattle.spki_decision.proofs.ChainRequirements.{contain_more, contain_each}
-use Rattle.spki_decision.proofs.Until.{least_more}
+use Rattle.spki_decision.proofs.{Costs.{contents_first}, ChainRequirements.{contain_more, contain_each}, Until.{least_more}}
 use Rattle.spki_decision.proofs.chain_requirement.all_contain.Goals as goal
 
 pub returns-then-not-contains : goal.returns-then-not-contains

@@ -2,9 +2,7 @@ use Rattle.std.proofs.Common.{◌+◌, ◌≤◌, ◌++◌, List, take, drop}
 use Rattle.spki_cert.specs.declared.window.Window.{Window}
 use Rattle.spki_case.specs.View.{model}
 use Rattle.spki_reduce.specs.Chain.{tuples_of, all_windows}
-use Rattle.spki_decision.specs.Cost.{contents_weight}
-use Rattle.spki_decision.specs.Until.{IsLeastEnd}
-use Rattle.spki_decision.proofs.ChainRequirements.{AllContain}
+use Rattle.spki_decision.{specs.{Cost.{contents_weight}, Until.{IsLeastEnd}}, proofs.ChainRequirements.{AllContain}}
 use Rattle.spki_decision.proofs.chain_requirement.all_contain.Given as goal
 
 -- the steps so far contain the request and the moment

@@ -1,6 +1,5 @@
 use Rattle.std.proofs.Common.{◌++◌, sym, subst}
-use Rattle.spki_reduce.specs.declared.tuple.Step.{Step}
-use Rattle.spki_reduce.specs.Reduction.{windows_of, step_tuple}
+use Rattle.spki_reduce.specs.{declared.tuple.Step.{Step}, Reduction.{windows_of, step_tuple}}
 use Rattle.spki_decision.specs.Until.{IsLeastEnd}
 use Rattle.spki_decision.proofs.chain_requirement.end_with.Goals as goal
 

@@ -1,8 +1,7 @@
 use Rattle.std.proofs.lemmas.Result.{IfOk-weaker}
 use Rattle.spki_reduce.specs.Chain.{tuples_of}
 use Rattle.spki_case.specs.View.{model}
-use Rattle.spki_decision.proofs.CertificateTests.{decided, unrefused, too_large}
-use Rattle.spki_decision.proofs.EntryChains.{all_stand}
+use Rattle.spki_decision.proofs.{CertificateTests.{decided, unrefused, too_large}, EntryChains.{all_stand}}
 use Rattle.spki_decision.proofs.decision.decide.Goals as goal
 
 pub returns-in-Verified-clause-within_limit : goal.returns-in-Verified-clause-within_limit

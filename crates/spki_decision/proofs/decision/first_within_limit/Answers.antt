@@ -1,12 +1,9 @@
-use Rattle.std.proofs.Common.{rules, ◌≡◌, ℕ, ◌+◌, length, subst, arith}
-use Rattle.std.proofs.lemmas.Option.{slice_get_within}
+use Rattle.std.proofs.{Common.{rules, ◌≡◌, ℕ, ◌+◌, length, subst, arith}, lemmas.Option.{slice_get_within}}
 use Rattle.spki_case.specs.View.{model}
 use Rattle.spki_reduce.specs.Chain.{tuples_of}
-use Rattle.spki_decision.proofs.CertificateTests.{not_yet, small_yet, found}
-use Rattle.spki_decision.specs.Granted.{IsWithinWork}
-use Rattle.spki_decision.specs.Requirements.{work_left}
-use Rattle.spki_decision.proofs.Charges.{none_spent, one_spent, all_spent}
+use Rattle.spki_decision.proofs.{CertificateTests.{not_yet, small_yet, found}, Charges.{none_spent, one_spent, all_spent}}
 use Rattle.spki_decision.proofs.EntryChains.{stands, refused_here}
+use Rattle.spki_decision.specs.{Granted.{IsWithinWork}, Requirements.{work_left}}
 use Rattle.spki_decision.proofs.decision.first_within_limit.Goals as goal
 
 pub returns-then-grants-clause-named : goal.returns-then-grants-clause-named

@@ -1,8 +1,6 @@
 use Rattle.spki_case.specs.View.{model}
 use Rattle.spki_reduce.specs.Chain.{tuples_of}
-use Rattle.spki_decision.specs.Granted.{NoneBefore, SmallBefore}
-use Rattle.spki_decision.specs.Requirements.{work_left, IsBudgetFor}
-use Rattle.spki_decision.proofs.Charges.{Spent}
+use Rattle.spki_decision.{specs.{Granted.{NoneBefore, SmallBefore}, Requirements.{work_left, IsBudgetFor}}, proofs.Charges.{Spent}}
 use Rattle.spki_decision.proofs.decision.first_within_limit.Given as goal
 
 -- no entry so far supports what is asked, and no step is too large for one

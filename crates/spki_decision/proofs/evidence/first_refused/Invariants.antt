@@ -1,5 +1,4 @@
-use Rattle.std.proofs.Common.{map, take}
-use Rattle.std.specs.List.{AllByRecursion}
+use Rattle.std.{proofs.Common.{map, take}, specs.List.{AllByRecursion}}
 use Rattle.spki_decision.specs.CertificateTests.{signed_of, IsAccepted}
 use Rattle.spki_decision.proofs.evidence.first_refused.Given as goal
 

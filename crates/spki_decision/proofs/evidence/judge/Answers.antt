@@ -1,6 +1,5 @@
 use Rattle.std.proofs.Common.{ℕ, Some, map, ap, sym, ◌∙◌, subst, rules}
-use Rattle.spki_decision.specs.declared.evidence.Stop.TheVariants.{NotAccepted}
-use Rattle.spki_decision.specs.CertificateTests.{FailsAt, signed_of, IsFirstRefused, RefusedAt}
+use Rattle.spki_decision.specs.{declared.evidence.Stop.TheVariants.{NotAccepted}, CertificateTests.{FailsAt, signed_of, IsFirstRefused, RefusedAt}}
 use Rattle.spki_decision.proofs.ListedSignatures.{all_accepted, not_accepted, refused_item}
 use Rattle.spki_decision.proofs.evidence.judge.Goals as goal
 

@@ -1,11 +1,9 @@
-use Rattle.std.proofs.Common.{◌≡◌, ◌∙◌, sym, ap, map, Some, rules}
-use Rattle.std.proofs.lemmas.List.{map-append}
-use Rattle.spki_decision.specs.declared.examination.Tested.TheVariants.{Fails}
-use Rattle.spki_case.specs.Case.{certificates, keys_of}
-use Rattle.spki_decision.specs.CertificateTests.{FailsBy, asked_of, every, shown_of, signed_of}
+use Rattle.std.proofs.{Common.{◌≡◌, ◌∙◌, sym, ap, map, Some, rules}, lemmas.List.{map-append}}
+use Rattle.spki_decision.specs.{declared.examination.Tested.TheVariants.{Fails}, CertificateTests.{FailsBy, asked_of, every, shown_of, signed_of}}
 use Rattle.spki_decision.specs.Judged.{IsTested, PassesAs}
 use Rattle.spki_decision.proofs.ListedSignatures.{stands_asked, not_asked, asked_more, asked_whole}
 use Rattle.spki_decision.proofs.CertificateTests.{signed_here, failing_here, standing_more, rest_of}
+use Rattle.spki_case.specs.Case.{certificates, keys_of}
 use Rattle.spki_decision.proofs.examination.examine_by.Goals as goal
 
 pub test-requires : goal.test-requires

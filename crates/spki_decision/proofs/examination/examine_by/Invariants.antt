@@ -1,5 +1,4 @@
-use Rattle.std.proofs.Common.{◌≡◌, ◌++◌, map, take, drop}
-use Rattle.std.specs.List.{AllZip}
+use Rattle.std.{proofs.Common.{◌≡◌, ◌++◌, map, take, drop}, specs.List.{AllZip}}
 use Rattle.spki_reduce.specs.Reduction.{step_tuple}
 use Rattle.spki_case.specs.Case.{keys_of}
 use Rattle.spki_decision.specs.CertificateTests.{PassesTestsAs, asked_in, every, shown_of, signed_of}

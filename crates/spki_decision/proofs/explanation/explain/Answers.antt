@@ -1,7 +1,6 @@
 use Rattle.spki_reduce.specs.Chain.{tuples_of}
 use Rattle.spki_case.specs.View.{model}
-use Rattle.spki_decision.proofs.Explanations.{reasons_for}
-use Rattle.spki_decision.proofs.EntryChains.{all_stand, one_fails, failure, are_folds}
+use Rattle.spki_decision.proofs.{Explanations.{reasons_for}, EntryChains.{all_stand, one_fails, failure, are_folds}}
 use Rattle.spki_decision.proofs.explanation.explain.Goals as goal
 
 pub returns-in-Fails-clause-exact : goal.returns-in-Fails-clause-exact

@@ -1,9 +1,7 @@
 use Rattle.std.proofs.Common.{◌≡◌, []}
 use Rattle.spki_case.specs.View.{model}
-use Rattle.spki_decision.specs.CertificateTests.{with_entries}
-use Rattle.spki_reduce.specs.Reduction.{five, entry_tuple, five_tuple}
-use Rattle.spki_reduce.specs.Chain.{FoldsTo, HasMet}
-use Rattle.spki_decision.proofs.Explanations.{reasoned, is_own}
+use Rattle.spki_decision.{specs.CertificateTests.{with_entries}, proofs.Explanations.{reasoned, is_own}}
+use Rattle.spki_reduce.specs.{Reduction.{five, entry_tuple, five_tuple}, Chain.{FoldsTo, HasMet}}
 use Rattle.spki_decision.proofs.explanation.fold_reason.Goals as goal
 
 pub returns-in-Done : goal.returns-in-Done

@@ -1,5 +1,4 @@
-use Rattle.std.proofs.Common.{[], ◌∷◌, ◌++◌, take, sym, ap, ◌∙◌}
-use Rattle.std.proofs.lemmas.List.{take_more}
+use Rattle.std.proofs.{Common.{[], ◌∷◌, ◌++◌, take, sym, ap, ◌∙◌}, lemmas.List.{take_more}}
 use Rattle.spki_case.specs.Case.{keys_of}
 use Rattle.spki_decision.proofs.CertificateTests.{keys-append}
 use Rattle.spki_decision.proofs.named_key.keys_of.Goals as goal

@@ -1,8 +1,7 @@
 use Rattle.std.proofs.Common.{[], ◌∷◌, ◌++◌, refl, arith, rules}
 use Rattle.spki_case.specs.View.{model}
 use Rattle.spki_reduce.specs.Chain.{tuples_of}
-use Rattle.spki_decision.specs.CertificateTests.{with_entries}
-use Rattle.spki_decision.specs.Requirements.{work_left}
+use Rattle.spki_decision.specs.{CertificateTests.{with_entries}, Requirements.{work_left}}
 use Rattle.spki_decision.proofs.EntryChains.{stands, one_put, none_folded, one_folded, too_large_here, all_folded}
 use Rattle.spki_decision.proofs.reduction.put_folds.Goals as goal
 

@@ -2,9 +2,7 @@
 use Rattle.std.proofs.Common.{List}
 use Rattle.spki_case.specs.View.{model}
 use Rattle.spki_reduce.specs.Chain.{tuples_of}
-use Rattle.spki_decision.specs.CertificateTests.{with_entries}
-use Rattle.spki_decision.specs.declared.reduction.EntryFold.{EntryFold}
-use Rattle.spki_decision.specs.Requirements.{work_left, IsBudgetFor}
+use Rattle.spki_decision.specs.{CertificateTests.{with_entries}, declared.reduction.EntryFold.{EntryFold}, Requirements.{work_left, IsBudgetFor}}
 use Rattle.spki_decision.proofs.EntryChains.{ArePut, FoldedTo}
 use Rattle.spki_decision.proofs.reduction.put_folds.Given as goal
 

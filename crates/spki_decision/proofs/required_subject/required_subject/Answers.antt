@@ -1,8 +1,7 @@
 use Rattle.std.proofs.Common.{◌≡◌, ◌-◌, ◌+◌, Some, None, ap, ◌∙◌, refl, arith, length, take, take_all}
 use Rattle.spki_reduce.specs.Chain.{tuples_of}
 use Rattle.spki_decision.specs.Cost.{paths_weight}
-use Rattle.spki_decision.proofs.Costs.{paths_last}
-use Rattle.spki_decision.proofs.ChainRequirements.{begin_from, last_of, one_before, none_from, whole_from}
+use Rattle.spki_decision.proofs.{Costs.{paths_last}, ChainRequirements.{begin_from, last_of, one_before, none_from, whole_from}}
 use Rattle.spki_decision.proofs.required_subject.required_subject.Goals as goal
 
 pub loop-done-init : goal.loop-done-init

@@ -1,7 +1,6 @@
 use Rattle.std.proofs.Common.{Some, ◌-◌, ◌+◌, ◌≤◌, length, take}
 use Rattle.spki_reduce.specs.Chain.{tuples_of}
-use Rattle.spki_decision.specs.Cost.{paths_weight}
-use Rattle.spki_decision.proofs.ChainRequirements.{IsRequiredFrom}
+use Rattle.spki_decision.{specs.Cost.{paths_weight}, proofs.ChainRequirements.{IsRequiredFrom}}
 use Rattle.spki_decision.proofs.required_subject.required_subject.Given as goal
 
 -- what is required before the steps that are done

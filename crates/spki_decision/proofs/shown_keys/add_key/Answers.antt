@@ -1,8 +1,6 @@
-use Rattle.std.proofs.Common.{◌≡◌, ◌∙◌, false, rules, Some, None, cond, bytes_eq}
-use Rattle.std.specs.Option.{is_some, option_or}
+use Rattle.std.{proofs.Common.{◌≡◌, ◌∙◌, false, rules, Some, None, cond, bytes_eq}, specs.Option.{is_some, option_or}}
 use Rattle.spki_cert.specs.Naming.{digest_of}
-use Rattle.spki_case.specs.Lookups.{at_digest}
-use Rattle.spki_case.proofs.Lookups.{inserted, first_added}
+use Rattle.spki_case.{specs.Lookups.{at_digest}, proofs.Lookups.{inserted, first_added}}
 use Rattle.spki_decision.proofs.shown_keys.add_key.Goals as goal
 
 pub returns-in_ok-insert : goal.returns-in_ok-insert

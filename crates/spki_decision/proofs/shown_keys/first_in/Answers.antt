@@ -1,7 +1,7 @@
 use Rattle.std.proofs.Common.{◌∙◌, ap, sym, Some, option_copied}
 use Rattle.spki_decision.specs.Judged.{HasFirstKeys}
-use Rattle.spki_decision.proofs.shown_keys.first_in.Goals as goal
 use Rattle.spki_decision.proofs.shown_keys.first_in.Goals.{in-Some, in-None+in_ok-first-in-None, in-Some-get, in-None-get}
+use Rattle.spki_decision.proofs.shown_keys.first_in.Goals as goal
 
 -- what the index has at the digest
 pub returns-clause-key : goal.returns-clause-key

@@ -1,7 +1,5 @@
-use Rattle.std.proofs.Common.{ℕ, List, Bool, ◌∷◌, [], ◌∙◌, ap, sym, find, take}
+use Rattle.std.proofs.{Common.{ℕ, List, Bool, ◌∷◌, [], ◌∙◌, ap, sym, find, take}, lemmas.List.{take_more, Folds.{find-append}}}
 use Rattle.std.specs.Option.{option_or}
-use Rattle.std.proofs.lemmas.List.{take_more}
-use Rattle.std.proofs.lemmas.List.Folds.{find-append}
 use Rattle.spki_cert.specs.Naming.{is_digest}
 use Rattle.spki_decision.proofs.shown_keys.first_keys.Goals as goal
 

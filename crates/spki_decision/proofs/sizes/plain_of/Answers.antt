@@ -1,14 +1,10 @@
 use Rattle.std.proofs.Common.{◌≡◌, ◌+◌, ◌≤◌, ℕ, max, take, drop, false, true, ap, ◌∙◌, sym, arith, rules, inl, inr, List}
-use Rattle.std.proofs.lemmas.Bool.{or_from}
-use Rattle.std.proofs.lemmas.List.{take-append-drop}
+use Rattle.std.proofs.lemmas.{Bool.{or_from}, List.{take-append-drop}}
 use Rattle.spki_tag.specs.Tag.{tags, some_nests_set}
-use Rattle.spki_reduce.specs.Reduction.{tags_of, step_tuple}
-use Rattle.spki_reduce.specs.declared.tuple.Step.{Step}
-use Rattle.spki_reduce.specs.Chain.{tuples_of, all_tags}
-use Rattle.spki_decision.specs.Spared.{nodes_together, most_of_one}
-use Rattle.spki_decision.proofs.ChainRequirements.{more_tuples, more_tags}
-use Rattle.spki_decision.proofs.EntryChains.{append-sets}
+use Rattle.spki_reduce.specs.{Reduction.{tags_of, step_tuple}, declared.tuple.Step.{Step}, Chain.{tuples_of, all_tags}}
+use Rattle.spki_decision.proofs.{ChainRequirements.{more_tuples, more_tags}, EntryChains.{append-sets}}
 use Rattle.spki_decision.proofs.StepNodes.{together-more, most-more, together-front, sets-front}
+use Rattle.spki_decision.specs.Spared.{nodes_together, most_of_one}
 use Rattle.spki_decision.proofs.sizes.plain_of.Goals as goal
 
 -- one step more

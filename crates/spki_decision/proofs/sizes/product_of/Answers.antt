@@ -1,9 +1,7 @@
 use Rattle.std.proofs.Common.{◌≡◌, ◌+◌, ◌*◌, take, sym, ap, ◌∙◌, arith}
-use Rattle.spki_reduce.specs.Reduction.{tags_of, step_tuple, nodes_product}
-use Rattle.spki_reduce.specs.Chain.{tuples_of, all_tags}
+use Rattle.spki_reduce.specs.{Reduction.{tags_of, step_tuple, nodes_product}, Chain.{tuples_of, all_tags}}
 use Rattle.spki_reduce.proofs.ReducedForms.{nodes_product-append}
-use Rattle.spki_decision.proofs.ChainRequirements.{more_tags}
-use Rattle.spki_decision.proofs.StepNodes.{product-front}
+use Rattle.spki_decision.proofs.{ChainRequirements.{more_tags}, StepNodes.{product-front}}
 use Rattle.spki_decision.proofs.sizes.product_of.Goals as goal
 
 -- one step more

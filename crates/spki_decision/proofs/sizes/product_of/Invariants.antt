@@ -1,6 +1,5 @@
 use Rattle.std.proofs.Common.{◌≡◌, ◌≤◌, take}
-use Rattle.spki_reduce.specs.Reduction.{nodes_product}
-use Rattle.spki_reduce.specs.Chain.{tuples_of, all_tags}
+use Rattle.spki_reduce.specs.{Reduction.{nodes_product}, Chain.{tuples_of, all_tags}}
 use Rattle.spki_decision.proofs.sizes.product_of.Given as goal
 
 -- the product of the steps so far

@@ -1,6 +1,5 @@
 use Rattle.std.proofs.Common.{refl}
-use Rattle.spki_guard.specs.Inner.Prints.{command_of}
-use Rattle.spki_guard.proofs.AnswerLaws.{answered_by, err_by, err_lifted, on_case}
+use Rattle.spki_guard.{specs.Inner.Prints.{command_of}, proofs.AnswerLaws.{answered_by, err_by, err_lifted, on_case}}
 use Rattle.spki_guard.proofs.commands.answer_query.Goals as goal
 
 pub returns-clause-answered : goal.returns-clause-answered

@@ -1,8 +1,6 @@
 use Rattle.std.proofs.Common.{◌*◌, ◌<◌, ◌≤◌, arith, rules}
 use Rattle.sexpr_core.specs.Value.{Value}
-use Rattle.spki_tag.specs.Reading.{ReadsAs}
-use Rattle.spki_tag.specs.Tag.{Tag, nodes, IsNormalTag}
-use Rattle.spki_tag.proofs.NormalForms.{IsNormalTag-of, meet-normal_tag}
+use Rattle.spki_tag.{specs.{Reading.{ReadsAs}, Tag.{Tag, nodes, IsNormalTag}}, proofs.NormalForms.{IsNormalTag-of, meet-normal_tag}}
 use Rattle.spki_guard.proofs.AnswerLaws.{first_refused, second_refused}
 use Rattle.spki_guard.proofs.intersection.meet_in.Goals as goal
 

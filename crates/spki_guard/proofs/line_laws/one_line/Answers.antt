@@ -1,5 +1,4 @@
-use Rattle.spki_guard.proofs.OneRefusal.{refusal_one}
-use Rattle.spki_guard.proofs.OneLine.{read_one, answered}
+use Rattle.spki_guard.proofs.{OneRefusal.{refusal_one}, OneLine.{read_one, answered}}
 use Rattle.spki_guard.proofs.line_laws.one_line.Goals as goal
 
 pub returns-clause-same : goal.returns-clause-same

@@ -1,6 +1,4 @@
-use Rattle.std.proofs.Common.{◌≡◌, take}
-use Rattle.std.proofs.lemmas.Grind.{common_steps}
-use Rattle.std.proofs.Common.{arith}
+use Rattle.std.proofs.{Common.{◌≡◌, take, arith}, lemmas.Grind.{common_steps}}
 use Rattle.sexpr_text.proofs.Printed.{in_three}
 use Rattle.spki_guard.proofs.ReportLines.{spaced, spaced_more}
 use Rattle.spki_guard.proofs.lines.print_line.Goals as goal

@@ -1,6 +1,5 @@
 -- The words so far.
-use Rattle.std.proofs.Common.{◌∷◌, take}
-use Rattle.std.specs.List.{flat_map}
+use Rattle.std.{proofs.Common.{◌∷◌, take}, specs.List.{flat_map}}
 use Rattle.spki_guard.proofs.lines.print_line.Given as goal
 
 abbrev pub invariant-loop-word : goal.invariant-loop-word

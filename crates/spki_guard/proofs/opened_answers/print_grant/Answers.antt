@@ -1,6 +1,5 @@
 use Rattle.spki_decision.specs.Until.{decision_of}
-use Rattle.spki_guard.specs.TextAnswers.{IsLineOf}
-use Rattle.spki_guard.proofs.Sending.{printed_as}
+use Rattle.spki_guard.{specs.TextAnswers.{IsLineOf}, proofs.Sending.{printed_as}}
 use Rattle.spki_guard.proofs.opened_answers.print_grant.Goals as goal
 
 pub returns : goal.returns

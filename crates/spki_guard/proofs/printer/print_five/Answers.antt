@@ -1,6 +1,5 @@
-use Rattle.std.proofs.Common.{refl}
+use Rattle.std.{proofs.Common.{refl}, specs.Prelude.{[], ◌∷◌, codes}}
 use Rattle.spki_tag.specs.Tag.{tag_value}
-use Rattle.std.specs.Prelude.{[], ◌∷◌, codes}
 use Rattle.spki_reduce.specs.Written.{headed, delegation_values, in_valid, window_limits}
 use Rattle.sexpr_text.proofs.Printed.{in_three}
 use Rattle.spki_guard.proofs.PrintedFives.{five_whole}

@@ -1,8 +1,7 @@
 use Rattle.std.proofs.Common.{◌≢◌, [], sym, codes, rules}
 use Rattle.sexpr_text.proofs.Printed.{in_two, in_three}
 use Rattle.spki_reduce.specs.Written.{limit_values, window_limits}
-use Rattle.spki_guard.proofs.PrintedTags.{spaced_append}
-use Rattle.spki_guard.proofs.PrintedFives.{window_whole, limits_from, limits_to}
+use Rattle.spki_guard.proofs.{PrintedTags.{spaced_append}, PrintedFives.{window_whole, limits_from, limits_to}}
 use Rattle.spki_guard.proofs.printer.print_window.Goals.{else-is_none-via-then-is_none+else-is_none-2, else-is_none-via-else-is_none}
 use Rattle.spki_guard.proofs.printer.print_window.Goals as goal
 

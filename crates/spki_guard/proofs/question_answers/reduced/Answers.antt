@@ -1,6 +1,5 @@
 use Rattle.std.proofs.Common.{inr, ◌<◌, ◌∙◌, length, subst, ℕ, None, Option}
-use Rattle.spki_service.specs.declared.failure.Failure.{Failure}
-use Rattle.spki_service.specs.GuardQuestions.{AreReducedMarked}
+use Rattle.spki_service.specs.{declared.failure.Failure.{Failure}, GuardQuestions.{AreReducedMarked}}
 use Rattle.spki_guard.specs.Inner.Prints.{HasPrinted}
 use Rattle.spki_guard.proofs.question_answers.reduced.Goals as goal
 

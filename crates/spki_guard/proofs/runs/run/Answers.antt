@@ -1,6 +1,5 @@
 use Rattle.metered_io.specs.MeteredCalls.{inner_of, ended_of}
-use Rattle.spki_guard.specs.declared.answers.Verdict.TheVariants.{Done, No}
-use Rattle.spki_guard.specs.TextAnswers.{IsReply}
+use Rattle.spki_guard.specs.{declared.answers.Verdict.TheVariants.{Done, No}, TextAnswers.{IsReply}}
 use Rattle.spki_guard.proofs.Sending.{sends_written, sends_cut, sends_faultless, sends_no_read_fault, sends_ended}
 use Rattle.spki_guard.proofs.runs.run.Goals as goal
 

@@ -1,6 +1,5 @@
 use Rattle.std.proofs.Common.{inr, refl, rules}
-use Rattle.spki_guard.specs.Inner.Prints.{answer_verdict}
-use Rattle.spki_guard.proofs.Sending.{cut_pages}
+use Rattle.spki_guard.{specs.Inner.Prints.{answer_verdict}, proofs.Sending.{cut_pages}}
 use Rattle.spki_guard.proofs.runs.send_pages.Goals as goal
 
 pub returns-in-Err : goal.returns-in-Err

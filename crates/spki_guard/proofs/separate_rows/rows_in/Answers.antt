@@ -1,7 +1,5 @@
-use Rattle.std.proofs.Common.{inr}
-use Rattle.std.proofs.lemmas.Result.{IfOk-weaker, IfErr-weaker}
-use Rattle.spki_case.specs.RowsForm.{RowsOf, NoRows}
-use Rattle.spki_case.specs.View.{rows_of}
+use Rattle.std.proofs.{Common.{inr}, lemmas.Result.{IfOk-weaker, IfErr-weaker}}
+use Rattle.spki_case.specs.{RowsForm.{RowsOf, NoRows}, View.{rows_of}}
 use Rattle.spki_guard.proofs.AnswerLaws.{says}
 use Rattle.spki_guard.proofs.separate_rows.rows_in.Goals as goal
 

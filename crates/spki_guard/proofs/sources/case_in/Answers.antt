@@ -1,6 +1,5 @@
 use Rattle.std.proofs.Common.{inl, inr}
-use Rattle.spki_case.specs.Case.{CaseOf, ValueRefused}
-use Rattle.spki_case.specs.View.{model}
+use Rattle.spki_case.specs.{Case.{CaseOf, ValueRefused}, View.{model}}
 use Rattle.spki_guard.proofs.AnswerLaws.{says, err_lifted}
 use Rattle.spki_guard.proofs.sources.case_in.Goals as goal
 

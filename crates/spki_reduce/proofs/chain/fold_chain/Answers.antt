@@ -1,6 +1,5 @@
 use Rattle.std.proofs.Common.{◌∷◌, IfOk, subst}
-use Rattle.spki_reduce.specs.Reduction.{five}
-use Rattle.spki_reduce.specs.Chain.{tuples_of, SupportsNothing, MatchFold}
+use Rattle.spki_reduce.specs.{Reduction.{five}, Chain.{tuples_of, SupportsNothing, MatchFold}}
 use Rattle.spki_reduce.proofs.chain.fold_chain.Goals as goal
 
 pub returns-clause-unsupported : goal.returns-clause-unsupported

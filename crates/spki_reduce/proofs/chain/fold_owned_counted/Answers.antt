@@ -1,12 +1,9 @@
 use Rattle.std.proofs.Common.{◌≡◌, inl, inr, sym, ◌∙◌, ap, subst, ◌+◌, ◌<◌, length, arith, Result, Ok, Err, IsErrAnd, rules}
-use Rattle.spki_reduce.specs.declared.fault.ReduceFault.TheVariants.{TooLarge}
-use Rattle.spki_reduce.specs.Reduction.{five, five_tuple, step_tuple}
-use Rattle.spki_reduce.specs.Chain.{tuples_of, left_of, Takes}
-use Rattle.spki_reduce.proofs.ReducedForms.{same_issuer}
-use Rattle.spki_reduce.proofs.Chains.{stops_here, goes_on, met_here, too_large_here, excluded, unsupported}
 use Rattle.std.proofs.lemmas.List.{length-map}
-use Rattle.spki_reduce.proofs.Through.{small_here, small_stopped, steps_tagged}
-use Rattle.spki_reduce.proofs.Working.{work_here, work_stopped, taken, over}
+use Rattle.spki_reduce.specs.{declared.fault.ReduceFault.TheVariants.{TooLarge}, Reduction.{five, five_tuple, step_tuple}}
+use Rattle.spki_reduce.specs.Chain.{tuples_of, left_of, Takes}
+use Rattle.spki_reduce.proofs.{ReducedForms.{same_issuer}, Chains.{stops_here, goes_on, met_here, too_large_here, excluded, unsupported}}
+use Rattle.spki_reduce.proofs.{Through.{small_here, small_stopped, steps_tagged}, Working.{work_here, work_stopped, taken, over}}
 use Rattle.spki_reduce.proofs.chain.fold_owned_counted.Goals as goal
 
 -- what the exit of a `?` returns

@@ -1,7 +1,6 @@
 -- The steps so far became what is kept.
 use Rattle.std.proofs.Common.{◌≡◌, ℕ, ◌+◌, ◌*◌, ◌≤◌, take}
-use Rattle.spki_reduce.specs.Reduction.{five, five_tuple, issuer_of}
-use Rattle.spki_reduce.specs.Chain.{tuples_of, FoldsTo, HasMet, TooLargeAt, left_of, Takes, IsWorkOf}
+use Rattle.spki_reduce.specs.{Reduction.{five, five_tuple, issuer_of}, Chain.{tuples_of, FoldsTo, HasMet, TooLargeAt, left_of, Takes, IsWorkOf}}
 use Rattle.spki_reduce.proofs.chain.fold_owned_counted.Given as goal
 
 abbrev pub invariant-loop-place : goal.invariant-loop-place

@@ -1,6 +1,5 @@
-use Rattle.spki_reduce.specs.Chain.{tuples_of}
+use Rattle.spki_reduce.{specs.Chain.{tuples_of}, proofs.Through.{steps_tagged}}
 use Rattle.spki_reduce.proofs.Through as through
-use Rattle.spki_reduce.proofs.Through.{steps_tagged}
 use Rattle.spki_reduce.proofs.laws.one_stop.Goals as goal
 
 pub returns-clause-stop : goal.returns-clause-stop

@@ -1,8 +1,7 @@
 use Rattle.std.proofs.Common.{ap, length, refl, arith, rules}
 use Rattle.sexpr_core.specs.Value.{values}
 use Rattle.spki_tag.proofs.TagReading.{weight}
-use Rattle.spki_service.specs.Questions.{strings_all}
-use Rattle.spki_service.proofs.PartTexts.{none_left, first_weight, rest_weight}
+use Rattle.spki_service.{specs.Questions.{strings_all}, proofs.PartTexts.{none_left, first_weight, rest_weight}}
 use Rattle.spki_service.proofs.counts.+subtract_strings.Goals as goal
 
 pub subtract_strings-subtract_member_strings-requires : goal.subtract_strings-subtract_member_strings-requires

@@ -1,5 +1,4 @@
-use Rattle.std.proofs.Common.{FitsSigned, w64, arith, ◌*ℤ◌, ◌≤ℤ◌, pos, to_z-of_z}
-use Rattle.std.specs.Int.{w128}
+use Rattle.std.{proofs.Common.{FitsSigned, w64, arith, ◌*ℤ◌, ◌≤ℤ◌, pos, to_z-of_z}, specs.Int.{w128}}
 use Rattle.jiff_core.proofs.SignedLemmas.{signed_arith}
 use Rattle.spki_service.proofs.DateLaws.{late_year, date_of, dated}
 use Rattle.spki_service.proofs.date.date_at.Goals as goal

@@ -1,10 +1,8 @@
 use Rattle.std.proofs.Common.{◌≡◌, ◌+◌, ◌*◌, ◌<◌, ◌≤◌, ◌⊎◌, inl, inr, min, sym, ap, subst, ◌∙◌, arith, pos, w32, w64, FitsSigned, to_z-of_z}
-use Rattle.jiff_core.proofs.SignedLemmas.{signed_arith, signed_casts}
-use Rattle.jiff_core.specs.Calendar.{days_in_month, days_from_civil}
+use Rattle.jiff_core.{proofs.SignedLemmas.{signed_arith, signed_casts}, specs.Calendar.{days_in_month, days_from_civil}}
 use Rattle.spki_service.specs.Questions.{number_at, clock_at}
-use Rattle.spki_service.proofs.DateSeconds.{HasNumbers, numbers_in, last_is}
+use Rattle.spki_service.proofs.{DateSeconds.{HasNumbers, numbers_in, last_is}, date.last_second.Goals.{then-civil-day, else-civil-day}}
 use Rattle.spki_service.proofs.date.last_second.Goals as goal
-use Rattle.spki_service.proofs.date.last_second.Goals.{then-civil-day, else-civil-day}
 
 pub number_at-requires-clause-within : goal.number_at-requires-clause-within
 number_at-requires-clause-within c =

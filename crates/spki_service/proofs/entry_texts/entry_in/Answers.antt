@@ -1,8 +1,7 @@
 use Rattle.std.proofs.Common.{subst}
 use Rattle.sexpr_core.specs.Value.{Value}
 use Rattle.spki_case.proofs.OneCase.{one_text}
-use Rattle.spki_cert.specs.Structures.{EntryOf}
-use Rattle.spki_cert.proofs.OneReading.{entry-one}
+use Rattle.spki_cert.{specs.Structures.{EntryOf}, proofs.OneReading.{entry-one}}
 use Rattle.spki_service.proofs.entry_texts.entry_in.Goals as goal
 
 pub returns-in-Ok-entry_of : goal.returns-in-Ok-entry_of

@@ -1,9 +1,7 @@
 use Rattle.std.proofs.Common.{◌+◌, ◌++◌, [], ◌∷◌, arith, rules}
 use Rattle.spki_reduce.specs.Chain.{tuples_of}
 use Rattle.spki_case.specs.View.{model}
-use Rattle.spki_decision.specs.CertificateTests.{with_entries}
-use Rattle.spki_decision.specs.Requirements.{work_left}
-use Rattle.spki_decision.proofs.EntryChains.{one_put, none_folded}
+use Rattle.spki_decision.{specs.{CertificateTests.{with_entries}, Requirements.{work_left}}, proofs.EntryChains.{one_put, none_folded}}
 use Rattle.spki_service.proofs.AnswerLaws.{one_more, too_large, all_texts}
 use Rattle.spki_service.proofs.Costs.{none_counted, none_read, ticks_within, read_within, one_joined, one_read, all_read}
 use Rattle.spki_service.proofs.fold_cost.fold_texts_counted.Goals as goal

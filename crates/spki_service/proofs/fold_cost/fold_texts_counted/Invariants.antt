@@ -2,12 +2,8 @@
 use Rattle.std.proofs.Common.{◌≡◌, ◌+◌, ◌≤◌, List, take}
 use Rattle.spki_reduce.specs.Chain.{tuples_of}
 use Rattle.spki_case.specs.View.{model}
-use Rattle.spki_decision.specs.declared.reduction.EntryFold.{EntryFold}
-use Rattle.spki_decision.specs.Requirements.{work_left, IsBudgetFor}
-use Rattle.spki_decision.proofs.EntryChains.{ArePut}
-use Rattle.spki_service.specs.Cost.{all_octets}
-use Rattle.spki_service.proofs.AnswerLaws.{TextsTo}
-use Rattle.spki_service.proofs.Costs.{TicksTo}
+use Rattle.spki_decision.{specs.{declared.reduction.EntryFold.{EntryFold}, Requirements.{work_left, IsBudgetFor}}, proofs.EntryChains.{ArePut}}
+use Rattle.spki_service.{specs.Cost.{all_octets}, proofs.{AnswerLaws.{TextsTo}, Costs.{TicksTo}}}
 use Rattle.spki_service.proofs.fold_cost.fold_texts_counted.Given as goal
 
 abbrev pub invariant-loop-place : goal.invariant-loop-place

@@ -1,15 +1,11 @@
 use Rattle.std.proofs.Common.{◌≡◌, ◌-◌, ◌+◌, ◌∙◌, ◌∷◌, slice_get, length, ap, subst, arith}
-use Rattle.std.proofs.lemmas.Option.{slice_get_within, slice_get-get_or}
-use Rattle.std.proofs.lemmas.Slice.Zip.{AllZip-long}
+use Rattle.std.proofs.lemmas.{Option.{slice_get_within, slice_get-get_or}, Slice.Zip.{AllZip-long}}
 use Rattle.spki_cert.specs.declared.entry.Entry.{Entry}
 use Rattle.spki_reduce.specs.Chain.{tuples_of, all_windows}
 use Rattle.spki_case.specs.View.{model}
-use Rattle.spki_decision.specs.declared.decision.Decision.TheVariants.{Yes, No}
-use Rattle.spki_decision.specs.CertificateTests.{with_entries}
-use Rattle.spki_decision.specs.Until.{IsLeastEnd}
+use Rattle.spki_decision.specs.{declared.decision.Decision.TheVariants.{Yes, No}, CertificateTests.{with_entries}, Until.{IsLeastEnd}}
 use Rattle.spki_decision.proofs.CertificateTests.{not_yet, found}
-use Rattle.spki_service.proofs.Costs.{octets_first, text_long, entry_light}
-use Rattle.spki_service.proofs.SelectedEntries.{picked_there, read_there}
+use Rattle.spki_service.proofs.{Costs.{octets_first, text_long, entry_light}, SelectedEntries.{picked_there, read_there}}
 use Rattle.spki_service.proofs.granted_entry.first_granted.Goals as goal
 
 pub returns-then-grants-clause-answer : goal.returns-then-grants-clause-answer

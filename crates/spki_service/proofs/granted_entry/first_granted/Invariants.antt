@@ -3,11 +3,8 @@ use Rattle.std.proofs.Common.{List, ◌+◌, ◌*◌, ◌≤◌, drop}
 use Rattle.spki_cert.specs.declared.entry.Entry.{Entry}
 use Rattle.spki_reduce.specs.Chain.{tuples_of}
 use Rattle.spki_case.specs.View.{model}
-use Rattle.spki_decision.specs.Cost.{tuples_weight}
-use Rattle.spki_decision.specs.Granted.{NoneBefore}
-use Rattle.spki_decision.specs.CertificateTests.{with_entries}
-use Rattle.spki_service.specs.AccessLists.{AreEntries, ArePicked}
-use Rattle.spki_service.specs.Cost.{octets_at}
+use Rattle.spki_decision.specs.{Cost.{tuples_weight}, Granted.{NoneBefore}, CertificateTests.{with_entries}}
+use Rattle.spki_service.specs.{AccessLists.{AreEntries, ArePicked}, Cost.{octets_at}}
 use Rattle.spki_service.proofs.granted_entry.first_granted.Given as goal
 
 abbrev pub invariant-loop-number : goal.invariant-loop-number

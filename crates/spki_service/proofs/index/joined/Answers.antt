@@ -1,6 +1,4 @@
-use Rattle.std.proofs.Common.{rules}
-use Rattle.std.proofs.lemmas.List.{length-map}
-use Rattle.std.proofs.lemmas.Result.{IfOk-weaker}
+use Rattle.std.proofs.{Common.{rules}, lemmas.{List.{length-map}, Result.{IfOk-weaker}}}
 use Rattle.spki_service.proofs.IndexLaws.{merge-empty, empty-merge}
 use Rattle.spki_service.proofs.index.joined.Goals as goal
 

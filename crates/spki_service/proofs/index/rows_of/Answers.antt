@@ -1,9 +1,6 @@
-use Rattle.std.proofs.Common.{◌≡◌, ◌+◌, ◌<◌, ◌∷◌, ◌++◌, [], length, take, refl, arith, length-take-le, rules}
-use Rattle.std.proofs.lemmas.List.{take_more}
-use Rattle.spki_service.specs.declared.index.Row.{Row}
-use Rattle.spki_service.specs.AccessLists.{tail_of, octets_of}
-use Rattle.spki_service.proofs.SortedRows.{rows_more}
-use Rattle.spki_service.proofs.index.rows_of.Goals.{then-is_by+in_ok-push, else-is_by}
+use Rattle.std.proofs.{Common.{◌≡◌, ◌+◌, ◌<◌, ◌∷◌, ◌++◌, [], length, take, refl, arith, length-take-le, rules}, lemmas.List.{take_more}}
+use Rattle.spki_service.specs.{declared.index.Row.{Row}, AccessLists.{tail_of, octets_of}}
+use Rattle.spki_service.proofs.{SortedRows.{rows_more}, index.rows_of.Goals.{then-is_by+in_ok-push, else-is_by}}
 use Rattle.spki_service.proofs.index.rows_of.Goals as goal
 
 -- one entry more

@@ -1,7 +1,5 @@
-use Rattle.std.proofs.Common.{◌≡◌, ◌∙◌, ap, map, rules}
-use Rattle.std.specs.Ordering.{is_lt}
-use Rattle.std.specs.List.Sorted.{IsSortedByKey, IsStableBy}
-use Rattle.std.proofs.lemmas.Fn.{always_returns_same}
+use Rattle.std.proofs.{Common.{◌≡◌, ◌∙◌, ap, map, rules}, lemmas.Fn.{always_returns_same}}
+use Rattle.std.specs.{Ordering.{is_lt}, List.Sorted.{IsSortedByKey, IsStableBy}}
 use Rattle.spki_service.specs.AccessLists.{row_key, key_order, octets_of, rows_from}
 use Rattle.spki_service.proofs.SortedRows.{before, ranked, sorted_order, sorted_numbers, all_octets-owners}
 use Rattle.spki_service.proofs.index.sorted_rows.Goals as goal

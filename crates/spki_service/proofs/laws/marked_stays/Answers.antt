@@ -1,6 +1,5 @@
 use Rattle.std.proofs.Common.{◌∙◌, sym, subst}
-use Rattle.spki_service.specs.declared.owned_question.OwnedQuestion.{OwnedQuestion}
-use Rattle.spki_service.specs.GuardQuestions.{IsOpened}
+use Rattle.spki_service.specs.{declared.owned_question.OwnedQuestion.{OwnedQuestion}, GuardQuestions.{IsOpened}}
 use Rattle.spki_service.proofs.laws.marked_stays.Goals as goal
 
 pub returns : goal.returns

@@ -1,5 +1,4 @@
-use Rattle.spki_decision.proofs.OneDecision.{decision_one, explained_one, reduced_one}
-use Rattle.spki_decision.specs.CertificateTests.{with_entries}
+use Rattle.spki_decision.{proofs.OneDecision.{decision_one, explained_one, reduced_one}, specs.CertificateTests.{with_entries}}
 use Rattle.spki_service.proofs.AnswerLaws.{answer_one}
 use Rattle.spki_service.proofs.laws.one_answer.Goals as goal
 

@@ -1,5 +1,4 @@
-use Rattle.spki_service.proofs.ListReading.{list-one, list_fault-one, list_unrefused}
-use Rattle.spki_service.proofs.SelectedEntries.{entries_one}
+use Rattle.spki_service.proofs.{ListReading.{list-one, list_fault-one, list_unrefused}, SelectedEntries.{entries_one}}
 use Rattle.spki_service.proofs.laws.one_list.Goals as goal
 
 pub returns-clause-list : goal.returns-clause-list

@@ -1,8 +1,6 @@
 use Rattle.std.proofs.Common.{◌≡◌, inl, inr, subst, sym}
 use Rattle.spki_decision.proofs.OneDecision.{decision_one}
-use Rattle.spki_decision.specs.Granted.{IsYes}
-use Rattle.spki_decision.specs.declared.decision.Decision.TheVariants.{Yes}
-use Rattle.spki_decision.specs.CertificateTests.{every, with_entries}
+use Rattle.spki_decision.specs.{Granted.{IsYes}, declared.decision.Decision.TheVariants.{Yes}, CertificateTests.{every, with_entries}}
 use Rattle.spki_service.proofs.laws.possible.Goals as goal
 
 pub returns : goal.returns

@@ -1,7 +1,6 @@
 use Rattle.std.proofs.Common.{◌≡◌, ◌≢◌, inl, inr, Option, Some, rules}
-use Rattle.spki_tag.specs.declared.fault.TagFault.{TagFault}
+use Rattle.spki_tag.specs.{declared.fault.TagFault.{TagFault}, Faults.{IsNamed}}
 use Rattle.spki_tag.specs.declared.fault.TagFault.TheVariants as tag_faults
-use Rattle.spki_tag.specs.Faults.{IsNamed}
 use Rattle.spki_service.proofs.parts.request_at.Goals as goal
 
 request-named : (fault : TagFault) (found : Option TagFault) → IsNamed fault found → fault ≢ tag_faults.Memory → found ≡ Some fault

@@ -2,9 +2,7 @@
 use Rattle.std.proofs.Common.{List}
 use Rattle.spki_reduce.specs.Chain.{tuples_of}
 use Rattle.spki_case.specs.View.{model}
-use Rattle.spki_decision.specs.declared.reduction.EntryFold.{EntryFold}
-use Rattle.spki_decision.specs.Requirements.{work_left, IsBudgetFor}
-use Rattle.spki_decision.proofs.EntryChains.{ArePut}
+use Rattle.spki_decision.{specs.{declared.reduction.EntryFold.{EntryFold}, Requirements.{work_left, IsBudgetFor}}, proofs.EntryChains.{ArePut}}
 use Rattle.spki_service.proofs.AnswerLaws.{TextsTo}
 use Rattle.spki_service.proofs.text_folds.fold_texts.Given as goal
 

@@ -1,5 +1,4 @@
-use Rattle.spki_service.specs.Questions.{words_value}
-use Rattle.spki_service.proofs.PartTexts.{words_now, words_shallow, made_read}
+use Rattle.spki_service.{specs.Questions.{words_value}, proofs.PartTexts.{words_now, words_shallow, made_read}}
 use Rattle.spki_service.proofs.texts.wanted_text.Goals as goal
 
 pub returns-in-Text : goal.returns-in-Text

@@ -1,7 +1,5 @@
 use Rattle.std.proofs.Common.{◌≡◌, ◌+◌, ◌*◌, ◌≤◌, ◌++◌, false, drop}
-use Rattle.spki_tag.specs.Cost.{node_costs}
-use Rattle.spki_tag.specs.Tag.{tags, nodes, nodes_all}
-use Rattle.spki_tag.specs.Meet.{meet, each_meet, pairs, row, has_nothing, tags_at}
+use Rattle.spki_tag.specs.{Cost.{node_costs}, Tag.{tags, nodes, nodes_all}, Meet.{meet, each_meet, pairs, row, has_nothing, tags_at}}
 use Rattle.spki_tag.proofs.intersection.+meet.Given as goal
 
 abbrev pub decreases-meet_tags : goal.decreases-meet_tags

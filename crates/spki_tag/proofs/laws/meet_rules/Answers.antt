@@ -1,7 +1,5 @@
-use Rattle.std.proofs.Common.{refl, ap, rules}
-use Rattle.std.specs.Prelude.{if◌then◌else◌}
-use Rattle.spki_tag.specs.Tag.{tags}
-use Rattle.spki_tag.specs.Meet.{each_meet, listed, nothing}
+use Rattle.std.{proofs.Common.{refl, ap, rules}, specs.Prelude.{if◌then◌else◌}}
+use Rattle.spki_tag.specs.{Tag.{tags}, Meet.{each_meet, listed, nothing}}
 use Rattle.spki_tag.proofs.MeetSteps.{star_left, set_rule, string_rule, prefix_rule, range_rule, ordering_rule, list_rule, lists_and_strings}
 use Rattle.spki_tag.proofs.laws.meet_rules.Goals as goal
 

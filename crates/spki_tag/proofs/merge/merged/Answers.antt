@@ -1,7 +1,6 @@
 use Rattle.std.proofs.Common.{◌≤◌, length, ◌⊎◌, inl, inr}
-use Rattle.spki_tag.proofs.Places.{joined-end}
+use Rattle.spki_tag.proofs.{Places.{joined-end}, merge.merged.Goals.{then-loop-i-test+else-j-ys, else-loop-i-test}}
 use Rattle.spki_tag.proofs.merge.merged.Goals as goal
-use Rattle.spki_tag.proofs.merge.merged.Goals.{then-loop-i-test+else-j-ys, else-loop-i-test}
 
 pub returns : goal.returns
 returns c =

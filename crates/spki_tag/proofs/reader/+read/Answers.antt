@@ -1,6 +1,5 @@
 use Rattle.std.proofs.Common.{rules, arith}
-use Rattle.spki_tag.proofs.Named.{passed, so_far-named, tags_read}
-use Rattle.spki_tag.proofs.TagReading.{so_far_weight, read_so_far, members_read}
+use Rattle.spki_tag.proofs.{Named.{passed, so_far-named, tags_read}, TagReading.{so_far_weight, read_so_far, members_read}}
 use Rattle.spki_tag.proofs.reader.+read.Goals as goal
 
 pub read_members-read_tag-requires : goal.read_members-read_tag-requires

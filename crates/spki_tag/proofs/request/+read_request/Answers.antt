@@ -1,6 +1,5 @@
 use Rattle.std.proofs.Common.{rules, arith}
-use Rattle.spki_tag.proofs.RequestReading.{requests_read, so_far_weight, so_far_push, list_is_request, so_far-named}
-use Rattle.spki_tag.proofs.Named.{passed}
+use Rattle.spki_tag.proofs.{RequestReading.{requests_read, so_far_weight, so_far_push, list_is_request, so_far-named}, Named.{passed}}
 use Rattle.spki_tag.proofs.request.+read_request.Goals as goal
 
 pub read_request_members-read_request-requires : goal.read_request_members-read_request-requires

@@ -1,7 +1,6 @@
 use Rattle.std.proofs.Common.{◌+◌, ◌*◌, length}
 use Rattle.sexpr_core.specs.Value.{values}
-use Rattle.spki_tag.proofs.TagReading.{weight, weights}
-use Rattle.spki_tag.proofs.RequestReading.{AreReadSoFar}
+use Rattle.spki_tag.proofs.{TagReading.{weight, weights}, RequestReading.{AreReadSoFar}}
 use Rattle.spki_tag.proofs.request.+read_request.Given as goal
 
 abbrev pub decreases-read_request : goal.decreases-read_request

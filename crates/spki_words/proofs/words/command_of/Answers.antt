@@ -1,7 +1,7 @@
 use Rattle.std.proofs.Common.{◌∙◌, List, map, string_bytes, ap, sym, subst, Ok, Err, inl, inr}
 use Rattle.clap.specs.Words.{App, HasKind, Text, takes, is_simple, is_simple_and_free, kind_of, fault_of, subcommand_of}
-use Rattle.spki_words.specs.Words.{spki, subcommand_in}
 use Rattle.spki_words.proofs.CommandWords.{same_command, fault_found, memory_alone, name_read, word_met, simple, simple_and_free, word_taken, word_read}
+use Rattle.spki_words.specs.Words.{spki, subcommand_in}
 use Rattle.spki_words.proofs.words.command_of.Goals as goal
 
 pub met-requires : goal.met-requires

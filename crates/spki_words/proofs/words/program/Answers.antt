@@ -1,9 +1,6 @@
-use Rattle.std.proofs.Common.{◌∙◌, ◌||◌, fold, ap, ap₂, sym, subst, arith}
-use Rattle.std.proofs.lemmas.List.{take_all}
-use Rattle.std.proofs.lemmas.List.Sums.{fold_more}
+use Rattle.std.proofs.{Common.{◌∙◌, ◌||◌, fold, ap, ap₂, sym, subst, arith}, lemmas.List.{take_all, Sums.{fold_more}}}
 use Rattle.clap.specs.Words.{App, with_subcommand}
-use Rattle.spki_words.specs.Words.{commands, bare, with_command, IsProgram}
-use Rattle.spki_words.specs.declared.commands.Command.TheVariants.{Canonical}
+use Rattle.spki_words.specs.{Words.{commands, bare, with_command, IsProgram}, declared.commands.Command.TheVariants.{Canonical}}
 use Rattle.spki_words.proofs.words.program.Goals as goal
 
 pub loop-command-init : goal.loop-command-init

@@ -1,6 +1,5 @@
 use Rattle.std.proofs.Common.{◌≡◌, ◌∷◌, false, true}
-use Rattle.spki_reduce.specs.Chain.{tuples_of, SupportsNothing}
-use Rattle.spki_reduce.specs.Reduction.{five, five_tuple}
+use Rattle.spki_reduce.specs.{Chain.{tuples_of, SupportsNothing}, Reduction.{five, five_tuple}}
 use Rattle.test_callers.proofs.chains.grants.Goals as goal
 
 -- a chain that stops supports nothing, in no bracketing

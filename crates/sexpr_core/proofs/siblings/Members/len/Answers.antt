@@ -1,7 +1,5 @@
-use Rattle.std.proofs.Common.{inl, ◌-◌, arith}
-use Rattle.std.specs.List.{slice_range}
-use Rattle.sexpr_core.specs.Value.{nodes}
-use Rattle.sexpr_core.proofs.NodeLaws.{length-siblings-le}
+use Rattle.std.{proofs.Common.{inl, ◌-◌, arith}, specs.List.{slice_range}}
+use Rattle.sexpr_core.{specs.Value.{nodes}, proofs.NodeLaws.{length-siblings-le}}
 use Rattle.sexpr_core.proofs.siblings.Members.len.Goals as goal
 
 pub count-requires-clause-fits : goal.count-requires-clause-fits

@@ -1,5 +1,9 @@
 -- `into_box` makes the box again.
-use Rattle.std.proofs.Common.{◌≡◌, List, [], ◌∷◌, ◌++◌, refl, sym, ap, subst}
+use Rattle.std.proofs.{Common.{◌≡◌, List, [], ◌∷◌, ◌++◌, refl, sym, ap, subst}, alloc.{Calls.{Goes-blank}, Shapes.{after}}, cell.Inside.{Good}}
+use Rattle.std.proofs.raw_atomic.Walks.{proved_at, leaves}
+use Rattle.std_alloc.proofs.{BoxSteps.Steps.{box_out, box_in}, boxed.Box.from_raw.Met.{met}}
+use Rattle.spki_c.proofs.{BoxPointerValues.{both, BoxPointer, pointer_good, pointer_out}, box_pointer.BoxPointer.into_box.Statement.{statement}}
+use Rattle.spki_c.specs.contracts.box_pointer.BoxPointer.into_box.{ended, clauses, Key.{name as #self}}
 use mir.Syntax.{a_type, dcons, dnil}
 use mir.Val.{Val, vptr}
 use mir.MapTy.{inst_fn}
@@ -24,19 +28,9 @@ use denote.Triple.Clauses.{Lasts, lasts}
 use denote.Triple.Spec.{triple_of}
 use denote.Triple.Call.{calls_at_last}
 use denote.Triple.Walked.{Stays, stay_dropped, walk_of}
-use Rattle.std.proofs.alloc.Calls.{Goes-blank}
-use Rattle.std.proofs.alloc.Shapes.{after}
 use denote.Triple.Table.{framed}
-use Rattle.std.proofs.cell.Inside.{Good}
 use Rattle.std_alloc.proofs.BoxSteps.Form as box
-use Rattle.std_alloc.proofs.BoxSteps.Steps.{box_out, box_in}
-use Rattle.std.proofs.raw_atomic.Walks.{proved_at, leaves}
-use Rattle.spki_c.proofs.BoxPointerValues.{both, BoxPointer, pointer_good, pointer_out}
 use Rattle.std_alloc.specs.contracts.boxed.Box.from_raw as callee
-use Rattle.std_alloc.proofs.boxed.Box.from_raw.Met.{met}
-use Rattle.spki_c.specs.contracts.box_pointer.BoxPointer.into_box.{ended, clauses}
-use Rattle.spki_c.specs.contracts.box_pointer.BoxPointer.into_box.Key.{name as #self}
-use Rattle.spki_c.proofs.box_pointer.BoxPointer.into_box.Statement.{statement}
 use Rattle.spki_c.proofs.box_pointer.BoxPointer.into_box.Code as code
 
 pub into_box_spec : {M : Type 1} → statement M

@@ -1,5 +1,9 @@
 -- `of` takes the box apart.
-use Rattle.std.proofs.Common.{◌≡◌, List, [], ◌∷◌, ◌++◌, refl, sym, ap, ◌∙◌, subst}
+use Rattle.std.proofs.{Common.{◌≡◌, List, [], ◌∷◌, ◌++◌, refl, sym, ap, ◌∙◌, subst}, alloc.Calls.{Goes-blank, handle_tells}}
+use Rattle.std.proofs.raw_atomic.Walks.{proved_at, leaves}
+use Rattle.std_alloc.{specs.Box.Ownership.{box_owns}, proofs.{BoxSteps.Steps.{box_out, box_in}, boxed.Box.into_raw_with_allocator.Met.{met}}}
+use Rattle.spki_c.proofs.{BoxPointerValues.{both, pointer_good, pointer_in}, box_pointer.BoxPointer.of.Statement.{statement}}
+use Rattle.spki_c.specs.contracts.box_pointer.BoxPointer.of.{ended, clauses, Key.{name as #self}}
 use mir.Syntax.{a_type, dcons, dnil}
 use mir.Raw.{raw as bare}
 use mir.Val.{Val, vptr, vstruct, of_list}
@@ -26,18 +30,9 @@ use denote.Struct.Tuple.{Tuple}
 use denote.Triple.Spec.{triple_of}
 use denote.Triple.Call.{calls_at}
 use denote.Triple.Walked.{Stays, stay_dropped, walk_of}
-use Rattle.std.proofs.alloc.Calls.{Goes-blank, handle_tells}
 use denote.Triple.Table.{framed}
-use Rattle.std_alloc.specs.Box.Ownership.{box_owns}
 use Rattle.std_alloc.proofs.BoxSteps.Form as box
-use Rattle.std_alloc.proofs.BoxSteps.Steps.{box_out, box_in}
-use Rattle.std.proofs.raw_atomic.Walks.{proved_at, leaves}
-use Rattle.spki_c.proofs.BoxPointerValues.{both, pointer_good, pointer_in}
 use Rattle.std_alloc.specs.contracts.boxed.Box.into_raw_with_allocator as callee
-use Rattle.std_alloc.proofs.boxed.Box.into_raw_with_allocator.Met.{met}
-use Rattle.spki_c.specs.contracts.box_pointer.BoxPointer.of.{ended, clauses}
-use Rattle.spki_c.specs.contracts.box_pointer.BoxPointer.of.Key.{name as #self}
-use Rattle.spki_c.proofs.box_pointer.BoxPointer.of.Statement.{statement}
 use Rattle.spki_c.proofs.box_pointer.BoxPointer.of.Code as code
 
 pub of_spec : {M : Type 1} → statement M

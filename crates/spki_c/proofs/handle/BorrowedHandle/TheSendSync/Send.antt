@@ -5,11 +5,9 @@ use denote.Struct.Struct.{exits_of}
 use denote.Struct.Owning.{shape, fields, to}
 use denote.Param.Send.{IsSend, AllSend, owning_send, struct_send, sendable}
 use Rattle.std_alloc.proofs.SendSync.{quiet, seen}
-use Rattle.spki_c.specs.contracts.handle_value.HandleValue as content
-use Rattle.spki_c.specs.declared.handle_value.HandleValue.{HandleValue}
+use Rattle.spki_c.specs.{declared.handle_value.HandleValue.{HandleValue}, Pointers.{held_lent}, contracts.handle.BorrowedHandle.{the_row, the_type}}
 use Rattle.spki_c.proofs.handle_value.HandleValue.TheSendSync.{the_sync as content_sync}
-use Rattle.spki_c.specs.Pointers.{held_lent}
-use Rattle.spki_c.specs.contracts.handle.BorrowedHandle.{the_row, the_type}
+use Rattle.spki_c.specs.contracts.handle_value.HandleValue as content
 
 lent_keyless : (p : Ptr) (g : HandleValue) → Keyless (held_lent content.the_row p g)
 lent_keyless p g = λ s. (tt, seen content.the_row content_sync p g s.0)

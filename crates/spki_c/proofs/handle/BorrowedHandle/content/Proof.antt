@@ -1,6 +1,8 @@
 -- `content` reads through the pointer of a handle that is lent, for as long as the handle is borrowed.
-use Rattle.std.proofs.Common.{List, [], ◌∷◌, refl, sym, ap, ◌∙◌}
-use Rattle.std.proofs.raw_atomic.Walks.{proved}
+use Rattle.std.proofs.{Common.{List, [], ◌∷◌, refl, sym, ap, ◌∙◌}, raw_atomic.Walks.{proved}, VecSteps.Shapes.{after}}
+use Rattle.spki_c.proofs.{handle_value.HandleValue.TheLaws.{the_row_laws}, handle.BorrowedHandle.{TheLaws.{lowers}, content.Statement.{statement}}}
+use Rattle.spki_c.proofs.Lending.{twice, lends}
+use Rattle.spki_c.specs.contracts.{handle_value.HandleValue.{the_row as G}, handle.BorrowedHandle.{the_row as R, the_type}}
 use mir.Syntax.{named}
 use mir.Val.{Val, vptr}
 use base.Fraction.{full_share}
@@ -22,15 +24,8 @@ use denote.Signature.{plain}
 use denote.Steps.{nothing, opens, peeks, heard}
 use denote.Struct.Lending.{lent_at, in_block_says}
 use denote.Triple.Walked.{Stays, walk_of, says, stay_dropped, Goes-spent_ref, ends_at}
-use Rattle.std.proofs.VecSteps.Shapes.{after}
-use Rattle.spki_c.specs.contracts.handle_value.HandleValue.{the_row as G}
-use Rattle.spki_c.specs.contracts.handle.BorrowedHandle.{the_row as R, the_type}
-use Rattle.spki_c.proofs.handle_value.HandleValue.TheLaws.{the_row_laws}
 use Rattle.spki_c.specs.contracts.handle.BorrowedHandle.content as f
-use Rattle.spki_c.proofs.handle.BorrowedHandle.TheLaws.{lowers}
-use Rattle.spki_c.proofs.handle.BorrowedHandle.content.Statement.{statement}
 use Rattle.spki_c.proofs.handle.BorrowedHandle.content.Code as code
-use Rattle.spki_c.proofs.Lending.{twice, lends}
 
 abbrev stayed : Stays f.ended.signature.params f.ended.kept
 stayed = (stay_dropped _ no, tt)

@@ -6,14 +6,11 @@ use denote.RawPtr.{Ptr}
 use denote.Struct.Struct.{exits_of}
 use denote.Struct.Owning.{shape, fields, to}
 use denote.Param.Send.{IsSend, AllSend, owning_send, struct_send, sendable}
-use Rattle.std.specs.Prelude.{Option, Some, None}
-use Rattle.std.proofs.Crossing.{frees}
+use Rattle.std.{specs.Prelude.{Option, Some, None}, proofs.Crossing.{frees}}
 use Rattle.std_alloc.proofs.SendSync.{quiet, lies}
-use Rattle.spki_c.specs.contracts.handle_value.HandleValue as content
-use Rattle.spki_c.specs.declared.handle_value.HandleValue.{HandleValue}
+use Rattle.spki_c.specs.{declared.handle_value.HandleValue.{HandleValue}, Pointers.{heap, held_owns}, contracts.handle.Handle.{the_row, the_type}}
 use Rattle.spki_c.proofs.handle_value.HandleValue.TheSendSync.{the_send as content_send}
-use Rattle.spki_c.specs.Pointers.{heap, held_owns}
-use Rattle.spki_c.specs.contracts.handle.Handle.{the_row, the_type}
+use Rattle.spki_c.specs.contracts.handle_value.HandleValue as content
 
 held_keyless : (p : Ptr) (held : Option HandleValue) → Keyless (held_owns content.the_row p held)
 held_keyless p None = tt

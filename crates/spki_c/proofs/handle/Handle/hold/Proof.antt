@@ -1,5 +1,8 @@
 -- `hold` writes the pointer into the handle, which owns the box from then on.
-use Rattle.std.proofs.Common.{◌≡◌, List, [], ◌∷◌, ◌++◌, refl, sym, subst}
+use Rattle.std.proofs.{Common.{◌≡◌, List, [], ◌∷◌, ◌++◌, refl, sym, subst}, raw_atomic.Walks.{proved_at}}
+use Rattle.std.specs.{Prelude.{None, Some}, contracts.impls.GlobalAllocator.TheImpl.{ghosts}}
+use Rattle.spki_c.specs.contracts.{handle_value.HandleValue.{the_row as G}, handle.Handle.{the_row as R, the_type}}
+use Rattle.spki_c.proofs.{BoxPointerValues.{both, pointer_good, pointer_out}, handle.Handle.{TheLaws.{lowers}, hold.Statement.{statement}}}
 use mir.Syntax.{named}
 use mir.Val.{Val, vptr, vunit}
 use base.Fraction.{full_share}
@@ -23,18 +26,10 @@ use denote.Steps.{nothing, heard, peeks, opens, closes}
 use denote.Struct.Owning.{shape}
 use denote.Struct.Struct.{within}
 use denote.Triple.Walked.{Stays, stay_dropped, stay_ref, walk_of, Goes-dropped, Goes-ref, says, ends_at}
-use Rattle.std.specs.Prelude.{None, Some}
 use Rattle.std.specs.contracts.alloc.Global as heap
 use Rattle.std.proofs.alloc.Global.TheLaws as heap_laws
-use Rattle.std.specs.contracts.impls.GlobalAllocator.TheImpl.{ghosts}
-use Rattle.std.proofs.raw_atomic.Walks.{proved_at}
-use Rattle.spki_c.specs.contracts.handle_value.HandleValue.{the_row as G}
-use Rattle.spki_c.specs.contracts.handle.Handle.{the_row as R, the_type}
 use Rattle.spki_c.specs.contracts.box_pointer.BoxPointer as box_pointer
 use Rattle.spki_c.specs.contracts.handle.Handle.hold as f
-use Rattle.spki_c.proofs.BoxPointerValues.{both, pointer_good, pointer_out}
-use Rattle.spki_c.proofs.handle.Handle.TheLaws.{lowers}
-use Rattle.spki_c.proofs.handle.Handle.hold.Statement.{statement}
 use Rattle.spki_c.proofs.handle.Handle.hold.Code as code
 
 abbrev B : RattleType

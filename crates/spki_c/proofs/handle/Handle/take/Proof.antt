@@ -1,5 +1,9 @@
 -- `take` takes the handle apart.
-use Rattle.std.proofs.Common.{◌≡◌, List, [], ◌∷◌, ◌++◌, refl, sym, ap, ◌∙◌, subst}
+use Rattle.std.proofs.{Common.{◌≡◌, List, [], ◌∷◌, ◌++◌, refl, sym, ap, ◌∙◌, subst}, alloc.Calls.{Al, handle_tells}, raw_atomic.Walks.{proved_at}}
+use Rattle.std.specs.{Prelude.{Option, None, Some, IsSome}, contracts.impls.GlobalAllocator.TheImpl.{ghosts}}
+use Rattle.std_alloc.specs.Box.Ownership.{box_owns}
+use Rattle.spki_c.specs.{Pointers.{held_owns, heap as global}, contracts.{handle_value.HandleValue.{the_row as G}, handle.Handle.{the_row as R}}}
+use Rattle.spki_c.proofs.{BoxPointerValues.{both, pointer_good, pointer_in}, handle.Handle.{TheLaws.{lowers}, take.Statement.{statement}}}
 use mir.Raw.{raw as bare}
 use mir.Val.{Val, vptr, vstruct, vcons, vnil}
 use base.Logic.{SProp, ent, never, id⊢, fst∗}
@@ -21,21 +25,10 @@ use denote.Signature.{plain}
 use denote.Steps.{nothing, heard, peeks}
 use denote.Triple.Walked.{Stays, stay_dropped, walk_of, Goes-dropped, says, ends_at}
 use mir.Syntax.{impl, tnil, dnil}
-use Rattle.std.specs.Prelude.{Option, None, Some, IsSome}
 use Rattle.std.specs.contracts.alloc.Global as heap
 use Rattle.std.proofs.alloc.Global.TheLaws as heap_laws
-use Rattle.std.specs.contracts.impls.GlobalAllocator.TheImpl.{ghosts}
-use Rattle.std.proofs.alloc.Calls.{Al, handle_tells}
-use Rattle.std.proofs.raw_atomic.Walks.{proved_at}
-use Rattle.std_alloc.specs.Box.Ownership.{box_owns}
-use Rattle.spki_c.specs.Pointers.{held_owns, heap as global}
-use Rattle.spki_c.specs.contracts.handle_value.HandleValue.{the_row as G}
-use Rattle.spki_c.specs.contracts.handle.Handle.{the_row as R}
 use Rattle.spki_c.specs.contracts.box_pointer.BoxPointer as box_pointer
 use Rattle.spki_c.specs.contracts.handle.Handle.take as f
-use Rattle.spki_c.proofs.BoxPointerValues.{both, pointer_good, pointer_in}
-use Rattle.spki_c.proofs.handle.Handle.TheLaws.{lowers}
-use Rattle.spki_c.proofs.handle.Handle.take.Statement.{statement}
 use Rattle.spki_c.proofs.handle.Handle.take.Code as code
 
 abbrev stayed : Stays f.ended.signature.params f.ended.kept

@@ -1,8 +1,6 @@
 use Rattle.std.proofs.Common.{◌≡◌, ◌<◌, length, Bool, true, false, IsTrue, refl, sym, ap, subst, arith}
 use Rattle.spki_service.specs.declared.owned_question.OwnedQuestion.{OwnedQuestion}
-use Rattle.spki_c.specs.declared.handle_value.HandleValue.{HandleValue}
-use Rattle.spki_c.specs.declared.handle_value.HandleValue.TheVariants.{Question}
-use Rattle.spki_c.specs.HandleValues.{IsMarkedBy}
+use Rattle.spki_c.specs.{declared.handle_value.HandleValue.{HandleValue, TheVariants.{Question}}, HandleValues.{IsMarkedBy}}
 use Rattle.spki_c.proofs.handle_value.HandleValue.mark.Goals as goal
 
 none : (b : Bool) → ¬ IsTrue b → b ≡ false

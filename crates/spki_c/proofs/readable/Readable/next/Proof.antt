@@ -1,5 +1,9 @@
 -- `next` gives the first text of what the array owns.
-use Rattle.std.proofs.Common.{◌≡◌, ℕ, ◌<◌, ◌^◌, List, [], ◌∷◌, ◌++◌, refl, sym, ap, ◌∙◌, subst, w64}
+use Rattle.std.proofs.{Common.{◌≡◌, ℕ, ◌<◌, ◌^◌, List, [], ◌∷◌, ◌++◌, refl, sym, ap, ◌∙◌, subst, w64}, raw_atomic.Walks.{proved_at}}
+use Rattle.spki_c.specs.declared.text.Text.{Text}
+use Rattle.spki_c.specs.contracts.{text.Text.{the_row as X, the_type}, readable.{TextPlace.{the_row as P}, Readable.{the_row as R}}}
+use Rattle.spki_c.specs.Readables.{texts_own, place_of}
+use Rattle.spki_c.proofs.{Counted.{pointer_typed}, readable.{TextPlace.TheLaws.{lowers}, Readable.next.Statement.{statement}}}
 use mir.Syntax.{named, ty_ptr}
 use lib.Dec.{T, lit<}
 use mathlib.Core.Bool.{◌&&◌, true}
@@ -26,16 +30,7 @@ use denote.Steps.{nothing, owned, heard, peeks, opens, closes}
 use denote.Struct.Owning.{shape}
 use denote.Struct.Struct.{within}
 use denote.Triple.Walked.{Stays, stay_dropped, stay_ref, walk_of, Goes-dropped, Goes-ref, says, ends_at}
-use Rattle.std.proofs.raw_atomic.Walks.{proved_at}
-use Rattle.spki_c.specs.declared.text.Text.{Text}
-use Rattle.spki_c.specs.contracts.text.Text.{the_row as X, the_type}
-use Rattle.spki_c.specs.contracts.readable.TextPlace.{the_row as P}
-use Rattle.spki_c.specs.contracts.readable.Readable.{the_row as R}
-use Rattle.spki_c.specs.Readables.{texts_own, place_of}
 use Rattle.spki_c.specs.contracts.readable.Readable.next as f
-use Rattle.spki_c.proofs.Counted.{pointer_typed}
-use Rattle.spki_c.proofs.readable.TextPlace.TheLaws.{lowers}
-use Rattle.spki_c.proofs.readable.Readable.next.Statement.{statement}
 use Rattle.spki_c.proofs.readable.Readable.next.Code as code
 
 abbrev stayed : Stays f.ended.signature.params f.ended.kept

@@ -2,9 +2,10 @@
 use seplogic.Ra.Ura.{Ura}
 use types.Logic.{Logic, sem}
 use base.Logic.{ent, sep}
-use Rattle.std.proofs.Common.{◌≡◌, ℕ, List, [], ◌∷◌, refl, sym, ap, ◌∙◌, Bool, true, false}
-use Rattle.std.proofs.raw_atomic.Walks.{proved}
+use Rattle.std.proofs.{Common.{◌≡◌, ℕ, List, [], ◌∷◌, refl, sym, ap, ◌∙◌, Bool, true, false}, raw_atomic.Walks.{proved}}
 use Rattle.std.specs.Prelude.{◌↔◌, IsTrue}
+use Rattle.spki_c.specs.{Pointers.{IsCounted}, contracts.text.Text.{the_row as R}}
+use Rattle.spki_c.proofs.{Counted.{pointer_typed}, text.Text.{TheLaws.{lowers}, is_null.Statement.{statement}}}
 use lib.Dec.{T, lit<}
 use mir.Syntax.{named, ty_ptr, ptr_eq}
 use mir.Val.{Val, vbool, vnull, op2_val, has_ty, WT}
@@ -24,12 +25,7 @@ use denote.Ref.{MutRef, mut_vals, mut_Tells}
 use denote.Signature.{plain}
 use denote.Steps.{nothing, opens, closes, peeks}
 use denote.Triple.Walked.{Stays, walk_of, says, stay_ref, Goes-ref, ends_at}
-use Rattle.spki_c.specs.Pointers.{IsCounted}
-use Rattle.spki_c.proofs.Counted.{pointer_typed}
-use Rattle.spki_c.specs.contracts.text.Text.{the_row as R}
 use Rattle.spki_c.specs.contracts.text.Text.is_null as f
-use Rattle.spki_c.proofs.text.Text.TheLaws.{lowers}
-use Rattle.spki_c.proofs.text.Text.is_null.Statement.{statement}
 use Rattle.spki_c.proofs.text.Text.is_null.Code as code
 
 abbrev stayed : Stays f.ended.signature.params f.ended.kept

@@ -1,6 +1,8 @@
 -- `slice` reads through the pointer, for as long as the struct is borrowed.
-use Rattle.std.proofs.Common.{◌≡◌, ◌≢◌, ℕ, ◌<◌, ◌^◌, ◌*◌, List, [], ◌∷◌, length, refl, sym, ap, ◌∙◌, subst, arith, w64}
-use Rattle.std.proofs.raw_atomic.Walks.{proved}
+use Rattle.std.proofs.{Common.{◌≡◌, ◌≢◌, ℕ, ◌<◌, ◌^◌, ◌*◌, List, [], ◌∷◌, length, refl, sym, ap, ◌∙◌, subst, arith, w64}, raw_atomic.Walks.{proved}}
+use Rattle.std.proofs.VecSteps.Shapes.{after}
+use Rattle.spki_c.specs.{Pointers.{held_lent, IsCounted, lent_there, text_owns}, contracts.text.Text.{the_row as R, the_type}}
+use Rattle.spki_c.proofs.{Counted.{in_block, are_low}, text.Text.{TheLaws.{lowers}, slice.Statement.{statement}}, Lending.{twice, lends}}
 use mir.Syntax.{named}
 use mir.Val.{Val, vptr, vint}
 use base.Fraction.{full_share}
@@ -29,15 +31,8 @@ use denote.Slice.{slice_val}
 use denote.Steps.{nothing, opens, peeks, heard}
 use denote.Struct.Lending.{lent_at}
 use denote.Triple.Walked.{Stays, walk_of, says, stay_dropped, Goes-spent_ref, Goes-dropped, ends_at}
-use Rattle.std.proofs.VecSteps.Shapes.{after}
-use Rattle.spki_c.specs.Pointers.{held_lent, IsCounted, lent_there, text_owns}
-use Rattle.spki_c.proofs.Counted.{in_block, are_low}
-use Rattle.spki_c.specs.contracts.text.Text.{the_row as R, the_type}
 use Rattle.spki_c.specs.contracts.text.Text.slice as f
-use Rattle.spki_c.proofs.text.Text.TheLaws.{lowers}
-use Rattle.spki_c.proofs.text.Text.slice.Statement.{statement}
 use Rattle.spki_c.proofs.text.Text.slice.Code as code
-use Rattle.spki_c.proofs.Lending.{twice, lends}
 
 abbrev stayed : Stays f.ended.signature.params f.ended.kept
 stayed = (stay_dropped _ no, (stay_dropped _ yes, tt))

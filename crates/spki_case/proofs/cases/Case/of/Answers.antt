@@ -1,14 +1,10 @@
 use Rattle.std.proofs.Common.{◌≢◌, refl, sym, ◌∙◌, rules, inl, inr, Option, Some, ◌≡◌}
-use Rattle.spki_cert.specs.declared.fault.CertFaultKind.TheVariants as kinds
-use Rattle.spki_cert.proofs.EntryFaultNone.{acl-refused}
-use Rattle.spki_cert.proofs.SequenceFaultNone.{sequence-refused}
+use Rattle.spki_cert.proofs.{EntryFaultNone.{acl-refused}, SequenceFaultNone.{sequence-refused}}
 use Rattle.spki_case.specs.Case.{Parts, acl_value, sequence_value, ReadsRows, ReadsItems, ReadsKey, ReadsRequest}
-use Rattle.spki_case.proofs.OneCase.{lacks}
-use Rattle.spki_case.proofs.RowFaults.{rows-refused}
-use Rattle.spki_case.proofs.Signed.{signed}
-use Rattle.spki_tag.specs.declared.fault.TagFault.{TagFault}
+use Rattle.spki_case.proofs.{OneCase.{lacks}, RowFaults.{rows-refused}, Signed.{signed}}
+use Rattle.spki_tag.specs.{declared.fault.TagFault.{TagFault}, Faults.{IsNamed}}
+use Rattle.spki_cert.specs.declared.fault.CertFaultKind.TheVariants as kinds
 use Rattle.spki_tag.specs.declared.fault.TagFault.TheVariants as tag_faults
-use Rattle.spki_tag.specs.Faults.{IsNamed}
 use Rattle.spki_case.proofs.cases.Case.of.Goals as goal
 
 request-named : (fault : TagFault) (found : Option TagFault) → IsNamed fault found → fault ≢ tag_faults.Memory → found ≡ Some fault

@@ -1,11 +1,9 @@
 use Rattle.std.proofs.Common.{◌≡◌, true, false, sym, ◌∙◌, subst, Option, Some}
 use Rattle.spki_reduce.specs.Reduction.{entry_tuple}
 use Rattle.spki_case.specs.View.{model}
-use Rattle.spki_decision.specs.declared.required_subject.RequiredSubject.{RequiredSubject}
-use Rattle.spki_decision.specs.Granted.{Supported}
-use Rattle.spki_decision.specs.Requirements.{IsMetBy}
-use Rattle.spki_decision.proofs.chain_requirement.ChainRequirement.grants_counted.Goals as goal
+use Rattle.spki_decision.specs.{declared.required_subject.RequiredSubject.{RequiredSubject}, Granted.{Supported}, Requirements.{IsMetBy}}
 use Rattle.spki_decision.proofs.chain_requirement.ChainRequirement.grants_counted.Goals.{then-is_met_by, else-is_met_by}
+use Rattle.spki_decision.proofs.chain_requirement.ChainRequirement.grants_counted.Goals as goal
 
 pub returns-in-None-clause-answer : goal.returns-in-None-clause-answer
 returns-in-None-clause-answer g c tuples is =

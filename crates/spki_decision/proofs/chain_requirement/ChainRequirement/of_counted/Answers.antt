@@ -1,8 +1,7 @@
 use Rattle.std.proofs.Common.{◌≡◌, true, false, [], None, sym, ◌∙◌, refl}
 use Rattle.spki_case.specs.View.{model}
 use Rattle.spki_reduce.specs.Chain.{tuples_of}
-use Rattle.spki_decision.proofs.ChainRequirements.{no_member, members}
-use Rattle.spki_decision.proofs.Until.{no_end}
+use Rattle.spki_decision.proofs.{ChainRequirements.{no_member, members}, Until.{no_end}}
 use Rattle.spki_decision.proofs.chain_requirement.ChainRequirement.of_counted.Goals as goal
 
 pub returns-then-not-all_contain-clause-answer : goal.returns-then-not-all_contain-clause-answer

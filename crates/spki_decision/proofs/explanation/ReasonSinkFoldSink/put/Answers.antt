@@ -1,5 +1,4 @@
-use Rattle.std.proofs.Common.{ap, subst}
-use Rattle.std.proofs.lemmas.Slice.Zip.{all_zipped_more}
+use Rattle.std.proofs.{Common.{ap, subst}, lemmas.Slice.Zip.{all_zipped_more}}
 use Rattle.spki_case.specs.View.{model}
 use Rattle.spki_decision.specs.Explained.{IsReasonFor}
 use Rattle.spki_decision.proofs.explanation.ReasonSinkFoldSink.put.Goals as goal

@@ -1,6 +1,5 @@
 use Rattle.std.proofs.Common.{◌<◌, length, refl, rules}
-use Rattle.spki_guard.specs.Lines.{verdict_of, some_done}
-use Rattle.spki_guard.proofs.ReportLines.{none_long, reported_as}
+use Rattle.spki_guard.{specs.Lines.{verdict_of, some_done}, proofs.ReportLines.{none_long, reported_as}}
 use Rattle.spki_guard.proofs.fold_printer.FoldPrinter.end.Goals as goal
 
 pub returns-then-self-eq0-clause-large : goal.returns-then-self-eq0-clause-large

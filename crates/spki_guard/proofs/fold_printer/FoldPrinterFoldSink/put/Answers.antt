@@ -1,7 +1,6 @@
 use Rattle.std.proofs.Common.{◌≡◌, ◌||◌, refl, rules}
 use Rattle.spki_guard.specs.Lines.{is_done}
-use Rattle.spki_guard.proofs.ReportLines.{printed, longer, still_long}
-use Rattle.spki_guard.proofs.fold_printer.FoldPrinterFoldSink.put.Goals.{then-self, else-self}
+use Rattle.spki_guard.proofs.{ReportLines.{printed, longer, still_long}, fold_printer.FoldPrinterFoldSink.put.Goals.{then-self, else-self}}
 use Rattle.spki_guard.proofs.fold_printer.FoldPrinterFoldSink.put.Goals as goal
 
 pub returns-then-self-2 : goal.returns-then-self-2

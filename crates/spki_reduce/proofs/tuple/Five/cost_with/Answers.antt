@@ -1,9 +1,6 @@
-use Rattle.std.proofs.Common.{rules, refl, sym, ◌∙◌}
-use Rattle.std.proofs.lemmas.Bool.{both_ways}
-use Rattle.spki_reduce.specs.declared.tuple.Step.TheVariants.{Auth, Name}
-use Rattle.spki_reduce.specs.Reduction.{step_tuple}
+use Rattle.std.proofs.{Common.{rules, refl, sym, ◌∙◌}, lemmas.Bool.{both_ways}}
+use Rattle.spki_reduce.specs.{declared.tuple.Step.TheVariants.{Auth, Name}, Reduction.{step_tuple}, Chain.{step_cost}}
 use Rattle.spki_reduce.proofs.Costs.{costs_nothing, unjoined}
-use Rattle.spki_reduce.specs.Chain.{step_cost}
 use Rattle.spki_reduce.proofs.tuple.Five.cost_with.Goals as goal
 
 pub returns-then-is_ok : goal.returns-then-is_ok

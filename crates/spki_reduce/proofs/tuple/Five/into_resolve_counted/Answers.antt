@@ -1,7 +1,5 @@
 use Rattle.std.proofs.Common.{arith, rules}
-use Rattle.spki_reduce.specs.Reduction.{four, five_tuple, four_tuple}
-use Rattle.spki_reduce.specs.Chain.{Reaches}
-use Rattle.spki_reduce.proofs.Costs.{resolved-cost}
+use Rattle.spki_reduce.{specs.{Reduction.{four, five_tuple, four_tuple}, Chain.{Reaches}}, proofs.Costs.{resolved-cost}}
 use Rattle.spki_reduce.proofs.tuple.Five.into_resolve_counted.Goals as goal
 
 pub returns-in-Ok-clause-cost : goal.returns-in-Ok-clause-cost

@@ -1,12 +1,7 @@
 use Rattle.std.proofs.Common.{◌<◌, arith, rules}
-use Rattle.spki_reduce.specs.Reduction.{five, five_tuple}
-use Rattle.spki_reduce.specs.declared.tuple.Five.{Five}
-use Rattle.spki_reduce.specs.declared.fold.Joined.{Joined}
-use Rattle.spki_reduce.specs.declared.fold.Joined.TheVariants.{Done, Stopped}
-use Rattle.spki_reduce.specs.Joining.{MatchJoined}
-use Rattle.spki_reduce.specs.Chain.{Reaches}
-use Rattle.spki_reduce.proofs.Costs.{joined-cost}
-use Rattle.spki_reduce.proofs.ReducedForms.{along, narrowed_joins, stops_by_tags}
+use Rattle.spki_reduce.specs.{Reduction.{five, five_tuple}, declared.{tuple.Five.{Five}, fold.Joined.{Joined, TheVariants.{Done, Stopped}}}}
+use Rattle.spki_reduce.specs.{Joining.{MatchJoined}, Chain.{Reaches}}
+use Rattle.spki_reduce.proofs.{Costs.{joined-cost}, ReducedForms.{along, narrowed_joins, stops_by_tags}}
 use Rattle.spki_reduce.proofs.tuple.Five.into_then.Goals as goal
 
 always : (joined : Joined Five) (P : Type 0) → P → MatchJoined joined (λ f. P) (λ cause. Unit {0})

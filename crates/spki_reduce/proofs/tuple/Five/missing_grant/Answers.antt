@@ -1,5 +1,4 @@
-use Rattle.std.proofs.Common.{Some, None, rules}
-use Rattle.std.proofs.lemmas.Bool.{both_ways}
+use Rattle.std.proofs.{Common.{Some, None, rules}, lemmas.Bool.{both_ways}}
 use Rattle.spki_reduce.specs.declared.last_tests.MissingGrant.TheVariants.{NotTheKey, TagLacks, WindowLacks}
 use Rattle.spki_reduce.proofs.ReducedForms.{is_for, is_for_back, supported}
 use Rattle.spki_reduce.proofs.tuple.Five.missing_grant.Goals as goal

@@ -1,9 +1,7 @@
-use Rattle.std.proofs.Common.{[], ◌∷◌, ◌++◌, map, ap, ◌∙◌, refl}
-use Rattle.std.specs.Prelude.{codes}
+use Rattle.std.{proofs.Common.{[], ◌∷◌, ◌++◌, map, ap, ◌∙◌, refl}, specs.Prelude.{codes}}
 use Rattle.sexpr_core.specs.Value.{Value, plain, group, sexp_value}
 use Rattle.spki_tag.specs.Tag.{tag_value}
-use Rattle.spki_reduce.specs.Written.{headed, named, delegation_values, in_valid, window_limits}
-use Rattle.spki_reduce.proofs.WrittenNames.{five_members}
+use Rattle.spki_reduce.{specs.Written.{headed, named, delegation_values, in_valid, window_limits}, proofs.WrittenNames.{five_members}}
 use Rattle.spki_reduce.proofs.tuple.Five.write.Goals as goal
 
 pub returns : goal.returns

@@ -1,6 +1,5 @@
 use Rattle.std.proofs.Common.{sym, ◌∙◌, rules}
-use Rattle.spki_service.proofs.IndexLaws.{numbers_none}
-use Rattle.spki_service.proofs.SelectedEntries.{entries_one}
+use Rattle.spki_service.proofs.{IndexLaws.{numbers_none}, SelectedEntries.{entries_one}}
 use Rattle.spki_service.proofs.guard.Guard.numbers_of.Goals as goal
 
 pub returns-in-None : goal.returns-in-None

@@ -1,7 +1,5 @@
-use Rattle.std.proofs.Common.{◌≡◌, ◌∙◌, ap, length, arith}
-use Rattle.std.proofs.lemmas.List.{length-map}
-use Rattle.spki_cert.specs.declared.entry.Entry.{Entry}
-use Rattle.spki_cert.proofs.EntryFaultNone.{acl-refused}
+use Rattle.std.proofs.{Common.{◌≡◌, ◌∙◌, ap, length, arith}, lemmas.List.{length-map}}
+use Rattle.spki_cert.{specs.declared.entry.Entry.{Entry}, proofs.EntryFaultNone.{acl-refused}}
 use Rattle.spki_service.proofs.ListReading.{named_fault, texts_held, value_held, many}
 use Rattle.spki_service.proofs.guard.Guard.of.Goals as goal
 

@@ -1,10 +1,7 @@
-use Rattle.std.proofs.Common.{◌≡◌, ◌∙◌, ap, map, None, Some}
-use Rattle.std.proofs.lemmas.Result.{IfOk-weaker}
-use Rattle.spki_cert.specs.declared.hash.HashAlg.TheVariants.{Sha1, Sha256, Sha512}
-use Rattle.spki_cert.specs.Naming.{names}
-use Rattle.spki_service.specs.AccessLists.{numbers_from, numbers_with, row_number}
+use Rattle.std.proofs.{Common.{◌≡◌, ◌∙◌, ap, map, None, Some}, lemmas.Result.{IfOk-weaker}}
+use Rattle.spki_cert.specs.{declared.hash.HashAlg.TheVariants.{Sha1, Sha256, Sha512}, Naming.{names}}
+use Rattle.spki_service.{specs.AccessLists.{numbers_from, numbers_with, row_number}, proofs.IndexLaws.{found_all}}
 use Rattle.spki_tag.specs.Places.{merge}
-use Rattle.spki_service.proofs.IndexLaws.{found_all}
 use Rattle.spki_service.proofs.index.EntryIndex.found.Goals as goal
 
 -- the numbers of the key itself, and those of its hashes

@@ -1,9 +1,7 @@
 use Rattle.std.proofs.Common.{◌≡◌, ap, sym, map, length, drop, true, false, leb, ltb, rules}
-use Rattle.std.specs.Prelude.{slice_range}
-use Rattle.std.specs.List.Sorted.{IsPartitionedBy, IsPartitionPoint}
 use Rattle.std.proofs.lemmas.List.Sorted.{IsPartitionPoint-from_clause, IsPartitionedBy-leb, IsPartitionedBy-ltb, IsNonDecreasingBy-drop}
-use Rattle.spki_service.specs.AccessLists.{row_number}
-use Rattle.spki_service.proofs.SortedRows.{rank, rises, found, lower_is, upper_is, to_end}
+use Rattle.std.specs.{Prelude.{slice_range}, List.Sorted.{IsPartitionedBy, IsPartitionPoint}}
+use Rattle.spki_service.{specs.AccessLists.{row_number}, proofs.SortedRows.{rank, rises, found, lower_is, upper_is, to_end}}
 use Rattle.spki_service.proofs.index.EntryIndex.rows_at.Goals as goal
 
 pub returns : goal.returns

@@ -1,7 +1,5 @@
 use Rattle.std.proofs.Common.{◌<◌, ◌≤◌, subst, sym, arith, ap, ◌∙◌, length}
-use Rattle.spki_service.specs.declared.texts.Texts.{Texts}
-use Rattle.spki_service.specs.AccessLists.{GuardModel}
-use Rattle.spki_service.specs.GuardQuestions.{IsConditionalGrant, IsTextsOf}
+use Rattle.spki_service.specs.{declared.texts.Texts.{Texts}, AccessLists.{GuardModel}, GuardQuestions.{IsConditionalGrant, IsTextsOf}}
 use Rattle.spki_service.specs.Questions.{asked_octets}
 use Rattle.spki_service.proofs.owned_question.OwnedQuestion.open.Goals as goal
 

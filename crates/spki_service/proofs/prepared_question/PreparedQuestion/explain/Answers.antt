@@ -1,6 +1,5 @@
 use Rattle.std.proofs.Common.{ap, ◌∙◌, rules}
-use Rattle.spki_decision.specs.CertificateTests.{asked}
-use Rattle.spki_decision.proofs.ListedSignatures.{refused_within}
+use Rattle.spki_decision.{specs.CertificateTests.{asked}, proofs.ListedSignatures.{refused_within}}
 use Rattle.spki_service.proofs.AnswerLaws.{explained_all, explained_none, refused_there}
 use Rattle.spki_service.proofs.prepared_question.PreparedQuestion.explain.Goals as goal
 

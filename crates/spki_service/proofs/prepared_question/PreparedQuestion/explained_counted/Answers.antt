@@ -1,11 +1,7 @@
-use Rattle.std.proofs.Common.{◌≡◌, ap, subst}
-use Rattle.std.specs.List.{AllZip}
+use Rattle.std.{proofs.Common.{◌≡◌, ap, subst}, specs.List.{AllZip}}
 use Rattle.spki_tag.specs.Request.{IsRequest}
-use Rattle.spki_case.specs.Case.{Case}
-use Rattle.spki_case.specs.View.{model}
-use Rattle.spki_decision.specs.CertificateTests.{every}
-use Rattle.spki_decision.specs.Explained.{IsReasonFor}
-use Rattle.spki_decision.proofs.Explanations.{reasons_for}
+use Rattle.spki_case.specs.{Case.{Case}, View.{model}}
+use Rattle.spki_decision.{specs.{CertificateTests.{every}, Explained.{IsReasonFor}}, proofs.Explanations.{reasons_for}}
 use Rattle.spki_service.proofs.prepared_question.PreparedQuestion.explained_counted.Goals as goal
 
 pub returns-in-None-clause-answer : goal.returns-in-None-clause-answer

@@ -1,5 +1,4 @@
-use Rattle.std.proofs.Common.{inl, inr, refl, arith}
-use Rattle.std.proofs.lemmas.Result.{IfOk-weaker}
+use Rattle.std.proofs.{Common.{inl, inr, refl, arith}, lemmas.Result.{IfOk-weaker}}
 use Rattle.spki_decision.specs.CertificateTests.{signed_of}
 use Rattle.spki_service.proofs.Costs.{asked_octets}
 use Rattle.spki_service.proofs.prepared_question.PreparedQuestion.grant_by_counted.Goals as goal

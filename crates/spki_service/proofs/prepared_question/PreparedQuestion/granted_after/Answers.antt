@@ -1,13 +1,9 @@
 use Rattle.std.proofs.Common.{ℕ, refl, sym, ◌≡◌, ◌∙◌, ap, subst, arith, List, length, IfOk, option_copied}
 use Rattle.spki_cert.specs.declared.entry.Entry.{Entry}
 use Rattle.spki_reduce.specs.Chain.{tuples_of}
-use Rattle.spki_case.specs.View.{model}
-use Rattle.spki_decision.specs.CertificateTests.{with_entries}
-use Rattle.spki_case.specs.Case.{Case}
-use Rattle.spki_decision.specs.Requirements.{first_key}
-use Rattle.spki_decision.specs.Until.{decision_of}
-use Rattle.spki_service.specs.GuardQuestions.{PreparedModel}
-use Rattle.spki_service.specs.AccessLists.{AreEntries, DecidesPartly, AreNumbers, is_of}
+use Rattle.spki_case.specs.{View.{model}, Case.{Case}}
+use Rattle.spki_decision.specs.{CertificateTests.{with_entries}, Requirements.{first_key}, Until.{decision_of}}
+use Rattle.spki_service.specs.{GuardQuestions.{PreparedModel}, AccessLists.{AreEntries, DecidesPartly, AreNumbers, is_of}}
 use Rattle.spki_service.specs.Cost.{octets_at, found_octets}
 use Rattle.spki_service.proofs.Costs.{asked_octets, found_cost, octets_found}
 use Rattle.spki_service.proofs.SelectedEntries.{as_many, picks, partly_by, numbers_found, entries_found, numbers_are}

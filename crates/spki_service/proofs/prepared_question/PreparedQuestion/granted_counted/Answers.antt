@@ -1,11 +1,7 @@
 use Rattle.std.proofs.Common.{List, subst, sym, arith}
-use Rattle.spki_reduce.specs.Chain.{tuples_of}
-use Rattle.spki_reduce.specs.declared.tuple.Step.{Step}
-use Rattle.spki_decision.specs.Judged.{IsUnverified}
-use Rattle.spki_decision.specs.CertificateTests.{AreShown, every}
-use Rattle.spki_service.specs.GuardQuestions.{PreparedModel}
-use Rattle.spki_service.proofs.AnswerLaws.{decided_failed, granted_partly}
-use Rattle.spki_service.proofs.Costs.{asked_octets}
+use Rattle.spki_reduce.specs.{Chain.{tuples_of}, declared.tuple.Step.{Step}}
+use Rattle.spki_decision.specs.{Judged.{IsUnverified}, CertificateTests.{AreShown, every}}
+use Rattle.spki_service.{specs.GuardQuestions.{PreparedModel}, proofs.{AnswerLaws.{decided_failed, granted_partly}, Costs.{asked_octets}}}
 use Rattle.spki_service.proofs.prepared_question.PreparedQuestion.granted_counted.Goals as goal
 
 pub returns-in-Fails-clause-answer : goal.returns-in-Fails-clause-answer

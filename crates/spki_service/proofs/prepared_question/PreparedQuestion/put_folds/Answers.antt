@@ -2,13 +2,9 @@ use Rattle.std.proofs.Common.{sym, ap, subst, List, rules}
 use Rattle.spki_cert.specs.declared.entry.Entry.{Entry}
 use Rattle.spki_reduce.specs.Chain.{tuples_of}
 use Rattle.spki_case.specs.View.{model}
-use Rattle.spki_decision.specs.CertificateTests.{every, with_entries}
-use Rattle.spki_decision.specs.Judged.{IsUnverified}
-use Rattle.spki_decision.specs.Granted.{AreFolds}
+use Rattle.spki_decision.specs.{CertificateTests.{every, with_entries}, Judged.{IsUnverified}, Granted.{AreFolds}}
 use Rattle.spki_decision.proofs.EntryChains.{as_many, are_folds}
-use Rattle.spki_service.specs.GuardQuestions.{PreparedModel}
-use Rattle.spki_service.specs.AccessLists.{AreEntries}
-use Rattle.spki_service.proofs.AnswerLaws.{folds_failed}
+use Rattle.spki_service.{specs.{GuardQuestions.{PreparedModel}, AccessLists.{AreEntries}}, proofs.AnswerLaws.{folds_failed}}
 use Rattle.spki_service.proofs.prepared_question.PreparedQuestion.put_folds.Goals as goal
 
 pub fold_texts-requires : goal.fold_texts-requires

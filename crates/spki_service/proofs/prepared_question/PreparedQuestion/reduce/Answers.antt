@@ -1,6 +1,5 @@
 use Rattle.std.proofs.Common.{ap, ◌∙◌, rules}
-use Rattle.spki_decision.specs.CertificateTests.{asked}
-use Rattle.spki_decision.proofs.ListedSignatures.{refused_within}
+use Rattle.spki_decision.{specs.CertificateTests.{asked}, proofs.ListedSignatures.{refused_within}}
 use Rattle.spki_service.proofs.AnswerLaws.{reduced_all, reduced_none, refused_there}
 use Rattle.spki_service.proofs.prepared_question.PreparedQuestion.reduce.Goals as goal
 

@@ -1,6 +1,5 @@
 use Rattle.std.proofs.Common.{inr, refl, arith}
-use Rattle.spki_decision.specs.CertificateTests.{signed_of}
-use Rattle.spki_decision.specs.Answered.{IsReduced}
+use Rattle.spki_decision.specs.{CertificateTests.{signed_of}, Answered.{IsReduced}}
 use Rattle.spki_service.proofs.AnswerLaws.{marked_whole}
 use Rattle.spki_service.proofs.prepared_question.PreparedQuestion.reduce_by_counted.Goals as goal
 

@@ -1,5 +1,4 @@
-use Rattle.std.proofs.Common.{◌≡◌, ◌↔◌, ℕ, IsTrue, Bool, List, [], ◌∷◌, length, eqb, sym, ◌∙◌, ap, refl, arith}
-use Rattle.std.proofs.lemmas.Bool.{eqb-true}
+use Rattle.std.proofs.{Common.{◌≡◌, ◌↔◌, ℕ, IsTrue, Bool, List, [], ◌∷◌, length, eqb, sym, ◌∙◌, ap, refl, arith}, lemmas.Bool.{eqb-true}}
 use Rattle.spki_tag.specs.Tag as spec
 use Rattle.spki_tag.proofs.tag.Tag.is_nothing.Goals as goal
 

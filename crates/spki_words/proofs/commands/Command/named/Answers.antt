@@ -1,6 +1,5 @@
 use Rattle.std.proofs.Common.{◌≢◌, arith}
-use Rattle.spki_words.specs.Words.{word_of}
-use Rattle.spki_words.proofs.CommandWords.{each_command}
+use Rattle.spki_words.{specs.Words.{word_of}, proofs.CommandWords.{each_command}}
 use Rattle.spki_words.proofs.commands.Command.named.Goals as goal
 
 pub returns : goal.returns

@@ -1,6 +1,5 @@
 use Rattle.std.proofs.Common.{◌≢◌, ℕ, ◌<◌, slice_index_or}
-use Rattle.spki_words.specs.Words.{word_of}
-use Rattle.spki_words.specs.declared.commands.Command.{Command}
+use Rattle.spki_words.specs.{Words.{word_of}, declared.commands.Command.{Command}}
 use Rattle.spki_words.proofs.commands.Command.named.Given as goal
 
 abbrev pub invariant-loop-command : goal.invariant-loop-command
