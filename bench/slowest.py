@@ -126,6 +126,7 @@ NAMED = [
           Recipe(Entries(names=1, grows="names"), (Link(names=2),)), asked=1_000),
     Named("entries for 57 nested sets", (*DECISIONS, "a guard opens"), Recipe(Entries(NESTED), is_by_other=False)),
     Named("certificates for 57 nested sets", (*DECISIONS, "opens"), Recipe(links=(Link(NESTED),), grows="repeats")),
+    Named("certificates for lists of empty strings", ("decides by", "opens"), Recipe(links=(Link(Tag("list", 998, octets=0)),), grows="repeats")),
     Named("many certificates", ("decides by",), Recipe(links=(Link(),), grows="repeats")),
     Named("a prefix, sets of 98 ranges, and ranges, in 9.8 KB", ("explains by", "reduces by"),
           Recipe(links=(Link(Tag("prefix")), *(ranges(98),) * 3, Link(Tag("range"), 5)), grows="octets"), 70, 9_800),
