@@ -35,8 +35,8 @@ type store struct {
 
 // A reader asks the database. Each call is one statement, and so of one state.
 type reader interface {
-	// rows returns the entries that are found by one of these digests, which placesOf has made.
-	rows(places [][]byte) (found, error)
+	// rows returns the entries whose principal is one of these digests of a key, which digestsOf has made.
+	rows(digests [][]byte) (found, error)
 	// since returns the changes after that with this number, the time of that one, and the state.
 	since(number int64) (news, error)
 	// whole returns all ended certificates, and the state.
@@ -164,7 +164,7 @@ func (s *store) keyOf(question *guard.Question) ([]byte, error) {
 // read reads the entries of a key, whose digest `name` is, and keeps them if no later state was polled meanwhile.
 func (s *store) read(name digest, key []byte) (*list, error) {
 	before := s.seenNow()
-	places := placesOf(key)
+	places := digestsOf(key)
 	found, err := s.reader.rows(places)
 	if err != nil {
 		return nil, err
@@ -210,8 +210,8 @@ func (s *store) listOf(found found) (*list, int, error) {
 	return &list{guard: opened, numbers: found.numbers, digest: fmt.Sprintf("change %d", found.changes)}, size, nil
 }
 
-// placesOf returns the digests of a key by SHA-1, SHA-256 and SHA-512, in this order. The entries whose principals name the key are found by them.
-func placesOf(key []byte) [][]byte {
+// digestsOf returns the digests of a key by SHA-1, SHA-256 and SHA-512, in this order. The entries whose principals name the key are found by them.
+func digestsOf(key []byte) [][]byte {
 	first, second, third := sha1.Sum(key), sha256.Sum256(key), sha512.Sum512(key)
 	return [][]byte{first[:], second[:], third[:]}
 }

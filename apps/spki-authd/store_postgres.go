@@ -209,8 +209,9 @@ func octetsIn(value driver.Value) []byte {
 	return append([]byte(nil), octets...)
 }
 
-// rows returns the entries that are found by one of these places, which are those of placesOf. Behind the state a row has the number and the text.
-func (p *pool) rows(places [][]byte) (made found, err error) {
+// rows returns the entries whose principal is one of these digests of a key: by SHA-1, SHA-256 and SHA-512, in this order. Behind the state a row has
+// the number and the text.
+func (p *pool) rows(digests [][]byte) (made found, err error) {
 	hasState := false
 	err = p.ask(askRows, func(row []driver.Value) (err error) {
 		made.storeState, err = stateIn(row)
@@ -220,7 +221,7 @@ func (p *pool) rows(places [][]byte) (made found, err error) {
 			made.texts = append(made.texts, octetsIn(row[5]))
 		}
 		return err
-	}, places[0], places[1], places[2])
+	}, digests[0], digests[1], digests[2])
 	return made, requireState(hasState, err)
 }
 

@@ -102,7 +102,7 @@ func (r *rig) somebody(random *rand.Rand) person {
 
 // principalOf returns a person's key or, half of the time, a hash of it.
 func principalOf(who person, random *rand.Rand) string {
-	places := placesOf([]byte(who.key))
+	places := digestsOf([]byte(who.key))
 	switch random.Intn(6) {
 	case 0:
 		return "(4:hash6:sha256" + str(string(places[1])) + ")"

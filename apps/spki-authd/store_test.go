@@ -34,7 +34,7 @@ type change struct {
 
 // put puts an entry for a key into the table, or takes it out if `text` is empty.
 func (t *table) put(number int, key, text string) {
-	place := string(placesOf([]byte(key))[1])
+	place := string(digestsOf([]byte(key))[1])
 	t.texts[number], t.places[number] = text, place
 	if text == "" {
 		delete(t.texts, number)

@@ -185,9 +185,9 @@ def most_work():
 # ---- what is done with an example: each returns the number of runs, the number of refusals, and the faults
 
 def refused_in_turn(program, example, behind):
-    """The Nth request for memory is refused, and with `behind` all behind it, until no run meets it. Where there are very many
-    requests it is some of these. Those for the words of the command line, which are the same on each text, are refused on one
-    example of each command alone; clap may do without what it is refused there."""
+    """A run for each N, until a run asks for memory less than N times: its Nth request is refused. `behind` is "", or ".." if all later requests are
+    refused too. Where there are very many requests it is some of these. Those for the words of the command line, which are the same on each text,
+    are refused on one example of each command alone; clap may do without what it is refused there."""
     whole = program.run(example.command, example.text)
     answer = example.answer or whole.answer
     asked, refusals, faults = whole.asked["memory"], 0, []
@@ -234,7 +234,7 @@ def failing_in_turn(program, example, end, told, wanted):
     return None
 
 
-# How a run of an example must end whose call of this number is told an error, or 0.
+# `wanted` of failing_in_turn: how a run of an example must end whose call of this number is told an error, or 0.
 
 def read_fault(example, number):
     return READ_FAULT
@@ -260,7 +260,8 @@ def interrupted_for_ever(program, example, end, asks, wanted):
 
 
 def one_run(program, what, wanted, call, *words):
-    """One run by the method `call` of a Program, with its words, which must end as wanted. A fault begins with `what`."""
+    """One run by the method `call` of a Program, with its words, which must end as wanted. Returns the number of runs, of refusals, and the faults,
+    which begin with `what`."""
     ended = getattr(program, call)(*words)
     return 1, 0, [] if ended.answer == wanted else [f"{what}: {ended}"]
 

@@ -188,7 +188,7 @@ class Parser:
                     places)
 
     def value(self, at: int, wanted: str) -> Node:
-        """The value at an offset. A remark says that `wanted` is expected there."""
+        """The value at an offset. If none begins there, raises `Wrong`, which says that `wanted` is expected: a few words, as "a member"."""
         octet = self.octet(at)
         if octet == b"(":
             return self.list_at(at)

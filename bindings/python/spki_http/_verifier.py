@@ -113,7 +113,7 @@ class Verifier:
         if not inputs or not signatures:
             raise Refused("malformed")
         given, octets = input_of(inputs[0]), signature_of(signatures[0])
-        self._check_time(given)
+        self._check_parameters(given)
         text, digest = self._check_message(message, given)
         key, algorithm, length = key_of(component_of(message, self.scheme, PUBLIC_KEY))
         if hash_of(key) != given.keyid:
@@ -128,7 +128,7 @@ class Verifier:
             raise Refused("other-digest")
         return proof
 
-    def _check_time(self, given: Input) -> None:
+    def _check_parameters(self, given: Input) -> None:
         """Tests the tag, the length of the nonce, and the times. Raises `Refused` by the first test that fails."""
         now = int(self.now())
         for is_wrong, name in (
